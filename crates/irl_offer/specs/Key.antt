@@ -1,0 +1,8 @@
+-- The keys that stand for URLs and lines.
+use Rattle.std.specs.Prelude.{ℕ, List, take}
+use Rattle.std.specs.Int.{w64, from_be_bytes}
+use Rattle.sha1.specs.Sha1.{sha1}
+
+-- the key of a text: the first eight bytes of its SHA-1 digest (FIPS 180-4) as a number, the first byte highest
+unfoldable pub key_of : List ℕ → ℕ
+key_of bytes = from_be_bytes w64 (take 8 (sha1 bytes))
