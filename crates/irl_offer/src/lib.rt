@@ -1,8 +1,10 @@
 //! Plain data that the crates of the crawler share.
 #![tactic(auto)]
 
+mod offer;
 mod text;
 
+pub use offer::{Offer, Op, Rule, Verdict};
 pub use text::Text;
 
 #[cfg(test)]

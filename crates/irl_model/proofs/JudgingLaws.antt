@@ -1,0 +1,44 @@
+-- Judging one offer at a time gives what looking back over the whole list gives.
+use Rattle.std.proofs.Common.{◌≡◌, ◌∙◌, ℕ, ◌+◌, ◌<◌, suc, List, [], ◌∷◌, ◌++◌, map, length, take, refl, sym, ap, Option, Some, None, arith, append_assoc, length-append, add-one, rules}
+use Rattle.std.specs.Prelude.{slice_get, option_and_then}
+use Rattle.std.proofs.Math.Seq.{take-append_seam}
+use Rattle.std.specs.List.{enumerate_from}
+use Rattle.std.specs.FinMap.{FinMap, get}
+use Rattle.irl_offer.specs.declared.offer.Rule.{Rule}
+use Rattle.irl_offer.specs.declared.offer.Verdict.{Verdict}
+use Rattle.irl_offer.specs.Tuple.{Tuple}
+use Rattle.irl_model.specs.Judging.{KeyMap, entered, after, answer, verdict, judgements}
+
+-- each offer with the answer of the set as it stands when the offer comes
+abbrev pub judged_on : Rule → KeyMap → List Tuple → List (Tuple × Option Verdict)
+judged_on rule seen [] = []
+judged_on rule seen (offer ∷ offers) = (offer, answer offer.op (get seen offer.key)) ∷ judged_on rule (entered rule seen offer) offers
+
+pub after-append : (rule : Rule) (seen : KeyMap) (xs ys : List Tuple) → after rule seen (xs ++ ys) ≡ after rule (after rule seen xs) ys
+after-append rule seen [] ys = refl
+after-append rule seen (x ∷ xs) ys = after-append rule (entered rule seen x) xs ys
+
+pub judged_on-append : (rule : Rule) (seen : KeyMap) (xs ys : List Tuple) → judged_on rule seen (xs ++ ys) ≡ judged_on rule seen xs ++ judged_on rule (after rule seen xs) ys
+judged_on-append rule seen [] ys = refl
+judged_on-append rule seen (x ∷ xs) ys = ap (λ rest. (x, answer x.op (get seen x.key)) ∷ rest) (judged_on-append rule (entered rule seen x) xs ys)
+
+-- the offer at a list's seam, and what stands before it
+at_seam : (front : List Tuple) (x : Tuple) (rest : List Tuple) → slice_get (front ++ x ∷ rest) (length front) ≡ Some x
+at_seam [] x rest = refl
+at_seam (y ∷ front) x rest = at_seam front x rest
+
+from_place : (rule : Rule) (base : KeyMap) (front offers : List Tuple) → map (λ (p : ℕ × Tuple). (p.1, verdict rule base (front ++ offers) p.0)) (enumerate_from (length front) offers) ≡ judged_on rule (after rule base front) offers
+from_place rule base front [] = refl
+from_place rule base front (x ∷ offers) =
+    let ih = rw (append_assoc front (x ∷ []) offers, length-append front (x ∷ []), after-append rule base front (x ∷ [])) at (from_place rule base (front ++ x ∷ []) offers) in
+    rw (take-append_seam front (x ∷ offers), at_seam front x offers, ih) refl
+
+pub judgements-judged_on : (rule : Rule) (base : KeyMap) (offers : List Tuple) → judgements rule base offers ≡ judged_on rule base offers
+judgements-judged_on rule base offers = from_place rule base [] offers
+
+-- one offer more
+pub after-more : (rule : Rule) (seen : KeyMap) (xs : List Tuple) (x : Tuple) → after rule seen (xs ++ x ∷ []) ≡ entered rule (after rule seen xs) x
+after-more rule seen xs x = after-append rule seen xs (x ∷ [])
+
+pub judged_on-more : (rule : Rule) (seen : KeyMap) (xs : List Tuple) (x : Tuple) → judged_on rule seen (xs ++ x ∷ []) ≡ judged_on rule seen xs ++ (x, answer x.op (get (after rule seen xs) x.key)) ∷ []
+judged_on-more rule seen xs x = judged_on-append rule seen xs (x ∷ [])

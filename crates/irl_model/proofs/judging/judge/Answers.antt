@@ -1,0 +1,27 @@
+use Rattle.std.proofs.Common.{◌≡◌, ◌∙◌, ℕ, ◌+◌, List, [], ◌∷◌, ◌++◌, map, take, take_all, sym, ap, Option}
+use Rattle.std.proofs.lemmas.List.{map-append, take_more}
+use Rattle.std.specs.FinMap.{empty}
+use Rattle.irl_offer.specs.declared.offer.Verdict.{Verdict}
+use Rattle.irl_offer.specs.Tuple.{Tuple}
+use Rattle.irl_model.specs.Judging.{KeyMap, after, entered, judgements}
+use Rattle.irl_model.proofs.JudgingLaws.{judged_on, after-more, judged_on-more, judgements-judged_on}
+use Rattle.irl_model.proofs.judging.judge.Goals as goal
+
+pub loop-offer-preserved : goal.loop-offer-preserved
+loop-offer-preserved c =
+    let rule = c.args.rule in
+    let offers = c.args.offers.now in
+    let front = take c.loop-offer.offer-index offers in
+    let x = c.offer-item.result in
+    let more : take (c.loop-offer.offer-index + 1) offers ≡ front ++ x ∷ [] =
+    take_more offers c.loop-offer.offer-index x c.loop-offer-test.true ∙ ap (λ (y : Tuple). front ++ y ∷ []) (sym c.offer-item.is) in
+    record {
+      seen = c.in_ok-ask.ensures.ok ∙ ap (λ (m : KeyMap). entered rule m x) c.loop-offer.invariant.seen ∙ sym (after-more rule empty front x) ∙ ap (after rule empty) (sym more);
+      told = rw (more, judged_on-more rule empty front x, map-append, ← c.loop-offer.invariant.told, ← c.loop-offer.invariant.seen, ← c.in_ok-ask.ensures.verdict) c.in_ok-push.ensures.items;
+    }
+
+pub returns : goal.returns
+returns c =
+    let all : take c.loop-offer.offer-index c.args.offers.now ≡ c.args.offers.now = take_all _ _ c.loop-offer-test.false in
+    c.loop-offer.invariant.told ∙ ap (λ (xs : List Tuple). map (λ p. p.1) (judged_on c.args.rule empty xs)) all
+    ∙ ap (λ (js : List (Tuple × Option Verdict)). map (λ p. p.1) js) (sym (judgements-judged_on c.args.rule empty c.args.offers.now))

@@ -1,0 +1,12 @@
+use Rattle.std.proofs.Common.{◌≡◌, ℕ, map, take}
+use Rattle.std.specs.FinMap.{empty}
+use Rattle.irl_model.specs.Judging.{after}
+use Rattle.irl_model.proofs.JudgingLaws.{judged_on}
+use Rattle.irl_model.proofs.judging.judge.Given as goal
+
+-- the set was asked the offers so far, and gave their verdicts
+abbrev pub invariant-loop-offer : goal.invariant-loop-offer
+invariant-loop-offer l = record {
+  seen : l.seen ≡ after l.rule empty (take l.offer-index l.offers);
+  told : l.verdicts.items ≡ map (λ p. p.1) (judged_on l.rule empty (take l.offer-index l.offers));
+}

@@ -1,0 +1,68 @@
+ghost use Rattle.std.specs.Prelude.{◌≡◌, OnOk, OnErr, IfOk};
+ghost use Rattle.std.specs.FinMap as map;
+ghost use Rattle.irl_model.specs.Judging.{answer, entered};
+
+use crate::judging::{answer, combined};
+use irl_offer::{Offer, Op, Rule, Verdict};
+use std::alloc::{AllocError, Global};
+use std::collections::BTreeMap;
+use std::marker::Model;
+
+/// The set of seen keys, each with its value. Contracts see it as a finite map.
+#[derive(Drop)]
+pub struct KeySet {
+    values: BTreeMap<u64, u64>,
+}
+
+impl Model for KeySet {
+    ghost use Rattle.std.specs.Prelude.{ℕ};
+    ghost use Rattle.std.specs.Ordering.{nat_cmp};
+    ghost use Rattle.std.specs.Coded.{coded_ℕ};
+    ghost use Rattle.std.specs.FinMap as map;
+
+    ghost Value = { map.FinMap nat_cmp ℕ };
+
+    ghost coded = { map.code coded_ℕ coded_ℕ };
+
+    ghost view = { λ s. map.from_entries s.values.entries };
+}
+
+impl KeySet {
+    /// A set without keys. It takes no memory.
+    pub fn new(alloc: Global) -> KeySet
+        ensures { result ≡ map.empty }
+    {
+        KeySet {
+            values: BTreeMap::new(alloc),
+        }
+    }
+
+    /// The value of a key that is there.
+    pub fn get(&self, key: u64) -> Option<u64>
+        ensures { result ≡ map.get self.now key }
+    {
+        self.values.get(&key).copied()
+    }
+
+    /// Sets the value of a key.
+    pub fn insert(&mut self, key: u64, value: u64) -> Result<(), AllocError>
+        ensures ok { OnOk result (self.new ≡ map.insert self.old key value) }
+        ensures err { OnErr result (self.new ≡ self.old) }
+    {
+        self.values.insert(key, value)?;
+        Ok(())
+    }
+
+    /// The set's verdict on an offer, and the offer's change. After want of memory the set is as before.
+    pub fn ask(&mut self, rule: Rule, offer: &Offer) -> Result<Option<Verdict>, AllocError>
+        ensures verdict { IfOk result (λ v. v ≡ answer offer.now.op (map.get self.old offer.now.key)) }
+        ensures ok { OnOk result (self.new ≡ entered rule self.old offer.now) }
+        ensures err { OnErr result (self.new ≡ self.old) }
+    {
+        let known = self.get(offer.key);
+        if offer.op != Op::Check {
+            self.insert(offer.key, combined(rule, known, offer.value))?;
+        }
+        Ok(answer(offer.op, known))
+    }
+}
