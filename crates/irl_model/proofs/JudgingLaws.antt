@@ -1,9 +1,9 @@
 -- Judging one offer at a time gives what looking back over the whole list gives.
-use Rattle.std.proofs.Common.{◌≡◌, ◌∙◌, ℕ, ◌+◌, ◌<◌, suc, List, [], ◌∷◌, ◌++◌, map, length, take, refl, sym, ap, Option, Some, None, arith, append_assoc, length-append, add-one, rules}
-use Rattle.std.specs.Prelude.{slice_get, option_and_then}
-use Rattle.std.proofs.Math.Seq.{take-append_seam}
+use Rattle.std.proofs.Common.{◌≡◌, ◌∙◌, ℕ, suc, List, [], ◌∷◌, ◌++◌, map, length, drop, refl, sym, ap, Option, Some, append_assoc, length-append}
+use Rattle.std.specs.Prelude.{slice_get}
+use Rattle.std.proofs.Math.Seq.{take-append_seam, drop-append_seam}
 use Rattle.std.specs.List.{enumerate_from}
-use Rattle.std.specs.FinMap.{FinMap, get}
+use Rattle.std.specs.FinMap.{get}
 use Rattle.irl_offer.specs.declared.offer.Rule.{Rule}
 use Rattle.irl_offer.specs.declared.offer.Verdict.{Verdict}
 use Rattle.irl_offer.specs.Tuple.{Tuple}
@@ -42,3 +42,14 @@ after-more rule seen xs x = after-append rule seen xs (x ∷ [])
 
 pub judged_on-more : (rule : Rule) (seen : KeyMap) (xs : List Tuple) (x : Tuple) → judged_on rule seen (xs ++ x ∷ []) ≡ judged_on rule seen xs ++ (x, answer x.op (get (after rule seen xs) x.key)) ∷ []
 judged_on-more rule seen xs x = judged_on-append rule seen xs (x ∷ [])
+
+length-judged_on : (rule : Rule) (seen : KeyMap) (xs : List Tuple) → length (judged_on rule seen xs) ≡ length xs
+length-judged_on rule seen [] = refl
+length-judged_on rule seen (x ∷ xs) = ap (λ (n : ℕ). suc n) (length-judged_on rule (entered rule seen x) xs)
+
+-- the judgements of what comes later are those of the set that was asked what came before
+pub judgements-drop : (rule : Rule) (base : KeyMap) (xs ys : List Tuple) → drop (length xs) (judgements rule base (xs ++ ys)) ≡ judgements rule (after rule base xs) ys
+judgements-drop rule base xs ys =
+    let seam : drop (length xs) (judged_on rule base xs ++ judged_on rule (after rule base xs) ys) ≡ judged_on rule (after rule base xs) ys =
+    rw (← length-judged_on rule base xs) (drop-append_seam (judged_on rule base xs) (judged_on rule (after rule base xs) ys)) in
+    ap (drop (length xs)) (judgements-judged_on rule base (xs ++ ys) ∙ judged_on-append rule base xs ys) ∙ seam ∙ sym (judgements-judged_on rule (after rule base xs) ys)

@@ -36,12 +36,7 @@ pub fn judge(
 ) -> Result<Vec<Option<Verdict>>, AllocError>
     ensures { IfOk result (λ verdicts. verdicts.items ≡ map (λ p. p.1) (judgements rule empty offers.now)) }
 {
-    let mut seen = KeySet::new(alloc);
-    let mut verdicts = Vec::new(alloc);
-    for offer in offers {
-        verdicts.push(seen.ask(rule, offer)?)?;
-    }
-    Ok(verdicts)
+    KeySet::new(alloc).ask_all(alloc, rule, offers)
 }
 
 #[cfg(test)]

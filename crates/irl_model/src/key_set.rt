@@ -1,6 +1,7 @@
 ghost use Rattle.std.specs.Prelude.{◌≡◌, OnOk, OnErr, IfOk};
+ghost use Rattle.std.specs.Prelude.{map as list_map};
 ghost use Rattle.std.specs.FinMap as map;
-ghost use Rattle.irl_model.specs.Judging.{answer, entered};
+ghost use Rattle.irl_model.specs.Judging.{after, answer, combined as combined_of, entered, judgements};
 
 use crate::judging::{answer, combined};
 use irl_offer::{Offer, Op, Rule, Verdict};
@@ -53,6 +54,15 @@ impl KeySet {
         Ok(())
     }
 
+    /// Enters a value for a key: the key's value is then the two combined. After want of memory the set is as before.
+    pub fn enter(&mut self, rule: Rule, key: u64, value: u64) -> Result<(), AllocError>
+        ensures ok { OnOk result (self.new ≡ map.insert self.old key (combined_of rule (map.get self.old key) value)) }
+        ensures err { OnErr result (self.new ≡ self.old) }
+    {
+        let value = combined(rule, self.get(key), value);
+        self.insert(key, value)
+    }
+
     /// The set's verdict on an offer, and the offer's change. After want of memory the set is as before.
     pub fn ask(&mut self, rule: Rule, offer: &Offer) -> Result<Option<Verdict>, AllocError>
         ensures verdict { IfOk result (λ v. v ≡ answer offer.now.op (map.get self.old offer.now.key)) }
@@ -61,8 +71,25 @@ impl KeySet {
     {
         let known = self.get(offer.key);
         if offer.op != Op::Check {
-            self.insert(offer.key, combined(rule, known, offer.value))?;
+            self.enter(rule, offer.key, offer.value)?;
         }
         Ok(answer(offer.op, known))
+    }
+
+    /// The verdicts on the offers in order, and their changes. After want of memory some of them were asked.
+    pub fn ask_all(
+        &mut self,
+        alloc: Global,
+        rule: Rule,
+        offers: &[Offer],
+    ) -> Result<Vec<Option<Verdict>>, AllocError>
+        ensures verdicts { IfOk result (λ verdicts. verdicts.items ≡ list_map (λ p. p.1) (judgements rule self.old offers.now)) }
+        ensures ok { OnOk result (self.new ≡ after rule self.old offers.now) }
+    {
+        let mut verdicts = Vec::new(alloc);
+        for offer in offers {
+            verdicts.push(self.ask(rule, offer)?)?;
+        }
+        Ok(verdicts)
     }
 }

@@ -1,0 +1,4 @@
+pub mod Appending
+pub mod Entering
+pub mod Fronts
+pub mod Opening

@@ -1,0 +1,8 @@
+//! The kept list of lines, with the set of their keys.
+#![tactic(auto)]
+
+mod kept;
+mod line;
+
+pub use kept::{Fault, Kept, OpenFault};
+pub use line::line_offer;
