@@ -1,0 +1,16 @@
+//! What the crawler reads and where it writes, as traits with a meaning, and the lines of an input.
+#![tactic(auto)]
+
+mod mem_sink;
+mod mem_source;
+mod read_source;
+mod sink;
+mod source;
+mod write_sink;
+
+pub use mem_sink::MemSink;
+pub use mem_source::MemSource;
+pub use read_source::ReadSource;
+pub use sink::Sink;
+pub use source::{Failed, Source};
+pub use write_sink::WriteSink;
