@@ -1,6 +1,7 @@
 //! What the crawler reads and where it writes, as traits with a meaning, and the lines of an input.
 #![tactic(auto)]
 
+mod lines;
 mod mem_sink;
 mod mem_source;
 mod read_source;
@@ -8,6 +9,7 @@ mod sink;
 mod source;
 mod write_sink;
 
+pub use lines::{Lines, Step};
 pub use mem_sink::MemSink;
 pub use mem_source::MemSource;
 pub use read_source::ReadSource;
