@@ -29,8 +29,8 @@ found_none bytes m within found =
     let p = position_or_len is_line_feed bytes in
     let long : length (take m bytes) ≡ m = length-take-le m bytes within in
     elim (cases_lt p m) [
-      inl below ↦ absurd (found p (omega arith) (omega arith) (ap (λ x. eqb x 10) (get_or-take m bytes p 0 below) ∙ passes_at_first is_line_feed bytes 0 (omega arith)))
-    | inr above ↦ above
+      | inl below ↦ absurd (found p (omega arith) (omega arith) (ap (λ x. eqb x 10) (get_or-take m bytes p 0 below) ∙ passes_at_first is_line_feed bytes 0 (omega arith)))
+      | inr above ↦ above
     ]
 
 -- bytes behind change nothing where a line feed is there
@@ -147,8 +147,8 @@ takes_front b a old ahead shown items start end size whole kept same view has =
     let line_is : take (start + size - start) (drop start shown) ≡ take size ahead = ap (λ l. take (start + size - start) (drop start l)) same ∙ slice_front items start end size size_fits ∙ ap (take size) view in
     let new_is : slice_range items (start + whole) end ≡ drop whole ahead = slice_back items start end whole (omega (arith, has.within)) ∙ ap (drop whole) view in
     of_left _ b a old ahead _ kept (λ left known. elim has.ended [
-      inl e ↦ takes_ended ahead left _ _ size has.first (omega (arith, has.within, e)) line_is (new_is ∙ ap (λ k. drop k ahead) e)
-    | inr e ↦ takes_last ahead left _ _ size has.first (sym e.0 ∙ e.1) (omega (arith, has.some, e.0)) (at_end a left known e.2) line_is (new_is ∙ ap (λ k. drop k ahead) e.0)
+      | inl e ↦ takes_ended ahead left _ _ size has.first (omega (arith, has.within, e)) line_is (new_is ∙ ap (λ k. drop k ahead) e)
+      | inr e ↦ takes_last ahead left _ _ size has.first (sym e.0 ∙ e.1) (omega (arith, has.some, e.0)) (at_end a left known e.2) line_is (new_is ∙ ap (λ k. drop k ahead) e.0)
     ])
 
 -- what such a step gave

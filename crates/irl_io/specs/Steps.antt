@@ -51,11 +51,11 @@ pub record Stepped (step : Step) (old new : Progress) (left_before left_after : 
   pub bytes : OfKnown (Moves step) (prepend_known old.ahead left_before) (prepend_known new.ahead left_after)
 
 -- What a step says whatever the source is, after this many lines: what is given is a line, and which line is refused.
-abbrev pub IsNext : Step → ℕ → Type 0
-IsNext (Line line) number = IsLine line.now × (number < most_lines)
-IsNext End number = ⊤
-IsNext (LongLine n) number = n ≡ number + 1
-IsNext Failed number = ⊤
+abbrev pub KeepsLimits : Step → ℕ → Type 0
+KeepsLimits (Line line) number = IsLine line.now × (number < most_lines)
+KeepsLimits End number = ⊤
+KeepsLimits (LongLine n) number = n ≡ number + 1
+KeepsLimits Failed number = ⊤
 
 -- a fact of a step that failed
 abbrev pub OnFailed : Step → Type 0 → Type 0

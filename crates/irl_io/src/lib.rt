@@ -7,6 +7,8 @@ mod mem_source;
 mod read_source;
 mod sink;
 mod source;
+#[cfg(test)]
+mod tests;
 mod write_sink;
 
 pub use lines::{Lines, Step};

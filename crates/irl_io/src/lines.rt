@@ -5,7 +5,7 @@ ghost use Rattle.std.specs.Io.KnownBytes.{Keeps, ReadConsumes, IsAtEnd, prepend_
 ghost use Rattle.std.specs.List.{position_or_len};
 ghost use Rattle.irl_offer.specs.Faults.{HasCause};
 ghost use Rattle.irl_io.specs.Lines.{is_line_feed, longest};
-ghost use Rattle.irl_io.specs.Steps.{Stepped, IsNext, StepHasCause};
+ghost use Rattle.irl_io.specs.Steps.{Stepped, KeepsLimits, StepHasCause};
 ghost use Rattle.irl_io.specs.Front.{Stands, FrontHasCause};
 ghost use Rattle.irl_io.specs.contracts.lines.Lines.{the_row};
 
@@ -100,7 +100,7 @@ impl Lines {
 
     /// The next line of the source. All calls are to be handed the same one.
     pub fn next<'a, I: Source>(&'a mut self, source: &mut I) -> Step<'a>
-        ensures next { IsNext result self.old.number }
+        ensures limits { KeepsLimits result self.old.number }
         ensures cause { StepHasCause (I.faults source.old) (I.faults source.new) result }
         ensures* after { sem 𝓛 (Rests the_row self.entry (λ new.
             Stepped result self.old new (I.left source.old) (I.left source.new))) }
@@ -130,14 +130,20 @@ impl Lines {
             let ahead = self.ahead();
             let held = ahead.len();
             if let Some(length) = find_line_feed(ahead) {
-                return Front::Line { length, whole: length + 1 };
+                return Front::Line {
+                    length,
+                    whole: length + 1,
+                };
             }
             if held > LONGEST {
                 return Front::Long;
             }
             match self.fill(source) {
                 Ok(0) if held == 0 => return Front::End,
-                Ok(0) => return Front::Line { length: held, whole: held },
+                Ok(0) => return Front::Line {
+                    length: held,
+                    whole: held,
+                },
                 Ok(_) => {}
                 Err(source::Failed) => return Front::Failed,
             }

@@ -50,6 +50,7 @@ impl MemSink {
 
 impl Sink for MemSink {
     ghost written = { λ s. Some s.written };
+
     ghost faults = { λ s. s.faults };
 
     fn write(&mut self, bytes: &[u8]) -> Result<(), Failed>

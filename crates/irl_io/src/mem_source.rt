@@ -45,6 +45,7 @@ impl MemSource {
 
 impl Source for MemSource {
     ghost left = { λ s. Some s.left };
+
     ghost faults = { λ s. s.faults };
 
     fn read(&mut self, into: &mut [u8]) -> Result<usize, Failed>

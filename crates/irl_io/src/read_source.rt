@@ -4,8 +4,8 @@ ghost use Rattle.irl_io.specs.Adapter.{reader_of, read_faults};
 use crate::source::{Failed, Source};
 use std::io::{ErrorKind, Read};
 
-/// How often a call that was interrupted is made again.
-const TRIES: u32 = 64;
+/// How often a call that is interrupted is made.
+pub(crate) const TRIES: u32 = 64;
 
 /// A source over a reader of std. It tells what the reader tells, and counts each of its errors as a fault. A read
 /// that was interrupted is made again, up to a bound.
@@ -27,6 +27,7 @@ impl<T> ReadSource<T> {
 
 impl<T: Read> Source for ReadSource<T> {
     ghost left = { λ s. T.remaining (reader_of s) };
+
     ghost faults = { λ s. read_faults s };
 
     fn read(&mut self, into: &mut [u8]) -> Result<usize, Failed> {
