@@ -1,0 +1,48 @@
+-- The bytes that the method shows are the front of those left, by the view of the fields after `front`.
+use Rattle.std.proofs.Common.{◌≡◌, ◌+◌, List, refl, ap, ◌∙◌, arith}
+use Rattle.std.specs.List.{slice_range}
+use Rattle.irl_io.specs.Steps.{Progress}
+use Rattle.irl_io.proofs.FeedLemmas.{takes_front, gives_line, refuses_long}
+use Rattle.irl_io.proofs.lines.Lines.next.Goals as goal
+
+pub returns-in-Line : goal.returns-in-Line
+returns-in-Line g c =
+    let a = c.self.inside in
+    let left = g.I.Source.left in
+    let view : slice_range a.buffer.items a.start a.end ≡ c.front.new.self.ahead = ap (λ (p : Progress). p.ahead) {y = c.front.new.self} c.self.view_is in
+    let number : a.number ≡ c.args.self.now.number = ap (λ (p : Progress). p.number) {y = c.front.new.self} c.self.view_is ∙ c.front.ensures.number in (
+      (
+        refl,
+        λ _. tt,
+        record {
+          number = ap (λ n. n + 1) number;
+          bytes = takes_front (left c.args.source.now) (left c.front.new.source) c.args.self.now.ahead c.front.new.self.ahead c.deref.result.now a.buffer.items a.start a.end c.in-Line.length c.in-Line.whole c.front.ensures.kept c.deref.ensures.value view c.in-Line.ensures.stands;
+        },
+      ),
+      record {
+        limits = (gives_line (left c.front.new.source) c.front.new.self.ahead c.deref.result.now a.buffer.items a.start a.end c.in-Line.length c.in-Line.whole c.deref.ensures.value view c.in-Line.ensures.stands, omega (arith, number));
+        cause = record { later = c.front.ensures.cause.later; failed = tt };
+        after = tt;
+      },
+    )
+
+pub returns-in-Long : goal.returns-in-Long
+returns-in-Long g c =
+    let a = c.self.inside in
+    let left = g.I.Source.left in
+    let view : slice_range a.buffer.items a.start a.end ≡ c.front.new.self.ahead = ap (λ (p : Progress). p.ahead) {y = c.front.new.self} c.self.view_is in
+    let number : a.number ≡ c.args.self.now.number = ap (λ (p : Progress). p.number) {y = c.front.new.self} c.self.view_is ∙ c.front.ensures.number in (
+      (
+        refl,
+        λ _. tt,
+        record {
+          number = number;
+          bytes = refuses_long (left c.args.source.now) (left c.front.new.source) c.args.self.now.ahead c.front.new.self.ahead _ _ c.front.ensures.kept view c.in-Long.ensures.stands;
+        },
+      ),
+      record {
+        limits = ap (λ n. n + 1) number;
+        cause = record { later = c.front.ensures.cause.later; failed = tt };
+        after = tt;
+      },
+    )
