@@ -128,6 +128,7 @@ impl Kept {
         requires open { IsOpen (S.contents store.old) self.old }
         ensures lines { OnOk result (Appends (S.contents store.old) (S.contents store.new) self.old self.new (map (λ offer. offer.aux) offers.now)) }
         ensures verdicts { IfOk result (λ verdicts. AreVerdicts self.old (map (λ offer. offer.aux) offers.now) verdicts.items) }
+        ensures count { IfOk result (λ verdicts. length verdicts.items ≡ length offers.now) }
         ensures others { KeepsOthers (S.contents store.old) (S.contents store.new) }
         ensures memory { IsErrOf result Fault.Memory → S.contents store.new ≡ S.contents store.old }
         ensures later { S.faults store.old ≤ S.faults store.new }

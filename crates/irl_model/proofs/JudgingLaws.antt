@@ -2,7 +2,7 @@
 use Rattle.std.proofs.Common.{◌≡◌, ◌∙◌, ℕ, suc, List, [], ◌∷◌, ◌++◌, map, length, drop, refl, sym, ap, Option, Some, append_assoc, length-append}
 use Rattle.std.specs.Prelude.{slice_get}
 use Rattle.std.proofs.Math.Seq.{take-append_seam, drop-append_seam}
-use Rattle.std.specs.List.{enumerate_from}
+use Rattle.std.specs.List.{enumerate_from, zip}
 use Rattle.std.specs.FinMap.{get}
 use Rattle.irl_offer.specs.declared.offer.Rule.{Rule}
 use Rattle.irl_offer.specs.declared.offer.Verdict.{Verdict}
@@ -43,7 +43,7 @@ after-more rule seen xs x = after-append rule seen xs (x ∷ [])
 pub judged_on-more : (rule : Rule) (seen : KeyMap) (xs : List Tuple) (x : Tuple) → judged_on rule seen (xs ++ x ∷ []) ≡ judged_on rule seen xs ++ (x, answer x.op (get (after rule seen xs) x.key)) ∷ []
 judged_on-more rule seen xs x = judged_on-append rule seen xs (x ∷ [])
 
-length-judged_on : (rule : Rule) (seen : KeyMap) (xs : List Tuple) → length (judged_on rule seen xs) ≡ length xs
+pub length-judged_on : (rule : Rule) (seen : KeyMap) (xs : List Tuple) → length (judged_on rule seen xs) ≡ length xs
 length-judged_on rule seen [] = refl
 length-judged_on rule seen (x ∷ xs) = ap (λ (n : ℕ). suc n) (length-judged_on rule (entered rule seen x) xs)
 
@@ -53,3 +53,14 @@ judgements-drop rule base xs ys =
     let seam : drop (length xs) (judged_on rule base xs ++ judged_on rule (after rule base xs) ys) ≡ judged_on rule (after rule base xs) ys =
     rw (← length-judged_on rule base xs) (drop-append_seam (judged_on rule base xs) (judged_on rule (after rule base xs) ys)) in
     ap (drop (length xs)) (judgements-judged_on rule base (xs ++ ys) ∙ judged_on-append rule base xs ys) ∙ seam ∙ sym (judgements-judged_on rule (after rule base xs) ys)
+
+zip-judged_on : (rule : Rule) (seen : KeyMap) (xs : List Tuple) → zip xs (map (λ (p : Tuple × Option Verdict). p.1) (judged_on rule seen xs)) ≡ judged_on rule seen xs
+zip-judged_on rule seen [] = refl
+zip-judged_on rule seen (x ∷ xs) = ap (λ (rest : List (Tuple × Option Verdict)). (x, answer x.op (get seen x.key)) ∷ rest) (zip-judged_on rule (entered rule seen x) xs)
+
+pub length-judgements : (rule : Rule) (base : KeyMap) (xs : List Tuple) → length (judgements rule base xs) ≡ length xs
+length-judgements rule base xs = rw (judgements-judged_on rule base xs) (length-judged_on rule base xs)
+
+-- the offers beside their verdicts
+pub zip-judgements : (rule : Rule) (base : KeyMap) (xs : List Tuple) → zip xs (map (λ p. p.1) (judgements rule base xs)) ≡ judgements rule base xs
+zip-judgements rule base xs = rw (judgements-judged_on rule base xs) (zip-judged_on rule base xs)

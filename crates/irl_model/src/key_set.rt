@@ -1,4 +1,4 @@
-ghost use Rattle.std.specs.Prelude.{◌≡◌, OnOk, OnErr, IfOk};
+ghost use Rattle.std.specs.Prelude.{◌≡◌, OnOk, OnErr, IfOk, length};
 ghost use Rattle.std.specs.Prelude.{map as list_map};
 ghost use Rattle.std.specs.FinMap as map;
 ghost use Rattle.irl_model.specs.Judging.{after, answer, combined as combined_of, entered, judgements};
@@ -84,6 +84,7 @@ impl KeySet {
         offers: &[Offer],
     ) -> Result<Vec<Option<Verdict>>, AllocError>
         ensures verdicts { IfOk result (λ verdicts. verdicts.items ≡ list_map (λ p. p.1) (judgements rule self.old offers.now)) }
+        ensures count { IfOk result (λ verdicts. length verdicts.items ≡ length offers.now) }
         ensures ok { OnOk result (self.new ≡ after rule self.old offers.now) }
     {
         let mut verdicts = Vec::new(alloc);

@@ -1,8 +1,8 @@
 use Rattle.std.proofs.Common.{◌≡◌, ◌∙◌, ◌+◌, [], ◌∷◌, ◌++◌, take, take_all, sym, ap}
-use Rattle.std.proofs.lemmas.List.{map-append, take_more}
+use Rattle.std.proofs.lemmas.List.{length-map, map-append, take_more}
 use Rattle.irl_offer.specs.Tuple.{Tuple}
 use Rattle.irl_model.specs.Judging.{KeyMap, after, entered}
-use Rattle.irl_model.proofs.JudgingLaws.{after-more, judged_on-more, judgements-judged_on}
+use Rattle.irl_model.proofs.JudgingLaws.{length-judged_on, after-more, judged_on-more, judgements-judged_on}
 use Rattle.irl_model.proofs.key_set.KeySet.ask_all.Goals as goal
 
 pub loop-offer-preserved : goal.loop-offer-preserved
@@ -24,5 +24,6 @@ returns c =
     let all : take c.loop-offer.offer-index c.args.offers.now ≡ c.args.offers.now = take_all _ _ c.loop-offer-test.false in
     record {
       verdicts = rw (judgements-judged_on c.args.rule c.args.self.now c.args.offers.now) (rw all at c.loop-offer.invariant.told);
+      count = rw (c.loop-offer.invariant.told, all) (length-map _ _ ∙ length-judged_on c.args.rule c.args.self.now c.args.offers.now);
       ok = rw all at c.loop-offer.invariant.seen;
     }
