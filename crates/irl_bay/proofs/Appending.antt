@@ -1,5 +1,5 @@
 -- Lines behind those that a file has.
-use Rattle.std.proofs.Common.{◌≡◌, ◌∙◌, ℕ, ◌+◌, ◌≤◌, List, [], ◌++◌, length, map, take, drop, refl, sym, ap, arith, length-append, take_all, append-nil}
+use Rattle.std.proofs.Common.{◌≡◌, ◌∙◌, ℕ, ◌+◌, ◌≤◌, List, [], ◌++◌, length, map, take, drop, refl, sym, subst, ap, arith, length-append, take_all, append-nil}
 use Rattle.std.proofs.lemmas.List.{drop_all, map-append, length-map}
 use Rattle.std.specs.FinMap.{empty}
 use Rattle.std.specs.List.{AllByRecursion}
@@ -8,7 +8,8 @@ use Rattle.irl_offer.specs.declared.offer.Verdict.{Verdict}
 use Rattle.irl_offer.specs.Tuple.{Tuple}
 use Rattle.irl_model.specs.Judging.{KeyMap, after, judgements}
 use Rattle.irl_model.proofs.JudgingLaws.{judgements-drop, after-append}
-use Rattle.irl_disk.specs.Disk.{Holds}
+use Rattle.std.specs.Prelude.{Option, Some, None}
+use Rattle.irl_disk.specs.Disk.{Files, Changes, ChangesFile, Holds}
 use Rattle.irl_bay.specs.LineFile.{IsKeepable, HasLines, text_of, line_file, line_tuple}
 use Rattle.irl_bay.proofs.Entering.{text_of-append, each-append, tuples-more}
 
@@ -34,3 +35,10 @@ pub verdicts_more : (seen : KeyMap) (lines news : List (List ℕ)) (offers : Lis
 verdicts_more seen lines news offers known are =
     let later = judgements-drop Keep empty (map line_tuple lines) (map line_tuple news) in
     rw (known, are, map-append, ← length-map lines line_tuple) (sym later)
+
+-- a store that tells after a change told before it
+pub told_before : (f : ℕ) (step : List ℕ → List ℕ → Type 0) (told now : Option Files) (new : Files) → Changes f step told now → now ≡ Some new → (old : Files) × (told ≡ Some old) × ChangesFile f step old new
+told_before f step None now new changes tells = absurd (let e = sym changes ∙ tells in cc)
+told_before f step (Some old) now new changes tells =
+    let same : changes.0 ≡ new = let e = sym changes.1 ∙ tells in cc in
+    (old, refl, subst (λ (files : Files). ChangesFile f step old files) same changes.2)

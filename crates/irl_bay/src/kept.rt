@@ -125,8 +125,9 @@ impl Kept {
         offers: &[Offer],
     ) -> Result<Vec<Option<Verdict>>, Fault>
         requires lines { AreLines offers.now }
-        requires open { IsOpen (S.contents store.old) self.old }
+        requires known { IsOpen (S.contents store.old) self.old }
         ensures lines { OnOk result (Appends (S.contents store.old) (S.contents store.new) self.old self.new (map (λ offer. offer.aux) offers.now)) }
+        ensures known { OnOk result (IsOpen (S.contents store.new) self.new) }
         ensures verdicts { IfOk result (λ verdicts. AreVerdicts self.old (map (λ offer. offer.aux) offers.now) verdicts.items) }
         ensures count { IfOk result (λ verdicts. length verdicts.items ≡ length offers.now) }
         ensures others { KeepsOthers (S.contents store.old) (S.contents store.new) }

@@ -1,7 +1,7 @@
-use Rattle.std.proofs.Common.{◌≡◌, ◌∙◌, ℕ, List, length, map, sym, ap, subst, rules}
+use Rattle.std.proofs.Common.{◌≡◌, ◌∙◌, ◌++◌, ℕ, List, length, map, sym, ap, subst, rules}
 use Rattle.irl_disk.specs.Disk.{Files, Holds}
 use Rattle.irl_bay.specs.LineFile.{line_file, text_of}
-use Rattle.irl_bay.proofs.Appending.{has_more, knows_more, end_more, verdicts_more}
+use Rattle.irl_bay.proofs.Appending.{told_before, has_more, knows_more, end_more, verdicts_more}
 use Rattle.irl_bay.proofs.kept.Kept.append.Goals as goal
 
 pub returns-clause-lines : goal.returns-clause-lines
@@ -23,3 +23,10 @@ returns-clause-lines g c = λ old new lines tells now has known.
 pub returns-clause-verdicts : goal.returns-clause-verdicts
 returns-clause-verdicts g c = λ lines known.
     c.in_ok-verdicts.ensures.verdicts ∙ ap (map (λ p. p.1)) (verdicts_more c.args.self.now.seen lines _ c.args.offers.now known.seen c.requires.lines.lines)
+
+pub returns-clause-known : goal.returns-clause-known
+returns-clause-known g c = λ new now.
+    let before = told_before line_file (Holds c.args.self.now.end c.deref.result.now) (g.S.Store.contents c.args.store.now) (g.S.Store.contents c.write.new.self) new c.in_ok-write.ensures.ok now in
+    let had = c.requires.known before.0 before.1 in
+    let more = returns-clause-lines g c before.0 new had.0 before.1 now had.1 had.2 in
+    (had.0 ++ map (λ offer. offer.aux) c.args.offers.now, more.0, more.1)

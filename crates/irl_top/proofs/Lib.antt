@@ -1,0 +1,6 @@
+pub mod Committing
+pub mod Deciding
+pub mod Reading
+pub mod Running
+pub mod Sinks
+pub mod Stopping

@@ -1,0 +1,10 @@
+use Rattle.irl_top.proofs.telling.tell.Goals as goal
+
+pub returns-in-OutputFault-clause-ok : goal.returns-in-OutputFault-clause-ok
+returns-in-OutputFault-clause-ok g c = rw (c.in-OutputFault.is) c.write-in-OutputFault.ensures.ok
+
+pub returns-in-OutputFault-clause-err : goal.returns-in-OutputFault-clause-err
+returns-in-OutputFault-clause-err g c = rw (c.in-OutputFault.is) c.write-in-OutputFault.ensures.err
+
+pub returns-in-NotOurs-clause-err : goal.returns-in-NotOurs-clause-err
+returns-in-NotOurs-clause-err g c = rw (c.in-NotOurs.is, ← c.format-in-NotOurs.ensures.text, ← c.as_bytes-in-NotOurs.ensures.value) c.say-in-NotOurs.ensures.err

@@ -1,0 +1,5 @@
+pub mod Batch
+pub mod Input
+pub mod Message
+pub mod Printed
+pub mod Run

@@ -1,0 +1,92 @@
+ghost use Rattle.std.specs.Prelude.{◌≡◌, ◌≢◌, ◌≤◌, OnOk, OnErr, IsErrOf};
+ghost use Rattle.irl_offer.specs.Faults.{Rose, HasCause};
+ghost use Rattle.std.specs.Io.KnownBytes.{Appends};
+ghost use Rattle.irl_io.specs.Written.{AppendsFront};
+ghost use Rattle.irl_bay.specs.LineFile.{AreLines};
+ghost use Rattle.irl_bay.specs.Kept.{IsOpen, KeepsOthers};
+ghost use Rattle.irl_top.specs.Batch.{texts, Commits, CommitsPart};
+ghost use Rattle.irl_top.specs.declared.commit.CommitFault.TheVariants.{Disk, Output, Memory};
+ghost use Rattle.irl_top.specs.Message.{commit_fault_of};
+
+use crate::printing::printed_text;
+use irl_bay::{Fault, Kept};
+use irl_disk::Store;
+use irl_io::{Failed, Sink};
+use irl_offer::Offer;
+use std::alloc::{AllocError, Global};
+
+/// Why a batch was not kept and printed whole.
+#[derive(Clone, Copy, Debug, PartialEq, Eq)]
+pub enum CommitFault {
+    /// The store failed.
+    Disk,
+    /// The output failed.
+    Output,
+    /// Memory ran out.
+    Memory,
+}
+
+impl From<AllocError> for CommitFault {
+    ghost from_gives = { λ _ e. e ≡ Memory };
+
+    fn from(_: AllocError) -> CommitFault {
+        CommitFault::Memory
+    }
+}
+
+impl From<Failed> for CommitFault {
+    ghost from_gives = { λ _ e. e ≡ Output };
+
+    fn from(_: Failed) -> CommitFault {
+        CommitFault::Output
+    }
+}
+
+impl From<Fault> for CommitFault {
+    ghost from_gives = { λ fault e. e ≡ commit_fault_of fault };
+
+    fn from(fault: Fault) -> CommitFault {
+        match fault {
+            Fault::Failed => CommitFault::Disk,
+            Fault::Memory => CommitFault::Memory,
+        }
+    }
+}
+
+/// Keeps the lines of these offers, and writes those that are judged Unique.
+pub fn commit<O: Sink, S: Store>(
+    alloc: Global,
+    kept: &mut Kept,
+    store: &mut S,
+    output: &mut O,
+    offers: &[Offer],
+) -> Result<(), CommitFault>
+    requires lines { AreLines offers.now }
+    requires known { IsOpen (S.contents store.old) kept.old }
+    ensures whole { OnOk result (Commits (S.contents store.old) (S.contents store.new) kept.old kept.new (O.written output.old) (O.written output.new) (texts offers.now)) }
+    ensures known { OnOk result (IsOpen (S.contents store.new) kept.new) }
+    ensures part { OnErr result (result ≢ Err CommitFault.Disk → CommitsPart (S.contents store.old) (S.contents store.new) kept.old (O.written output.old) (O.written output.new) (texts offers.now)) }
+    ensures quiet { IsErrOf result CommitFault.Disk → O.written output.new ≡ O.written output.old }
+    ensures others { KeepsOthers (S.contents store.old) (S.contents store.new) }
+    ensures disk_later { S.faults store.old ≤ S.faults store.new }
+    ensures output_later { O.faults output.old ≤ O.faults output.new }
+    ensures disk { IsErrOf result CommitFault.Disk → Rose (S.faults store.old) (S.faults store.new) }
+    ensures output { IsErrOf result CommitFault.Output → Rose (O.faults output.old) (O.faults output.new) }
+{
+    let verdicts = kept.append(alloc, store, offers)?;
+    let text = printed_text(alloc, offers, &verdicts)?;
+    write_some(output, &text)?;
+    Ok(())
+}
+
+/// Writes a text where there is one.
+fn write_some<O: Sink>(output: &mut O, text: &[u8]) -> Result<(), Failed>
+    ensures ok { OnOk result (Appends (O.written output.old) (O.written output.new) text.now) }
+    ensures err { OnErr result (AppendsFront (O.written output.old) (O.written output.new) text.now) }
+    ensures cause { HasCause (O.faults output.old) (O.faults output.new) result }
+{
+    if text.is_empty() {
+        return Ok(());
+    }
+    output.write(text)
+}

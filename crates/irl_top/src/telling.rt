@@ -1,0 +1,45 @@
+ghost use Rattle.std.specs.Prelude.{◌≡◌, ◌++◌, map, length, OnOk, OnErr};
+ghost use Rattle.std.specs.Io.KnownBytes.{Appends};
+ghost use Rattle.irl_offer.specs.Faults.{HasCause};
+ghost use Rattle.irl_io.specs.Written.{AppendsFront};
+ghost use Rattle.irl_top.specs.Message.{message};
+
+use crate::Ending;
+use irl_io::{Failed, Sink};
+use itoa::Buffer;
+
+/// Writes the line of an ending: nothing at `Done`. It takes no memory.
+pub fn tell<E: Sink>(errors: &mut E, refused: &str, ending: Ending) -> Result<(), Failed>
+    ensures ok { OnOk result (Appends (E.written errors.old) (E.written errors.new) (message refused.now ending)) }
+    ensures err { OnErr result (AppendsFront (E.written errors.old) (E.written errors.new) (message refused.now ending)) }
+    ensures cause { HasCause (E.faults errors.old) (E.faults errors.new) result }
+{
+    let mut buffer = Buffer::new();
+    match ending {
+        Ending::Done => Ok(()),
+        Ending::WordsRefused => say(errors, b"words refused: ", refused.as_bytes(), b"\n"),
+        Ending::LineRefused(n) => say(errors, b"line ", buffer.format(n).as_bytes(), b" refused\n"),
+        Ending::NotOurs(n) => say(
+            errors,
+            b"not a store: byte ",
+            buffer.format(n).as_bytes(),
+            b" of file 0998\n",
+        ),
+        Ending::DiskFault => errors.write(b"disk fault\n"),
+        Ending::InputFault => errors.write(b"input fault\n"),
+        Ending::OutputFault => errors.write(b"output fault\n"),
+        Ending::NoMemory => errors.write(b"no memory\n"),
+    }
+}
+
+/// Writes three pieces, up to the first that fails.
+fn say<E: Sink>(errors: &mut E, front: &[u8], middle: &[u8], back: &[u8]) -> Result<(), Failed>
+    ensures ok { OnOk result (Appends (E.written errors.old) (E.written errors.new) (front.now ++ middle.now ++ back.now)) }
+    ensures err { OnErr result (AppendsFront (E.written errors.old) (E.written errors.new) (front.now ++ middle.now ++ back.now)) }
+    ensures cause { HasCause (E.faults errors.old) (E.faults errors.new) result }
+{
+    errors.write(front)?;
+    errors.write(middle)?;
+    errors.write(back)?;
+    Ok(())
+}
