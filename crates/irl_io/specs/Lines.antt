@@ -6,7 +6,8 @@ use Rattle.std.specs.List.{onto_first, flat_map, AllByRecursion}
 abbrev pub is_line_feed : ℕ → Bool
 is_line_feed b = b == 10
 
--- A line ends at each line feed, which is no part of it. Bytes behind the last line feed are a line if there are any.
+-- A line ends at each line feed, which is no part of it. Bytes behind the last line feed are a line if there are any
+-- (POSIX.1-2017, Base Definitions, 3.206 Line and 3.195 Incomplete Line).
 abbrev pub lines : List ℕ → List (List ℕ)
 lines [] = []
 lines (b ∷ bytes) = if is_line_feed b then [] ∷ lines bytes else onto_first b (lines bytes)
