@@ -1,5 +1,5 @@
 -- The lines of some bytes.
-use Rattle.std.specs.Prelude.{ℕ, ◌≤◌, ◌≢◌, Bool, ◌==◌, List, [], ◌∷◌, ◌++◌, length, if◌then◌else◌}
+use Rattle.std.specs.Prelude.{◌≡◌, ℕ, ◌≤◌, ◌≢◌, Bool, ◌==◌, List, [], ◌∷◌, ◌++◌, length, if◌then◌else◌}
 use Rattle.std.specs.List.{onto_first, flat_map, AllByRecursion}
 
 -- a line feed, at which a line ends
@@ -27,3 +27,9 @@ pub record IsLine (line : List ℕ) : Type 0 where
 -- the text of these lines, a line feed behind each
 abbrev pub text : List (List ℕ) → List ℕ
 text ls = flat_map (λ line. line ++ 10 ∷ []) ls
+
+-- no bytes stand behind the last line feed
+abbrev pub IsClosed : List ℕ → Type 0
+IsClosed [] = Unit {0}
+IsClosed (b ∷ []) = b ≡ 10
+IsClosed (b ∷ c ∷ bytes) = IsClosed (c ∷ bytes)
