@@ -1,5 +1,5 @@
 -- Where the first line feed stands: what a search found, and what more bytes change.
-use Rattle.std.proofs.Common.{◌≡◌, ◌≢◌, ℕ, suc, min, ◌+◌, ◌-◌, ◌<◌, ◌≤◌, Bool, true, false, cond, not, eqb, inl, inr, List, [], ◌∷◌, ◌++◌, Option, Some, None, IfSome, IfNone, length, take, drop, get_or, refl, sym, ap, ◌∙◌, subst, arith, rules, append-nil, append_assoc, length-append, length-take}
+use Rattle.std.proofs.Common.{◌≡◌, ◌≢◌, ℕ, suc, min, ◌+◌, ◌-◌, ◌<◌, ◌≤◌, Bool, true, false, cond, not, eqb, inl, inr, List, [], ◌∷◌, ◌++◌, Option, Some, None, IfSome, IfNone, length, take, drop, get_or, refl, sym, ap, ◌∙◌, subst, arith, append-nil, append_assoc, length-append, length-take}
 use Rattle.std.proofs.Math.Seq.{take-add}
 use Rattle.std.specs.Io.KnownBytes.{Keeps, Consumes, IsAtEnd, prepend_known}
 use Rattle.std.proofs.lemmas.Bool.{false_from_ne_true, eqb-false, cases_lt}
@@ -9,7 +9,7 @@ use Rattle.std.proofs.lemmas.List.Folds.{prefix_len-append, length-prefix_len}
 use Rattle.std.proofs.lemmas.List.Sums.{position_or_len_is, passes_at_first, prefix_len-le-length}
 use Rattle.std.specs.List.{slice_range, AllByRecursion, position_or_len, before_first, after_first}
 use Rattle.memchr.specs.Find.{IsFirstByte, is_byte}
-use Rattle.irl_io.specs.Lines.{lines, is_line_feed, longest, most_lines, IsLine}
+use Rattle.irl_io.specs.Lines.{lines, is_line_feed, longest, IsLine}
 use Rattle.irl_io.specs.Steps.{TakesLine, RefusesLine, OfKnown}
 use Rattle.irl_io.specs.Front.{HasLine}
 use Rattle.irl_io.proofs.LineLemmas.{lines_first}

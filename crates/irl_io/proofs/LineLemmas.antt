@@ -1,8 +1,8 @@
 -- Lemmas on lines: the first one and the others, and a text that was put together of lines.
-use Rattle.std.proofs.Common.{◌≡◌, ◌≢◌, ℕ, suc, ◌+◌, ◌<◌, ◌≤◌, Bool, true, false, cond, not, eqb, List, [], ◌∷◌, ◌++◌, length, take, drop, refl, sym, ap, ◌∙◌, arith, append-nil, append_assoc}
-use Rattle.std.proofs.lemmas.Bool.{ne_eqb, eqb-false}
+use Rattle.std.proofs.Common.{◌≡◌, ◌≢◌, ℕ, suc, ◌+◌, Bool, true, false, cond, not, eqb, List, [], ◌∷◌, ◌++◌, take, drop, refl, sym, ap, ◌∙◌, subst, arith, append-nil, append_assoc}
+use Rattle.std.proofs.lemmas.Bool.{ne_eqb, eqb-false, eqb-true}
 use Rattle.std.specs.List.{onto_first, AllByRecursion, position_or_len, before_first, after_first}
-use Rattle.irl_io.specs.Lines.{lines, text, is_line_feed}
+use Rattle.irl_io.specs.Lines.{lines, text, IsClosed, is_line_feed}
 
 next_line : (b : ℕ) (bytes : List ℕ) (p : ℕ) → lines bytes ≡ take p bytes ∷ lines (drop (p + 1) bytes) → onto_first b (lines bytes) ≡ take (1 + p) (b ∷ bytes) ∷ lines (drop (1 + p + 1) (b ∷ bytes))
 next_line b bytes p law =
@@ -54,3 +54,14 @@ whole_next false b ls test later = whole_onto b ls (eqb-false b 10 test) later
 pub whole_lines : (bytes : List ℕ) → AllByRecursion (AllByRecursion (λ b. b ≢ 10)) (lines bytes)
 whole_lines [] = tt
 whole_lines (b ∷ bytes) = whole_next (eqb b 10) b (lines bytes) refl (whole_lines bytes)
+
+text_next : (feed : Bool) (b : ℕ) (ls : List (List ℕ)) (c : ℕ) (bytes : List ℕ) → eqb b 10 ≡ feed → text ls ≡ c ∷ bytes → text (cond feed ([] ∷ ls) (onto_first b ls)) ≡ b ∷ c ∷ bytes
+text_next true b ls c bytes test later = ap (λ l. 10 ∷ l) later ∙ ap (λ x. x ∷ c ∷ bytes) (sym (eqb-true b 10 test))
+text_next false b [] c bytes test later = absurd (cc)
+text_next false b (line ∷ ls) c bytes test later = ap (λ l. b ∷ l) later
+
+-- the text of the lines of a closed text is that text
+pub text-lines : (bytes : List ℕ) → IsClosed bytes → text (lines bytes) ≡ bytes
+text-lines [] closed = refl
+text-lines (b ∷ []) closed = subst (λ x. text (lines (x ∷ [])) ≡ x ∷ []) (sym closed) refl
+text-lines (b ∷ c ∷ bytes) closed = text_next (eqb b 10) b (lines (c ∷ bytes)) c bytes refl (text-lines (c ∷ bytes) closed)

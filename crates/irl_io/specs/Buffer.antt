@@ -3,7 +3,7 @@ use Rattle.std.specs.Prelude.{◌≡◌, ◌≤◌, length}
 use Rattle.irl_io.specs.Lines.{most_lines}
 use Rattle.irl_io.specs.declared.lines.Lines.TheInside.{Inside}
 
--- what was read ahead lies between two places of the buffer, whose length stays
+-- what was read ahead lies between two places of the buffer, which never grows
 pub record IsBuffer (a : Inside) : Type 0 where
   pub ordered : a.start ≤ a.end
   pub within : a.end ≤ 131072

@@ -1,7 +1,7 @@
 -- What a reader of lines answers, of the bytes that are left: those that it read ahead, and then the source's.
 use Rattle.std.specs.Prelude.{◌≡◌, ◌≢◌, ℕ, ◌+◌, ◌<◌, ◌≤◌, ⊤, ◌⊎◌, List, [], ◌∷◌, length, Option, None, Some}
-use Rattle.std.specs.List.{before_first, after_first, position_or_len}
-use Rattle.std.specs.Io.KnownBytes.{IsAtEnd, prepend_known}
+use Rattle.std.specs.List.{before_first, after_first}
+use Rattle.std.specs.Io.KnownBytes.{prepend_known}
 use Rattle.irl_offer.specs.Faults.{Rose}
 use Rattle.irl_io.specs.Lines.{lines, is_line_feed, longest, most_lines, IsLine}
 use Rattle.irl_io.specs.declared.lines.Step.{Step}

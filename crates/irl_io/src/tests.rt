@@ -46,6 +46,7 @@ impl io::Read for Shaky {
 #[derive(Drop)]
 struct Narrow {
     bytes: Vec<u8>,
+    flushes: u32,
 }
 
 impl io::Write for Narrow {
@@ -59,8 +60,13 @@ impl io::Write for Narrow {
     }
 
     fn flush(&mut self) -> io::Result<()> {
+        self.flushes = self.flushes.saturating_add(1);
         Ok(())
     }
+}
+
+fn put<O: Sink>(sink: &mut O, bytes: &[u8]) -> Result<(), Failed> {
+    sink.write(bytes)
 }
 
 /// The lines that come, each with a `|` behind it, and then a sign of what ended them.
@@ -232,9 +238,9 @@ fn memory_gives_and_takes_bytes(rt: HostRuntime) -> Result<(), Fail> {
     assert_eq!(rt; source.read(&mut into), Ok(0));
 
     let mut sink = MemSink::new(alloc, vec![in alloc; 1]?);
-    assert_eq!(rt; sink.write(b"ab"), Ok(()));
-    assert_eq!(rt; sink.write(b"cd"), Err(Failed));
-    assert_eq!(rt; sink.write(b"ef"), Ok(()));
+    assert_eq!(rt; put(&mut sink, b"ab"), Ok(()));
+    assert_eq!(rt; put(&mut sink, b"cd"), Err(Failed));
+    assert_eq!(rt; put(&mut sink, b"ef"), Ok(()));
     assert_eq!(rt; sink.bytes(), b"abef".as_slice());
     Ok(())
 }
@@ -251,19 +257,21 @@ fn readers_and_writers_of_std_are_passed_on(rt: HostRuntime) -> Result<(), Fail>
 
     let mut bytes = Vec::new(alloc);
     let mut sink = WriteSink::new(&mut bytes);
-    assert_eq!(rt; sink.write(b"ab"), Ok(()));
-    assert_eq!(rt; sink.write(b""), Ok(()));
-    assert_eq!(rt; sink.write(b"cde"), Ok(()));
+    assert_eq!(rt; put(&mut sink, b"ab"), Ok(()));
+    assert_eq!(rt; put(&mut sink, b""), Ok(()));
+    assert_eq!(rt; put(&mut sink, b"cde"), Ok(()));
     drop(sink);
     assert_eq!(rt; bytes.as_slice(), b"abcde".as_slice());
 
     let mut narrow = Narrow {
         bytes: Vec::new(alloc),
+        flushes: 0,
     };
     let mut sink = WriteSink::new(&mut narrow);
-    assert_eq!(rt; sink.write(b"0123456"), Ok(()));
-    assert_eq!(rt; sink.write(b"789abc"), Err(Failed));
+    assert_eq!(rt; put(&mut sink, b"0123456"), Ok(()));
+    assert_eq!(rt; put(&mut sink, b"789abc"), Err(Failed));
     drop(sink);
     assert_eq!(rt; narrow.bytes.as_slice(), b"0123456789".as_slice());
+    assert_eq!(rt; narrow.flushes, 1);
     Ok(())
 }

@@ -25,6 +25,7 @@ impl<T> WriteSink<T> {
         WriteSink { writer, faults: 0 }
     }
 
+    /// Counts a fault.
     fn count_fault(&mut self)
         ensures { self.new ≡ record self.old { faults = counted self.old.faults } }
     {

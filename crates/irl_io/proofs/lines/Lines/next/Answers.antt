@@ -1,5 +1,5 @@
 -- The bytes that the method shows are the front of those left, by the view of the fields after `front`.
-use Rattle.std.proofs.Common.{◌≡◌, ◌+◌, List, refl, ap, ◌∙◌, arith}
+use Rattle.std.proofs.Common.{◌≡◌, ◌+◌, refl, ap, ◌∙◌, arith}
 use Rattle.std.specs.List.{slice_range}
 use Rattle.irl_io.specs.Steps.{Progress}
 use Rattle.irl_io.proofs.FeedLemmas.{takes_front, gives_line, refuses_long}
