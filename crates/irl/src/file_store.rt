@@ -2,6 +2,7 @@ ghost use Rattle.std.specs.Prelude.{◌≡◌, ◌+◌, ◌^◌, ◌<◌, ◌≤
 ghost use Rattle.std.specs.Io.KnownBytes.{Consumes, IsAtEnd};
 ghost use Rattle.irl_offer.specs.Faults.{HasCause};
 ghost use Rattle.irl_io.specs.Memory.{counted};
+ghost use Rattle.irl.specs.FileStore.{fault_count};
 
 use irl_disk::{Failed, Store};
 use std::alloc::{AllocError, Global};
@@ -38,7 +39,7 @@ struct Folder<R: Files> {
 impl<R: Files + Drop> FileStore<R> {
     /// A store over the files of this folder. Nothing is opened or made yet.
     pub fn new(rt: R, alloc: Global, folder: &str) -> Result<FileStore<R>, AllocError>
-        ensures { IfOk result (λ store. store.faults ≡ 0) }
+        ensures { IfOk result (λ store. fault_count store ≡ 0) }
     {
         let path = if folder.is_empty() { "." } else { folder };
         Ok(FileStore {
