@@ -1,0 +1,121 @@
+//! The program `irl`: a web crawler over a store in a folder.
+#![tactic(auto)]
+
+ghost use Rattle.std.specs.Prelude.{◌≡◌, ◌≢◌};
+ghost use Rattle.std.specs.Io.KnownBytes.{Appends};
+ghost use Rattle.irl_offer.specs.Faults.{Rose};
+
+mod file_store;
+mod words;
+
+use file_store::FileStore;
+use irl_io::{ReadSource, Sink, Source, WriteSink};
+use irl_top::run;
+use std::alloc::AllocError;
+use std::env;
+use std::io::ErrorKind;
+use std::process::ExitCode;
+use std::rt::{Env, Files};
+use std::sync::Wait;
+use std::thread::Threads;
+use words::{Request, folder_and_command};
+
+const HELP: &str = "\
+Usage: irl DIR COMMAND
+
+Keeps what it is given in the folder DIR, which is made at the first write.
+
+Commands:
+  seen  prints each line of standard input that was not given before
+
+Options:
+  -h, --help     prints this text
+      --version  prints the version
+";
+
+const SEEN_HELP: &str = "\
+Usage: irl DIR seen
+
+Keeps the lines of standard input in the folder DIR, and prints each line that is
+new, in order. A line has at most 2,048 bytes, and empty lines are passed over.
+
+Options:
+  --help  prints this text
+
+Exit status: 0 done, 1 words refused, 2 a line refused, 3 not a store, 4 disk
+fault, 5 input fault, 6 output fault, 7 no memory.
+";
+
+const VERSION: &str = "irl 0.1.0\n";
+
+/// The exit status where the output failed.
+const OUTPUT_FAULT: u8 = 6;
+
+/// The exit status where memory ran out.
+const NO_MEMORY: u8 = 7;
+
+/// Writes a text, and gives the exit status.
+fn show<O: Sink, E: Sink>(output: &mut O, errors: &mut E, text: &str) -> u8
+    ensures done { result ≡ 0 → Appends (O.written output.old) (O.written output.new) text.now }
+    ensures fault { result ≢ 0 → (result ≡ OUTPUT_FAULT) × Rose (O.faults output.old) (O.faults output.new) }
+{
+    match output.write(text.as_bytes()) {
+        Ok(()) => 0,
+        Err(_) => {
+            let _ = errors.write(b"output fault\n");
+            OUTPUT_FAULT
+        }
+    }
+}
+
+/// The words of the command line behind the program's name. Where one of them is no text, there are none.
+fn arguments<R: Env + AllocGlobal>(rt: &R) -> Result<Vec<String>, AllocError> {
+    match env::args(rt) {
+        Ok(arguments) => arguments.skip(1).collect(rt.alloc()),
+        Err(error) if error.kind() == ErrorKind::OutOfMemory => Err(AllocError),
+        Err(_) => Ok(Vec::new(rt.alloc())),
+    }
+}
+
+/// Does what the words of the command line ask for, and gives the exit status.
+fn answer<R, I, O, E>(
+    rt: &R,
+    input: &mut I,
+    output: &mut O,
+    errors: &mut E,
+) -> Result<u8, AllocError>
+where
+    R: Env + Files + AllocGlobal + Threads + Wait + Sync,
+    I: Source,
+    O: Sink,
+    E: Sink,
+{
+    let alloc = rt.alloc();
+    let arguments = arguments(rt)?;
+    let words: Vec<&str> = arguments.iter().map(|word| word.as_str()).collect(alloc)?;
+    match Request::from_words(&words) {
+        Request::Help => Ok(show(output, errors, HELP)),
+        Request::SeenHelp => Ok(show(output, errors, SEEN_HELP)),
+        Request::Version => Ok(show(output, errors, VERSION)),
+        Request::Run => {
+            let (folder, command) = folder_and_command(&words);
+            let store = FileStore::new(rt, alloc, folder)?;
+            let (status, store) = run(rt, alloc, command, input, output, errors, store);
+            drop(store);
+            Ok(status)
+        }
+    }
+}
+
+fn main(rt: HostRuntime) -> ExitCode {
+    let mut input = ReadSource::new(rt.stdin());
+    let mut output = WriteSink::new(rt.stdout());
+    let mut errors = WriteSink::new(rt.stderr());
+    match answer(&rt, &mut input, &mut output, &mut errors) {
+        Ok(status) => ExitCode::from(status),
+        Err(_) => {
+            let _ = errors.write(b"no memory\n");
+            ExitCode::from(NO_MEMORY)
+        }
+    }
+}
