@@ -1,0 +1,14 @@
+//! Where the links of an HTML page stand, and what their text is.
+#![tactic(auto)]
+
+mod attribute;
+mod kind;
+mod piece;
+mod reference;
+
+mod span;
+mod stop;
+
+// pub use reference::text;
+// pub use scan::{base, links};
+// pub use span::Span;
