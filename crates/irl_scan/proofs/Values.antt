@@ -1,10 +1,12 @@
 -- The value behind an attribute's name, read at a place: it is as the grammar says, and is the only one.
 use Rattle.std.proofs.Common.{◌≡◌, ℕ, suc, ◌+◌, ◌-◌, ◌<◌, ◌≤◌, Bool, true, false, cond, not, ◌||◌, eqb, List, [], ◌∷◌, ◌++◌, length, drop, Option, Some, None, refl, ap, sym, ◌∙◌, subst, arith}
 use Rattle.std.proofs.lemmas.Bool.{eqb-true, eq-eqb, false≢true}
+use Rattle.irl_scan.specs.declared.attribute.Ending.{Ending}
+use Rattle.irl_scan.specs.declared.attribute.Ending.TheVariants.{Marked, PageEnd}
 use Rattle.irl_scan.specs.declared.span.Span.{Span}
 use Rattle.irl_scan.specs.declared.stop.Stop.TheVariants.{NotSpace, BareValue, Byte}
 use Rattle.irl_scan.specs.Bytes.{is_space, is_quote, ends_bare_value, at_byte, UpTo}
-use Rattle.irl_scan.specs.Page.{Ending, Marked, PageEnd, Value, Absent, Bare, Quoted, end_onto, value_onto, EndsBy, sign_follows, quote_follows, not_space, IsValue}
+use Rattle.irl_scan.specs.Page.{Value, Absent, Bare, Quoted, end_onto, value_onto, EndsBy, sign_follows, quote_follows, not_space, IsValue}
 use Rattle.irl_scan.specs.Links.{value_span, sign_length, value_bytes}
 use Rattle.irl_scan.specs.Reading.{from, before, stops, ending_of, first_is, quote_at, content_at, value_at}
 use Rattle.irl_scan.proofs.Runs.{before-from, UpTo-read, from-UpTo, before-UpTo, stops_there, length-run}

@@ -1,12 +1,14 @@
 -- The links of a page, and its base: read off its cut into pieces.
 use Rattle.std.specs.Prelude.{ℕ, ◌≡◌, ◌+◌, Bool, true, false, List, [], ◌∷◌, ◌++◌, length, Option, Some, None, if◌then◌else◌}
+use Rattle.irl_scan.specs.declared.attribute.Ending.{Ending}
+use Rattle.irl_scan.specs.declared.attribute.Ending.TheVariants.{Marked, PageEnd}
 use Rattle.irl_scan.specs.declared.span.Span.{Span}
 use Rattle.irl_scan.specs.declared.kind.Kind.{Kind}
 use Rattle.irl_scan.specs.declared.kind.Kind.TheVariants.{Anchor, Frame, Base, Script, Style, Other}
 use Rattle.irl_scan.specs.declared.piece.Found.{Found}
 use Rattle.irl_scan.specs.declared.piece.Found.TheVariants as found
 use Rattle.irl_scan.specs.Bytes.{kind_of, wants}
-use Rattle.irl_scan.specs.Page.{Ending, Marked, PageEnd, Value, Absent, Bare, Quoted, Attribute, Tag, Piece, Letter, Comment, Skipped, Markup, attribute_onto, piece_onto}
+use Rattle.irl_scan.specs.Page.{Value, Absent, Bare, Quoted, Attribute, Tag, Piece, Letter, Comment, Skipped, Markup, attribute_onto, piece_onto}
 
 -- how many bytes stand between an attribute's name and the bytes of its value
 abbrev pub sign_length : Value → ℕ

@@ -6,14 +6,11 @@ use Rattle.std.specs.List.{starts_with}
 use Rattle.std.specs.Char.{is_ascii_alphabetic}
 use Rattle.irl_scan.specs.declared.kind.Kind.{Kind}
 use Rattle.irl_scan.specs.declared.kind.Kind.TheVariants.{Anchor, Frame, Base, Script, Style, Other}
+use Rattle.irl_scan.specs.declared.attribute.Ending.{Ending}
+use Rattle.irl_scan.specs.declared.attribute.Ending.TheVariants.{Marked, PageEnd}
 use Rattle.irl_scan.specs.declared.piece.Opening.{Opening}
 use Rattle.irl_scan.specs.declared.piece.Opening.TheVariants as opens
 use Rattle.irl_scan.specs.Bytes.{is_space, is_gap, ends_tag_name, ends_attribute_name, ends_bare_value, is_quote, is_name, kind_of, at_byte, UpTo}
-
--- how a piece ends: by its mark, or because the page ends first
-pub data Ending : Type 0 where
-  Marked : Ending
-  PageEnd : Ending
 
 -- what follows an attribute's name
 pub data Value : Type 0 where

@@ -1,17 +1,20 @@
 -- What the scanner's own functions read at a place: the private contracts speak of it, and the proofs show that it is the one cut of the page.
-use Rattle.std.specs.Prelude.{ℕ, ◌≡◌, ◌+◌, ◌-◌, ◌<◌, ◌≤◌, Bool, true, false, ◌&&◌, ◌==◌, not, nat_lt, nat_le, nat_eq, List, [], ◌∷◌, ◌++◌, length, drop, Option, Some, None, IfSome, codes, if◌then◌else◌, slice_index}
+use Rattle.std.specs.Prelude.{ℕ, ◌≡◌, ◌+◌, ◌-◌, ◌*◌, ◌<◌, ◌≤◌, Bool, true, false, ◌&&◌, ◌||◌, ◌==◌, not, nat_lt, nat_le, nat_eq, List, [], ◌∷◌, ◌++◌, length, drop, Option, Some, None, IfSome, codes, if◌then◌else◌, slice_index}
 use Rattle.std.specs.List.{starts_with}
 use Rattle.std.specs.Char.{digit_value}
 use Rattle.std.specs.Str.Parse.{digits_value}
+use Rattle.irl_scan.specs.declared.attribute.Ending.{Ending}
+use Rattle.irl_scan.specs.declared.attribute.Ending.TheVariants.{Marked, PageEnd}
 use Rattle.irl_scan.specs.declared.span.Span.{Span}
 use Rattle.irl_scan.specs.declared.kind.Kind.{Kind}
 use Rattle.irl_scan.specs.declared.piece.Found.{Found}
+use Rattle.irl_scan.specs.declared.piece.Found.TheVariants as found
 use Rattle.irl_scan.specs.declared.reference.Radix.{Radix}
 use Rattle.irl_scan.specs.declared.reference.Radix.TheVariants.{Ten, Sixteen}
 use Rattle.irl_scan.specs.declared.stop.Stop.{Stop}
 use Rattle.irl_scan.specs.declared.stop.Stop.TheVariants.{NotSpace, NotGap, TagName, AttributeName, BareValue, Byte, CommentEnd, RawEnd, NotDigit}
 use Rattle.irl_scan.specs.Bytes.{is_space, is_gap, ends_tag_name, ends_attribute_name, ends_bare_value, is_quote, wants, at_byte, UpTo}
-use Rattle.irl_scan.specs.Page.{Ending, Marked, PageEnd, Value, Absent, Bare, Quoted, Attribute, Piece, end_onto, attributes_onto, piece_onto, tag_end_onto, AreAttributes, IsGap, EndsBy, IsPiece, ends_raw, ends_comment, not_space, Cut}
+use Rattle.irl_scan.specs.Page.{Value, Absent, Bare, Quoted, Attribute, Piece, end_onto, attributes_onto, piece_onto, tag_end_onto, AreAttributes, IsGap, EndsBy, IsPiece, ends_raw, ends_comment, not_space, Cut}
 use Rattle.irl_scan.specs.Links.{first_span, found_at, links_from, base_from}
 use Rattle.irl_scan.specs.Text.{Reference, Amp, Lt, Gt, Quot, Apos, Decimal, Hexadecimal, Item, Reads, text_of}
 
@@ -67,6 +70,19 @@ value_at rest =
       content_at (before not_space rest) (before not_space (drop 1 (from not_space rest))) (from not_space (drop 1 (from not_space rest))) (quote_at (from not_space (drop 1 (from not_space rest))))
     else (Absent, rest)
 
+-- the span lies within a page of that size, and not backwards
+pub record IsWithin (size : ℕ) (span : Span) : Type 0 where
+  pub forward : span.start ≤ span.end
+  pub inside : span.end ≤ size
+
+-- an attribute's name, of at least one byte, and what is left behind it
+abbrev pub name_of : List ℕ → List ℕ
+name_of [] = []
+name_of (b ∷ bs) = b ∷ before (stops AttributeName) bs
+
+abbrev pub behind_name : List ℕ → List ℕ
+behind_name rest = from (stops AttributeName) (drop 1 rest)
+
 -- the inside of a tag: attributes as far as its end, of which this is the first that is wanted
 pub record Inside (kind : Kind) (place : ℕ) (inside : List ℕ) (first : Option Span) (ending : Ending) (rest : List ℕ) : Type 0 where
   pub attributes : List Attribute
@@ -91,7 +107,47 @@ pub record Gives (place : ℕ) (page : List ℕ) (spans : List Span) (base : Opt
   pub spans_are : spans ≡ links_from place pieces
   pub base_is : base ≡ base_from place pieces
 
--- the span is within the page, and not backwards
-pub record IsWithin (page : List ℕ) (span : Span) : Type 0 where
-  pub forward : span.start ≤ span.end
-  pub inside : span.end ≤ length page
+abbrev pub found_within : ℕ → Found → Type 0
+found_within size found.Nothing = Unit {0}
+found_within size (found.Link span) = IsWithin size span
+found_within size (found.Base span) = IsWithin size span
+
+-- ## References
+
+-- the number below 128 that the digits write behind those of n
+abbrev pub number_from : ℕ → ℕ → List ℕ → Option ℕ
+number_from radix n [] = Some n
+number_from radix n (c ∷ cs) =
+    if nat_lt (digit_value c) radix && nat_lt (n * radix + digit_value c) 128 then number_from radix (n * radix + digit_value c) cs else None
+
+abbrev pub most_digits : Radix → ℕ
+most_digits Ten = 7
+most_digits Sixteen = 6
+
+-- what is left behind the `;`
+abbrev pub closed : List ℕ → List ℕ → Option ℕ → Option (ℕ × List ℕ)
+closed digits behind None = None
+closed digits behind (Some n) = Some (n, drop 1 behind)
+
+-- a number and its `;`
+unfoldable pub number_at : Radix → List ℕ → Option (ℕ × List ℕ)
+number_at radix rest =
+    if (length (before (stops (NotDigit radix)) rest) == 0 || nat_lt (most_digits radix) (length (before (stops (NotDigit radix)) rest))) || not (first_is 59 (from (stops (NotDigit radix)) rest)) then None
+    else closed (before (stops (NotDigit radix)) rest) (from (stops (NotDigit radix)) rest) (number_from (radix_of radix) 0 (before (stops (NotDigit radix)) rest))
+
+-- the byte that a reference at the front stands for, and what is left
+unfoldable pub reference_at : List ℕ → Option (ℕ × List ℕ)
+reference_at rest =
+    if starts_with nat_eq rest (codes "&amp;") then Some (38, drop 5 rest) else
+    (if starts_with nat_eq rest (codes "&lt;") then Some (60, drop 4 rest) else
+    (if starts_with nat_eq rest (codes "&gt;") then Some (62, drop 4 rest) else
+    (if starts_with nat_eq rest (codes "&quot;") then Some (34, drop 6 rest) else
+    (if starts_with nat_eq rest (codes "&apos;") then Some (39, drop 6 rest) else
+    (if starts_with nat_eq rest (codes "&#x") || starts_with nat_eq rest (codes "&#X") then number_at Sixteen (drop 3 rest) else
+    (if starts_with nat_eq rest (codes "&#") then number_at Ten (drop 2 rest) else None))))))
+
+-- what the value reads as
+pub record HasText (value text : List ℕ) : Type 0 where
+  pub items : List Item
+  pub reads : Reads value items
+  pub text_is : text ≡ text_of items

@@ -1,20 +1,38 @@
-ghost use Rattle.std.specs.Prelude.{◌≡◌, ◌+◌, ◌-◌, ◌<◌, ◌≤◌, length, drop, IfSome, if◌then◌else◌, Bool, true, false};
-ghost use Rattle.irl_scan.specs.Links.{value_span};
-ghost use Rattle.irl_scan.specs.Page.{Marked, PageEnd, IsAttribute, attribute_onto};
-ghost use Rattle.irl_scan.specs.Reading.{first_is, quote_at, value_at, IsWithin, Inside};
+ghost use Rattle.std.specs.Prelude.{◌≡◌, ◌-◌, ◌≤◌, length, drop, IfSome};
+ghost use Rattle.irl_scan.specs.Links.{value_span, found_in};
+ghost use Rattle.irl_scan.specs.Reading.{first_is, quote_at, name_of, behind_name, value_at, IsWithin, Inside};
 
 use crate::kind::Kind;
 use crate::span::Span;
 use crate::stop::{Stop, cut, split};
 
+/// How a piece of a page ends.
+#[derive(Clone, Copy)]
+pub enum Ending {
+    /// By its mark, as `>`.
+    Marked,
+    /// Because the page ends first.
+    PageEnd,
+}
+
 /// A value, and what is left of the page behind it.
+#[derive(Clone, Copy)]
 pub struct Value<'a> {
     pub span: Span,
     pub rest: &'a [u8],
 }
 
+/// What stands in a tag behind its name: where the first value stands that was asked for, how the tag ends, and what is
+/// left of the page.
+#[derive(Clone, Copy)]
+pub struct Inside<'a> {
+    pub first: Option<Span>,
+    pub ending: Ending,
+    pub rest: &'a [u8],
+}
+
 /// Whether the rest begins with that byte.
-fn first_is(rest: &[u8], byte: u8) -> bool
+pub fn first_is(rest: &[u8], byte: u8) -> bool
     ensures { result ≡ first_is byte rest.now }
 {
     match rest.first() {
@@ -70,5 +88,49 @@ fn read_value(size: usize, rest: &[u8]) -> Value<'_>
                 rest,
             }
         }
+    }
+}
+
+/// An attribute's name, of at least one byte, and what is left behind it.
+fn split_name(rest: &[u8]) -> (&[u8], &[u8])
+    ensures front { result.0.now ≡ name_of rest.now }
+    ensures back { result.1.now ≡ behind_name rest.now }
+{
+    let (_, behind) = split(cut(rest, 1).1, Stop::AttributeName);
+    rest.split_at(rest.len() - behind.len())
+}
+
+/// Reads a tag from behind its name to its end.
+pub fn read_inside(size: usize, inside: &[u8], kind: Kind) -> Inside<'_>
+    requires fits { length inside.now ≤ size }
+    requires small { size ≤ 1048576 }
+    ensures inside { Inside kind (size - length inside.now) inside.now result.first result.ending result.rest.now }
+    ensures shorter { length result.rest.now ≤ length inside.now }
+    ensures within { IfSome result.first (IsWithin size) }
+{
+    let mut first = None;
+    let mut left = inside;
+    loop {
+        let (_, rest) = split(left, Stop::NotGap);
+        if rest.is_empty() {
+            return Inside {
+                first,
+                ending: Ending::PageEnd,
+                rest,
+            };
+        }
+        if first_is(rest, b'>') {
+            return Inside {
+                first,
+                ending: Ending::Marked,
+                rest: cut(rest, 1).1,
+            };
+        }
+        let (name, behind) = split_name(rest);
+        let value = read_value(size, behind);
+        if first.is_none() && kind.wants(name) {
+            first = Some(value.span);
+        }
+        left = value.rest;
     }
 }

@@ -5,10 +5,13 @@ mod attribute;
 mod kind;
 mod piece;
 mod reference;
-
+mod scan;
 mod span;
 mod stop;
 
-// pub use reference::text;
-// pub use scan::{base, links};
-// pub use span::Span;
+pub use reference::text;
+pub use scan::{base, links};
+pub use span::Span;
+
+#[cfg(test)]
+mod tests;
