@@ -1,2 +1,5 @@
 pub mod Runs
 pub mod Values
+pub mod Names
+pub mod Lengths
+pub mod Insides

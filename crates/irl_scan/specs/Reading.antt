@@ -83,8 +83,13 @@ name_of (b ∷ bs) = b ∷ before (stops AttributeName) bs
 abbrev pub behind_name : List ℕ → List ℕ
 behind_name rest = from (stops AttributeName) (drop 1 rest)
 
+-- the first that there is
+abbrev pub or_first : Option Span → Option Span → Option Span
+or_first None second = second
+or_first (Some first) second = Some first
+
 -- the inside of a tag: attributes as far as its end, of which this is the first that is wanted
-pub record Inside (kind : Kind) (place : ℕ) (inside : List ℕ) (first : Option Span) (ending : Ending) (rest : List ℕ) : Type 0 where
+pub record ReadsInside (kind : Kind) (place : ℕ) (inside : List ℕ) (first : Option Span) (ending : Ending) (rest : List ℕ) : Type 0 where
   pub attributes : List Attribute
   pub gap : List ℕ
   pub spelled : inside ≡ attributes_onto attributes (tag_end_onto gap ending rest)

@@ -1,6 +1,7 @@
-ghost use Rattle.std.specs.Prelude.{◌≡◌, ◌-◌, ◌≤◌, length, drop, IfSome};
+ghost use Rattle.std.specs.Prelude.{◌≡◌, ◌-◌, ◌<◌, ◌≤◌, length, drop, IfSome, Some, None, if◌then◌else◌};
+ghost use Rattle.irl_scan.specs.Bytes.{wants};
 ghost use Rattle.irl_scan.specs.Links.{value_span, found_in};
-ghost use Rattle.irl_scan.specs.Reading.{first_is, quote_at, name_of, behind_name, value_at, IsWithin, Inside};
+ghost use Rattle.irl_scan.specs.Reading.{first_is, quote_at, name_of, behind_name, value_at, or_first, IsWithin, ReadsInside};
 
 use crate::kind::Kind;
 use crate::span::Span;
@@ -95,16 +96,28 @@ fn read_value(size: usize, rest: &[u8]) -> Value<'_>
 fn split_name(rest: &[u8]) -> (&[u8], &[u8])
     ensures front { result.0.now ≡ name_of rest.now }
     ensures back { result.1.now ≡ behind_name rest.now }
+    ensures shorter { 0 < length rest.now → length result.1.now < length rest.now }
 {
     let (_, behind) = split(cut(rest, 1).1, Stop::AttributeName);
     rest.split_at(rest.len() - behind.len())
+}
+
+/// The first value that a tag wants, where it comes from the attributes before, or from one of that name.
+fn or_wanted(first: Option<Span>, kind: Kind, name: &[u8], span: Span) -> Option<Span>
+    ensures { result ≡ or_first first (if wants kind name.now then Some span else None) }
+{
+    if first.is_none() && kind.wants(name) {
+        Some(span)
+    } else {
+        first
+    }
 }
 
 /// Reads a tag from behind its name to its end.
 pub fn read_inside(size: usize, inside: &[u8], kind: Kind) -> Inside<'_>
     requires fits { length inside.now ≤ size }
     requires small { size ≤ 1048576 }
-    ensures inside { Inside kind (size - length inside.now) inside.now result.first result.ending result.rest.now }
+    ensures inside { ReadsInside kind (size - length inside.now) inside.now result.first result.ending result.rest.now }
     ensures shorter { length result.rest.now ≤ length inside.now }
     ensures within { IfSome result.first (IsWithin size) }
 {
@@ -128,9 +141,7 @@ pub fn read_inside(size: usize, inside: &[u8], kind: Kind) -> Inside<'_>
         }
         let (name, behind) = split_name(rest);
         let value = read_value(size, behind);
-        if first.is_none() && kind.wants(name) {
-            first = Some(value.span);
-        }
+        first = or_wanted(first, kind, name, value.span);
         left = value.rest;
     }
 }

@@ -34,7 +34,7 @@ pub enum Found {
 
 /// What a piece of a page gives, and what is left behind it.
 #[derive(Clone, Copy)]
-pub struct Piece<'a> {
+pub struct Taken<'a> {
     pub found: Found,
     pub rest: &'a [u8],
 }
@@ -78,7 +78,7 @@ fn found_in(ending: Ending, kind: Kind, first: Option<Span>) -> Found
 }
 
 /// Reads a tag, and the text behind a `script` or a `style`.
-fn read_tag(size: usize, rest: &[u8]) -> Piece<'_>
+fn read_tag(size: usize, rest: &[u8]) -> Taken<'_>
     requires opens { opening rest.now ≡ Opening.Tag }
     requires fits { length rest.now ≤ size }
     requires small { size ≤ 1048576 }
@@ -90,14 +90,14 @@ fn read_tag(size: usize, rest: &[u8]) -> Piece<'_>
     let kind = Kind::of(name);
     let tag = read_inside(size, inside, kind);
     let (_, rest) = split(tag.rest, Stop::RawEnd(kind));
-    Piece {
+    Taken {
         found: found_in(tag.ending, kind, tag.first),
         rest,
     }
 }
 
 /// Reads the piece that begins here.
-pub fn read_piece(size: usize, rest: &[u8]) -> Piece<'_>
+pub fn read_piece(size: usize, rest: &[u8]) -> Taken<'_>
     requires some { 0 < length rest.now }
     requires fits { length rest.now ≤ size }
     requires small { size ≤ 1048576 }
@@ -106,20 +106,20 @@ pub fn read_piece(size: usize, rest: &[u8]) -> Piece<'_>
     ensures within { found_within size result.found }
 {
     match opening_of(rest) {
-        Opening::Text => Piece {
+        Opening::Text => Taken {
             found: Found::Nothing,
             rest: cut(rest, 1).1,
         },
         Opening::Comment => {
             let (_, end) = split(cut(rest, 4).1, Stop::CommentEnd);
-            Piece {
+            Taken {
                 found: Found::Nothing,
                 rest: cut(end, 3).1,
             }
         }
         Opening::Skipped => {
             let (_, end) = split(cut(rest, 2).1, Stop::Byte(b'>'));
-            Piece {
+            Taken {
                 found: Found::Nothing,
                 rest: cut(end, 1).1,
             }

@@ -63,6 +63,7 @@ fn number_of(digits: &[u8], radix: Radix) -> Option<u8>
 }
 
 /// Reads digits and the `;` behind them: the byte whose number they write, and what is left.
+#[tactic(auto, unfolding(crate::specs::Reading::number_at))]
 fn number_at(rest: &[u8], radix: Radix) -> Option<(u8, &[u8])>
     ensures { option_map (λ x. (x.0, x.1.now)) result ≡ number_at radix rest.now }
 {
@@ -75,6 +76,7 @@ fn number_at(rest: &[u8], radix: Radix) -> Option<(u8, &[u8])>
 }
 
 /// Reads the reference at the front: the byte for which it stands, and what is left.
+#[tactic(auto, unfolding(crate::specs::Reading::reference_at))]
 fn reference_at(rest: &[u8]) -> Option<(u8, &[u8])>
     ensures { option_map (λ x. (x.0, x.1.now)) result ≡ reference_at rest.now }
 {

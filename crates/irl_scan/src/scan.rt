@@ -21,11 +21,11 @@ pub fn links(alloc: Global, page: &[u8]) -> Result<Vec<Span>, AllocError>
     let mut spans = Vec::new(alloc);
     let mut rest = page;
     while !rest.is_empty() {
-        let piece = read_piece(page.len(), rest);
-        if let Found::Link(span) = piece.found {
+        let taken = read_piece(page.len(), rest);
+        if let Found::Link(span) = taken.found {
             spans.push(span)?;
         }
-        rest = piece.rest;
+        rest = taken.rest;
     }
     Ok(spans)
 }
@@ -43,11 +43,11 @@ pub fn base(page: &[u8]) -> Option<Span>
     let mut first = None;
     let mut rest = page;
     while !rest.is_empty() {
-        let piece = read_piece(page.len(), rest);
-        if let (None, Found::Base(span)) = (first, piece.found) {
+        let taken = read_piece(page.len(), rest);
+        if let (None, Found::Base(span)) = (first, taken.found) {
             first = Some(span);
         }
-        rest = piece.rest;
+        rest = taken.rest;
     }
     first
 }
