@@ -3,3 +3,5 @@ pub mod Values
 pub mod Names
 pub mod Lengths
 pub mod Insides
+pub mod Pieces
+pub mod References
