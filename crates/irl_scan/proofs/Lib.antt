@@ -5,3 +5,4 @@ pub mod Lengths
 pub mod Insides
 pub mod Pieces
 pub mod References
+pub mod Scans

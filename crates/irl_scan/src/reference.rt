@@ -1,4 +1,4 @@
-ghost use Rattle.std.specs.Prelude.{◌≡◌, ◌≤◌, ◌-◌, List, Some, None, if◌then◌else◌, nat_lt, IfOk, length, option_map, slice_range};
+ghost use Rattle.std.specs.Prelude.{◌≡◌, ◌<◌, ◌≤◌, List, Some, None, if◌then◌else◌, nat_lt, IfOk, IfSome, length, option_map, slice_range};
 ghost use Rattle.std.specs.Char.{digit_value};
 ghost use Rattle.irl_scan.specs.Text.{Item, Reads, text_of};
 ghost use Rattle.irl_scan.specs.Reading.{radix_of, most_digits, number_from, number_at, reference_at, HasText};
@@ -65,7 +65,8 @@ fn number_of(digits: &[u8], radix: Radix) -> Option<u8>
 /// Reads digits and the `;` behind them: the byte whose number they write, and what is left.
 #[tactic(auto, unfolding(crate::specs::Reading::number_at))]
 fn number_at(rest: &[u8], radix: Radix) -> Option<(u8, &[u8])>
-    ensures { option_map (λ x. (x.0, x.1.now)) result ≡ number_at radix rest.now }
+    ensures number { option_map (λ x. (x.0, x.1.now)) result ≡ number_at radix rest.now }
+    ensures shorter { IfSome result (λ x. length x.1.now ≤ length rest.now) }
 {
     let (digits, behind) = split(rest, Stop::NotDigit(radix));
     if digits.is_empty() || digits.len() > radix.most_digits() || !first_is(behind, b';') {
@@ -78,7 +79,8 @@ fn number_at(rest: &[u8], radix: Radix) -> Option<(u8, &[u8])>
 /// Reads the reference at the front: the byte for which it stands, and what is left.
 #[tactic(auto, unfolding(crate::specs::Reading::reference_at))]
 fn reference_at(rest: &[u8]) -> Option<(u8, &[u8])>
-    ensures { option_map (λ x. (x.0, x.1.now)) result ≡ reference_at rest.now }
+    ensures reference { option_map (λ x. (x.0, x.1.now)) result ≡ reference_at rest.now }
+    ensures shorter { IfSome result (λ x. length x.1.now < length rest.now) }
 {
     if rest.starts_with(b"&amp;") {
         Some((b'&', cut(rest, 5).1))

@@ -1,11 +1,35 @@
-ghost use Rattle.std.specs.Prelude.{◌≡◌, ◌≤◌, List, length, All, IfOk, IfSome};
+ghost use Rattle.std.specs.Prelude.{◌≡◌, ◌≤◌, List, ◌++◌, length, None, All, IfOk, IfSome, OnOk, OnErr};
 ghost use Rattle.irl_scan.specs.Page.{Piece, Cut};
-ghost use Rattle.irl_scan.specs.Links.{links_of, base_of};
-ghost use Rattle.irl_scan.specs.Reading.{IsWithin};
+ghost use Rattle.irl_scan.specs.Links.{link_of, base_or, links_of, base_of};
+ghost use Rattle.irl_scan.specs.Reading.{or_first, IsWithin};
 
 use crate::piece::{Found, read_piece};
 use crate::span::Span;
 use std::alloc::{AllocError, Global};
+
+/// Adds a link, where one was found.
+fn push_link(spans: &mut Vec<Span>, found: Found) -> Result<(), AllocError>
+    ensures ok { OnOk result (spans.new.items ≡ spans.old.items ++ link_of found) }
+    ensures err { OnErr result (spans.new.items ≡ spans.old.items) }
+{
+    match found {
+        Found::Link(span) => {
+            spans.push(span)?;
+            Ok(())
+        }
+        Found::Nothing | Found::Base(_) => Ok(()),
+    }
+}
+
+/// The first base: the one that was found before, or else this one.
+fn first_base(first: Option<Span>, found: Found) -> Option<Span>
+    ensures { result ≡ or_first first (base_or found None) }
+{
+    match (first, found) {
+        (Some(span), _) | (None, Found::Base(span)) => Some(span),
+        (None, Found::Nothing | Found::Link(_)) => None,
+    }
+}
 
 /// The links of a page, in the order in which they stand: where the value of the first `href` of each tag `a` or `area`
 /// stands, and that of the first `src` of each tag `frame` or `iframe`, without quotes. The page has at most 1,048,576
@@ -22,9 +46,7 @@ pub fn links(alloc: Global, page: &[u8]) -> Result<Vec<Span>, AllocError>
     let mut rest = page;
     while !rest.is_empty() {
         let taken = read_piece(page.len(), rest);
-        if let Found::Link(span) = taken.found {
-            spans.push(span)?;
-        }
+        push_link(&mut spans, taken.found)?;
         rest = taken.rest;
     }
     Ok(spans)
@@ -44,9 +66,7 @@ pub fn base(page: &[u8]) -> Option<Span>
     let mut rest = page;
     while !rest.is_empty() {
         let taken = read_piece(page.len(), rest);
-        if let (None, Found::Base(span)) = (first, taken.found) {
-            first = Some(span);
-        }
+        first = first_base(first, taken.found);
         rest = taken.rest;
     }
     first
