@@ -6,8 +6,8 @@ use Rattle.irl_scan.specs.declared.piece.Found.{Found}
 use Rattle.irl_scan.specs.declared.piece.Found.TheVariants as found
 use Rattle.irl_scan.specs.declared.span.Span.{Span}
 use Rattle.irl_scan.specs.Page.{Piece, Cut}
-use Rattle.irl_scan.specs.Links.{link_of, base_or, links_of, base_of}
-use Rattle.irl_scan.specs.Reading.{or_first, Takes, Gives, IsWithin, found_within}
+use Rattle.irl_scan.specs.Links.{IsWithin, link_of, base_or, links_of, base_of}
+use Rattle.irl_scan.specs.Reading.{or_first, Takes, Gives, found_within}
 use Rattle.irl_scan.proofs.Pieces.{one_cut, gives_end, gives_more}
 
 -- ## Links

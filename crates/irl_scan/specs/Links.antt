@@ -1,5 +1,5 @@
 -- The links of a page, and its base: read off its cut into pieces.
-use Rattle.std.specs.Prelude.{ℕ, ◌≡◌, ◌+◌, Bool, true, false, List, [], ◌∷◌, ◌++◌, length, Option, Some, None, if◌then◌else◌}
+use Rattle.std.specs.Prelude.{ℕ, ◌≡◌, ◌+◌, ◌≤◌, Bool, true, false, List, [], ◌∷◌, ◌++◌, length, Option, Some, None, if◌then◌else◌}
 use Rattle.irl_scan.specs.declared.attribute.Ending.{Ending}
 use Rattle.irl_scan.specs.declared.attribute.Ending.TheVariants.{Marked, PageEnd}
 use Rattle.irl_scan.specs.declared.span.Span.{Span}
@@ -78,6 +78,11 @@ links_from place (p ∷ more) = link_of (found_at place p) ++ links_from (place 
 abbrev pub base_from : ℕ → List Piece → Option Span
 base_from place [] = None
 base_from place (p ∷ more) = base_or (found_at place p) (base_from (place + length (piece_onto p [])) more)
+
+-- the span lies within a page of that size, and not backwards
+pub record IsWithin (size : ℕ) (span : Span) : Type 0 where
+  pub forward : span.start ≤ span.end
+  pub inside : span.end ≤ size
 
 abbrev pub links_of : List Piece → List Span
 links_of pieces = links_from 0 pieces

@@ -15,7 +15,7 @@ use Rattle.irl_scan.specs.declared.stop.Stop.{Stop}
 use Rattle.irl_scan.specs.declared.stop.Stop.TheVariants.{NotSpace, NotGap, TagName, AttributeName, BareValue, Byte, CommentEnd, RawEnd, NotDigit}
 use Rattle.irl_scan.specs.Bytes.{is_space, is_gap, ends_tag_name, ends_attribute_name, ends_bare_value, is_quote, wants, at_byte, UpTo}
 use Rattle.irl_scan.specs.Page.{Value, Absent, Bare, Quoted, Attribute, Piece, end_onto, attributes_onto, piece_onto, tag_end_onto, AreAttributes, IsGap, EndsBy, IsPiece, ends_raw, ends_comment, not_space, Cut}
-use Rattle.irl_scan.specs.Links.{first_span, found_at, links_from, base_from}
+use Rattle.irl_scan.specs.Links.{IsWithin, first_span, found_at, links_from, base_from}
 use Rattle.irl_scan.specs.Text.{Reference, Amp, Lt, Gt, Quot, Apos, Decimal, Hexadecimal, Item, Reads, text_of}
 
 -- what is left from the first place at which the test holds, and what stands before it
@@ -69,11 +69,6 @@ value_at rest =
     if first_is 61 (from not_space rest) then
       content_at (before not_space rest) (before not_space (drop 1 (from not_space rest))) (from not_space (drop 1 (from not_space rest))) (quote_at (from not_space (drop 1 (from not_space rest))))
     else (Absent, rest)
-
--- the span lies within a page of that size, and not backwards
-pub record IsWithin (size : ℕ) (span : Span) : Type 0 where
-  pub forward : span.start ≤ span.end
-  pub inside : span.end ≤ size
 
 -- an attribute's name, of at least one byte, and what is left behind it
 abbrev pub name_of : List ℕ → List ℕ

@@ -1,7 +1,7 @@
 ghost use Rattle.std.specs.Prelude.{◌≡◌, ◌-◌, ◌<◌, ◌≤◌, length, drop, IfSome, Some, None, if◌then◌else◌};
 ghost use Rattle.irl_scan.specs.Bytes.{wants};
-ghost use Rattle.irl_scan.specs.Links.{value_span, found_in};
-ghost use Rattle.irl_scan.specs.Reading.{first_is, quote_at, name_of, behind_name, value_at, or_first, IsWithin, ReadsInside};
+ghost use Rattle.irl_scan.specs.Links.{IsWithin, value_span, found_in};
+ghost use Rattle.irl_scan.specs.Reading.{first_is, quote_at, name_of, behind_name, value_at, or_first, ReadsInside};
 
 use crate::kind::Kind;
 use crate::span::Span;

@@ -10,7 +10,7 @@ mod span;
 mod stop;
 
 pub use reference::text;
-pub use scan::{base, links};
+pub use scan::{base, links, one_cut};
 pub use span::Span;
 
 #[cfg(test)]

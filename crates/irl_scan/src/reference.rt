@@ -124,10 +124,9 @@ fn read_text(alloc: Global, value: &[u8]) -> Result<Text, AllocError>
 
 /// The text of a span of a page, with the character references `&amp;`, `&lt;`, `&gt;`, `&quot;`, `&apos;`, `&#N;` with
 /// one to seven decimal digits, and `&#xH;` with one to six hexadecimal digits, replaced where the number is below 128.
-/// Any other `&` stays, and what was replaced isn't read again. The span begins before it ends, within the page, which
-/// has at most 1,048,576 bytes. The only refusal is want of memory.
+/// Any other `&` stays, and what was replaced isn't read again. The span doesn't end before it begins, and lies within the
+/// page. The only refusal is want of memory.
 pub fn text(alloc: Global, page: &[u8], span: &Span) -> Result<Text, AllocError>
-    requires small { length page.now ≤ 1048576 }
     requires forward { span.now.start ≤ span.now.end }
     requires inside { span.now.end ≤ length page.now }
     // The span is bytes and references, of which this is the text,

@@ -1,7 +1,7 @@
-ghost use Rattle.std.specs.Prelude.{◌≡◌, ◌≤◌, List, ◌++◌, length, None, All, IfOk, IfSome, OnOk, OnErr};
+ghost use Rattle.std.specs.Prelude.{◌≡◌, ◌≤◌, ℕ, List, ◌++◌, length, None, All, IfOk, IfSome, OnOk, OnErr};
 ghost use Rattle.irl_scan.specs.Page.{Piece, Cut};
-ghost use Rattle.irl_scan.specs.Links.{link_of, base_or, links_of, base_of};
-ghost use Rattle.irl_scan.specs.Reading.{or_first, IsWithin};
+ghost use Rattle.irl_scan.specs.Links.{IsWithin, link_of, base_or, links_of, base_of};
+ghost use Rattle.irl_scan.specs.Reading.{or_first};
 
 use crate::piece::{Found, read_piece};
 use crate::span::Span;
@@ -70,4 +70,10 @@ pub fn base(page: &[u8]) -> Option<Span>
         rest = taken.rest;
     }
     first
+}
+
+/// A page has one cut into pieces, and so one list of links and one base.
+pub fn one_cut()
+    ensures { (page : List ℕ) (a b : List Piece) → Cut page a → Cut page b → a ≡ b }
+{
 }

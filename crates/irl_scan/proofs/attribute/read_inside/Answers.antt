@@ -4,7 +4,8 @@ use Rattle.std.proofs.lemmas.List.{nil_from_length}
 use Rattle.irl_scan.specs.declared.attribute.Ending.TheVariants.{Marked, PageEnd}
 use Rattle.irl_scan.specs.declared.stop.Stop.TheVariants.{NotGap}
 use Rattle.irl_scan.specs.Bytes.{wants}
-use Rattle.irl_scan.specs.Reading.{from, stops, first_is, or_first, IsWithin, ReadsInside}
+use Rattle.irl_scan.specs.Links.{IsWithin}
+use Rattle.irl_scan.specs.Reading.{from, stops, first_is, or_first, ReadsInside}
 use Rattle.irl_scan.proofs.Insides.{or_first-none, inside_ends, inside_closes, turn, within_turn}
 use Rattle.irl_scan.proofs.attribute.read_inside.Goals as goal
 

@@ -2,7 +2,8 @@
 use Rattle.std.proofs.Common.{ℕ, ◌-◌, ◌≤◌, List, length, Option, IfSome}
 use Rattle.irl_scan.specs.declared.attribute.Ending.{Ending}
 use Rattle.irl_scan.specs.declared.span.Span.{Span}
-use Rattle.irl_scan.specs.Reading.{or_first, IsWithin, ReadsInside}
+use Rattle.irl_scan.specs.Links.{IsWithin}
+use Rattle.irl_scan.specs.Reading.{or_first, ReadsInside}
 use Rattle.irl_scan.proofs.attribute.read_inside.Given as goal
 
 abbrev pub invariant-loop-kind : goal.invariant-loop-kind

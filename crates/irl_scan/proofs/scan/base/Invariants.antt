@@ -1,7 +1,8 @@
 -- The base so far, or else that of the rest, is that of the page.
 use Rattle.std.proofs.Common.{ℕ, ◌-◌, ◌≤◌, List, length, Option, IfSome}
 use Rattle.irl_scan.specs.declared.span.Span.{Span}
-use Rattle.irl_scan.specs.Reading.{or_first, Gives, IsWithin}
+use Rattle.irl_scan.specs.Links.{IsWithin}
+use Rattle.irl_scan.specs.Reading.{or_first, Gives}
 use Rattle.irl_scan.proofs.scan.base.Given as goal
 
 abbrev pub invariant-loop-rest : goal.invariant-loop-rest

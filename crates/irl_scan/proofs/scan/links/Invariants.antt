@@ -1,7 +1,8 @@
 -- The links so far, and those of the rest, are those of the page.
 use Rattle.std.proofs.Common.{ℕ, ◌-◌, ◌≤◌, List, ◌++◌, length, Option, All}
 use Rattle.irl_scan.specs.declared.span.Span.{Span}
-use Rattle.irl_scan.specs.Reading.{Gives, IsWithin}
+use Rattle.irl_scan.specs.Links.{IsWithin}
+use Rattle.irl_scan.specs.Reading.{Gives}
 use Rattle.irl_scan.proofs.scan.links.Given as goal
 
 abbrev pub invariant-loop-rest : goal.invariant-loop-rest
