@@ -192,9 +192,11 @@ angles_tried xs v rest h =
 pub reference_takes : (xs : List ℕ) (v : ℕ) (rest : List ℕ) → reference_at xs ≡ Some (v, rest) → IsReferenceAt xs v rest
 unfolding reference_at
 reference_takes xs v rest h =
-    elim (chosen (starts_with nat_eq xs (codes "&amp;")) (Some (38, drop 5 xs)) (try_lt xs) (Some (v, rest)) h) [
-      inl w ↦ named Amp (codes "&amp;") xs 38 v rest tt (λ ys. refl) refl w.0 w.1
-    | inr w ↦ angles_tried xs v rest w.1 ]
+    elim (chosen (not (first_is 38 xs)) None (cond (starts_with nat_eq xs (codes "&amp;")) (Some (38, drop 5 xs)) (try_lt xs)) (Some (v, rest)) h) [
+      inl n ↦ let no : ◌≡◌ {A = Option (ℕ × List ℕ)} None (Some (v, rest)) = n.1 in cc
+    | inr n ↦ elim (chosen (starts_with nat_eq xs (codes "&amp;")) (Some (38, drop 5 xs)) (try_lt xs) (Some (v, rest)) n.1) [
+        inl w ↦ named Amp (codes "&amp;") xs 38 v rest tt (λ ys. refl) refl w.0 w.1
+      | inr w ↦ angles_tried xs v rest w.1 ] ]
 
 -- ## What is a reference is read as one
 

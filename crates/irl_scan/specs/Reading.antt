@@ -138,13 +138,14 @@ number_at radix rest =
 -- the byte that a reference at the front stands for, and what is left
 unfoldable pub reference_at : List ℕ → Option (ℕ × List ℕ)
 reference_at rest =
-    if starts_with nat_eq rest (codes "&amp;") then Some (38, drop 5 rest) else
+    if not (first_is 38 rest) then None else
+    (if starts_with nat_eq rest (codes "&amp;") then Some (38, drop 5 rest) else
     (if starts_with nat_eq rest (codes "&lt;") then Some (60, drop 4 rest) else
     (if starts_with nat_eq rest (codes "&gt;") then Some (62, drop 4 rest) else
     (if starts_with nat_eq rest (codes "&quot;") then Some (34, drop 6 rest) else
     (if starts_with nat_eq rest (codes "&apos;") then Some (39, drop 6 rest) else
     (if starts_with nat_eq rest (codes "&#x") || starts_with nat_eq rest (codes "&#X") then number_at Sixteen (drop 3 rest) else
-    (if starts_with nat_eq rest (codes "&#") then number_at Ten (drop 2 rest) else None))))))
+    (if starts_with nat_eq rest (codes "&#") then number_at Ten (drop 2 rest) else None)))))))
 
 -- what the value reads as
 pub record HasText (value text : List ℕ) : Type 0 where

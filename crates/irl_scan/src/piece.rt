@@ -3,7 +3,7 @@ ghost use Rattle.irl_scan.specs.Links.{found_in};
 ghost use Rattle.irl_scan.specs.Page.{opening, has_letter_at};
 ghost use Rattle.irl_scan.specs.Reading.{Takes, found_within};
 
-use crate::attribute::{Ending, read_inside};
+use crate::attribute::{Ending, first_is, read_inside};
 use crate::kind::Kind;
 use crate::span::Span;
 use crate::stop::{Stop, cut, split};
@@ -53,7 +53,9 @@ fn has_letter_at(rest: &[u8], place: usize) -> bool
 fn opening_of(rest: &[u8]) -> Opening
     ensures { result ≡ opening rest.now }
 {
-    if rest.starts_with(b"<!--") {
+    if !first_is(rest, b'<') {
+        Opening::Text
+    } else if rest.starts_with(b"<!--") {
         Opening::Comment
     } else if rest.starts_with(b"<!") || rest.starts_with(b"<?") {
         Opening::Skipped

@@ -82,7 +82,9 @@ fn reference_at(rest: &[u8]) -> Option<(u8, &[u8])>
     ensures reference { option_map (λ x. (x.0, x.1.now)) result ≡ reference_at rest.now }
     ensures shorter { IfSome result (λ x. length x.1.now < length rest.now) }
 {
-    if rest.starts_with(b"&amp;") {
+    if !first_is(rest, b'&') {
+        None
+    } else if rest.starts_with(b"&amp;") {
         Some((b'&', cut(rest, 5).1))
     } else if rest.starts_with(b"&lt;") {
         Some((b'<', cut(rest, 4).1))

@@ -175,6 +175,47 @@ static TEXTS: [(&[u8], &[u8]); 36] = [
     (b"& amp;", b"& amp;"),
 ];
 
+/// What a hostile page repeats, how often, and how many links it then has.
+static HOSTILE: [(&[u8], usize, usize); 16] = [
+    (b"<a ", 300_000, 0),
+    (b"<", 1_048_576, 0),
+    (b"&#", 524_288, 0),
+    (b"&#1", 349_525, 0),
+    (b"&#x", 349_525, 0),
+    (b"&", 1_048_576, 0),
+    (b"<!--", 262_144, 0),
+    (b"<!", 524_288, 0),
+    (b"<script>", 131_072, 0),
+    (b"</script", 131_072, 0),
+    (b"<a href=", 131_072, 0),
+    (b"<a href=\"", 116_508, 0),
+    (b"<a =/", 209_715, 0),
+    (b"<style></styl", 80_659, 0),
+    (b"<a href>", 131_072, 131_072),
+    (b"<!--><base src=x>", 61_680, 0),
+];
+
+#[test]
+fn hostile_pages_end_at_once(rt: HostRuntime) -> Result<(), Fail> {
+    for (piece, count, wanted) in &HOSTILE {
+        let mut page = Vec::new(rt.alloc());
+        for _ in 0..*count {
+            page.extend_from_slice(piece)?;
+        }
+        assert!(rt; page.len() <= 1_048_576);
+        let spans = links(rt.alloc(), &page)?;
+        assert_eq!(rt; spans.len(), *wanted, "{piece:?}");
+        assert_eq!(rt; base(&page), None);
+        let span = Span {
+            start: 0,
+            end: page.len() as u32,
+        };
+        let text = text(rt.alloc(), &page, &span)?;
+        assert_eq!(rt; text.bytes(), page.as_slice(), "{piece:?}");
+    }
+    Ok(())
+}
+
 #[test]
 fn a_page_of_each_kind(rt: HostRuntime) -> Result<(), Fail> {
     let page = b"<base href=\"/e/\"><a href=\"q\">1</a><a href=\"/d/p#x\">2</a><a href=\"?a=1&amp;b=2\">3</a>\
