@@ -1,14 +1,14 @@
 -- The inside of a tag, attribute by attribute.
-use Rattle.std.proofs.Common.{◌≡◌, ℕ, suc, ◌+◌, ◌-◌, ◌<◌, ◌≤◌, Bool, true, false, cond, not, ◌||◌, eqb, List, [], ◌∷◌, ◌++◌, length, drop, Option, Some, None, IfSome, refl, ap, sym, ◌∙◌, subst, arith}
-use Rattle.std.proofs.lemmas.Bool.{eqb-true, eq-eqb, false≢true, both_ways}
+use Rattle.std.proofs.Common.{◌≡◌, ℕ, ◌+◌, ◌-◌, ◌<◌, ◌≤◌, Bool, true, false, cond, eqb, List, [], ◌∷◌, ◌++◌, length, drop, Option, Some, None, IfSome, refl, ap, sym, ◌∙◌, subst, arith}
+use Rattle.std.proofs.lemmas.Bool.{eq-eqb, both_ways}
 use Rattle.irl_scan.specs.declared.attribute.Ending.{Ending}
 use Rattle.irl_scan.specs.declared.attribute.Ending.TheVariants.{Marked, PageEnd}
 use Rattle.irl_scan.specs.declared.kind.Kind.{Kind}
 use Rattle.irl_scan.specs.declared.span.Span.{Span}
 use Rattle.irl_scan.specs.declared.stop.Stop.TheVariants.{NotGap, AttributeName}
-use Rattle.irl_scan.specs.Bytes.{wants, at_byte, UpTo}
-use Rattle.irl_scan.specs.Page.{Value, Attribute, end_onto, value_onto, attribute_onto, attributes_onto, tag_end_onto, EndsBy, IsValue, IsAttributeName, IsGap, IsAttribute, AreAttributes}
-use Rattle.irl_scan.specs.Links.{value_span, attribute_span, first_span}
+use Rattle.irl_scan.specs.Bytes.{wants, UpTo}
+use Rattle.irl_scan.specs.Page.{Value, Attribute, end_onto, value_onto, attribute_onto, attributes_onto, tag_end_onto, EndsBy, IsAttributeName, IsGap, IsAttribute, AreAttributes}
+use Rattle.irl_scan.specs.Links.{value_span, first_span}
 use Rattle.irl_scan.specs.Reading.{from, before, stops, first_is, name_of, behind_name, value_at, or_first, ReadsInside}
 use Rattle.irl_scan.proofs.Runs.{before-from, UpTo-read, one_run, length-run}
 use Rattle.irl_scan.proofs.Names.{name-joined}
@@ -22,7 +22,7 @@ use Rattle.irl_scan.proofs.Lengths.{attribute_length}
 abbrev attribute_of : List ℕ → Attribute
 attribute_of left = record { gap = before (stops NotGap) left; name = name_of (from (stops NotGap) left); value = (value_at (behind_name (from (stops NotGap) left))).0 }
 
-abbrev behind_attribute : List ℕ → List ℕ
+abbrev pub behind_attribute : List ℕ → List ℕ
 behind_attribute left = (value_at (behind_name (from (stops NotGap) left))).1
 
 name_formed : (rest : List ℕ) → 0 < length rest → first_is 62 rest ≡ false → IsAttributeName (name_of rest) (behind_name rest)
@@ -131,9 +131,9 @@ turn kind size place inside left rest name behind next first new span is_rest so
     let h0 : first_is 62 (from (stops NotGap) left) ≡ false = ap (first_is 62) (sym is_rest) ∙ h in
     let on = goes_on _ e r (inside_more left some0 h0 size fits kind f e r back) in
     let same : or_first new f ≡ or_first first (cond (wants kind name0) (Some span0) f) =
-        ap (λ x. or_first x f) is_new ∙ or_first-wanted first (wants kind name) span f
-        ∙ ap (λ n. or_first first (cond (wants kind n) (Some span) f)) name_is
-        ∙ ap (λ s. or_first first (cond (wants kind name0) (Some s) f)) span_is in
+    ap (λ x. or_first x f) is_new ∙ or_first-wanted first (wants kind name) span f
+    ∙ ap (λ n. or_first first (cond (wants kind n) (Some span) f)) name_is
+    ∙ ap (λ s. or_first first (cond (wants kind name0) (Some s) f)) span_is in
     subst (λ x. ReadsInside kind place inside x e r) (sym same) on
 
 within_cases : (P : Span → Type 0) (first : Option Span) (wanted : Bool) (span : Span) → IfSome first P → P span → IfSome (or_first first (cond wanted (Some span) None)) P

@@ -1,9 +1,8 @@
 -- How many bytes a piece has, whatever follows it.
-use Rattle.std.proofs.Common.{◌≡◌, ℕ, suc, ◌+◌, ◌-◌, List, [], ◌∷◌, ◌++◌, length, refl, ap, sym, ◌∙◌, arith}
-use Rattle.std.proofs.lemmas.List.{length-append}
+use Rattle.std.proofs.Common.{◌≡◌, ℕ, ◌+◌, ◌≤◌, List, [], ◌∷◌, ◌++◌, length, arith}
 use Rattle.irl_scan.specs.declared.attribute.Ending.{Ending}
 use Rattle.irl_scan.specs.declared.attribute.Ending.TheVariants.{Marked, PageEnd}
-use Rattle.irl_scan.specs.Page.{Value, Absent, Bare, Quoted, Attribute, Tag, Piece, Letter, Comment, Skipped, Markup, end_onto, value_onto, attribute_onto, attributes_onto, tag_end_onto, tag_onto, piece_onto}
+use Rattle.irl_scan.specs.Page.{Value, Absent, Bare, Quoted, Attribute, Tag, Piece, Letter, Comment, Skipped, Markup, end_onto, value_onto, attribute_onto, attributes_onto, tag_onto, piece_onto}
 
 front_length : (front a b : List ℕ) (n : ℕ) → length a ≡ length b + n → length (front ++ a) ≡ length (front ++ b) + n
 front_length [] a b n e = e
@@ -22,6 +21,9 @@ value_length (Bare space more bytes) rest =
     front_length space _ _ (length rest) (one_more 61 _ _ (length rest) (front_length more _ _ (length rest) (front_length bytes rest [] (length rest) (omega arith))))
 value_length (Quoted space more quote bytes ending) rest =
     front_length space _ _ (length rest) (one_more 61 _ _ (length rest) (front_length more _ _ (length rest) (one_more quote _ _ (length rest) (front_length bytes _ _ (length rest) (end_length (quote ∷ []) ending rest)))))
+
+pub value_longer : (v : Value) (rest : List ℕ) → length rest ≤ length (value_onto v rest)
+value_longer v rest = let all = value_length v rest in omega arith
 
 pub attribute_length : (a : Attribute) (rest : List ℕ) → length (attribute_onto a rest) ≡ length (attribute_onto a []) + length rest
 attribute_length a rest = front_length a.gap _ _ (length rest) (front_length a.name _ _ (length rest) (value_length a.value rest))

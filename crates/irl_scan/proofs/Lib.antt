@@ -5,4 +5,5 @@ pub mod Lengths
 pub mod Insides
 pub mod Pieces
 pub mod References
+pub mod Exists
 pub mod Scans

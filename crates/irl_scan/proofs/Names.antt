@@ -1,8 +1,8 @@
 -- An attribute's name is what stands before what is left behind it.
-use Rattle.std.proofs.Common.{◌≡◌, ℕ, suc, ◌+◌, ◌-◌, List, [], ◌∷◌, ◌++◌, length, take, drop, refl, ap, sym, ◌∙◌, arith}
+use Rattle.std.proofs.Common.{◌≡◌, ℕ, ◌-◌, List, [], ◌∷◌, ◌++◌, length, take, drop, refl, ap, sym, ◌∙◌, arith}
 use Rattle.std.proofs.lemmas.List.{take_at, drop_at}
 use Rattle.irl_scan.specs.declared.stop.Stop.TheVariants.{AttributeName}
-use Rattle.irl_scan.specs.Reading.{from, before, stops, name_of, behind_name}
+use Rattle.irl_scan.specs.Reading.{stops, name_of, behind_name}
 use Rattle.irl_scan.proofs.Runs.{before-from, length-run}
 
 pub name-joined : (rest : List ℕ) → name_of rest ++ behind_name rest ≡ rest

@@ -1,12 +1,11 @@
 -- A piece read at a place is as the grammar says, and is the only one; so a page has one cut.
-use Rattle.std.proofs.Common.{◌≡◌, ℕ, suc, ◌+◌, ◌-◌, ◌<◌, ◌≤◌, Bool, true, false, cond, ◌&&◌, ◌||◌, eqb, nat_eq, Decides, List, [], ◌∷◌, ◌++◌, length, take, drop, Option, Some, None, ◌⊎◌, inl, inr, refl, ap, sym, ◌∙◌, subst, arith}
+use Rattle.std.proofs.Common.{◌≡◌, ℕ, suc, ◌+◌, ◌-◌, ◌<◌, ◌≤◌, Bool, true, false, cond, ◌&&◌, ◌||◌, nat_eq, List, [], ◌∷◌, ◌++◌, length, drop, Option, None, ◌⊎◌, inl, inr, refl, ap, sym, ◌∙◌, subst, arith}
 use Rattle.std.proofs.lemmas.Bool.{eqb-true, eq-eqb, and_parts, or_cases}
 use Rattle.std.proofs.lemmas.List.{length-append, append_cancel_left}
 use Rattle.std.proofs.lemmas.Slice.Eq.{starts_is}
 use Rattle.std.specs.List.{starts_with}
 use Rattle.std.specs.Prelude.{codes}
 use Rattle.irl_scan.specs.declared.attribute.Ending.{Ending}
-use Rattle.irl_scan.specs.declared.attribute.Ending.TheVariants.{Marked, PageEnd}
 use Rattle.irl_scan.specs.declared.kind.Kind.{Kind}
 use Rattle.irl_scan.specs.declared.kind.Kind.TheVariants.{Anchor, Frame, Base, Script, Style, Other}
 use Rattle.irl_scan.specs.declared.piece.Found.{Found}
@@ -14,12 +13,12 @@ use Rattle.irl_scan.specs.declared.piece.Found.TheVariants as found
 use Rattle.irl_scan.specs.declared.piece.Opening.{Opening}
 use Rattle.irl_scan.specs.declared.piece.Opening.TheVariants as opens
 use Rattle.irl_scan.specs.declared.span.Span.{Span}
-use Rattle.irl_scan.specs.declared.stop.Stop.TheVariants.{TagName, Byte, CommentEnd, RawEnd}
-use Rattle.irl_scan.specs.Bytes.{kind_of, at_byte, UpTo}
+use Rattle.irl_scan.specs.declared.stop.Stop.TheVariants.{TagName, RawEnd}
+use Rattle.irl_scan.specs.Bytes.{kind_of, UpTo}
 use Rattle.irl_scan.specs.Page.{Attribute, Tag, Piece, Letter, Comment, Skipped, Markup, end_onto, attributes_onto, tag_end_onto, tag_onto, piece_onto, joined, opening, has_letter_at, EndsBy, AreAttributes, IsGap, ends_raw, IsTag, ends_comment, ends_markup, IsPiece, ArePieces, Cut}
 use Rattle.irl_scan.specs.Links.{found_in, found_at, first_span, link_of, base_or, links_from, base_from}
 use Rattle.irl_scan.specs.Reading.{from, before, stops, ending_of, ReadsInside, Takes, Gives}
-use Rattle.irl_scan.proofs.Runs.{before-from, UpTo-read, stops_there, one_run, length-run}
+use Rattle.irl_scan.proofs.Runs.{before-from, UpTo-read, stops_there, one_run}
 use Rattle.irl_scan.proofs.Values.{end_is, ends_by}
 use Rattle.irl_scan.proofs.Lengths.{piece_length}
 use Rattle.irl_scan.proofs.Insides.{one_end, one_inside, IsInside}
@@ -67,10 +66,12 @@ HasSign xs = (sign : ℕ) × (xs ≡ 60 ∷ sign ∷ drop 2 xs)
 skipped_begins : (xs : List ℕ) → opening xs ≡ opens.Skipped → HasSign xs
 skipped_begins xs h =
     elim (chosen_skipped _ _ _ _ h) [
-      inl first ↦ elim (or_cases (starts_with nat_eq xs (codes "<!")) (starts_with nat_eq xs (codes "<?")) first) [
-        inl mark ↦ (33, starts (codes "<!") xs mark)
-      | inr query ↦ (63, starts (codes "<?") xs query) ]
-    | inr second ↦ (47, starts (codes "</") xs (and_parts (starts_with nat_eq xs (codes "</")) (has_letter_at 2 xs) second).0) ]
+      | inl first ↦ elim (or_cases (starts_with nat_eq xs (codes "<!")) (starts_with nat_eq xs (codes "<?")) first) [
+        | inl mark ↦ (33, starts (codes "<!") xs mark)
+        | inr query ↦ (63, starts (codes "<?") xs query)
+      ]
+      | inr second ↦ (47, starts (codes "</") xs (and_parts (starts_with nat_eq xs (codes "</")) (has_letter_at 2 xs) second).0)
+    ]
 
 -- ## A piece that is read
 
@@ -129,13 +130,13 @@ takes_tag size xs name inside left rest kind first ending given h is_name is_ins
     let raw = before (ends_raw kind) left in
     let left_is : raw ++ rest ≡ left = ap (λ ys. raw ++ ys) is_rest ∙ before-from (ends_raw kind) left in
     let inside_is : inside ≡ attributes_onto reads.attributes (tag_end_onto reads.gap ending (raw ++ rest)) =
-        reads.spelled ∙ ap (λ l. attributes_onto reads.attributes (tag_end_onto reads.gap ending l)) (sym left_is) in
+    reads.spelled ∙ ap (λ l. attributes_onto reads.attributes (tag_end_onto reads.gap ending l)) (sym left_is) in
     let named : name ++ inside ≡ drop 1 xs =
-        ap (λ ys. ys ++ inside) is_name ∙ ap (λ ys. before (stops TagName) (drop 1 xs) ++ ys) is_inside ∙ before-from (stops TagName) (drop 1 xs) in
+    ap (λ ys. ys ++ inside) is_name ∙ ap (λ ys. before (stops TagName) (drop 1 xs) ++ ys) is_inside ∙ before-from (stops TagName) (drop 1 xs) in
     let t : Tag = record { name = name; attributes = reads.attributes; gap = reads.gap; ending = ending; raw = raw } in
     let spelled : xs ≡ tag_onto t rest = tag_begins xs h ∙ ap (λ ys. 60 ∷ ys) (sym named ∙ ap (λ ys. name ++ ys) inside_is) in
     let run : UpTo (stops TagName) name inside =
-        subst (λ n. UpTo (stops TagName) n inside) (sym is_name) (subst (UpTo (stops TagName) (before (stops TagName) (drop 1 xs))) (sym is_inside) (UpTo-read (stops TagName) refl (drop 1 xs))) in
+    subst (λ n. UpTo (stops TagName) n inside) (sym is_name) (subst (UpTo (stops TagName) (before (stops TagName) (drop 1 xs))) (sym is_inside) (UpTo-read (stops TagName) refl (drop 1 xs))) in
     let raw_run : UpTo (ends_raw kind) raw rest = subst (UpTo (ends_raw kind) raw) (sym is_rest) (UpTo-read (ends_raw kind) (raw_ends_there kind) left) in
     let first_length : length xs ≡ suc (length (drop 1 xs)) = ap length (tag_begins xs h) in
     let name_length : length name + length inside ≡ length (drop 1 xs) = sym (length-append name inside) ∙ ap length named in
@@ -178,9 +179,11 @@ one_tag t u r s h k e =
     let second : IsInside inside u.attributes u.gap u.ending (u.raw ++ s) = record { spelled = name.1; each = k.attributes; gap_ends = k.gap; ends = k.ending } in
     let same = one_inside inside t.attributes u.attributes t.gap u.gap t.ending u.ending _ _ first second in
     let raw = one_run (ends_raw (kind_of t.name)) t.raw u.raw r s h.raw (subst (λ n. UpTo (ends_raw (kind_of n)) u.raw s) (sym name.0) k.raw) same.3 in
-    let make : List ℕ → List Attribute → List ℕ → Ending → List ℕ → Tag = λ n a g e w. record { name = n; attributes = a; gap = g; ending = e; raw = w } in
-    (ap (λ n. make n t.attributes t.gap t.ending t.raw) name.0 ∙ ap (λ a. make u.name a t.gap t.ending t.raw) same.0 ∙ ap (λ g. make u.name u.attributes g t.ending t.raw) same.1
-     ∙ ap (λ f. make u.name u.attributes u.gap f t.raw) same.2 ∙ ap (make u.name u.attributes u.gap u.ending) raw.0, raw.1)
+    let make : List ℕ → List Attribute → List ℕ → Ending → List ℕ → Tag = λ n a g e w. record { name = n; attributes = a; gap = g; ending = e; raw = w } in (
+      ap (λ n. make n t.attributes t.gap t.ending t.raw) name.0 ∙ ap (λ a. make u.name a t.gap t.ending t.raw) same.0 ∙ ap (λ g. make u.name u.attributes g t.ending t.raw) same.1
+          ∙ ap (λ f. make u.name u.attributes u.gap f t.raw) same.2 ∙ ap (make u.name u.attributes u.gap u.ending) raw.0,
+      raw.1,
+    )
 
 one_comment : (a b : List ℕ) (e f : Ending) (r s : List ℕ) → IsPiece (Comment a e) r → IsPiece (Comment b f) s → piece_onto (Comment a e) r ≡ piece_onto (Comment b f) s → (Comment a e ≡ Comment b f) × (r ≡ s)
 one_comment a b e f r s h k same =
@@ -233,7 +236,7 @@ pub gives_more : (size : ℕ) (xs rest : List ℕ) (given : Found) (spans : List
 gives_more size xs rest given spans base fits takes gives =
     let p = takes.piece in
     let place : size - length rest ≡ size - length xs + length (piece_onto p []) =
-        let all = ap length takes.spelled ∙ piece_length p rest in omega arith in
+    let all = ap length takes.spelled ∙ piece_length p rest in omega arith in
     record {
       pieces = p ∷ gives.pieces;
       cut = record {

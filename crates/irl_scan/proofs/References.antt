@@ -1,6 +1,6 @@
 -- A reference read at a place is as the grammar says, and is the only one; so a value has one text.
-use Rattle.std.proofs.Common.{◌≡◌, ℕ, suc, ◌+◌, ◌*◌, ◌<◌, ◌≤◌, Bool, true, false, cond, not, ◌&&◌, ◌||◌, eqb, nat_eq, nat_lt, ltb, List, [], ◌∷◌, ◌++◌, length, drop, Option, Some, None, IfSome, slice_get, append_assoc, unwrap_or, ◌⊎◌, inl, inr, refl, ap, sym, ◌∙◌, subst, arith}
-use Rattle.std.proofs.lemmas.Bool.{eqb-true, eqb-false, ne_eqb, lt-ltb, le-ltb, ltb-true, ltb-false, and_parts, or_cases, or_parts, not-false, false≢true, both_ways}
+use Rattle.std.proofs.Common.{◌≡◌, ℕ, ◌+◌, ◌*◌, ◌<◌, ◌≤◌, Bool, true, false, cond, not, ◌&&◌, ◌||◌, eqb, nat_eq, nat_lt, List, [], ◌∷◌, ◌++◌, length, drop, Option, Some, None, IfSome, slice_get, append_assoc, unwrap_or, ◌⊎◌, inl, inr, refl, ap, sym, ◌∙◌, subst, arith}
+use Rattle.std.proofs.lemmas.Bool.{eqb-false, ne_eqb, lt-ltb, le-ltb, ltb-true, ltb-false, and_parts, or_cases, or_parts, not-false}
 use Rattle.std.specs.List.{starts_with}
 use Rattle.std.specs.Char.{digit_value}
 use Rattle.std.specs.Str.Parse.{AllDigits, digits_value, digits_value_after}
@@ -34,11 +34,12 @@ number_takes : (radix n : ℕ) (ds : List ℕ) (v : ℕ) → n < 128 → number_
 number_takes radix n [] v small h = let same : n ≡ v = ap (λ o. unwrap_or o 0) h in (tt, same, omega arith)
 number_takes radix n (c ∷ cs) v small h =
     elim (chosen (nat_lt (digit_value c) radix && nat_lt (n * radix + digit_value c) 128) (number_from radix (n * radix + digit_value c) cs) None (Some v) h) [
-      inl w ↦
-        let tests = and_parts (nat_lt (digit_value c) radix) (nat_lt (n * radix + digit_value c) 128) w.0 in
-        let more = number_takes radix (n * radix + digit_value c) cs v (ltb-true (n * radix + digit_value c) 128 tests.1) w.1 in
-        ((ltb-true (digit_value c) radix tests.0, more.0), more.1, more.2)
-    | inr w ↦ let no : None ≡ Some v = w.1 in cc ]
+      | inl w ↦
+          let tests = and_parts (nat_lt (digit_value c) radix) (nat_lt (n * radix + digit_value c) 128) w.0 in
+          let more = number_takes radix (n * radix + digit_value c) cs v (ltb-true (n * radix + digit_value c) 128 tests.1) w.1 in
+          ((ltb-true (digit_value c) radix tests.0, more.0), more.1, more.2)
+      | inr w ↦ let no : None ≡ Some v = w.1 in cc
+    ]
 
 number_again : (radix : Radix) (n : ℕ) (ds : List ℕ) → AllDigits (radix_of radix) ds → digits_value_after (radix_of radix) n ds < 128 → number_from (radix_of radix) n ds ≡ Some (digits_value_after (radix_of radix) n ds)
 number_again radix n [] all small = refl
@@ -72,20 +73,21 @@ number_at_takes radix xs v rest h =
     let digits = before (stops (NotDigit radix)) xs in
     let behind = from (stops (NotDigit radix)) xs in
     elim (chosen ((eqb (length digits) 0 || nat_lt (most_digits radix) (length digits)) || not (first_is 59 behind)) None (closed digits behind (number_from (radix_of radix) 0 digits)) (Some (v, rest)) h) [
-      inl w ↦ let no : ◌≡◌ {A = Option (ℕ × List ℕ)} None (Some (v, rest)) = w.1 in cc
-    | inr w ↦
-        let tests = or_parts (eqb (length digits) 0 || nat_lt (most_digits radix) (length digits)) (not (first_is 59 behind)) w.0 in
-        let lengths = or_parts (eqb (length digits) 0) (nat_lt (most_digits radix) (length digits)) tests.0 in
-        let close = closed_takes digits behind (number_from (radix_of radix) 0 digits) v rest w.1 in
-        let number = number_takes (radix_of radix) 0 digits v (omega arith) close.0 in
-        let nonempty : length digits ≡ 0 → ⊥ = eqb-false (length digits) 0 lengths.0 in
-        let mark : behind ≡ 59 ∷ rest = first_is-cons 59 behind (not-false (first_is 59 behind) tests.1) ∙ ap (λ ys. 59 ∷ ys) close.1 in
-        record {
-          digits = digits;
-          number = record { all = number.0; some = omega arith; few = ltb-false (most_digits radix) (length digits) lengths.1; small = rw number.1 number.2 };
-          spelled = sym (before-from (stops (NotDigit radix)) xs) ∙ ap (λ ys. digits ++ ys) mark;
-          value = sym number.1;
-        } ]
+      | inl w ↦ let no : ◌≡◌ {A = Option (ℕ × List ℕ)} None (Some (v, rest)) = w.1 in cc
+      | inr w ↦
+          let tests = or_parts (eqb (length digits) 0 || nat_lt (most_digits radix) (length digits)) (not (first_is 59 behind)) w.0 in
+          let lengths = or_parts (eqb (length digits) 0) (nat_lt (most_digits radix) (length digits)) tests.0 in
+          let close = closed_takes digits behind (number_from (radix_of radix) 0 digits) v rest w.1 in
+          let number = number_takes (radix_of radix) 0 digits v (omega arith) close.0 in
+          let nonempty : length digits ≡ 0 → ⊥ = eqb-false (length digits) 0 lengths.0 in
+          let mark : behind ≡ 59 ∷ rest = first_is-cons 59 behind (not-false (first_is 59 behind) tests.1) ∙ ap (λ ys. 59 ∷ ys) close.1 in
+          record {
+            digits = digits;
+            number = record { all = number.0; some = omega arith; few = ltb-false (most_digits radix) (length digits) lengths.1; small = rw number.1 number.2 };
+            spelled = sym (before-from (stops (NotDigit radix)) xs) ∙ ap (λ ys. digits ++ ys) mark;
+            value = sym number.1;
+          }
+    ]
 
 pub number_at_again : (radix : Radix) (ds rest : List ℕ) → IsNumber (radix_of radix) (most_digits radix) ds → number_at radix (ds ++ 59 ∷ rest) ≡ Some (digits_value (radix_of radix) ds, rest)
 unfolding number_at
@@ -143,8 +145,9 @@ sign_takes sign xs v rest is_sign begins h =
 hexadecimal_takes : (xs : List ℕ) (v : ℕ) (rest : List ℕ) → (starts_with nat_eq xs (codes "&#x") || starts_with nat_eq xs (codes "&#X")) ≡ true → number_at Sixteen (drop 3 xs) ≡ Some (v, rest) → IsReferenceAt xs v rest
 hexadecimal_takes xs v rest begins h =
     elim (or_cases (starts_with nat_eq xs (codes "&#x")) (starts_with nat_eq xs (codes "&#X")) begins) [
-      inl small ↦ sign_takes 120 xs v rest (inl refl) (starts (codes "&#x") xs small) h
-    | inr big ↦ sign_takes 88 xs v rest (inr refl) (starts (codes "&#X") xs big) h ]
+      | inl small ↦ sign_takes 120 xs v rest (inl refl) (starts (codes "&#x") xs small) h
+      | inr big ↦ sign_takes 88 xs v rest (inr refl) (starts (codes "&#X") xs big) h
+    ]
 
 -- what is left to try, test by test
 abbrev try_decimal : List ℕ → Option (ℕ × List ℕ)
@@ -168,35 +171,43 @@ try_lt xs = cond (starts_with nat_eq xs (codes "&lt;")) (Some (60, drop 4 xs)) (
 number_tried : (xs : List ℕ) (v : ℕ) (rest : List ℕ) → try_number xs ≡ Some (v, rest) → IsReferenceAt xs v rest
 number_tried xs v rest h =
     elim (chosen (starts_with nat_eq xs (codes "&#x") || starts_with nat_eq xs (codes "&#X")) (number_at Sixteen (drop 3 xs)) (try_decimal xs) (Some (v, rest)) h) [
-      inl w ↦ hexadecimal_takes xs v rest w.0 w.1
-    | inr w ↦ elim (chosen (starts_with nat_eq xs (codes "&#")) (number_at Ten (drop 2 xs)) None (Some (v, rest)) w.1) [
-        inl d ↦ decimal_takes xs v rest d.0 d.1
-      | inr d ↦ let no : ◌≡◌ {A = Option (ℕ × List ℕ)} None (Some (v, rest)) = d.1 in cc ] ]
+      | inl w ↦ hexadecimal_takes xs v rest w.0 w.1
+      | inr w ↦ elim (chosen (starts_with nat_eq xs (codes "&#")) (number_at Ten (drop 2 xs)) None (Some (v, rest)) w.1) [
+        | inl d ↦ decimal_takes xs v rest d.0 d.1
+        | inr d ↦ let no : ◌≡◌ {A = Option (ℕ × List ℕ)} None (Some (v, rest)) = d.1 in cc
+      ]
+    ]
 
 quotes_tried : (xs : List ℕ) (v : ℕ) (rest : List ℕ) → try_quot xs ≡ Some (v, rest) → IsReferenceAt xs v rest
 quotes_tried xs v rest h =
     elim (chosen (starts_with nat_eq xs (codes "&quot;")) (Some (34, drop 6 xs)) (try_apos xs) (Some (v, rest)) h) [
-      inl w ↦ named Quot (codes "&quot;") xs 34 v rest tt (λ ys. refl) refl w.0 w.1
-    | inr w ↦ elim (chosen (starts_with nat_eq xs (codes "&apos;")) (Some (39, drop 6 xs)) (try_number xs) (Some (v, rest)) w.1) [
-        inl a ↦ named Apos (codes "&apos;") xs 39 v rest tt (λ ys. refl) refl a.0 a.1
-      | inr a ↦ number_tried xs v rest a.1 ] ]
+      | inl w ↦ named Quot (codes "&quot;") xs 34 v rest tt (λ ys. refl) refl w.0 w.1
+      | inr w ↦ elim (chosen (starts_with nat_eq xs (codes "&apos;")) (Some (39, drop 6 xs)) (try_number xs) (Some (v, rest)) w.1) [
+        | inl a ↦ named Apos (codes "&apos;") xs 39 v rest tt (λ ys. refl) refl a.0 a.1
+        | inr a ↦ number_tried xs v rest a.1
+      ]
+    ]
 
 angles_tried : (xs : List ℕ) (v : ℕ) (rest : List ℕ) → try_lt xs ≡ Some (v, rest) → IsReferenceAt xs v rest
 angles_tried xs v rest h =
     elim (chosen (starts_with nat_eq xs (codes "&lt;")) (Some (60, drop 4 xs)) (try_gt xs) (Some (v, rest)) h) [
-      inl w ↦ named Lt (codes "&lt;") xs 60 v rest tt (λ ys. refl) refl w.0 w.1
-    | inr w ↦ elim (chosen (starts_with nat_eq xs (codes "&gt;")) (Some (62, drop 4 xs)) (try_quot xs) (Some (v, rest)) w.1) [
-        inl g ↦ named Gt (codes "&gt;") xs 62 v rest tt (λ ys. refl) refl g.0 g.1
-      | inr g ↦ quotes_tried xs v rest g.1 ] ]
+      | inl w ↦ named Lt (codes "&lt;") xs 60 v rest tt (λ ys. refl) refl w.0 w.1
+      | inr w ↦ elim (chosen (starts_with nat_eq xs (codes "&gt;")) (Some (62, drop 4 xs)) (try_quot xs) (Some (v, rest)) w.1) [
+        | inl g ↦ named Gt (codes "&gt;") xs 62 v rest tt (λ ys. refl) refl g.0 g.1
+        | inr g ↦ quotes_tried xs v rest g.1
+      ]
+    ]
 
 pub reference_takes : (xs : List ℕ) (v : ℕ) (rest : List ℕ) → reference_at xs ≡ Some (v, rest) → IsReferenceAt xs v rest
 unfolding reference_at
 reference_takes xs v rest h =
     elim (chosen (not (first_is 38 xs)) None (cond (starts_with nat_eq xs (codes "&amp;")) (Some (38, drop 5 xs)) (try_lt xs)) (Some (v, rest)) h) [
-      inl n ↦ let no : ◌≡◌ {A = Option (ℕ × List ℕ)} None (Some (v, rest)) = n.1 in cc
-    | inr n ↦ elim (chosen (starts_with nat_eq xs (codes "&amp;")) (Some (38, drop 5 xs)) (try_lt xs) (Some (v, rest)) n.1) [
-        inl w ↦ named Amp (codes "&amp;") xs 38 v rest tt (λ ys. refl) refl w.0 w.1
-      | inr w ↦ angles_tried xs v rest w.1 ] ]
+      | inl n ↦ let no : ◌≡◌ {A = Option (ℕ × List ℕ)} None (Some (v, rest)) = n.1 in cc
+      | inr n ↦ elim (chosen (starts_with nat_eq xs (codes "&amp;")) (Some (38, drop 5 xs)) (try_lt xs) (Some (v, rest)) n.1) [
+        | inl w ↦ named Amp (codes "&amp;") xs 38 v rest tt (λ ys. refl) refl w.0 w.1
+        | inr w ↦ angles_tried xs v rest w.1
+      ]
+    ]
 
 -- ## What is a reference is read as one
 

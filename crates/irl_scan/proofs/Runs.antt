@@ -1,5 +1,5 @@
 -- A run of bytes up to the first place where something stands.
-use Rattle.std.proofs.Common.{◌≡◌, ℕ, ◌+◌, ◌<◌, Bool, true, false, cond, List, [], ◌∷◌, ◌++◌, length, take, drop, get_or, refl, ap, sym, ◌∙◌, arith, append_assoc}
+use Rattle.std.proofs.Common.{◌≡◌, ℕ, ◌+◌, ◌<◌, Bool, true, false, cond, List, [], ◌∷◌, ◌++◌, length, take, drop, get_or, refl, ap, sym, ◌∙◌, append_assoc}
 use Rattle.std.proofs.lemmas.List.{drop_more, take_more, length-append}
 use Rattle.irl_scan.specs.Bytes.{UpTo}
 use Rattle.irl_scan.specs.Reading.{from, before}
@@ -72,9 +72,10 @@ stops_there stops h (b ∷ bs) = stop_cases stops b bs (stops (b ∷ bs)) refl (
 
 -- two runs of one list are the same
 pub one_run : (stops : List ℕ → Bool) (a b r s : List ℕ) → UpTo stops a r → UpTo stops b s → a ++ r ≡ b ++ s → (a ≡ b) × (r ≡ s)
-one_run stops a b r s h k e =
-    (sym (before-UpTo stops a r h) ∙ ap (before stops) e ∙ before-UpTo stops b s k,
-     sym (from-UpTo stops a r h) ∙ ap (from stops) e ∙ from-UpTo stops b s k)
+one_run stops a b r s h k e = (
+  sym (before-UpTo stops a r h) ∙ ap (before stops) e ∙ before-UpTo stops b s k,
+  sym (from-UpTo stops a r h) ∙ ap (from stops) e ∙ from-UpTo stops b s k,
+)
 
 pub length-run : (stops : List ℕ → Bool) (xs : List ℕ) → length (before stops xs) + length (from stops xs) ≡ length xs
 length-run stops xs = sym (length-append (before stops xs) (from stops xs)) ∙ ap length (before-from stops xs)

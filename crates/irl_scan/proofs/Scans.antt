@@ -1,5 +1,5 @@
 -- A scan of a page, piece by piece.
-use Rattle.std.proofs.Common.{◌≡◌, ℕ, zero, suc, get_or, ◌+◌, ◌-◌, ◌<◌, ◌≤◌, List, [], ◌∷◌, ◌++◌, length, Option, Some, None, IfSome, All, refl, ap, sym, ◌∙◌, subst, append_assoc, arith}
+use Rattle.std.proofs.Common.{◌≡◌, ℕ, zero, suc, get_or, ◌-◌, ◌<◌, ◌≤◌, List, [], ◌∷◌, ◌++◌, length, Option, Some, None, All, refl, ap, sym, ◌∙◌, subst, append_assoc, arith}
 use Rattle.std.proofs.lemmas.List.{append-nil}
 use Rattle.std.proofs.lemmas.List.Elements.{All-append}
 use Rattle.irl_scan.specs.declared.piece.Found.{Found}
@@ -7,7 +7,8 @@ use Rattle.irl_scan.specs.declared.piece.Found.TheVariants as found
 use Rattle.irl_scan.specs.declared.span.Span.{Span}
 use Rattle.irl_scan.specs.Page.{Piece, Cut}
 use Rattle.irl_scan.specs.Links.{IsWithin, link_of, base_or, links_of, base_of}
-use Rattle.irl_scan.specs.Reading.{or_first, Takes, Gives, found_within}
+use Rattle.irl_scan.specs.Reading.{Takes, Gives, found_within}
+use Rattle.irl_scan.proofs.Exists.{some_cut}
 use Rattle.irl_scan.proofs.Pieces.{one_cut, gives_end, gives_more}
 
 -- ## Links
@@ -57,43 +58,33 @@ links_only page spans (base, gives) pieces cut = gives.spans_are ∙ ap links_of
 abbrev HasBase : List ℕ → Option Span → Type 0
 HasBase page base = (spans : List Span) × Gives 0 page spans base
 
-pub base_start : (page : List ℕ) (spans : List Span) (base : Option Span) → Gives (length page - length page) page spans base → HasBase page (or_first None base)
+pub base_start : (page : List ℕ) (spans : List Span) (base : Option Span) → Gives (length page - length page) page spans base → HasBase page base
 base_start page spans base gives =
     let start : length page - length page ≡ 0 = omega arith in
     (spans, subst (λ n. Gives n page spans base) start gives)
 
-base_on : (first : Option Span) (given : Found) (base : Option Span) → or_first (or_first first (base_or given None)) base ≡ or_first first (base_or given base)
-base_on None found.Nothing base = refl
-base_on None (found.Link span) base = refl
-base_on None (found.Base span) base = refl
-base_on (Some first) given base = refl
+past : (given : Found) (base : Option Span) → ((span : Span) → given ≡ found.Base span → ⊥) → base_or given base ≡ base
+past found.Nothing base h = refl
+past (found.Link span) base h = refl
+past (found.Base span) base h = absurd (h span refl)
 
-pub base_turn : (size : ℕ) (page rest next : List ℕ) (given : Found) (first new : Option Span) → length rest ≤ size → Takes (size - length rest) rest given next → new ≡ or_first first (base_or given None) →
-    ((spans : List Span) (base : Option Span) → Gives (size - length rest) rest spans base → HasBase page (or_first first base)) →
-    (spans : List Span) (base : Option Span) → Gives (size - length next) next spans base → HasBase page (or_first new base)
-base_turn size page rest next given first new fits takes is_new goes_on spans base gives =
-    let all = goes_on (link_of given ++ spans) (base_or given base) (gives_more size rest next given spans base fits takes gives) in
-    subst (HasBase page) (sym (ap (λ f. or_first f base) is_new ∙ base_on first given base)) all
+pub base_passes : (size : ℕ) (page rest next : List ℕ) (given : Found) → length rest ≤ size → Takes (size - length rest) rest given next → ((span : Span) → given ≡ found.Base span → ⊥) →
+    ((spans : List Span) (base : Option Span) → Gives (size - length rest) rest spans base → HasBase page base) →
+    (spans : List Span) (base : Option Span) → Gives (size - length next) next spans base → HasBase page base
+base_passes size page rest next given fits takes none goes_on spans base gives =
+    subst (HasBase page) (past given base none) (goes_on (link_of given ++ spans) (base_or given base) (gives_more size rest next given spans base fits takes gives))
 
-within_base : (size : ℕ) (first : Option Span) (given : Found) → IfSome first (IsWithin size) → found_within size given → IfSome (or_first first (base_or given None)) (IsWithin size)
-within_base size (Some first) given h k = h
-within_base size None found.Nothing h k = tt
-within_base size None (found.Link span) h k = tt
-within_base size None (found.Base span) h k = k
+pub base_stops : (size : ℕ) (page rest next : List ℕ) (given : Found) (span : Span) → length rest ≤ size → length next ≤ length rest → Takes (size - length rest) rest given next → given ≡ found.Base span →
+    ((spans : List Span) (base : Option Span) → Gives (size - length rest) rest spans base → HasBase page base) → HasBase page (Some span)
+base_stops size page rest next given span fits less takes is_base goes_on =
+    let others = some_cut (length next) size next (omega arith) (omega arith) in
+    subst (λ f. HasBase page (base_or f others.base)) is_base (goes_on (link_of given ++ others.spans) (base_or given others.base) (gives_more size rest next given others.spans others.base fits takes others.gives))
 
-pub base_within : (size : ℕ) (given : Found) (first new : Option Span) → new ≡ or_first first (base_or given None) → IfSome first (IsWithin size) → found_within size given → IfSome new (IsWithin size)
-base_within size given first new e h k = subst (λ x. IfSome x (IsWithin size)) (sym e) (within_base size first given h k)
-
-or_none : (first : Option Span) → or_first first None ≡ first
-or_none None = refl
-or_none (Some first) = refl
-
-pub base_told : (page rest : List ℕ) (first : Option Span) → rest ≡ [] → ((spans : List Span) (base : Option Span) → Gives (length page - length rest) rest spans base → HasBase page (or_first first base)) → HasBase page first
-base_told page rest first empty goes_on = subst (HasBase page) (or_none first) (goes_on [] None (gives_end (length page - length rest) rest empty))
+pub base_told : (page rest : List ℕ) → rest ≡ [] → ((spans : List Span) (base : Option Span) → Gives (length page - length rest) rest spans base → HasBase page base) → HasBase page None
+base_told page rest empty goes_on = goes_on [] None (gives_end (length page - length rest) rest empty)
 
 pub base_found : (page : List ℕ) (base : Option Span) → HasBase page base → (pieces : List Piece) × Cut page pieces × (base ≡ base_of pieces)
 base_found page base (spans, gives) = (gives.pieces, gives.cut, gives.base_is)
 
 pub base_only : (page : List ℕ) (base : Option Span) → HasBase page base → (pieces : List Piece) → Cut page pieces → base ≡ base_of pieces
 base_only page base (spans, gives) pieces cut = gives.base_is ∙ ap base_of (one_cut page gives.pieces pieces gives.cut cut)
-

@@ -1,13 +1,13 @@
 -- The value behind an attribute's name, read at a place: it is as the grammar says, and is the only one.
-use Rattle.std.proofs.Common.{◌≡◌, ℕ, suc, ◌+◌, ◌-◌, ◌<◌, ◌≤◌, Bool, true, false, cond, not, ◌||◌, eqb, List, [], ◌∷◌, ◌++◌, length, drop, Option, Some, None, refl, ap, sym, ◌∙◌, subst, arith}
-use Rattle.std.proofs.lemmas.Bool.{eqb-true, eq-eqb, false≢true}
+use Rattle.std.proofs.Common.{◌≡◌, ℕ, suc, ◌+◌, ◌-◌, ◌≤◌, Bool, true, false, cond, not, eqb, List, [], ◌∷◌, ◌++◌, length, drop, Option, Some, None, refl, ap, sym, ◌∙◌, subst, arith}
+use Rattle.std.proofs.lemmas.Bool.{eqb-true, false≢true}
 use Rattle.irl_scan.specs.declared.attribute.Ending.{Ending}
 use Rattle.irl_scan.specs.declared.attribute.Ending.TheVariants.{Marked, PageEnd}
 use Rattle.irl_scan.specs.declared.span.Span.{Span}
-use Rattle.irl_scan.specs.declared.stop.Stop.TheVariants.{NotSpace, BareValue, Byte}
-use Rattle.irl_scan.specs.Bytes.{is_space, is_quote, ends_bare_value, at_byte, UpTo}
+use Rattle.irl_scan.specs.declared.stop.Stop.TheVariants.{BareValue, Byte}
+use Rattle.irl_scan.specs.Bytes.{is_space, is_quote, at_byte, UpTo}
 use Rattle.irl_scan.specs.Page.{Value, Absent, Bare, Quoted, end_onto, value_onto, EndsBy, sign_follows, quote_follows, not_space, IsValue}
-use Rattle.irl_scan.specs.Links.{value_span, sign_length, value_bytes}
+use Rattle.irl_scan.specs.Links.{value_span}
 use Rattle.irl_scan.specs.Reading.{from, before, stops, ending_of, first_is, quote_at, content_at, value_at}
 use Rattle.irl_scan.proofs.Runs.{before-from, UpTo-read, from-UpTo, before-UpTo, stops_there, length-run}
 
@@ -131,11 +131,12 @@ bare_takes rest h q =
     let e1 : bytes ++ left ≡ value = before-from (stops BareValue) value in
     let e2 : more ++ (bytes ++ left) ≡ after = ap (λ ys. more ++ ys) e1 ∙ before-from not_space after in
     let e3 : 61 ∷ (more ++ (bytes ++ left)) ≡ from not_space rest = ap (λ ys. 61 ∷ ys) e2 ∙ sym (first_is-cons 61 (from not_space rest) h) in
-    let formed : IsValue (Bare space more bytes) left =
-        (subst (UpTo not_space space) (sym e3) (UpTo-read not_space refl rest),
-         subst (UpTo not_space more) (sym e1) (UpTo-read not_space refl after),
-         ap quote_follows e1 ∙ quote_at-none value q,
-         UpTo-read (stops BareValue) refl value) in
+    let formed : IsValue (Bare space more bytes) left = (
+      subst (UpTo not_space space) (sym e3) (UpTo-read not_space refl rest),
+      subst (UpTo not_space more) (sym e1) (UpTo-read not_space refl after),
+      ap quote_follows e1 ∙ quote_at-none value q,
+      UpTo-read (stops BareValue) refl value,
+    ) in
     let spelled : value_onto (Bare space more bytes) left ≡ rest = ap (λ ys. space ++ ys) e3 ∙ before-from not_space rest in
     let read : IsReadOf rest (Bare space more bytes, left) = record { formed = formed; spelled = spelled } in
     subst (IsReadOf rest) (sym (bare_read rest after value h refl refl q)) read
@@ -151,15 +152,16 @@ quoted_takes rest quote h q =
     let ends = end_onto (quote ∷ []) (ending_of left) (drop 1 left) in
     let e0 : ends ≡ left = end_is quote left (stops_there (stops (Byte quote)) refl (drop 1 value)) in
     let e1 : quote ∷ (bytes ++ ends) ≡ value =
-        ap (λ ys. quote ∷ (bytes ++ ys)) e0 ∙ ap (λ ys. quote ∷ ys) (before-from (stops (Byte quote)) (drop 1 value)) ∙ sym (quote_at-some quote value q).0 in
+    ap (λ ys. quote ∷ (bytes ++ ys)) e0 ∙ ap (λ ys. quote ∷ ys) (before-from (stops (Byte quote)) (drop 1 value)) ∙ sym (quote_at-some quote value q).0 in
     let e2 : more ++ quote ∷ (bytes ++ ends) ≡ after = ap (λ ys. more ++ ys) e1 ∙ before-from not_space after in
     let e3 : 61 ∷ (more ++ quote ∷ (bytes ++ ends)) ≡ from not_space rest = ap (λ ys. 61 ∷ ys) e2 ∙ sym (first_is-cons 61 (from not_space rest) h) in
-    let formed : IsValue (Quoted space more quote bytes (ending_of left)) (drop 1 left) =
-        (subst (UpTo not_space space) (sym e3) (UpTo-read not_space refl rest),
-         subst (UpTo not_space more) (sym e1) (UpTo-read not_space refl after),
-         (quote_at-some quote value q).1,
-         subst (UpTo (stops (Byte quote)) bytes) (sym e0) (UpTo-read (stops (Byte quote)) refl (drop 1 value)),
-         ends_by left) in
+    let formed : IsValue (Quoted space more quote bytes (ending_of left)) (drop 1 left) = (
+      subst (UpTo not_space space) (sym e3) (UpTo-read not_space refl rest),
+      subst (UpTo not_space more) (sym e1) (UpTo-read not_space refl after),
+      (quote_at-some quote value q).1,
+      subst (UpTo (stops (Byte quote)) bytes) (sym e0) (UpTo-read (stops (Byte quote)) refl (drop 1 value)),
+      ends_by left,
+    ) in
     let spelled : value_onto (Quoted space more quote bytes (ending_of left)) (drop 1 left) ≡ rest = ap (λ ys. space ++ ys) e3 ∙ before-from not_space rest in
     let read : IsReadOf rest (Quoted space more quote bytes (ending_of left), drop 1 left) = record { formed = formed; spelled = spelled } in
     subst (IsReadOf rest) (sym (quoted_read rest after value quote h refl refl q)) read

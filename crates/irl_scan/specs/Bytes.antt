@@ -1,6 +1,6 @@
--- The bytes that the grammar of a page speaks of.
-use Rattle.std.specs.Prelude.{ℕ, ◌≡◌, Bool, true, false, ◌||◌, ◌==◌, not, List, [], ◌∷◌, ◌++◌, codes, if◌then◌else◌}
-use Rattle.std.specs.Char.{is_ascii_whitespace, is_ascii_alphabetic}
+-- The bytes and names that the grammar of a page speaks of. White space is the ASCII whitespace of the WHATWG Infra standard.
+use Rattle.std.specs.Prelude.{ℕ, ◌≡◌, Bool, true, false, ◌||◌, ◌==◌, List, [], ◌∷◌, ◌++◌, codes, if◌then◌else◌}
+use Rattle.std.specs.Char.{is_ascii_whitespace}
 use Rattle.std.specs.Str.{str_eq_ignore_ascii_case}
 use Rattle.irl_scan.specs.declared.kind.Kind.{Kind}
 use Rattle.irl_scan.specs.declared.kind.Kind.TheVariants.{Anchor, Frame, Base, Script, Style, Other}

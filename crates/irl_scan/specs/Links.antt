@@ -1,5 +1,5 @@
--- The links of a page, and its base: read off its cut into pieces.
-use Rattle.std.specs.Prelude.{ℕ, ◌≡◌, ◌+◌, ◌≤◌, Bool, true, false, List, [], ◌∷◌, ◌++◌, length, Option, Some, None, if◌then◌else◌}
+-- The links of a page, and its base: read off its cut into pieces. A place is how many bytes of the page stand before it.
+use Rattle.std.specs.Prelude.{ℕ, ◌+◌, ◌≤◌, List, [], ◌∷◌, ◌++◌, length, Option, Some, None, if◌then◌else◌}
 use Rattle.irl_scan.specs.declared.attribute.Ending.{Ending}
 use Rattle.irl_scan.specs.declared.attribute.Ending.TheVariants.{Marked, PageEnd}
 use Rattle.irl_scan.specs.declared.span.Span.{Span}
@@ -8,7 +8,7 @@ use Rattle.irl_scan.specs.declared.kind.Kind.TheVariants.{Anchor, Frame, Base, S
 use Rattle.irl_scan.specs.declared.piece.Found.{Found}
 use Rattle.irl_scan.specs.declared.piece.Found.TheVariants as found
 use Rattle.irl_scan.specs.Bytes.{kind_of, wants}
-use Rattle.irl_scan.specs.Page.{Value, Absent, Bare, Quoted, Attribute, Tag, Piece, Letter, Comment, Skipped, Markup, attribute_onto, piece_onto}
+use Rattle.irl_scan.specs.Page.{Value, Absent, Bare, Quoted, Attribute, Piece, Letter, Comment, Skipped, Markup, attribute_onto, piece_onto}
 
 -- how many bytes stand between an attribute's name and the bytes of its value
 abbrev pub sign_length : Value → ℕ

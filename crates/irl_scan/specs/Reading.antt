@@ -1,8 +1,7 @@
 -- What the scanner's own functions read at a place: the private contracts speak of it, and the proofs show that it is the one cut of the page.
-use Rattle.std.specs.Prelude.{ℕ, ◌≡◌, ◌+◌, ◌-◌, ◌*◌, ◌<◌, ◌≤◌, Bool, true, false, ◌&&◌, ◌||◌, ◌==◌, not, nat_lt, nat_le, nat_eq, List, [], ◌∷◌, ◌++◌, length, drop, Option, Some, None, IfSome, codes, if◌then◌else◌, slice_index}
+use Rattle.std.specs.Prelude.{ℕ, ◌≡◌, ◌+◌, ◌*◌, Bool, false, ◌&&◌, ◌||◌, ◌==◌, not, nat_lt, nat_eq, List, [], ◌∷◌, length, drop, Option, Some, None, codes, if◌then◌else◌}
 use Rattle.std.specs.List.{starts_with}
 use Rattle.std.specs.Char.{digit_value}
-use Rattle.std.specs.Str.Parse.{digits_value}
 use Rattle.irl_scan.specs.declared.attribute.Ending.{Ending}
 use Rattle.irl_scan.specs.declared.attribute.Ending.TheVariants.{Marked, PageEnd}
 use Rattle.irl_scan.specs.declared.span.Span.{Span}
@@ -13,10 +12,10 @@ use Rattle.irl_scan.specs.declared.reference.Radix.{Radix}
 use Rattle.irl_scan.specs.declared.reference.Radix.TheVariants.{Ten, Sixteen}
 use Rattle.irl_scan.specs.declared.stop.Stop.{Stop}
 use Rattle.irl_scan.specs.declared.stop.Stop.TheVariants.{NotSpace, NotGap, TagName, AttributeName, BareValue, Byte, CommentEnd, RawEnd, NotDigit}
-use Rattle.irl_scan.specs.Bytes.{is_space, is_gap, ends_tag_name, ends_attribute_name, ends_bare_value, is_quote, wants, at_byte, UpTo}
+use Rattle.irl_scan.specs.Bytes.{is_gap, ends_tag_name, ends_attribute_name, ends_bare_value, is_quote, at_byte}
 use Rattle.irl_scan.specs.Page.{Value, Absent, Bare, Quoted, Attribute, Piece, end_onto, attributes_onto, piece_onto, tag_end_onto, AreAttributes, IsGap, EndsBy, IsPiece, ends_raw, ends_comment, not_space, Cut}
 use Rattle.irl_scan.specs.Links.{IsWithin, first_span, found_at, links_from, base_from}
-use Rattle.irl_scan.specs.Text.{Reference, Amp, Lt, Gt, Quot, Apos, Decimal, Hexadecimal, Item, Reads, text_of}
+use Rattle.irl_scan.specs.Text.{Item, Reads, text_of}
 
 -- what is left from the first place at which the test holds, and what stands before it
 abbrev pub from : (List ℕ → Bool) → List ℕ → List ℕ
@@ -67,7 +66,7 @@ content_at space after value (Some quote) =
 unfoldable pub value_at : List ℕ → Value × List ℕ
 value_at rest =
     if first_is 61 (from not_space rest) then
-      content_at (before not_space rest) (before not_space (drop 1 (from not_space rest))) (from not_space (drop 1 (from not_space rest))) (quote_at (from not_space (drop 1 (from not_space rest))))
+    content_at (before not_space rest) (before not_space (drop 1 (from not_space rest))) (from not_space (drop 1 (from not_space rest))) (quote_at (from not_space (drop 1 (from not_space rest))))
     else (Absent, rest)
 
 -- an attribute's name, of at least one byte, and what is left behind it

@@ -1,4 +1,5 @@
--- The text of an attribute's value: its bytes, with character references replaced once.
+-- The text of an attribute's value: its bytes, with some of HTML's character references (WHATWG HTML, section 13.1.4)
+-- replaced once, where they stand for a byte below 128.
 use Rattle.std.specs.Prelude.{ℕ, ◌≡◌, ◌<◌, ◌≤◌, ◌⊎◌, List, [], ◌∷◌, ◌++◌, length, codes}
 use Rattle.std.specs.Str.Parse.{AllDigits, digits_value}
 

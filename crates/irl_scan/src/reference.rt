@@ -125,7 +125,8 @@ fn read_text(alloc: Global, value: &[u8]) -> Result<Text, AllocError>
 }
 
 /// The text of a span of a page, with the character references `&amp;`, `&lt;`, `&gt;`, `&quot;`, `&apos;`, `&#N;` with
-/// one to seven decimal digits, and `&#xH;` with one to six hexadecimal digits, replaced where the number is below 128.
+/// one to seven decimal digits, and `&#xH;` or `&#XH;` with one to six hexadecimal digits, replaced where the number is
+/// below 128.
 /// Any other `&` stays, and what was replaced isn't read again. The span doesn't end before it begins, and lies within the
 /// page. The only refusal is want of memory.
 pub fn text(alloc: Global, page: &[u8], span: &Span) -> Result<Text, AllocError>

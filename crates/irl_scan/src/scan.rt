@@ -1,7 +1,6 @@
-ghost use Rattle.std.specs.Prelude.{◌≡◌, ◌≤◌, ℕ, List, ◌++◌, length, None, All, IfOk, IfSome, OnOk, OnErr};
+ghost use Rattle.std.specs.Prelude.{◌≡◌, ◌≤◌, ℕ, List, ◌++◌, length, All, IfOk, IfSome, OnOk, OnErr};
 ghost use Rattle.irl_scan.specs.Page.{Piece, Cut};
-ghost use Rattle.irl_scan.specs.Links.{IsWithin, link_of, base_or, links_of, base_of};
-ghost use Rattle.irl_scan.specs.Reading.{or_first};
+ghost use Rattle.irl_scan.specs.Links.{IsWithin, link_of, links_of, base_of};
 
 use crate::piece::{Found, read_piece};
 use crate::span::Span;
@@ -18,16 +17,6 @@ fn push_link(spans: &mut Vec<Span>, found: Found) -> Result<(), AllocError>
             Ok(())
         }
         Found::Nothing | Found::Base(_) => Ok(()),
-    }
-}
-
-/// The first base: the one that was found before, or else this one.
-fn first_base(first: Option<Span>, found: Found) -> Option<Span>
-    ensures { result ≡ or_first first (base_or found None) }
-{
-    match (first, found) {
-        (Some(span), _) | (None, Found::Base(span)) => Some(span),
-        (None, Found::Nothing | Found::Link(_)) => None,
     }
 }
 
@@ -62,18 +51,19 @@ pub fn base(page: &[u8]) -> Option<Span>
     ensures only { (pieces : List Piece) → Cut page.now pieces → result ≡ base_of pieces }
     ensures within { IfSome result (IsWithin (length page.now)) }
 {
-    let mut first = None;
     let mut rest = page;
     while !rest.is_empty() {
         let taken = read_piece(page.len(), rest);
-        first = first_base(first, taken.found);
+        if let Found::Base(span) = taken.found {
+            return Some(span);
+        }
         rest = taken.rest;
     }
-    first
+    None
 }
 
 /// A page has one cut into pieces, and so one list of links and one base.
 pub fn one_cut()
-    ensures { (page : List ℕ) (a b : List Piece) → Cut page a → Cut page b → a ≡ b }
-{
-}
+    ensures some { (page : List ℕ) → (pieces : List Piece) × Cut page pieces }
+    ensures one { (page : List ℕ) (a b : List Piece) → Cut page a → Cut page b → a ≡ b }
+{}

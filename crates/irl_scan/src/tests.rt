@@ -111,7 +111,10 @@ static MARKUP: [(&[u8], &[u8]); 42] = [
     (b"<SCRIPT><a href=x></sCrIpT ><a href=y>", b"y;"),
     (b"<script></scripts><a href=x></script/><a href=y>", b"y;"),
     (b"<script><a href=x></script", b""),
-    (b"<style><a href=x></script><a href=y></style><a href=z>", b"z;"),
+    (
+        b"<style><a href=x></script><a href=y></style><a href=z>",
+        b"z;",
+    ),
     (b"<style/><a href=x>", b""),
     (b"<script src=f><a href=x>", b""),
     (b"<scripts><a href=x>", b"x;"),
@@ -218,7 +221,8 @@ fn hostile_pages_end_at_once(rt: HostRuntime) -> Result<(), Fail> {
 
 #[test]
 fn a_page_of_each_kind(rt: HostRuntime) -> Result<(), Fail> {
-    let page = b"<base href=\"/e/\"><a href=\"q\">1</a><a href=\"/d/p#x\">2</a><a href=\"?a=1&amp;b=2\">3</a>\
+    let page =
+        b"<base href=\"/e/\"><a href=\"q\">1</a><a href=\"/d/p#x\">2</a><a href=\"?a=1&amp;b=2\">3</a>\
         <a href=\"https://a.test/\">4</a><!-- <a href=\"no\"> --><script>\"<a href='no2'>\"</script><frame src=f>";
     let spans = links(rt.alloc(), page)?;
     let wanted = [(26, 27), (43, 49), (65, 77), (93, 108), (181, 182)];
@@ -228,7 +232,10 @@ fn a_page_of_each_kind(rt: HostRuntime) -> Result<(), Fail> {
     }
     assert_eq!(rt; base(page), Some(Span { start: 12, end: 15 }));
     let all = told(&rt, rt.alloc(), page)?;
-    assert_eq!(rt; all.as_slice(), b"q;/d/p#x;?a=1&b=2;https://a.test/;f;^/e/".as_slice());
+    assert_eq!(rt;
+        all.as_slice(),
+        b"q;/d/p#x;?a=1&b=2;https://a.test/;f;^/e/".as_slice()
+    );
     Ok(())
 }
 

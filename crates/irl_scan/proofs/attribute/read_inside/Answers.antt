@@ -1,11 +1,11 @@
-use Rattle.std.proofs.Common.{◌≡◌, ◌-◌, ◌<◌, ◌≤◌, List, [], false, true, length, drop, Some, None, ap, sym, ◌∙◌, subst, arith}
+use Rattle.std.proofs.Common.{◌≡◌, ◌-◌, [], false, true, length, drop, None, ap, sym, ◌∙◌, subst, arith}
 use Rattle.std.proofs.lemmas.Bool.{eqb-true, eqb-false}
 use Rattle.std.proofs.lemmas.List.{nil_from_length}
 use Rattle.irl_scan.specs.declared.attribute.Ending.TheVariants.{Marked, PageEnd}
 use Rattle.irl_scan.specs.declared.stop.Stop.TheVariants.{NotGap}
 use Rattle.irl_scan.specs.Bytes.{wants}
 use Rattle.irl_scan.specs.Links.{IsWithin}
-use Rattle.irl_scan.specs.Reading.{from, stops, first_is, or_first, ReadsInside}
+use Rattle.irl_scan.specs.Reading.{from, stops, first_is, ReadsInside}
 use Rattle.irl_scan.proofs.Insides.{or_first-none, inside_ends, inside_closes, turn, within_turn}
 use Rattle.irl_scan.proofs.attribute.read_inside.Goals as goal
 

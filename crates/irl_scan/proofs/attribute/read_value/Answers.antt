@@ -1,8 +1,8 @@
-use Rattle.std.proofs.Common.{◌≡◌, ◌+◌, ◌-◌, true, false, length, drop, Some, None, ap, sym, ◌∙◌}
+use Rattle.std.proofs.Common.{◌≡◌, ◌-◌, true, false, length, drop, Some, None, ap, sym, ◌∙◌}
 use Rattle.irl_scan.specs.declared.stop.Stop.TheVariants.{BareValue, Byte}
 use Rattle.irl_scan.specs.Links.{value_span}
 use Rattle.irl_scan.specs.Page.{not_space}
-use Rattle.irl_scan.specs.Reading.{from, before, stops, ending_of, first_is, quote_at, value_at}
+use Rattle.irl_scan.specs.Reading.{from, before, stops, ending_of, first_is, quote_at}
 use Rattle.irl_scan.proofs.Values.{absent_read, bare_read, quoted_read, absent_span, bare_span, quoted_span}
 use Rattle.irl_scan.proofs.attribute.read_value.Goals as goal
 

@@ -10,4 +10,4 @@ pub returns-clause-only : goal.returns-clause-only
 returns-clause-only c =
     let value = slice_range c.args.page.now c.args.span.now.start c.args.span.now.end in
     IfOk-weaker c.read_text.result (HasText value) (λ text. (items : List Item) → Reads value items → text ≡ text_of items)
-      (λ text has items reads. has.text_is ∙ one_text value has.items items has.reads reads) c.read_text.ensures
+    (λ text has items reads. has.text_is ∙ one_text value has.items items has.reads reads) c.read_text.ensures

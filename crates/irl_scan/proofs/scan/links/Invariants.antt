@@ -1,5 +1,5 @@
 -- The links so far, and those of the rest, are those of the page.
-use Rattle.std.proofs.Common.{ℕ, ◌-◌, ◌≤◌, List, ◌++◌, length, Option, All}
+use Rattle.std.proofs.Common.{◌-◌, ◌≤◌, List, ◌++◌, length, Option, All}
 use Rattle.irl_scan.specs.declared.span.Span.{Span}
 use Rattle.irl_scan.specs.Links.{IsWithin}
 use Rattle.irl_scan.specs.Reading.{Gives}

@@ -9,7 +9,7 @@ pub loop-i-preserved : goal.loop-i-preserved
 loop-i-preserved c =
     let rest = c.args.rest.now in
     let goes_on : stops c.args.stop (drop c.loop-i.i rest) ≡ false =
-        ap (stops c.args.stop) (sym (take_rest rest c.loop-i.i)) ∙ sym c.holds.ensures ∙ c.if-holds.false in
+    ap (stops c.args.stop) (sym (take_rest rest c.loop-i.i)) ∙ sym c.holds.ensures ∙ c.if-holds.false in
     record {
       front = before_more (stops c.args.stop) rest c.loop-i.i c.loop-i-test.true goes_on ∙ c.loop-i.invariant.front;
       back = from_more (stops c.args.stop) rest c.loop-i.i c.loop-i-test.true goes_on ∙ c.loop-i.invariant.back;
