@@ -1,11 +1,11 @@
--- The bytes and names that the grammar of a page speaks of. White space is the ASCII whitespace of the WHATWG Infra standard.
+-- The bytes and names that the grammar of a page speaks of.
 use Rattle.std.specs.Prelude.{ℕ, ◌≡◌, Bool, true, false, ◌||◌, ◌==◌, List, [], ◌∷◌, ◌++◌, codes, if◌then◌else◌}
 use Rattle.std.specs.Char.{is_ascii_whitespace}
 use Rattle.std.specs.Str.{str_eq_ignore_ascii_case}
 use Rattle.irl_scan.specs.declared.kind.Kind.{Kind}
 use Rattle.irl_scan.specs.declared.kind.Kind.TheVariants.{Anchor, Frame, Base, Script, Style, Other}
 
--- White space is tab, LF, FF, CR and space.
+-- White space is tab, LF, FF, CR and space: the ASCII whitespace of the WHATWG Infra standard.
 abbrev pub is_space : ℕ → Bool
 is_space b = is_ascii_whitespace b
 
@@ -51,13 +51,13 @@ wants Script name = false
 wants Style name = false
 wants Other name = false
 
--- What ends a run of bytes stands at its end, or the page ends there: a test of what is left of the page.
--- the byte there passes the test
+-- A run of bytes ends where a test of what is left of the page holds, and with the page at the latest. A test of the byte
+-- that stands there:
 abbrev pub at_byte : (ℕ → Bool) → List ℕ → Bool
 at_byte test [] = true
 at_byte test (b ∷ bs) = test b
 
--- The body goes up to the first place, in it and in the rest behind it, at which what stops it stands.
+-- The body goes up to the first place, in it and in the rest behind it, at which the test holds.
 abbrev pub UpTo : (List ℕ → Bool) → List ℕ → List ℕ → Type 0
 UpTo stops [] rest = stops rest ≡ true
 UpTo stops (b ∷ body) rest = (stops (b ∷ (body ++ rest)) ≡ false) × UpTo stops body rest

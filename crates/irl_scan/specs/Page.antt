@@ -1,5 +1,6 @@
--- A page, cut into text, comments, skipped markup and tags with the raw text behind them, and each tag into its name and its attributes.
--- The pieces joined are the page, and each of them goes as far as the grammar says, which what stands behind it shows.
+-- A page, cut into text, comments, skipped markup and tags with the raw text behind them, and each tag into its name and
+-- its attributes. The pieces joined are the page, and each of them goes as far as the grammar says, which what stands
+-- behind it shows.
 -- The grammar is the project's own, after the tokenization of HTML (WHATWG HTML, section 13.2.5) but simpler: what is said
 -- here is all that there is.
 use Rattle.std.specs.Prelude.{ℕ, ◌≡◌, Bool, true, false, ◌&&◌, ◌||◌, ◌==◌, not, List, [], ◌∷◌, ◌++◌, length, take, drop, nat_eq, codes, if◌then◌else◌}

@@ -1,4 +1,5 @@
--- What the scanner's own functions read at a place: the private contracts speak of it, and the proofs show that it is the one cut of the page.
+-- What the scanner's own functions read at a place. Private contracts alone speak of it: the proofs show that it is the one
+-- cut of the page, and the one reading of a value.
 use Rattle.std.specs.Prelude.{ℕ, ◌≡◌, ◌+◌, ◌*◌, Bool, false, ◌&&◌, ◌||◌, ◌==◌, not, nat_lt, nat_eq, List, [], ◌∷◌, length, drop, Option, Some, None, codes, if◌then◌else◌}
 use Rattle.std.specs.List.{starts_with}
 use Rattle.std.specs.Char.{digit_value}
