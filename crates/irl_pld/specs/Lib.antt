@@ -1,0 +1,5 @@
+pub mod Cut
+pub mod Names
+pub mod Domains
+pub mod Sets
+pub mod Faults
