@@ -1,5 +1,6 @@
 ghost use Rattle.std.specs.Prelude.{◌≡◌, None, Err, ℕ, List, IfOk, MatchResult};
-ghost use Rattle.irl_pld.specs.Domains.{pld_of, one_more, tails};
+ghost use Rattle.irl_pld.specs.Domains.{pld_of, domain_of, one_more, tails, bare as without_port_and_dot};
+ghost use Rattle.irl_pld.specs.Longest.{IsDomain};
 ghost use Rattle.irl_pld.specs.Names.{bad_line, is_listed};
 ghost use Rattle.irl_pld.specs.Sets.{AreNamesOf};
 ghost use Rattle.irl_pld.specs.Faults.{IsCause};
@@ -96,9 +97,15 @@ impl Suffixes {
     /// where no suffix fits. An address, a suffix and a single label are their own domain. It takes no memory.
     #[tactic(auto, unfolding(crate::specs::Domains::pld_of))]
     pub fn pld<'a>(&self, host: &'a [u8]) -> &'a [u8]
-        ensures { result.now ≡ pld_of self.now host.now }
+        ensures value { result.now ≡ pld_of self.now host.now }
+        ensures domain { IsDomain self.now (without_port_and_dot host.now) result.now }
     {
-        let host = bare(host);
+        self.domain(bare(host))
+    }
+
+    fn domain<'a>(&self, host: &'a [u8]) -> &'a [u8]
+        ensures { result.now ≡ domain_of (is_listed self.now) host.now }
+    {
         if is_address(host) || self.lists(host) {
             return host;
         }
