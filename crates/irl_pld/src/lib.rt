@@ -7,3 +7,6 @@ mod parts;
 mod suffixes;
 
 pub use suffixes::{SuffixFault, Suffixes};
+
+#[cfg(test)]
+mod tests;
