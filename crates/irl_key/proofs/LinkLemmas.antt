@@ -1,5 +1,5 @@
 -- What links count as.
-use Rattle.std.proofs.Common.{◌≡◌, ◌≢◌, ℕ, ◌<◌, ◌≤◌, ◌↔◌, Bool, true, false, cond, not, List, [], ◌∷◌, length, Some, None, refl, sym, ap, ◌∙◌, subst, inl, inr, ⊎_elim, arith, nat_lt}
+use Rattle.std.proofs.Common.{◌≡◌, ℕ, ◌≤◌, ◌↔◌, Bool, true, false, cond, not, List, [], ◌∷◌, length, Some, None, refl, sym, ap, ◌∙◌, subst, inl, inr, ⊎_elim, arith, nat_lt}
 use Rattle.std.specs.Prelude.{Option, Result, Ok, Err, IfOk, codes, bytes_eq, is_some, option_copied, option_and_then}
 use Rattle.std.specs.Borrow.{Bor}
 use Rattle.url.proofs.InputLemmas.{is_empty_nonempty}
@@ -10,8 +10,8 @@ use Rattle.url.specs.Input.{is_empty}
 use Rattle.url.specs.Parts.{Parts, has_credentials, serialize}
 use Rattle.irl_key.specs.declared.canon.Canon.{Canon}
 use Rattle.irl_key.specs.declared.canon.Canon.TheVariants.{Web, NotHttp, Bad, TooLong}
-use Rattle.irl_key.specs.Web.{url_against, url_of, IsWeb, IsWebText}
-use Rattle.irl_key.specs.Links.{link_of, without_fragment, canonical_text, canon_of_url, canon_of_link, canon_of, IsOpen, IsCause}
+use Rattle.irl_key.specs.Web.{url_against, url_of, IsWebText}
+use Rattle.irl_key.specs.Links.{link_of, canonical_text, canon_of_link, canon_of, IsOpen, IsCause}
 use Rattle.irl_key.proofs.WebLemmas.{url_against-serialize}
 
 -- the cause, by what the three tests say of the URL

@@ -1,5 +1,5 @@
 -- The texts of web URLs.
-use Rattle.std.proofs.Common.{◌≡◌, ◌≢◌, ℕ, ◌+◌, ◌<◌, ◌≤◌, true, false, List, [], ◌∷◌, ◌++◌, length, Some, None, refl, sym, ap, ◌∙◌, subst, inl, ⊎_elim, arith, lit<, lit≤, append_assoc, append-nil, length-append, All}
+use Rattle.std.proofs.Common.{◌≡◌, ℕ, ◌<◌, ◌≤◌, false, List, [], ◌∷◌, ◌++◌, length, Some, None, refl, sym, ap, ◌∙◌, subst, inl, ⊎_elim, arith, lit<, append_assoc, append-nil, length-append}
 use Rattle.std.specs.Prelude.{Option, Result, Ok, Err, IfOk, OnOk, ◌⊎◌, is_some, unwrap_or, option_map, decimal, codes}
 use Rattle.std.specs.Str.{is_utf8, IsUtf8}
 use Rattle.std.specs.Result.{result_ok}
@@ -16,7 +16,7 @@ use Rattle.url.specs.Input.{when}
 use Rattle.url.specs.Scheme.{default_port, scheme_type, is_special, is_slash}
 use Rattle.url.specs.Host.{host_text}
 use Rattle.url.specs.Path.{IsSegment, IsSegmentList}
-use Rattle.url.specs.Parts.{Parts, kind_of, has_authority, host_or_empty, serialize, text_between, IsValid}
+use Rattle.url.specs.Parts.{Parts, kind_of, host_or_empty, serialize, text_between, IsValid}
 use Rattle.url.specs.Parser.{parse_url, with_tail, IsOutOfRoom}
 use Rattle.url.specs.declared.error.ParseError.{ParseError}
 use Rattle.url.proofs.OnLiterals.{url_on_literals}
@@ -24,7 +24,7 @@ use Rattle.url.proofs.LayoutLemmas.{IsValidHead_same}
 use Rattle.url.proofs.SetterLemmas.{host_is_some}
 use Rattle.url.proofs.ValidLemmas.{IsAscii-serialize, special_has_authority, base_from_authority, hierarchical, option_unchanged}
 use Rattle.url.proofs.Theorems.{parse_url-serialize_special}
-use Rattle.irl_key.specs.Web.{url_against, url_of, marked, host_part, target_part, host_of, target_of, robots_text, IsWeb, IsWebText, IsHost}
+use Rattle.irl_key.specs.Web.{url_against, marked, host_part, target_part, host_of, target_of, robots_text, IsWeb, IsHost}
 use Rattle.irl_key.specs.Links.{without_fragment}
 
 pub kind-http : (url : Parts) → url.scheme ≡ codes "http" → kind_of url ≡ SpecialNotFile

@@ -25,7 +25,8 @@ pub enum Canon {
     TooLong,
 }
 
-/// What the link `text` counts as, resolved against `base` where there is one.
+/// What the link `text` counts as, resolved against `base` where there is one. A URL of 4 GB or more counts as want
+/// of memory, as the parser has no room for it.
 pub fn canonical(alloc: Global, base: Option<&Web>, text: &[u8]) -> Result<Canon, AllocError>
     ensures value { IfOk result (λ canon. canon ≡ canon_of (option_copied base.entry) text.now) }
     // Each answer comes exactly where its cause holds, unless memory runs out.
@@ -35,12 +36,12 @@ pub fn canonical(alloc: Global, base: Option<&Web>, text: &[u8]) -> Result<Canon
     ensures again { IsWebText text.now → length text.now ≤ 2048
         → IfOk result (λ canon. canon ≡ Canon.Web text.now) }
 {
-    let link = link(alloc, base, text)?;
+    let link = read_link(alloc, base, text)?;
     sort(link)
 }
 
 // The URL that a link reads as, if it reads as one.
-fn link(alloc: Global, base: Option<&Web>, text: &[u8]) -> Result<Option<Url>, AllocError>
+fn read_link(alloc: Global, base: Option<&Web>, text: &[u8]) -> Result<Option<Url>, AllocError>
     ensures { IfOk result (λ url. url ≡ link_of (option_copied base.entry) text.now) }
 {
     match base {

@@ -1,8 +1,8 @@
 -- The reading of a suffix text, line by line.
-use Rattle.std.proofs.Common.{◌≡◌, ℕ, ◌+◌, ◌≤◌, Bool, true, false, cond, not, ◌||◌, List, [], ◌∷◌, length, Option, Some, None, sym, refl, ap, ◌∙◌, arith}
+use Rattle.std.proofs.Common.{◌≡◌, ℕ, ◌+◌, Bool, true, false, not, ◌||◌, List, [], ◌∷◌, length, Some, sym, refl, ap, ◌∙◌, arith}
 use Rattle.std.specs.Prelude.{Vec, bytes_eq}
 use Rattle.std.specs.List.{list_any, position_from}
-use Rattle.std.specs.BTreeSet.{BTreeSet, insert_key, IsEmpty}
+use Rattle.std.specs.BTreeSet.{BTreeSet, insert_key}
 use Rattle.std.proofs.lemmas.Bool.{cond-true, cond-false}
 use Rattle.irl_pld.specs.Names.{lines_of, is_name, is_bad, bad_line, is_listed}
 use Rattle.irl_pld.specs.Sets.{has_name, AreNamesOf}

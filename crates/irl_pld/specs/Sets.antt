@@ -1,5 +1,5 @@
 -- A set of names.
-use Rattle.std.specs.Prelude.{◌≡◌, ℕ, Bool, List, Option, None, Vec}
+use Rattle.std.specs.Prelude.{◌≡◌, ℕ, Bool, List, None, Vec}
 use Rattle.std.specs.Ordering.{nat_cmp}
 use Rattle.std.specs.Cmp.Lexicographic.{slice_cmp}
 use Rattle.std.specs.BTreeSet.{BTreeSet, contains_by}

@@ -1,7 +1,7 @@
-use Rattle.std.proofs.Common.{◌≡◌, ℕ, ◌≤◌, List, length, codes, Some, None, refl, sym, ap, ◌∙◌, subst, arith}
+use Rattle.std.proofs.Common.{◌≡◌, ℕ, ◌≤◌, List, length, Some, None, sym, ap, ◌∙◌, subst}
 use Rattle.url.specs.Parts.{Parts, serialize}
 use Rattle.irl_key.specs.Web.{url_against, host_of, target_of, robots_text, IsWeb, IsHost}
-use Rattle.irl_key.proofs.WebLemmas.{robots_reads, RobotsReads, length-robots, host_of-serialize, target_of-serialize}
+use Rattle.irl_key.proofs.WebLemmas.{robots_reads, length-robots, host_of-serialize, target_of-serialize}
 use Rattle.irl_key.proofs.canon.robots_of.Goals as goal
 
 -- the URL that the code reads is that of the robots file

@@ -1,4 +1,4 @@
-use Rattle.std.proofs.Common.{◌≡◌, ◌∙◌, sym, List, [], length, ◌≤◌, codes}
+use Rattle.std.proofs.Common.{◌≡◌, ◌∙◌, sym, [], length, ◌≤◌, codes}
 use Rattle.url.specs.Parts.{serialize}
 use Rattle.irl_key.proofs.LinkLemmas.{same_from_ne, empty_from_is_empty, empty_from_none}
 use Rattle.irl_key.proofs.WebLemmas.{tested_web}

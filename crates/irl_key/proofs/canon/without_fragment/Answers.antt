@@ -1,4 +1,4 @@
-use Rattle.std.proofs.Common.{sym, ◌∙◌, ◌≡◌, None}
+use Rattle.std.proofs.Common.{◌∙◌, ◌≡◌, None}
 use Rattle.url.specs.Parser.{with_tail}
 use Rattle.irl_key.proofs.WebLemmas.{with_tail-none}
 use Rattle.irl_key.proofs.canon.without_fragment.Goals as goal

@@ -1,5 +1,4 @@
-use Rattle.std.proofs.Common.{arith, sym, ◌∙◌, option_copied, ap, length, ◌∷◌, ◌≡◌, rules}
-use Rattle.irl_pld.specs.Cut.{parts_left}
+use Rattle.std.proofs.Common.{arith, sym, ap, length, ◌≡◌, rules}
 use Rattle.irl_pld.proofs.CutLemmas.{length-lines}
 use Rattle.irl_pld.proofs.ReadLemmas.{reads_more}
 use Rattle.irl_pld.proofs.suffixes.read_names.Goals as goal

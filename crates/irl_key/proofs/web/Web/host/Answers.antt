@@ -1,6 +1,6 @@
-use Rattle.std.proofs.Common.{◌≡◌, refl, sym, ap, ◌∙◌}
+use Rattle.std.proofs.Common.{refl, sym, ap, ◌∙◌}
 use Rattle.url.specs.Parts.{serialize}
-use Rattle.irl_key.specs.Web.{host_part, host_of, IsHost}
+use Rattle.irl_key.specs.Web.{host_of}
 use Rattle.irl_key.proofs.WebLemmas.{text_between-host, host_of-serialize}
 use Rattle.irl_key.proofs.web.Web.host.Goals as goal
 

@@ -1,5 +1,4 @@
-use Rattle.std.proofs.Common.{◌≡◌, ◌∷◌, ap, ◌∙◌, option_copied, rules, arith}
-use Rattle.std.proofs.lemmas.Grind.{common_steps}
+use Rattle.std.proofs.Common.{ap, ◌∙◌, option_copied, rules}
 use Rattle.irl_pld.specs.Cut.{parts_left}
 use Rattle.irl_pld.proofs.parts.PartsIterator.next.Goals as goal
 
