@@ -1,1 +1,3 @@
+pub mod MatchingLemmas
 pub mod NormalLemmas
+pub mod SearchLemmas

@@ -1,2 +1,4 @@
+pub mod Matching
 pub mod Normal
 pub mod Octets
+pub mod Place

@@ -1,4 +1,5 @@
 //! The rules of a robots file (RFC 9309), and which of them holds for a path.
 #![tactic(auto)]
 
+mod matching;
 mod octets;
