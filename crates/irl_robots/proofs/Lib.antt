@@ -1,3 +1,4 @@
+pub mod CutLemmas
 pub mod MatchingLemmas
 pub mod NormalLemmas
 pub mod SearchLemmas

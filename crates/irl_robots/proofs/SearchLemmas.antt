@@ -1,11 +1,11 @@
 -- Why the search for a match may forget the earlier `*`.
-use Rattle.std.proofs.Common.{◌≡◌, ◌≢◌, ◌⊎◌, ℕ, ◌+◌, ◌*◌, ◌<◌, ◌≤◌, suc, zero, Bool, true, false, ◌&&◌, ◌||◌, eqb, List, [], ◌∷◌, ◌++◌, length, drop, Option, Some, None, refl, sym, ap, subst, ◌∙◌, inl, inr, arith, rules}
+use Rattle.std.proofs.Common.{◌≡◌, ◌≢◌, ℕ, ◌+◌, ◌≤◌, suc, zero, Bool, true, false, ◌||◌, eqb, List, [], ◌∷◌, ◌++◌, length, drop, Option, Some, None, refl, sym, ap, subst, ◌∙◌, inl, inr, arith}
 use Rattle.std.proofs.lemmas.List.{drop-drop, append_assoc}
 use Rattle.std.proofs.Math.Seq.{drop-append-add}
 use Rattle.std.proofs.Math.Bool.{or-false, or-true}
-use Rattle.std.proofs.lemmas.Bool.{or_cases, or_left, or_right, and_parts, and_right, ne_eqb, false≢true, cases_Bool}
+use Rattle.std.proofs.lemmas.Bool.{or_cases, or_left, or_right, and_parts, and_right, ne_eqb, false≢true}
 use Rattle.irl_robots.specs.declared.matching.Place.{Place}
-use Rattle.irl_robots.specs.Matching.{matches, is_empty, one_then, some_end}
+use Rattle.irl_robots.specs.Matching.{matches, is_empty, some_end}
 use Rattle.irl_robots.specs.Octets.{octets_left}
 use Rattle.irl_robots.specs.Place.{fits, IsPast, IsPastStar}
 use Rattle.irl_robots.proofs.MatchingLemmas.{IsLiteralAt, matches-one, matches-star}
@@ -52,14 +52,14 @@ pub record IsSearch (start at : Place) (retry : Option Place) : Type 0 where
   pub bounded : room retry (length start.pattern.now)
 
 -- an end that passes, by how much is left out before it
-end-at : (passes : List ℕ → Bool) (t : List ℕ) → some_end passes t ≡ true → (k : ℕ) × (passes (drop k t) ≡ true)
+pub end-at : (passes : List ℕ → Bool) (t : List ℕ) → some_end passes t ≡ true → (k : ℕ) × (passes (drop k t) ≡ true)
 end-at passes [] h = (0, h)
 end-at passes (c ∷ cs) h = elim (or_cases (passes (c ∷ cs)) (some_end passes cs) h) [
     inl here ↦ (0, here)
   | inr later ↦ let found = end-at passes cs later in (suc found.0, found.1)
   ]
 
-end-from : (passes : List ℕ → Bool) (k : ℕ) (t : List ℕ) → passes (drop k t) ≡ true → some_end passes t ≡ true
+pub end-from : (passes : List ℕ → Bool) (k : ℕ) (t : List ℕ) → passes (drop k t) ≡ true → some_end passes t ≡ true
 end-from passes zero [] h = h
 end-from passes (suc k) [] h = h
 end-from passes zero (c ∷ cs) h = or_left (passes (c ∷ cs)) (some_end passes cs) h

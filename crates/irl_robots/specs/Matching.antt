@@ -22,9 +22,13 @@ abbrev pub StandsFor : Part → List ℕ → Type 0
 StandsFor Run piece = Unit {0}
 StandsFor (One c) piece = piece ≡ c ∷ []
 
--- the path can be cut into pieces, one for each part of the pattern
+-- the path is cut into pieces, one for each part
+abbrev pub IsCut : List Part → List ℕ → Type 0
+IsCut ps path = (pieces : List (List ℕ)) × AllZip StandsFor ps pieces × (concat pieces ≡ path)
+
+-- the pattern matches the path
 abbrev pub Matches : List ℕ → List ℕ → Type 0
-Matches pattern path = (pieces : List (List ℕ)) × AllZip StandsFor (parts pattern) pieces × (concat pieces ≡ path)
+Matches pattern path = IsCut (parts pattern) path
 
 abbrev pub is_empty : List ℕ → Bool
 is_empty [] = true

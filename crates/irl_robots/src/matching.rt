@@ -1,6 +1,6 @@
 ghost use Rattle.std.specs.Prelude.{◌≡◌, ◌↔◌, IsTrue};
 ghost use Rattle.irl_robots.specs.Normal.{normal};
-ghost use Rattle.irl_robots.specs.Matching.{Matches};
+ghost use Rattle.irl_robots.specs.Matching.{matches, Matches};
 ghost use Rattle.irl_robots.specs.Place.{fits, Steps};
 
 use crate::octets::Octets;
@@ -27,7 +27,8 @@ pub enum Step<'a> {
 /// Whether a pattern in normal form matches a path. It takes no memory, and at most as many steps as pattern and
 /// path have octets, multiplied.
 pub fn is_match(pattern: &[u8], path: &[u8]) -> bool
-    ensures { IsTrue result ↔ Matches pattern.now (normal path.now) }
+    ensures value { result ≡ matches pattern.now (normal path.now) }
+    ensures cut { IsTrue result ↔ Matches pattern.now (normal path.now) }
 {
     search(Place {
         pattern,

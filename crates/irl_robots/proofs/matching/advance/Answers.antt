@@ -1,4 +1,4 @@
-use Rattle.std.proofs.Common.{◌≡◌, ◌≢◌, ◌⊎◌, ℕ, ◌≤◌, ◌∷◌, ◌-◌, None, take, drop, length, get_or, sym, ap, ◌∙◌, arith, rules}
+use Rattle.std.proofs.Common.{◌≡◌, ◌≢◌, ◌⊎◌, ◌≤◌, ◌∷◌, ◌-◌, take, drop, length, get_or, ap, ◌∙◌, arith}
 use Rattle.irl_robots.specs.Matching.{matches, is_empty}
 use Rattle.irl_robots.specs.Octets.{octets_left}
 use Rattle.irl_robots.proofs.MatchingLemmas.{matches-at_empty, matches-at_end, matches-at_octet, one_then-met, one_then-unmet, one_then-past, first-and-rest}

@@ -1,4 +1,4 @@
-use Rattle.std.proofs.Common.{◌≡◌, ◌-◌, ◌++◌, true, get_or, sym, ap, ◌∙◌, take, drop, length, arith, rules}
+use Rattle.std.proofs.Common.{◌≡◌, ◌-◌, ◌++◌, true, get_or, sym, ap, ◌∙◌, take, drop, length, arith}
 use Rattle.std.proofs.lemmas.Bool.Decides.{nat_tests}
 use Rattle.irl_robots.specs.Normal.{is_triplet, normal}
 use Rattle.irl_robots.proofs.NormalLemmas.{normal-at_triplet}

@@ -1,5 +1,4 @@
-use Rattle.std.proofs.Common.{◌≡◌, [], ◌++◌, ap, ◌∙◌}
-use Rattle.irl_robots.specs.Octets.{octets_left}
+use Rattle.std.proofs.Common.{ap, ◌∙◌}
 use Rattle.irl_robots.specs.Normal.{normal}
 use Rattle.irl_robots.proofs.NormalLemmas.{normal-nil}
 use Rattle.irl_robots.proofs.octets.OctetsIterator.next.Goals as goal
