@@ -2,3 +2,4 @@ pub mod Matching
 pub mod Normal
 pub mod Octets
 pub mod Place
+pub mod Rule

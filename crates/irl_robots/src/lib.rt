@@ -3,3 +3,8 @@
 
 mod matching;
 mod octets;
+mod robots;
+mod rule;
+
+pub use robots::Robots;
+pub use rule::Rule;

@@ -1,0 +1,54 @@
+ghost use Rattle.std.specs.Prelude.{◌≡◌, ◌≢◌, codes, IfSome, IfNone, IsNone};
+ghost use Rattle.irl_robots.specs.Normal.{normal};
+ghost use Rattle.irl_robots.specs.Rule.{rule, allows, IsVerdict, NoneMatches};
+
+use std::marker::Model;
+
+use crate::rule::{Rule, best};
+
+/// The path of the robots file itself.
+const ROBOTS_FILE: &[u8] = b"/robots.txt";
+
+/// The rules of a robots file that an agent obeys. Contracts see them as a list of rules.
+#[derive(Drop)]
+pub struct Robots {
+    rules: Vec<Rule>,
+}
+
+impl Model for Robots {
+    ghost use Rattle.std.specs.Prelude.{List};
+    ghost use Rattle.irl_robots.specs.declared.rule.Rule.{Rule};
+
+    ghost Value = { List Rule };
+
+    ghost view = { λ r. r.rules.items };
+}
+
+impl Robots {
+    /// The line of the rule that holds for a target, which is a path with its query, and whether it allows.
+    #[tactic(auto, unfolding(crate::specs::Rule::rule))]
+    pub fn by(&self, target: &[u8]) -> Option<(u32, bool)>
+        ensures value { result ≡ rule self.now target.now }
+
+        // It is the best of the rules that match, and there is none only where none matches.
+        ensures best { IfSome result (IsVerdict self.now (normal target.now)) }
+        ensures none { IfNone result
+            (target.now ≢ codes "/robots.txt" → NoneMatches self.now (normal target.now)) }
+        ensures robots_file { target.now ≡ codes "/robots.txt" → IsNone result }
+    {
+        if target == ROBOTS_FILE {
+            return None;
+        }
+        best(&self.rules, target).map(|rule| (rule.line, rule.allow))
+    }
+
+    /// Whether a target, which is a path with its query, may be fetched.
+    pub fn allows(&self, target: &[u8]) -> bool
+        ensures { result ≡ allows (rule self.now target.now) }
+    {
+        match self.by(target) {
+            None => true,
+            Some((_, allow)) => allow,
+        }
+    }
+}
