@@ -1,6 +1,7 @@
 -- The rule that the scan ends with is the best one.
-use Rattle.std.proofs.Common.{◌≡◌, ◌⊎◌, ℕ, ◌<◌, Bool, true, false, ◌&&◌, not, ltb, cond, List, [], ◌∷◌, ◌++◌, length, Option, Some, None, refl, sym, ap, subst, ◌∙◌, inl, inr, arith, rules}
+use Rattle.std.proofs.Common.{◌≡◌, ◌⊎◌, ℕ, ◌<◌, Bool, true, false, ◌&&◌, not, ltb, cond, List, [], ◌∷◌, ◌++◌, length, Option, Some, None, IfSome, IfNone, Bor, refl, sym, ap, subst, ◌∙◌, inl, inr, arith, rules}
 use Rattle.std.specs.List.{Contains, fold}
+use Rattle.std.specs.Option.{option_copied}
 use Rattle.std.proofs.lemmas.List.{append_assoc, append-nil}
 use Rattle.std.proofs.lemmas.List.Elements.{Contains-push, Contains-push_cases, Contains-append_left}
 use Rattle.std.proofs.lemmas.Bool.{cases_Bool, lt-ltb, le-ltb, false≢true}
@@ -131,3 +132,12 @@ nothing_there path other there matching = omega (arith, there.1)
 -- the scan ends with the best rule
 pub best_rule-is : (rules : List Rule) (path : List ℕ) → IsBestOf rules path (best_rule rules path)
 best_rule-is rules path = all_steps [] rules path None (nothing_there path)
+
+-- the same, of what is lent
+pub lent-best : (rules : List Rule) (path : List ℕ) (found : Option (Bor Rule)) → option_copied found ≡ best_rule rules path → IfSome found (λ best. IsBest rules path best.now)
+lent-best rules path None is = tt
+lent-best rules path (Some best) is = subst (IsBestOf rules path) (sym is) (best_rule-is rules path)
+
+pub lent-none : (rules : List Rule) (path : List ℕ) (found : Option (Bor Rule)) → option_copied found ≡ best_rule rules path → IfNone found (NoneMatches rules path)
+lent-none rules path None is = subst (IsBestOf rules path) (sym is) (best_rule-is rules path)
+lent-none rules path (Some best) is = tt

@@ -1,7 +1,7 @@
-ghost use Rattle.std.specs.Prelude.{◌≡◌, ◌↔◌, IsTrue};
+ghost use Rattle.std.specs.Prelude.{◌≡◌, ◌↔◌, IsTrue, IfSome, IfNone};
 ghost use Rattle.std.specs.Option.{option_copied};
 ghost use Rattle.irl_robots.specs.Normal.{normal};
-ghost use Rattle.irl_robots.specs.Rule.{WinsOver, wins_over, best_rule};
+ghost use Rattle.irl_robots.specs.Rule.{WinsOver, wins_over, best_rule, IsBest, NoneMatches};
 
 use std::cmp::Ordering;
 
@@ -44,7 +44,9 @@ impl Rule {
 
 /// The best of the rules that match a path. It takes no memory.
 pub fn best<'a>(rules: &'a [Rule], path: &[u8]) -> Option<&'a Rule>
-    ensures { option_copied result ≡ best_rule rules.now (normal path.now) }
+    ensures value { option_copied result ≡ best_rule rules.now (normal path.now) }
+    ensures best { IfSome result (λ best. IsBest rules.now (normal path.now) best.now) }
+    ensures none { IfNone result (NoneMatches rules.now (normal path.now)) }
 {
     let mut best: Option<&Rule> = None;
     for rule in rules {
