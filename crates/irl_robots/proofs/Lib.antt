@@ -1,4 +1,5 @@
 pub mod CutLemmas
+pub mod LinesLemmas
 pub mod MatchingLemmas
 pub mod NormalLemmas
 pub mod RuleLemmas
