@@ -1,4 +1,5 @@
 pub mod CutLemmas
+pub mod GroupsLemmas
 pub mod LinesLemmas
 pub mod MatchingLemmas
 pub mod NormalLemmas

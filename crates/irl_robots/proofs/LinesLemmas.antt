@@ -1,9 +1,9 @@
 -- The lines of a text, one after another.
 use Rattle.std.proofs.Common.{◌≡◌, ℕ, ◌+◌, ◌-◌, ◌<◌, ◌≤◌, suc, Bool, true, false, cond, ◌&&◌, ◌||◌, eqb, ltb, not, List, [], ◌∷◌, length, take, drop, Option, Some, None, refl, sym, ap, subst, ◌∙◌, inl, inr, arith, rules}
-use Rattle.std.specs.List.{position, position_or_len, before_first, after_first}
+use Rattle.std.specs.List.{position, position_or_len, before_first}
 use Rattle.std.proofs.lemmas.List.{take_all, drop_all, length-drop}
-use Rattle.std.proofs.lemmas.Bool.{cases_Bool, or_cases, or_parts, eqb-true, ltb-true, ltb-false, lt-ltb, le-ltb}
-use Rattle.irl_robots.specs.Lines.{lines, onto_first, begins_with_line_feed, is_line_end, after_end, Other, field, trim, said}
+use Rattle.std.proofs.lemmas.Bool.{cases_Bool, or_cases, or_parts, eqb-true, ltb-true, ltb-false}
+use Rattle.irl_robots.specs.Lines.{lines, onto_first, begins_with_line_feed, is_line_end, after_end}
 
 pub lines-nil : lines [] ≡ []
 unfolding lines
@@ -98,21 +98,3 @@ before-Some p xs at is = ap (λ n. take n xs) (sym (place-Some p xs at is).0)
 
 pub before-None : (p : ℕ → Bool) (xs : List ℕ) → position p xs ≡ None → xs ≡ before_first p xs
 before-None p xs is = sym (take_all (position_or_len p xs) xs (place-None p xs is))
-
-after-Some : (p : ℕ → Bool) (xs : List ℕ) (at : ℕ) → position p xs ≡ Some at → take (length xs - (at + 1)) (drop (at + 1) xs) ≡ after_first p xs
-after-Some p xs at is =
-    take_all _ (drop (at + 1) xs) (omega (arith, length-drop (at + 1) xs))
-    ∙ ap (λ n. drop (n + 1) xs) (sym (place-Some p xs at is).0)
-
-pub said-Some : (xs : List ℕ) (at : ℕ) → position (λ c. eqb c 58) xs ≡ Some at → field (trim (take at xs)) (trim (take (length xs - (at + 1)) (drop (at + 1) xs))) ≡ said xs
-said-Some xs at is =
-    let found = place-Some (λ c. eqb c 58) xs at is in
-    let within : ltb (position_or_len (λ c. eqb c 58) xs) (length xs) ≡ true = lt-ltb _ _ (omega (arith, found.0, found.1)) in
-    ap (λ name. field (trim name) (trim (take (length xs - (at + 1)) (drop (at + 1) xs)))) (before-Some (λ c. eqb c 58) xs at is)
-    ∙ ap (λ value. field (trim (before_first (λ c. eqb c 58) xs)) (trim value)) (after-Some (λ c. eqb c 58) xs at is)
-    ∙ sym (rw within refl)
-
-pub said-None : (xs : List ℕ) → position (λ c. eqb c 58) xs ≡ None → Other ≡ said xs
-said-None xs is =
-    let past : ltb (position_or_len (λ c. eqb c 58) xs) (length xs) ≡ false = le-ltb _ _ (place-None (λ c. eqb c 58) xs is) in
-    sym (rw past refl)

@@ -1,3 +1,5 @@
+pub mod Agents
+pub mod Groups
 pub mod Lines
 pub mod Matching
 pub mod Normal
