@@ -2,7 +2,7 @@
 use Rattle.std.proofs.Common.{◌≡◌, ℕ, ◌+◌, ◌-◌, ◌<◌, ◌≤◌, suc, Bool, true, false, cond, ◌&&◌, ◌||◌, eqb, ltb, not, List, [], ◌∷◌, length, take, drop, Option, Some, None, refl, sym, ap, subst, ◌∙◌, inl, inr, arith, rules}
 use Rattle.std.specs.List.{position, position_or_len, before_first}
 use Rattle.std.proofs.lemmas.List.{take_all, drop_all, length-drop}
-use Rattle.std.proofs.lemmas.Bool.{cases_Bool, or_cases, or_parts, eqb-true, ltb-true, ltb-false}
+use Rattle.std.proofs.lemmas.Bool.{cases_Bool, or_cases, or_parts, eqb-true, ltb-true, ltb-false, cond_both}
 use Rattle.irl_robots.specs.Lines.{lines, onto_first, begins_with_line_feed, is_line_end, after_end}
 
 pub lines-nil : lines [] ≡ []
@@ -98,3 +98,23 @@ before-Some p xs at is = ap (λ n. take n xs) (sym (place-Some p xs at is).0)
 
 pub before-None : (p : ℕ → Bool) (xs : List ℕ) → position p xs ≡ None → xs ≡ before_first p xs
 before-None p xs is = sym (take_all (position_or_len p xs) xs (place-None p xs is))
+
+-- a text has at most as many lines as octets
+lines-cons : (c : ℕ) (cs : List ℕ) → lines (c ∷ cs) ≡ cond (eqb c 10) ([] ∷ lines cs) (cond (eqb c 13) (cond (begins_with_line_feed cs) (lines cs) ([] ∷ lines cs)) (onto_first c (lines cs)))
+unfolding lines
+lines-cons c cs = refl
+
+length-onto_first : (c : ℕ) (ls : List (List ℕ)) → length (onto_first c ls) ≤ suc (length ls)
+length-onto_first c [] = omega arith
+length-onto_first c (line ∷ ls) = omega arith
+
+pub length-lines : (text : List ℕ) → length (lines text) ≤ length text
+length-lines [] = omega (arith, ap length lines-nil)
+length-lines (c ∷ cs) =
+    let P : List (List ℕ) → Type 0 = λ ls. length ls ≤ suc (length cs) in
+    let fewer = length-lines cs in
+    subst P (sym (lines-cons c cs))
+      (cond_both (eqb c 10) _ _ P (λ _. omega (arith, fewer))
+        (λ _. cond_both (eqb c 13) _ _ P
+          (λ _. cond_both (begins_with_line_feed cs) _ _ P (λ _. omega (arith, fewer)) (λ _. omega (arith, fewer)))
+          (λ _. omega (arith, fewer, length-onto_first c (lines cs)))))

@@ -7,3 +7,4 @@ pub mod Octets
 pub mod Place
 pub mod Rule
 pub mod Seen
+pub mod Status

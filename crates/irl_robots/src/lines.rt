@@ -1,4 +1,4 @@
-ghost use Rattle.std.specs.Prelude.{◌≡◌, ◌<◌, ◌==◌, ◌||◌, ◌∷◌, [], take, length, MatchOption};
+ghost use Rattle.std.specs.Prelude.{◌≡◌, ◌<◌, ◌≤◌, ◌==◌, ◌||◌, ◌∷◌, [], take, length, MatchOption};
 ghost use Rattle.std.specs.List.{position};
 ghost use Rattle.std.specs.Iterator.{YieldsFirstRef, item_count};
 ghost use Rattle.irl_robots.specs.Lines.{text_of as counted, without_mark, lines, is_line_end, after_end, is_blank as blank, trim_start as trimmed_start, trim_end as trimmed_end, field as field_of, line_of, without_comment as uncommented, said as said_by};
@@ -24,21 +24,24 @@ pub enum Line<'a> {
 /// The part of a file that counts: its first bytes, without a byte order mark.
 #[tactic(auto, unfolding(crate::specs::Lines::text_of))]
 pub fn text_of(bytes: &[u8]) -> &[u8]
-    ensures { result.now ≡ counted bytes.now }
+    ensures value { result.now ≡ counted bytes.now }
+    ensures length { length result.now ≤ LIMIT }
 {
     skip_mark(front(bytes, LIMIT))
 }
 
 /// At most this many of the first bytes.
 fn front(bytes: &[u8], most: usize) -> &[u8]
-    ensures { result.now ≡ take most bytes.now }
+    ensures value { result.now ≡ take most bytes.now }
+    ensures length { length result.now ≤ most }
 {
     &bytes[..bytes.len().min(most)]
 }
 
 /// The bytes behind a byte order mark.
 fn skip_mark(bytes: &[u8]) -> &[u8]
-    ensures { result.now ≡ without_mark bytes.now }
+    ensures value { result.now ≡ without_mark bytes.now }
+    ensures length { length result.now ≤ length bytes.now }
 {
     if bytes.starts_with(MARK) {
         &bytes[MARK.len()..]

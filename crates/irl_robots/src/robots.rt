@@ -1,9 +1,13 @@
-ghost use Rattle.std.specs.Prelude.{◌≡◌, ◌≢◌, codes, IfSome, IfNone, IsNone};
+ghost use Rattle.std.specs.Prelude.{◌≡◌, ◌≢◌, codes, IfOk, IfSome, IfNone, IsNone};
+ghost use Rattle.irl_robots.specs.Groups.{obeyed};
 ghost use Rattle.irl_robots.specs.Normal.{normal};
 ghost use Rattle.irl_robots.specs.Rule.{rule, allows, IsVerdict, NoneMatches};
 
+use std::alloc::{AllocError, Global};
 use std::marker::Model;
 
+use crate::groups::{Agents, has_group, rules_for};
+use crate::lines::text_of;
 use crate::rule::{Rule, best};
 
 /// The path of the robots file itself.
@@ -25,6 +29,23 @@ impl Model for Robots {
 }
 
 impl Robots {
+    /// Reads a robots file, of which the first 512,000 bytes count, for the agent with this product token. Any bytes
+    /// are a file.
+    #[tactic(auto, unfolding(crate::specs::Groups::obeyed))]
+    pub fn read(alloc: Global, bytes: &[u8], agent: &[u8]) -> Result<Robots, AllocError>
+        ensures { IfOk result (λ robots. robots ≡ obeyed bytes.now agent.now) }
+    {
+        let text = text_of(bytes);
+        let agents = if has_group(text, agent) {
+            Agents::Named(agent)
+        } else {
+            Agents::All
+        };
+        Ok(Robots {
+            rules: rules_for(alloc, text, agents)?,
+        })
+    }
+
     /// The line of the rule that holds for a target, which is a path with its query, and whether it allows.
     #[tactic(auto, unfolding(crate::specs::Rule::rule))]
     pub fn by(&self, target: &[u8]) -> Option<(u32, bool)>
