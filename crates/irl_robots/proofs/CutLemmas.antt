@@ -57,12 +57,12 @@ AtFirst c cs = (eqb c 42 ≡ true) ⊎ (IsLiteralAt c cs ⊎ ((eqb c 42 ≡ fals
 
 at-first : (c : ℕ) (cs : List ℕ) → AtFirst c cs
 at-first c cs = elim (cases_Bool (eqb c 42)) [
-    inl star ↦ inl star
+  | inl star ↦ inl star
   | inr other ↦ elim (cases_Bool (eqb c 36 && is_empty cs)) [
-      inl last ↦ inr (inr (other, last))
+    | inl last ↦ inr (inr (other, last))
     | inr literal ↦ inr (inl (other, literal))
-    ]
   ]
+]
 
 matches-last : (c : ℕ) (cs t : List ℕ) → eqb c 42 ≡ false → (eqb c 36 && is_empty cs) ≡ true → matches (c ∷ cs) t ≡ is_empty t
 unfolding matches
@@ -93,34 +93,34 @@ one_then-from c passes rest h = and_from (eqb c c) (passes rest) (eq-eqb c c ref
 pub cut-from_match : (p t : List ℕ) → matches p t ≡ true → Matches p t
 cut-from_match [] t h = (t ∷ [], (tt, tt), append-nil t)
 cut-from_match (c ∷ cs) t h = elim (at-first c cs) [
-    inl star ↦
+  | inl star ↦
       let found = end-at (matches cs) t (sym (matches-run c cs t star) ∙ h) in
       subst (λ ps. IsCut ps t) (sym (parts-star c cs star)) (cut-run (parts cs) found.0 t (cut-from_match cs (drop found.0 t) found.1))
   | inr other ↦ elim other [
-      inl literal ↦
+    | inl literal ↦
         let met = one_then-parts c (matches cs) t (sym (matches-one c cs t literal) ∙ h) in
         subst (λ ps. IsCut ps t) (sym (parts-one c cs literal))
-          (subst (λ u. IsCut (One c ∷ parts cs) u) (sym met.1) (cut-one c (parts cs) met.0 (cut-from_match cs met.0 met.2)))
+        (subst (λ u. IsCut (One c ∷ parts cs) u) (sym met.1) (cut-one c (parts cs) met.0 (cut-from_match cs met.0 met.2)))
     | inr last ↦
         subst (λ ps. IsCut ps t) (sym (parts-end c cs last.1))
-          ([], tt, sym (nil-from_empty t (sym (matches-last c cs t last.0 last.1) ∙ h)))
-    ]
+        ([], tt, sym (nil-from_empty t (sym (matches-last c cs t last.0 last.1) ∙ h)))
   ]
+]
 
 -- a cut is a match
 pub match-from_cut : (p t : List ℕ) → Matches p t → matches p t ≡ true
 match-from_cut [] t h = matches-none t
 match-from_cut (c ∷ cs) t h = elim (at-first c cs) [
-    inl star ↦
+  | inl star ↦
       let found = run-cut (parts cs) t (subst (λ ps. IsCut ps t) (parts-star c cs star) h) in
       matches-run c cs t star ∙ end-from (matches cs) found.0 t (match-from_cut cs (drop found.0 t) found.1)
   | inr other ↦ elim other [
-      inl literal ↦
+    | inl literal ↦
         let met = one-cut c (parts cs) t (subst (λ ps. IsCut ps t) (parts-one c cs literal) h) in
         matches-one c cs t literal ∙ ap (one_then c (matches cs)) met.1
         ∙ one_then-from c (matches cs) met.0 (match-from_cut cs met.0 met.2)
     | inr last ↦
         matches-last c cs t last.0 last.1
         ∙ ap is_empty (nil-cut t (subst (λ ps. IsCut ps t) (parts-end c cs last.1) h))
-    ]
   ]
+]

@@ -61,9 +61,9 @@ cond-nil false = refl
 
 chosen-cons : (passes : List ℕ → Bool) (group : Group) (groups : List Group) → chosen passes (group ∷ groups) ≡ cond (is_for passes group) (rules_of group) [] ++ chosen passes groups
 chosen-cons passes group groups = elim (cases_Bool (is_for passes group)) [
-    inl meant ↦ rw meant refl
+  | inl meant ↦ rw meant refl
   | inr other ↦ rw other refl
-  ]
+]
 
 chosen-opened : (passes : List ℕ → Bool) (agent : List ℕ) (before : List Entry) (groups : List Group) → chosen passes (opened agent before groups) ≡ joined passes (passes agent) before groups
 chosen-opened passes agent (entry ∷ before) groups =
@@ -80,7 +80,7 @@ joined-opened passes meant agent (entry ∷ before) groups =
 joined-opened passes meant agent [] [] = cond-nil (meant || (passes agent || false))
 joined-opened passes meant agent [] (group ∷ groups) =
     ap (λ b. cond b (rules_of group) [] ++ chosen passes groups)
-      (sym (or_assoc meant (passes agent) (is_for passes group)) ∙ ap (λ b. b || is_for passes group) (or_comm meant (passes agent)))
+    (sym (or_assoc meant (passes agent) (is_for passes group)) ∙ ap (λ b. b || is_for passes group) (or_comm meant (passes agent)))
 
 cond-same : (b : Bool) → cond {A = List Rule} b [] [] ≡ []
 cond-same true = refl
@@ -102,10 +102,10 @@ gathered-cons passes n (Agent value ∷ rest) =
     let parts = parts_of (n + 1) rest in
     record {
       inside = λ meant.
-        later.opening (passes value || false)
-        ∙ ap (λ b. joined passes b parts.before parts.groups) (or-false (passes value))
-        ∙ sym (chosen-opened passes value parts.before parts.groups)
-        ∙ ap (λ none. none ++ chosen passes (opened value parts.before parts.groups)) (sym (cond-same meant));
+          later.opening (passes value || false)
+          ∙ ap (λ b. joined passes b parts.before parts.groups) (or-false (passes value))
+          ∙ sym (chosen-opened passes value parts.before parts.groups)
+          ∙ ap (λ none. none ++ chosen passes (opened value parts.before parts.groups)) (sym (cond-same meant));
       opening = λ meant. later.opening (passes value || meant) ∙ sym (joined-opened passes meant value parts.before parts.groups);
     }
 gathered-cons passes n (Access allow value ∷ rest) =
@@ -113,7 +113,7 @@ gathered-cons passes n (Access allow value ∷ rest) =
     let parts = parts_of (n + 1) rest in
     let entry : Entry = record { line = n; allow = allow; value = value } in
     let here = λ (meant : Bool).
-      ap (λ rs. cond meant (rule_of entry) [] ++ rs) (later.inside meant) ∙ joins meant (rule_of entry) (flat_map rule_of parts.before) (chosen passes parts.groups)
+    ap (λ rs. cond meant (rule_of entry) [] ++ rs) (later.inside meant) ∙ joins meant (rule_of entry) (flat_map rule_of parts.before) (chosen passes parts.groups)
     in
     record { inside = here; opening = here }
 gathered-cons passes n (Other ∷ rest) =

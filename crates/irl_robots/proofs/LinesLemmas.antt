@@ -20,18 +20,18 @@ lines-at_feed cs = refl
 lines-at_return : (cs : List ℕ) → lines (13 ∷ cs) ≡ [] ∷ lines (after_end (13 ∷ cs))
 lines-at_return [] = lines-return []
 lines-at_return (d ∷ ds) = elim (cases_Bool (eqb d 10)) [
-    inl feed ↦
+  | inl feed ↦
       let is = eqb-true d 10 feed in
       subst (λ e. lines (13 ∷ e ∷ ds) ≡ [] ∷ lines (after_end (13 ∷ e ∷ ds))) (sym is) (lines-return (10 ∷ ds) ∙ lines-at_feed ds)
   | inr other ↦ lines-return (d ∷ ds) ∙ rw other refl
-  ]
+]
 
 -- a line end at the front ends an empty line
 lines-at_end : (c : ℕ) (cs : List ℕ) → is_line_end c ≡ true → lines (c ∷ cs) ≡ [] ∷ lines (after_end (c ∷ cs))
 lines-at_end c cs ends = elim (or_cases (eqb c 10) (eqb c 13) ends) [
-    inl feed ↦ subst (λ d. lines (d ∷ cs) ≡ [] ∷ lines (after_end (d ∷ cs))) (sym (eqb-true c 10 feed)) (lines-at_feed cs)
+  | inl feed ↦ subst (λ d. lines (d ∷ cs) ≡ [] ∷ lines (after_end (d ∷ cs))) (sym (eqb-true c 10 feed)) (lines-at_feed cs)
   | inr return ↦ subst (λ d. lines (d ∷ cs) ≡ [] ∷ lines (after_end (d ∷ cs))) (sym (eqb-true c 13 return)) (lines-at_return cs)
-  ]
+]
 
 lines-at_octet : (c : ℕ) (cs : List ℕ) → is_line_end c ≡ false → lines (c ∷ cs) ≡ onto_first c (lines cs)
 unfolding lines
@@ -50,28 +50,28 @@ at_end-later c cs goes = rw goes (omega arith)
 -- the first line is what stands before the first line end
 lines-cut : (c : ℕ) (cs : List ℕ) → lines (c ∷ cs) ≡ take (at_end (c ∷ cs)) (c ∷ cs) ∷ lines (after_end (drop (at_end (c ∷ cs)) (c ∷ cs)))
 lines-cut c [] = elim (cases_Bool (is_line_end c)) [
-    inl ends ↦ rw (at_end-here c [] ends) (lines-at_end c [] ends)
+  | inl ends ↦ rw (at_end-here c [] ends) (lines-at_end c [] ends)
   | inr goes ↦ rw (at_end-later c [] goes) (lines-at_octet c [] goes ∙ ap (onto_first c) lines-nil ∙ ap (λ ls. (c ∷ []) ∷ ls) (sym lines-nil))
-  ]
+]
 lines-cut c (d ∷ ds) = elim (cases_Bool (is_line_end c)) [
-    inl ends ↦ rw (at_end-here c (d ∷ ds) ends) (lines-at_end c (d ∷ ds) ends)
+  | inl ends ↦ rw (at_end-here c (d ∷ ds) ends) (lines-at_end c (d ∷ ds) ends)
   | inr goes ↦ rw (at_end-later c (d ∷ ds) goes) (lines-at_octet c (d ∷ ds) goes ∙ ap (onto_first c) (lines-cut d ds))
-  ]
+]
 
 -- what `position` answers
 place-Some : (p : ℕ → Bool) (xs : List ℕ) (at : ℕ) → position p xs ≡ Some at → (position_or_len p xs ≡ at) × (at < length xs)
 place-Some p xs at is = elim (cases_Bool (ltb (position_or_len p xs) (length xs))) [
-    inl within ↦
+  | inl within ↦
       let same : position_or_len p xs ≡ at = let e : Some (position_or_len p xs) ≡ Some at = sym (rw within refl) ∙ is in cc in
       (same, subst (λ n. n < length xs) same (ltb-true _ _ within))
   | inr past ↦ let e : None ≡ Some at = sym (rw past refl) ∙ is in cc
-  ]
+]
 
 place-None : (p : ℕ → Bool) (xs : List ℕ) → position p xs ≡ None → length xs ≤ position_or_len p xs
 place-None p xs is = elim (cases_Bool (ltb (position_or_len p xs) (length xs))) [
-    inl within ↦ let e : Some (position_or_len p xs) ≡ None = sym (rw within refl) ∙ is in cc
+  | inl within ↦ let e : Some (position_or_len p xs) ≡ None = sym (rw within refl) ∙ is in cc
   | inr past ↦ ltb-false _ _ past
-  ]
+]
 
 -- the same, as `position` finds the line end
 pub lines-Some : (text : List ℕ) (at : ℕ) → position is_line_end text ≡ Some at → lines text ≡ take at text ∷ lines (after_end (take (length text - at) (drop at text)))
@@ -114,7 +114,7 @@ length-lines (c ∷ cs) =
     let P : List (List ℕ) → Type 0 = λ ls. length ls ≤ suc (length cs) in
     let fewer = length-lines cs in
     subst P (sym (lines-cons c cs))
-      (cond_both (eqb c 10) _ _ P (λ _. omega (arith, fewer))
-        (λ _. cond_both (eqb c 13) _ _ P
-          (λ _. cond_both (begins_with_line_feed cs) _ _ P (λ _. omega (arith, fewer)) (λ _. omega (arith, fewer)))
-          (λ _. omega (arith, fewer, length-onto_first c (lines cs)))))
+    (cond_both (eqb c 10) _ _ P (λ _. omega (arith, fewer))
+    (λ _. cond_both (eqb c 13) _ _ P
+    (λ _. cond_both (begins_with_line_feed cs) _ _ P (λ _. omega (arith, fewer)) (λ _. omega (arith, fewer)))
+    (λ _. omega (arith, fewer, length-onto_first c (lines cs)))))

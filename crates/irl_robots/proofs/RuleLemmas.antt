@@ -38,39 +38,39 @@ IsBestOf seen path (Some best) = IsBest seen path best
 -- a rule that doesn't match changes nothing
 skips : (seen : List Rule) (path : List ℕ) (found : Option Rule) (x : Rule) → (Matches x.pattern path → ⊥) → IsBestOf seen path found → IsBestOf (seen ++ x ∷ []) path found
 skips seen path None x unmatched h = λ other there matching. elim (Contains-push_cases seen x other there) [
-    inl before ↦ h other before matching
+  | inl before ↦ h other before matching
   | inr is ↦ unmatched (subst (λ (y : Rule). Matches y.pattern path) (sym is) matching)
-  ]
+]
 skips seen path (Some best) x unmatched h = record {
-    among = Contains-append_left seen (x ∷ []) best h.among;
-    matching = h.matching;
-    unbeaten = λ other there matching wins. elim (Contains-push_cases seen x other there) [
-      inl before ↦ h.unbeaten other before matching wins
+  among = Contains-append_left seen (x ∷ []) best h.among;
+  matching = h.matching;
+  unbeaten = λ other there matching wins. elim (Contains-push_cases seen x other there) [
+    | inl before ↦ h.unbeaten other before matching wins
     | inr is ↦ unmatched (subst (λ (y : Rule). Matches y.pattern path) (sym is) matching)
-    ];
-  }
+  ];
+}
 
 -- nor does one that doesn't win
 yields : (seen : List Rule) (path : List ℕ) (best x : Rule) → (WinsOver x best → ⊥) → IsBest seen path best → IsBest (seen ++ x ∷ []) path best
 yields seen path best x behind h = record {
-    among = Contains-append_left seen (x ∷ []) best h.among;
-    matching = h.matching;
-    unbeaten = λ other there matching wins. elim (Contains-push_cases seen x other there) [
-      inl before ↦ h.unbeaten other before matching wins
+  among = Contains-append_left seen (x ∷ []) best h.among;
+  matching = h.matching;
+  unbeaten = λ other there matching wins. elim (Contains-push_cases seen x other there) [
+    | inl before ↦ h.unbeaten other before matching wins
     | inr is ↦ behind (subst (λ (y : Rule). WinsOver y best) (sym is) wins)
-    ];
-  }
+  ];
+}
 
 -- one that matches and that no earlier one wins over is the best
 takes : (seen : List Rule) (path : List ℕ) (x : Rule) → Matches x.pattern path → ((other : Rule) → Contains seen other → Matches other.pattern path → WinsOver other x → ⊥) → IsBest (seen ++ x ∷ []) path x
 takes seen path x matched h = record {
-    among = Contains-push seen x;
-    matching = matched;
-    unbeaten = λ other there matching wins. elim (Contains-push_cases seen x other there) [
-      inl before ↦ h other before matching wins
+  among = Contains-push seen x;
+  matching = matched;
+  unbeaten = λ other there matching wins. elim (Contains-push_cases seen x other there) [
+    | inl before ↦ h other before matching wins
     | inr is ↦ wins-itself x (subst (λ (y : Rule). WinsOver y x) (sym is) wins)
-    ];
-  }
+  ];
+}
 
 -- ---- the test for the order
 
@@ -92,39 +92,39 @@ test-from_wins m n k l false true (inr (same, inr (alike, earlier))) = absurd (f
 -- one rule more
 step : (seen : List Rule) (path : List ℕ) (found : Option Rule) (x : Rule) → IsBestOf seen path found → IsBestOf (seen ++ x ∷ []) path (best_after path found x)
 step seen path None x h = elim (cases_Bool (matches x.pattern path)) [
-    inl matched ↦
+  | inl matched ↦
       let is : best_after path None x ≡ Some x = rw matched refl in
       subst (IsBestOf (seen ++ x ∷ []) path) (sym is)
-        (takes seen path x (cut-from_match x.pattern path matched) (λ other there matching _. h other there matching))
+      (takes seen path x (cut-from_match x.pattern path matched) (λ other there matching _. h other there matching))
   | inr unmatched ↦
       let is : best_after path None x ≡ None = rw unmatched refl in
       subst (IsBestOf (seen ++ x ∷ []) path) (sym is)
-        (skips seen path None x (λ cut. false≢true (sym unmatched ∙ match-from_cut x.pattern path cut)) h)
-  ]
+      (skips seen path None x (λ cut. false≢true (sym unmatched ∙ match-from_cut x.pattern path cut)) h)
+]
 step seen path (Some best) x h = elim (cases_Bool (matches x.pattern path)) [
-    inl matched ↦ elim (cases_Bool (wins_over x best)) [
-      inl wins ↦
+  | inl matched ↦ elim (cases_Bool (wins_over x best)) [
+    | inl wins ↦
         let is : best_after path (Some best) x ≡ Some x = rw (wins, matched) refl in
         let won = wins-from_test _ _ x.line best.line x.allow best.allow wins in
         subst (IsBestOf (seen ++ x ∷ []) path) (sym is)
-          (takes seen path x (cut-from_match x.pattern path matched)
-            (λ other there matching above. h.unbeaten other there matching (wins-through other x best above won)))
+        (takes seen path x (cut-from_match x.pattern path matched)
+        (λ other there matching above. h.unbeaten other there matching (wins-through other x best above won)))
     | inr behind ↦
         let is : best_after path (Some best) x ≡ Some best = rw behind refl in
         subst (IsBestOf (seen ++ x ∷ []) path) (sym is)
-          (yields seen path best x (λ won. false≢true (sym behind ∙ test-from_wins _ _ x.line best.line x.allow best.allow won)) h)
-    ]
+        (yields seen path best x (λ won. false≢true (sym behind ∙ test-from_wins _ _ x.line best.line x.allow best.allow won)) h)
+  ]
   | inr unmatched ↦
       let is : best_after path (Some best) x ≡ Some best = rw (unmatched, and-false (wins_over x best)) refl in
       subst (IsBestOf (seen ++ x ∷ []) path) (sym is)
-        (skips seen path (Some best) x (λ cut. false≢true (sym unmatched ∙ match-from_cut x.pattern path cut)) h)
-  ]
+      (skips seen path (Some best) x (λ cut. false≢true (sym unmatched ∙ match-from_cut x.pattern path cut)) h)
+]
 
 all_steps : (seen rest : List Rule) (path : List ℕ) (found : Option Rule) → IsBestOf seen path found → IsBestOf (seen ++ rest) path (fold (best_after path) found rest)
 all_steps seen [] path found h = subst (λ (rules : List Rule). IsBestOf rules path found) (sym (append-nil seen)) h
 all_steps seen (x ∷ rest) path found h =
     subst (λ (rules : List Rule). IsBestOf rules path (fold (best_after path) (best_after path found x) rest)) (append_assoc seen (x ∷ []) rest)
-      (all_steps (seen ++ x ∷ []) rest path (best_after path found x) (step seen path found x h))
+    (all_steps (seen ++ x ∷ []) rest path (best_after path found x) (step seen path found x h))
 
 nothing_there : (path : List ℕ) → NoneMatches [] path
 nothing_there path other there matching = omega (arith, there.1)

@@ -55,9 +55,9 @@ pub record IsSearch (start at : Place) (retry : Option Place) : Type 0 where
 pub end-at : (passes : List ℕ → Bool) (t : List ℕ) → some_end passes t ≡ true → (k : ℕ) × (passes (drop k t) ≡ true)
 end-at passes [] h = (0, h)
 end-at passes (c ∷ cs) h = elim (or_cases (passes (c ∷ cs)) (some_end passes cs) h) [
-    inl here ↦ (0, here)
+  | inl here ↦ (0, here)
   | inr later ↦ let found = end-at passes cs later in (suc found.0, found.1)
-  ]
+]
 
 pub end-from : (passes : List ℕ → Bool) (k : ℕ) (t : List ℕ) → passes (drop k t) ≡ true → some_end passes t ≡ true
 end-from passes zero [] h = h
@@ -97,7 +97,7 @@ forget met ps t literal h =
     let k = suc later.0 in
     let met_end = skip met ps (drop k (met ++ t)) literal later.1 in
     let same : drop (length met) (drop k (met ++ t)) ≡ drop k t =
-      drop-drop (length met) k (met ++ t) ∙ ap (λ n. drop n (met ++ t)) (omega arith) ∙ drop-append-add met t k
+    drop-drop (length met) k (met ++ t) ∙ ap (λ n. drop n (met ++ t)) (omega arith) ∙ drop-append-add met t k
     in
     let last = end-at (matches ps) (drop k t) (subst (λ u. some_end (matches ps) u ≡ true) same met_end) in
     end-from (matches ps) (k + last.0) t (subst (λ u. matches ps u ≡ true) (drop-drop last.0 k t) last.1)
@@ -110,11 +110,11 @@ forget_last (Some from) at next (met, behind) past h =
     let pattern : from.pattern.now ≡ met ++ 42 ∷ ps = behind.pattern ∙ ap (λ u. met ++ u) past.pattern in
     let path : octets_left from.path ≡ met ++ t = behind.path ∙ ap (λ u. met ++ u) past.path in
     forget met ps t behind.literal
-      (subst (λ u. some_later (matches (met ++ 42 ∷ ps)) u ≡ true) path
-        (subst (λ u. some_later (matches u) (octets_left from.path) ≡ true) pattern h))
+    (subst (λ u. some_later (matches (met ++ 42 ∷ ps)) u ≡ true) path
+    (subst (λ u. some_later (matches u) (octets_left from.path) ≡ true) pattern h))
 
 absorbed : (x y : Bool) → (y ≡ true → x ≡ true) → (x || y) ≡ x
-absorbed x true h = sym (h refl ∙ sym (or-true x)) 
+absorbed x true h = sym (h refl ∙ sym (or-true x))
 absorbed x false h = or-false x
 
 fits-star : (at next : Place) → IsPastStar at next → fits at ≡ some_end (matches next.pattern.now) (octets_left next.path)
@@ -130,9 +130,9 @@ search-star start at next retry h past =
     let fewer : length next.pattern.now ≤ length start.pattern.now = omega (arith, h.shorter, ap length past.pattern) in
     record {
       same =
-        h.same ∙ ap (λ b. b || again retry) (fits-star at next past)
-        ∙ absorbed whole (again retry) (forget_last retry at next h.behind past)
-        ∙ some_end-split (matches next.pattern.now) (octets_left next.path);
+          h.same ∙ ap (λ b. b || again retry) (fits-star at next past)
+          ∙ absorbed whole (again retry) (forget_last retry at next h.behind past)
+          ∙ some_end-split (matches next.pattern.now) (octets_left next.path);
       behind = ([], record { literal = tt; pattern = refl; path = refl });
       shorter = fewer;
       bounded = fewer;
@@ -144,17 +144,20 @@ literal-push (d ∷ met) c literal h = (literal.0, literal-push met c literal.1 
 
 behind-next : (retry : Option Place) (at next : Place) (c : ℕ) → IsBehindLast retry at → IsPast at next c → IsBehindLast retry next
 behind-next None at next c behind past = tt
-behind-next (Some from) at next c (met, behind) past = (met ++ c ∷ [], record {
-      literal = literal-push met c behind.literal past.literal;
-      pattern = behind.pattern ∙ ap (λ u. met ++ u) past.pattern ∙ sym (append_assoc met (c ∷ []) next.pattern.now);
-      path = behind.path ∙ ap (λ u. met ++ u) past.path ∙ sym (append_assoc met (c ∷ []) (octets_left next.path));
-    })
+behind-next (Some from) at next c (met, behind) past = (
+  met ++ c ∷ [],
+  record {
+    literal = literal-push met c behind.literal past.literal;
+    pattern = behind.pattern ∙ ap (λ u. met ++ u) past.pattern ∙ sym (append_assoc met (c ∷ []) next.pattern.now);
+    path = behind.path ∙ ap (λ u. met ++ u) past.path ∙ sym (append_assoc met (c ∷ []) (octets_left next.path));
+  },
+)
 
 -- the search goes on behind an octet that was met
 pub search-next : (start at next : Place) (retry : Option Place) (c : ℕ) → IsSearch start at retry → IsPast at next c → IsSearch start next retry
 search-next start at next retry c h past = record {
-      same = h.same ∙ ap (λ b. b || again retry) past.same;
-      behind = behind-next retry at next c h.behind past;
-      shorter = omega (arith, h.shorter, ap length past.pattern);
-      bounded = h.bounded;
-    }
+  same = h.same ∙ ap (λ b. b || again retry) past.same;
+  behind = behind-next retry at next c h.behind past;
+  shorter = omega (arith, h.shorter, ap length past.pattern);
+  bounded = h.bounded;
+}

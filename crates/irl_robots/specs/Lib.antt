@@ -1,5 +1,6 @@
 pub mod Agents
 pub mod Groups
+pub mod Leave
 pub mod Lines
 pub mod Matching
 pub mod Normal

@@ -4,13 +4,11 @@ ghost use Rattle.irl_robots.specs.Lines.{lines, line_of};
 ghost use Rattle.irl_robots.specs.Groups.{is_named as named, is_star, is_for, is_token_octet as token_octet, token as token_by, parts_of, rules_of};
 ghost use Rattle.irl_robots.specs.Agents.{are_meant};
 
-use std::alloc::{AllocError, Global};
-
-use irl_offer::Text;
-
 use crate::lines::{Line, Lines, parse};
 use crate::octets::normalized;
 use crate::rule::Rule;
+use irl_offer::Text;
+use std::alloc::{AllocError, Global};
 
 /// Whose groups are read.
 #[derive(Clone, Copy)]

@@ -14,3 +14,6 @@ pub use answer::Class;
 pub use robots::Robots;
 pub use rule::Rule;
 pub use status::class;
+
+#[cfg(test)]
+mod tests;

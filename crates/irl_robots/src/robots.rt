@@ -3,12 +3,11 @@ ghost use Rattle.irl_robots.specs.Groups.{obeyed};
 ghost use Rattle.irl_robots.specs.Normal.{normal};
 ghost use Rattle.irl_robots.specs.Rule.{rule, allows, IsVerdict, NoneMatches};
 
-use std::alloc::{AllocError, Global};
-use std::marker::Model;
-
 use crate::groups::{Agents, has_group, rules_for};
 use crate::lines::text_of;
 use crate::rule::{Rule, best};
+use std::alloc::{AllocError, Global};
+use std::marker::Model;
 
 /// The path of the robots file itself.
 const ROBOTS_FILE: &[u8] = b"/robots.txt";

@@ -3,11 +3,9 @@ ghost use Rattle.std.specs.Option.{option_copied};
 ghost use Rattle.irl_robots.specs.Normal.{normal};
 ghost use Rattle.irl_robots.specs.Rule.{WinsOver, wins_over, best_rule, IsBest, NoneMatches};
 
-use std::cmp::Ordering;
-
-use irl_offer::Text;
-
 use crate::matching::is_match;
+use irl_offer::Text;
+use std::cmp::Ordering;
 
 /// A rule of a robots file.
 #[derive(Drop)]

@@ -28,13 +28,15 @@ returns-in-Some-octet c =
     let star : get_or p 0 0 ≢ 42 = grind arith in
     let last : (get_or p 0 0 ≢ 36) ⊎ (2 ≤ length p) = grind arith in
     let rest = octets_left c.next-octet.new.self in
-    let met : t ≡ c.in-Some-octet.octet ∷ rest = c.in-Some-octet.ensures.steps in
-    (get_or p 0 0, record {
-      literal = star;
-      pattern = first-and-rest p long;
-      path = met ∙ ap (λ o. o ∷ rest) c.if-octet-first.true;
-      same = matches-at_octet p t long star last ∙ one_then-met (get_or p 0 0) _ (matches (take (length p - 1) (drop 1 p))) t rest met c.if-octet-first.true;
-    })
+    let met : t ≡ c.in-Some-octet.octet ∷ rest = c.in-Some-octet.ensures.steps in (
+      get_or p 0 0,
+      record {
+        literal = star;
+        pattern = first-and-rest p long;
+        path = met ∙ ap (λ o. o ∷ rest) c.if-octet-first.true;
+        same = matches-at_octet p t long star last ∙ one_then-met (get_or p 0 0) _ (matches (take (length p - 1) (drop 1 p))) t rest met c.if-octet-first.true;
+      },
+    )
 
 pub returns-in_default : goal.returns-in_default
 returns-in_default c =
@@ -44,6 +46,6 @@ returns-in_default c =
     let star : get_or p 0 0 ≢ 42 = grind arith in
     let last : (get_or p 0 0 ≢ 36) ⊎ (2 ≤ length p) = grind arith in
     matches-at_octet p t long star last ∙ (elim c.in_default.branch [
-      in_default-via-in-Some-octet+else-octet-first w ↦ one_then-unmet (get_or p 0 0) _ (matches (take (length p - 1) (drop 1 p))) t _ w.in-Some-octet.ensures.steps w.if-octet-first.false
-    | in_default-via-in_default w ↦ one_then-past (get_or p 0 0) (matches (take (length p - 1) (drop 1 p))) t w.in_default.ensures.steps.0
+      | in_default-via-in-Some-octet+else-octet-first w ↦ one_then-unmet (get_or p 0 0) _ (matches (take (length p - 1) (drop 1 p))) t _ w.in-Some-octet.ensures.steps w.if-octet-first.false
+      | in_default-via-in_default w ↦ one_then-past (get_or p 0 0) (matches (take (length p - 1) (drop 1 p))) t w.in_default.ensures.steps.0
     ])

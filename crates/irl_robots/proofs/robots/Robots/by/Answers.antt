@@ -16,4 +16,4 @@ pub returns-clause-none : goal.returns-clause-none
 returns-clause-none c =
     let path = normal c.args.target.now in
     if_none-mapped _ _ c.best.result c.map.result c.map.ensures.variant
-      (subst (λ (rules : List Rule). IfNone c.best.result (NoneMatches rules path)) (c.deref.ensures.value ∙ c.self.view_is) c.best.ensures.none)
+    (subst (λ (rules : List Rule). IfNone c.best.result (NoneMatches rules path)) (c.deref.ensures.value ∙ c.self.view_is) c.best.ensures.none)
