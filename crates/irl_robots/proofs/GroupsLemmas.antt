@@ -1,12 +1,12 @@
 -- The rules that one pass over the lines gathers are those of the groups.
-use Rattle.std.proofs.Common.{◌≡◌, ℕ, ◌+◌, ◌≤◌, Bool, true, false, cond, ◌&&◌, ◌||◌, List, [], ◌∷◌, ◌++◌, length, refl, sym, ap, subst, ◌∙◌, inl, inr, arith, rules}
+use Rattle.std.proofs.Common.{◌≡◌, ℕ, ◌+◌, Bool, true, false, cond, ◌&&◌, ◌||◌, List, [], ◌∷◌, ◌++◌, refl, sym, ap, ◌∙◌, inl, inr}
 use Rattle.std.specs.List.{list_any, filter, flat_map}
 use Rattle.std.proofs.lemmas.List.{append_assoc}
 use Rattle.std.proofs.lemmas.Bool.{cases_Bool}
 use Rattle.std.proofs.Math.Bool.{or-false, or_assoc, or_comm}
 use Rattle.irl_robots.specs.declared.rule.Rule.{Rule}
 use Rattle.irl_robots.specs.Lines.{Line, Agent, Access, Other}
-use Rattle.irl_robots.specs.Groups.{Entry, Group, Parts, opened, with_agent, with_entry, parts_of, is_for, rule_of, rules_of}
+use Rattle.irl_robots.specs.Groups.{Entry, Group, opened, outline_of, is_for, rule_of, rules_of}
 
 -- ---- whether a group is for an agent
 
@@ -22,14 +22,14 @@ any-opened passes agent (entry ∷ before) groups = ap (λ b. b || list_any (is_
 any-opened passes agent [] [] = ap (λ b. b || false) (or-false (passes agent))
 any-opened passes agent [] (group ∷ groups) = or_assoc (passes agent) (is_for passes group) (list_any (is_for passes) groups)
 
-pub any-parts : (passes : List ℕ → Bool) (n : ℕ) (ls : List Line) → list_any (is_for passes) (parts_of n ls).groups ≡ any_agent passes ls
-unfolding parts_of
-any-parts passes n [] = refl
-any-parts passes n (Agent value ∷ rest) =
-    any-opened passes value (parts_of (n + 1) rest).before (parts_of (n + 1) rest).groups
-    ∙ ap (λ b. passes value || b) (any-parts passes (n + 1) rest)
-any-parts passes n (Access allow value ∷ rest) = any-parts passes (n + 1) rest
-any-parts passes n (Other ∷ rest) = any-parts passes (n + 1) rest
+pub any-outline : (passes : List ℕ → Bool) (n : ℕ) (ls : List Line) → list_any (is_for passes) (outline_of n ls).groups ≡ any_agent passes ls
+unfolding outline_of
+any-outline passes n [] = refl
+any-outline passes n (Agent value ∷ rest) =
+    any-opened passes value (outline_of (n + 1) rest).before (outline_of (n + 1) rest).groups
+    ∙ ap (λ b. passes value || b) (any-outline passes (n + 1) rest)
+any-outline passes n (Access allow value ∷ rest) = any-outline passes (n + 1) rest
+any-outline passes n (Other ∷ rest) = any-outline passes (n + 1) rest
 
 -- ---- the rules of the groups
 
@@ -91,33 +91,33 @@ joins true xs ys zs = sym (append_assoc xs ys zs)
 joins false xs ys zs = refl
 
 record IsGathered (passes : List ℕ → Bool) (n : ℕ) (ls : List Line) : Type 0 where
-  inside : (meant : Bool) → gathered passes n false meant ls ≡ within passes meant (parts_of n ls).before (parts_of n ls).groups
-  opening : (meant : Bool) → gathered passes n true meant ls ≡ joined passes meant (parts_of n ls).before (parts_of n ls).groups
+  inside : (meant : Bool) → gathered passes n false meant ls ≡ within passes meant (outline_of n ls).before (outline_of n ls).groups
+  opening : (meant : Bool) → gathered passes n true meant ls ≡ joined passes meant (outline_of n ls).before (outline_of n ls).groups
 
 gathered-cons : (passes : List ℕ → Bool) (n : ℕ) (ls : List Line) → IsGathered passes n ls
-unfolding parts_of
+unfolding outline_of
 gathered-cons passes n [] = record { inside = λ meant. sym (cond-nil meant); opening = λ meant. refl }
 gathered-cons passes n (Agent value ∷ rest) =
     let later = gathered-cons passes (n + 1) rest in
-    let parts = parts_of (n + 1) rest in
+    let outline = outline_of (n + 1) rest in
     record {
       inside = λ meant.
           later.opening (passes value || false)
-          ∙ ap (λ b. joined passes b parts.before parts.groups) (or-false (passes value))
-          ∙ sym (chosen-opened passes value parts.before parts.groups)
-          ∙ ap (λ none. none ++ chosen passes (opened value parts.before parts.groups)) (sym (cond-same meant));
-      opening = λ meant. later.opening (passes value || meant) ∙ sym (joined-opened passes meant value parts.before parts.groups);
+          ∙ ap (λ b. joined passes b outline.before outline.groups) (or-false (passes value))
+          ∙ sym (chosen-opened passes value outline.before outline.groups)
+          ∙ ap (λ none. none ++ chosen passes (opened value outline.before outline.groups)) (sym (cond-same meant));
+      opening = λ meant. later.opening (passes value || meant) ∙ sym (joined-opened passes meant value outline.before outline.groups);
     }
 gathered-cons passes n (Access allow value ∷ rest) =
     let later = gathered-cons passes (n + 1) rest in
-    let parts = parts_of (n + 1) rest in
+    let outline = outline_of (n + 1) rest in
     let entry : Entry = record { line = n; allow = allow; value = value } in
     let here = λ (meant : Bool).
-    ap (λ rs. cond meant (rule_of entry) [] ++ rs) (later.inside meant) ∙ joins meant (rule_of entry) (flat_map rule_of parts.before) (chosen passes parts.groups)
+    ap (λ rs. cond meant (rule_of entry) [] ++ rs) (later.inside meant) ∙ joins meant (rule_of entry) (flat_map rule_of outline.before) (chosen passes outline.groups)
     in
     record { inside = here; opening = here }
 gathered-cons passes n (Other ∷ rest) =
     let later = gathered-cons passes (n + 1) rest in record { inside = later.inside; opening = later.opening }
 
-pub gathered-parts : (passes : List ℕ → Bool) (ls : List Line) → gathered passes 1 false false ls ≡ flat_map rules_of (filter (is_for passes) (parts_of 1 ls).groups)
-gathered-parts passes ls = (gathered-cons passes 1 ls).inside false
+pub gathered-outline : (passes : List ℕ → Bool) (ls : List Line) → gathered passes 1 false false ls ≡ flat_map rules_of (filter (is_for passes) (outline_of 1 ls).groups)
+gathered-outline passes ls = (gathered-cons passes 1 ls).inside false

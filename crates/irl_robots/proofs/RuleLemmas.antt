@@ -1,5 +1,5 @@
 -- The rule that the scan ends with is the best one.
-use Rattle.std.proofs.Common.{◌≡◌, ◌⊎◌, ℕ, ◌<◌, Bool, true, false, ◌&&◌, not, ltb, cond, List, [], ◌∷◌, ◌++◌, length, Option, Some, None, IfSome, IfNone, Bor, refl, sym, ap, subst, ◌∙◌, inl, inr, arith, rules}
+use Rattle.std.proofs.Common.{◌≡◌, ◌⊎◌, ℕ, ◌<◌, Bool, true, false, ◌&&◌, not, ltb, cond, List, [], ◌∷◌, ◌++◌, Option, Some, None, IfSome, IfNone, Bor, refl, sym, subst, ◌∙◌, inl, inr, arith, rules}
 use Rattle.std.specs.List.{Contains, fold}
 use Rattle.std.specs.Option.{option_copied}
 use Rattle.std.proofs.lemmas.List.{append_assoc, append-nil}

@@ -19,13 +19,13 @@ pub record Group : Type 0 where
   pub agents : List (List ℕ)
   pub entries : List Entry
 
--- The allow and disallow lines before the first user-agent line, and the groups from there on.
-pub record Parts : Type 0 where
+-- the allow and disallow lines before the first user-agent line, and the groups from there on
+pub record Outline : Type 0 where
   pub before : List Entry
   pub groups : List Group
 
 -- an allow or disallow line comes before the rest
-abbrev pub with_entry : Entry → Parts → Parts
+abbrev pub with_entry : Entry → Outline → Outline
 with_entry entry rest = record { before = entry ∷ rest.before; groups = rest.groups }
 
 -- A user-agent line comes before the rest. Where allow and disallow lines follow, it begins a group with them; else it
@@ -35,20 +35,20 @@ opened agent (entry ∷ entries) groups = record { agents = agent ∷ []; entrie
 opened agent [] [] = record { agents = agent ∷ []; entries = [] } ∷ []
 opened agent [] (group ∷ groups) = record { agents = agent ∷ group.agents; entries = group.entries } ∷ groups
 
-abbrev pub with_agent : List ℕ → Parts → Parts
+abbrev pub with_agent : List ℕ → Outline → Outline
 with_agent agent rest = record { before = []; groups = opened agent rest.before rest.groups }
 
--- The parts of the lines that begin with this number. Lines with other fields part nothing.
-unfoldable pub parts_of : ℕ → List Line → Parts
-parts_of number [] = record { before = []; groups = [] }
-parts_of number (Agent value ∷ rest) = with_agent value (parts_of (number + 1) rest)
-parts_of number (Access allow value ∷ rest) =
-    with_entry (record { line = number; allow = allow; value = value }) (parts_of (number + 1) rest)
-parts_of number (Other ∷ rest) = parts_of (number + 1) rest
+-- The outline of lines of which the first has this number. Lines with other fields end nothing.
+unfoldable pub outline_of : ℕ → List Line → Outline
+outline_of number [] = record { before = []; groups = [] }
+outline_of number (Agent value ∷ rest) = with_agent value (outline_of (number + 1) rest)
+outline_of number (Access allow value ∷ rest) =
+    with_entry (record { line = number; allow = allow; value = value }) (outline_of (number + 1) rest)
+outline_of number (Other ∷ rest) = outline_of (number + 1) rest
 
 -- the groups of a file
 abbrev pub groups_of : List ℕ → List Group
-groups_of file = (parts_of 1 (map line_of (lines (text_of file)))).groups
+groups_of file = (outline_of 1 (map line_of (lines (text_of file)))).groups
 
 -- the octets of product tokens
 abbrev pub is_token_octet : ℕ → Bool

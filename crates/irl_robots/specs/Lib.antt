@@ -4,6 +4,7 @@ pub mod Leave
 pub mod Lines
 pub mod Matching
 pub mod Normal
+pub mod Numbered
 pub mod Octets
 pub mod Place
 pub mod Rule

@@ -1,5 +1,5 @@
 -- The lines of a robots file and what each says (RFC 9309, section 2.2; its section 2.5 on the limit).
-use Rattle.std.specs.Prelude.{ℕ, ◌+◌, List, [], ◌∷◌, length, take, drop, map, reverse, Bool, true, false, ◌&&◌, ◌||◌, ◌==◌, nat_eq, nat_lt, if◌then◌else◌, codes}
+use Rattle.std.specs.Prelude.{ℕ, List, [], ◌∷◌, length, take, drop, reverse, Bool, true, false, ◌&&◌, ◌||◌, ◌==◌, nat_eq, nat_lt, if◌then◌else◌, codes}
 use Rattle.std.specs.List.{starts_with, position_or_len, before_first, after_first}
 use Rattle.std.specs.Str.{str_eq_ignore_ascii_case}
 

@@ -1,10 +1,10 @@
 ghost use Rattle.std.specs.Prelude.{◌≡◌, ◌≤◌, length, map, not, IfOk};
 ghost use Rattle.std.specs.List.{list_any, filter, flat_map, position};
 ghost use Rattle.irl_robots.specs.Lines.{lines, line_of};
-ghost use Rattle.irl_robots.specs.Groups.{is_named as named, is_star, is_for, is_token_octet as token_octet, token as token_by, parts_of, rules_of};
+ghost use Rattle.irl_robots.specs.Groups.{is_named as named, is_star, is_for, is_token_octet as token_octet, token as token_by, outline_of, rules_of, obeyed as obeyed_by};
 ghost use Rattle.irl_robots.specs.Agents.{are_meant};
 
-use crate::lines::{Line, Lines, parse};
+use crate::lines::{Line, Lines, parse, text_of};
 use crate::octets::normalized;
 use crate::rule::Rule;
 use irl_offer::Text;
@@ -12,7 +12,7 @@ use std::alloc::{AllocError, Global};
 
 /// Whose groups are read.
 #[derive(Clone, Copy)]
-pub enum Agents<'a> {
+enum Agents<'a> {
     /// The agent with this product token.
     Named(&'a [u8]),
     /// All agents, by `*`.
@@ -31,11 +31,25 @@ impl Agents<'_> {
     }
 }
 
+/// The rules of a file that the agent with this product token obeys, in the order of their lines.
+#[tactic(auto, unfolding(crate::specs::Groups::obeyed))]
+pub fn obeyed(alloc: Global, bytes: &[u8], agent: &[u8]) -> Result<Vec<Rule>, AllocError>
+    ensures { IfOk result (λ rules. rules.items ≡ obeyed_by bytes.now agent.now) }
+{
+    let text = text_of(bytes);
+    let agents = if has_group(text, agent) {
+        Agents::Named(agent)
+    } else {
+        Agents::All
+    };
+    rules_for(alloc, text, agents)
+}
+
 /// The rules of the groups that are for these agents, in the order of their lines.
-pub fn rules_for(alloc: Global, text: &[u8], agents: Agents<'_>) -> Result<Vec<Rule>, AllocError>
+fn rules_for(alloc: Global, text: &[u8], agents: Agents<'_>) -> Result<Vec<Rule>, AllocError>
     requires { length text.now ≤ 512000 }
     ensures { IfOk result (λ rules. rules.items
-        ≡ flat_map rules_of (filter (is_for (are_meant agents.entry)) (parts_of 1 (map line_of (lines text.now))).groups)) }
+        ≡ flat_map rules_of (filter (is_for (are_meant agents.entry)) (outline_of 1 (map line_of (lines text.now))).groups)) }
 {
     let mut rules = Vec::new(alloc);
     let mut number = 0;
@@ -66,8 +80,8 @@ pub fn rules_for(alloc: Global, text: &[u8], agents: Agents<'_>) -> Result<Vec<R
 }
 
 /// Whether some group names the agent.
-pub fn has_group(text: &[u8], agent: &[u8]) -> bool
-    ensures { result ≡ list_any (is_for (named agent.now)) (parts_of 1 (map line_of (lines text.now))).groups }
+fn has_group(text: &[u8], agent: &[u8]) -> bool
+    ensures { result ≡ list_any (is_for (named agent.now)) (outline_of 1 (map line_of (lines text.now))).groups }
 {
     for line in Lines(text) {
         if let Line::Agent(value) = parse(line)

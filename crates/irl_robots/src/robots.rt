@@ -1,10 +1,12 @@
-ghost use Rattle.std.specs.Prelude.{◌≡◌, ◌≢◌, codes, IfOk, IfSome, IfNone, IsNone};
-ghost use Rattle.irl_robots.specs.Groups.{obeyed};
+ghost use Rattle.std.specs.Prelude.{◌≡◌, ◌≢◌, ◌↔◌, ℕ, map, false, Some, codes, IsFalse, IfOk, IfSome, IfNone, IsNone};
+ghost use Rattle.std.specs.List.{All};
+ghost use Rattle.std.specs.List.Sorted.{IsStrictlyIncreasing};
+ghost use Rattle.irl_robots.specs.Groups.{obeyed as obeyed_by};
 ghost use Rattle.irl_robots.specs.Normal.{normal};
+ghost use Rattle.irl_robots.specs.Numbered.{IsOfLine, said_by};
 ghost use Rattle.irl_robots.specs.Rule.{rule, allows, IsVerdict, NoneMatches};
 
-use crate::groups::{Agents, has_group, rules_for};
-use crate::lines::text_of;
+use crate::groups::obeyed;
 use crate::rule::{Rule, best};
 use std::alloc::{AllocError, Global};
 use std::marker::Model;
@@ -28,20 +30,19 @@ impl Model for Robots {
 }
 
 impl Robots {
+    ghost use Rattle.irl_robots.specs.declared.rule.Rule.{Rule};
+
     /// Reads a robots file, of which the first 512,000 bytes count, for the agent with this product token. Any bytes
     /// are a file.
-    #[tactic(auto, unfolding(crate::specs::Groups::obeyed))]
     pub fn read(alloc: Global, bytes: &[u8], agent: &[u8]) -> Result<Robots, AllocError>
-        ensures { IfOk result (λ robots. robots ≡ obeyed bytes.now agent.now) }
+        ensures value { IfOk result (λ robots. robots ≡ obeyed_by bytes.now agent.now) }
+
+        // Each rule is what the line with its number says, and no line has two.
+        ensures lines { IfOk result (All (IsOfLine (said_by bytes.now))) }
+        ensures order { IfOk result (λ robots. IsStrictlyIncreasing (map (λ (r : Rule). r.line) robots)) }
     {
-        let text = text_of(bytes);
-        let agents = if has_group(text, agent) {
-            Agents::Named(agent)
-        } else {
-            Agents::All
-        };
         Ok(Robots {
-            rules: rules_for(alloc, text, agents)?,
+            rules: obeyed(alloc, bytes, agent)?,
         })
     }
 
@@ -64,7 +65,8 @@ impl Robots {
 
     /// Whether a target, which is a path with its query, may be fetched.
     pub fn allows(&self, target: &[u8]) -> bool
-        ensures { result ≡ allows (rule self.now target.now) }
+        ensures value { result ≡ allows (rule self.now target.now) }
+        ensures denied { IsFalse result ↔ ((line : ℕ) × (rule self.now target.now ≡ Some (line, false))) }
     {
         match self.by(target) {
             None => true,

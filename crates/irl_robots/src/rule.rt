@@ -29,13 +29,8 @@ impl Rule {
         match octets.cmp(&others) {
             Ordering::Greater => true,
             Ordering::Less => false,
-            Ordering::Equal => {
-                if self.allow != other.allow {
-                    self.allow
-                } else {
-                    self.line < other.line
-                }
-            }
+            Ordering::Equal if self.allow != other.allow => self.allow,
+            Ordering::Equal => self.line < other.line,
         }
     }
 }
@@ -48,11 +43,11 @@ pub fn best<'a>(rules: &'a [Rule], path: &[u8]) -> Option<&'a Rule>
 {
     let mut best: Option<&Rule> = None;
     for rule in rules {
-        let stays = match best {
-            None => false,
-            Some(held) => !rule.wins_over(held),
+        let wins = match best {
+            None => true,
+            Some(held) => rule.wins_over(held),
         };
-        if !stays && is_match(rule.pattern.bytes(), path) {
+        if wins && is_match(rule.pattern.bytes(), path) {
             best = Some(rule);
         }
     }

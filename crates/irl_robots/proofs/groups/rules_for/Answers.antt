@@ -4,7 +4,7 @@ use Rattle.irl_robots.specs.Lines.{line_of}
 use Rattle.irl_robots.specs.Agents.{are_meant}
 use Rattle.irl_robots.specs.Lines.{lines}
 use Rattle.irl_robots.proofs.LinesLemmas.{length-lines}
-use Rattle.irl_robots.proofs.GroupsLemmas.{gathered, gathered-parts}
+use Rattle.irl_robots.proofs.GroupsLemmas.{gathered, gathered-outline}
 use Rattle.irl_robots.proofs.groups.rules_for.Goals as goal
 
 pub overflow_add-number : goal.overflow_add-number
@@ -18,4 +18,4 @@ returns c =
     sym (append-nil rules)
     ∙ ap (λ ls. rules ++ gathered passes (c.loop-line.number + 1) c.loop-line.opening c.loop-line.meant (map line_of ls)) (sym c.in-None.ensures.steps.0)
     ∙ c.loop-line.invariant.told
-    ∙ gathered-parts passes (map line_of (lines c.args.text.now))
+    ∙ gathered-outline passes (map line_of (lines c.args.text.now))
