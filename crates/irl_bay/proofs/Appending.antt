@@ -1,15 +1,16 @@
 -- Lines behind those that a file has.
-use Rattle.std.proofs.Common.{◌≡◌, ◌∙◌, ℕ, ◌+◌, ◌≤◌, List, [], ◌++◌, length, map, take, drop, refl, sym, subst, ap, arith, length-append, take_all, append-nil}
-use Rattle.std.proofs.lemmas.List.{drop_all, map-append, length-map}
+use Rattle.std.proofs.Common.{◌≡◌, ◌∙◌, ℕ, ◌+◌, List, [], ◌++◌, length, map, drop, refl, sym, subst, ap, arith, length-append, take_all, append-nil}
+use Rattle.std.proofs.lemmas.List.{take-append-drop, drop_all, map-append, length-map}
 use Rattle.std.specs.FinMap.{empty}
 use Rattle.std.specs.List.{AllByRecursion}
 use Rattle.irl_offer.specs.declared.offer.Rule.TheVariants.{Keep}
-use Rattle.irl_offer.specs.declared.offer.Verdict.{Verdict}
 use Rattle.irl_offer.specs.Tuple.{Tuple}
 use Rattle.irl_model.specs.Judging.{KeyMap, after, judgements}
-use Rattle.irl_model.proofs.JudgingLaws.{judgements-drop, after-append}
+use Rattle.irl_model.proofs.JudgingLaws.{judgements-drop}
 use Rattle.std.specs.Prelude.{Option, Some, None}
-use Rattle.irl_disk.specs.Disk.{Files, Changes, ChangesFile, Holds}
+use Rattle.irl_disk.specs.Disk.{Files, Changes, ChangesFile, Holds, Scribbled}
+use Rattle.irl_bay.specs.declared.kept.Kept.{Kept}
+use Rattle.irl_bay.specs.Kept.{IsOpen, Grows}
 use Rattle.irl_bay.specs.LineFile.{IsKeepable, HasLines, text_of, line_file, line_tuple}
 use Rattle.irl_bay.proofs.Entering.{text_of-append, each-append, tuples-more}
 
@@ -42,3 +43,21 @@ told_before f step None now new changes tells = absurd (let e = sym changes ∙ 
 told_before f step (Some old) now new changes tells =
     let same : changes.0 ≡ new = let e = sym changes.1 ∙ tells in cc in
     (old, refl, subst (λ (files : Files). ChangesFile f step old files) same changes.2)
+
+-- the line file before a change of it by a step that only lets it grow
+grows_by : (step : List ℕ → List ℕ → Type 0) (told now : Option Files) (kept : Kept) → IsOpen told kept → Changes line_file step told now → ((old new : List ℕ) → kept.end ≡ length old → step old new → (rest : List ℕ) × (new ≡ old ++ rest)) → Grows told now
+grows_by step told now kept known changes grow = λ old tells.
+    let change = rw tells at changes in
+    let had = known old tells in
+    let more = grow (old line_file) (change.0 line_file) (had.2.end ∙ ap length (sym had.1.bytes)) change.2.changed in
+    (change.0, change.1, more.0, more.1)
+
+pub grows_by_write : (text : List ℕ) (told now : Option Files) (kept : Kept) → IsOpen told kept → Changes line_file (Holds kept.end text) told now → Grows told now
+grows_by_write text told now kept known changes = grows_by (Holds kept.end text) told now kept known changes (λ old new end holds. (text, at_end old new text kept.end holds end))
+
+pub grows_by_fault : (n : ℕ) (told now : Option Files) (kept : Kept) → IsOpen told kept → Changes line_file (Scribbled kept.end n) told now → Grows told now
+grows_by_fault n told now kept known changes = grows_by (Scribbled kept.end n) told now kept known changes (λ old new end scribbled.
+    (drop kept.end new, sym (take-append-drop kept.end new) ∙ ap (λ (front : List ℕ). front ++ drop kept.end new) (scribbled.before ∙ take_all kept.end old (omega arith))))
+
+pub grows_by_nothing : (told now : Option Files) → now ≡ told → Grows told now
+grows_by_nothing told now same = λ old tells. (old, same ∙ tells, [], sym (append-nil (old line_file)))

@@ -1,5 +1,5 @@
 -- The first line of a text, by the place of the first LF.
-use Rattle.std.proofs.Common.{◌≡◌, ◌≢◌, ◌∙◌, ℕ, ◌+◌, ◌<◌, ◌≤◌, suc, List, [], ◌∷◌, ◌++◌, length, take, drop, get_or, ap, sym, subst, arith, inl, inr, length-append, length-drop, length-take-le, take_all, add-one, ◌-◌}
+use Rattle.std.proofs.Common.{◌≡◌, ◌≢◌, ◌∙◌, ℕ, ◌+◌, ◌<◌, ◌≤◌, suc, List, ◌∷◌, ◌++◌, length, take, drop, get_or, ap, sym, arith, inl, inr, length-append, length-drop, length-take-le, take_all, add-one, ◌-◌}
 use Rattle.std.proofs.Math.Seq.{get_or-append_seam, drop-cons}
 use Rattle.std.proofs.lemmas.List.{get_or-take, get_or_default, get_or_append_left, take-append-drop}
 use Rattle.std.proofs.lemmas.Bool.{cases_order}

@@ -1,12 +1,12 @@
 -- Reading the lines of a file piece by piece.
-use Rattle.std.proofs.Common.{◌≡◌, ◌≢◌, ◌∙◌, ℕ, ◌+◌, ◌-◌, ◌<◌, ◌≤◌, min, List, [], ◌∷◌, ◌++◌, length, map, take, drop, sym, ap, arith, length-append, length-take, length-take-le, length-drop, take_all, suc, refl}
+use Rattle.std.proofs.Common.{◌≡◌, ◌∙◌, ℕ, ◌+◌, ◌-◌, ◌<◌, ◌≤◌, min, List, ◌∷◌, ◌++◌, length, map, take, drop, sym, ap, arith, length-append, length-take, length-take-le, length-drop, take_all, suc, refl}
 use Rattle.std.proofs.lemmas.List.{take-append-drop, take-append-le}
 use Rattle.std.proofs.Math.Seq.{take-add, take-append-add, take-append_seam}
 use Rattle.std.specs.List.{AllByRecursion}
 use Rattle.std.specs.FinMap.{empty}
 use Rattle.irl_offer.specs.declared.offer.Rule.TheVariants.{Keep}
 use Rattle.irl_model.specs.Judging.{KeyMap, after}
-use Rattle.irl_bay.specs.LineFile.{IsKeepable, HasNoFront, HasLines, IsBrokenAt, TakesLines, text_of, line_tuple}
+use Rattle.irl_bay.specs.LineFile.{IsKeepable, HasLines, IsBrokenAt, TakesLines, text_of, line_tuple}
 use Rattle.irl_bay.proofs.Entering.{text_of-append, each-append, tuples-more}
 
 -- the first bytes of the file are these lines, and their keys are known

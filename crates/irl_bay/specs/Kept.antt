@@ -22,6 +22,10 @@ IsOpen told kept = ForSome told (λ files. (lines : List (List ℕ)) × HasLines
 abbrev pub KeepsOthers : Option Files → Option Files → Type 0
 KeepsOthers told now = ForSome told (λ old. (new : Files) × (now ≡ Some new) × ((f : ℕ) → f ≢ line_file → new f ≡ old f))
 
+-- the line file only grew
+abbrev pub Grows : Option Files → Option Files → Type 0
+Grows told now = ForSome told (λ old. (new : Files) × (now ≡ Some new) × (rest : List ℕ) × (new line_file ≡ old line_file ++ rest))
+
 -- the line file has these lines behind those that it had, and their keys are known
 abbrev pub Appends : Option Files → Option Files → Kept → Kept → List (List ℕ) → Type 0
 Appends told now before kept news = (old new : Files) (lines : List (List ℕ)) → told ≡ Some old → now ≡ Some new → HasLines (old line_file) lines → IsOf before lines → HasLines (new line_file) (lines ++ news) × IsOf kept (lines ++ news)

@@ -88,7 +88,7 @@ pub struct Kept {
 }
 
 impl Kept {
-    ghost use Rattle.irl_bay.specs.Kept.{IsOpen, Appends, AreVerdicts, KeepsOthers};
+    ghost use Rattle.irl_bay.specs.Kept.{IsOpen, Appends, AreVerdicts, Grows, KeepsOthers};
 
     /// Reads the lines of a store. It writes nothing.
     pub fn open<S: Store>(alloc: Global, store: &mut S) -> Result<Kept, OpenFault>
@@ -131,6 +131,7 @@ impl Kept {
         ensures verdicts { IfOk result (λ verdicts. AreVerdicts self.old (map (λ offer. offer.aux) offers.now) verdicts.items) }
         ensures count { IfOk result (λ verdicts. length verdicts.items ≡ length offers.now) }
         ensures others { KeepsOthers (S.contents store.old) (S.contents store.new) }
+        ensures grows { Grows (S.contents store.old) (S.contents store.new) }
         ensures memory { IsErrOf result Fault.Memory → S.contents store.new ≡ S.contents store.old }
         ensures later { S.faults store.old ≤ S.faults store.new }
         ensures failed { IsErrOf result Fault.Failed → Rose (S.faults store.old) (S.faults store.new) }

@@ -1,29 +1,26 @@
 -- What a batch leaves in the store and at the output.
-use Rattle.std.proofs.Common.{◌≡◌, ◌≢◌, ◌∙◌, ℕ, List, [], ◌∷◌, ◌++◌, length, map, take, drop, Option, Some, None, refl, sym, ap, subst, append-nil, arith}
+use Rattle.std.proofs.Common.{◌≡◌, ◌≢◌, ◌∙◌, ℕ, List, [], ◌∷◌, length, map, take, drop, Option, refl, sym, ap, subst, append-nil, arith}
 use Rattle.std.proofs.lemmas.List.{take-append-drop}
 use Rattle.std.proofs.KnownBytes.{Appends-nil}
-use Rattle.std.specs.Prelude.{Result, Ok, Err}
+use Rattle.std.specs.Prelude.{Result, Err}
 use Rattle.std.specs.List.{zip}
-use Rattle.std.specs.FinMap.{empty}
 use Rattle.std.specs.Io.KnownBytes.{Appends}
 use Rattle.irl_offer.specs.declared.offer.Rule.TheVariants.{Keep}
 use Rattle.irl_offer.specs.declared.offer.Verdict.{Verdict}
 use Rattle.irl_offer.specs.Tuple.{Tuple}
-use Rattle.irl_model.specs.Judging.{judgements}
 use Rattle.irl_model.proofs.JudgingLaws.{zip-judgements}
 use Rattle.irl_disk.specs.Disk.{Files}
 use Rattle.irl_io.specs.Written.{AppendsFront}
 use Rattle.irl_bay.specs.declared.kept.Kept.{Kept}
 use Rattle.irl_bay.specs.declared.kept.Fault.{Fault}
 use Rattle.irl_bay.specs.declared.kept.Fault.TheVariants.{Failed, Memory}
-use Rattle.irl_bay.specs.LineFile.{AreLines, HasLines, line_file, line_tuple}
+use Rattle.irl_bay.specs.LineFile.{AreLines, HasLines, line_file}
 use Rattle.irl_bay.specs.Kept.{IsOf, KeepsOthers, AreVerdicts, Appends as AppendsLines}
 use Rattle.irl_bay.proofs.Appending.{verdicts_more}
 use Rattle.irl_top.proofs.AddedLines.{added-nil}
 use Rattle.irl_top.specs.declared.commit.CommitFault.{CommitFault}
 use Rattle.irl_top.specs.declared.commit.CommitFault.TheVariants.{Disk}
 use Rattle.irl_top.specs.Batch.{texts, Commits, CommitsPart}
-use Rattle.irl_top.specs.Input.{IsFrontOf}
 use Rattle.irl_top.specs.Message.{commit_fault_of}
 use Rattle.irl_top.specs.Printed.{printed, added}
 
@@ -42,7 +39,7 @@ was_memory Memory r is not = refl
 -- nothing was done
 pub nothing_done : (told now : Option Files) (before : Kept) (written : Option (List ℕ)) (news : List (List ℕ)) → now ≡ told → CommitsPart told now before written written news
 nothing_done told now before written news same = λ files lines tells has known.
-    (files, [], [], same ∙ tells, subst (HasLines (files line_file)) (sym (append-nil lines)) has, (news, refl), Appends-nil written, (added lines news, refl))
+    (files, [], [], same ∙ tells, subst (HasLines (files line_file)) (sym (append-nil lines)) has, (news, refl), Appends-nil written, (added lines [], refl))
 
 -- the lines were appended, and a front of their text was written
 pub part_done : (told now : Option Files) (before kept : Kept) (old new : Option (List ℕ)) (offers : List Tuple) (verdicts : List (Option Verdict)) (text : List ℕ) → AppendsLines told now before kept (texts offers) → KeepsOthers told now → AreLines offers → AreVerdicts before (texts offers) verdicts → text ≡ printed (zip offers verdicts) → AppendsFront old new text → CommitsPart told now before old new (texts offers)

@@ -1,7 +1,7 @@
 -- What a run is, by what its parts answered.
-use Rattle.std.proofs.Common.{◌≡◌, ◌≢◌, ◌∙◌, ℕ, ◌≤◌, Bool, List, [], ◌∷◌, ◌++◌, length, drop, Option, Some, None, refl, sym, ap, subst, inl, inr, append_assoc}
+use Rattle.std.proofs.Common.{◌≡◌, ◌≢◌, ◌∙◌, ℕ, List, [], ◌∷◌, ◌++◌, length, drop, Option, Some, None, refl, sym, ap, subst, inl, inr, append_assoc}
 use Rattle.std.proofs.Math.Seq.{drop-append_seam}
-use Rattle.std.specs.Prelude.{Result, Ok, Err, OnOk, OnErr, ◌⊎◌, unwrap_or, is_some}
+use Rattle.std.specs.Prelude.{Result, Ok, Err, OnOk, OnErr, unwrap_or, is_some}
 use Rattle.std.specs.Option.{option_map}
 use Rattle.std.proofs.Common.{true}
 use Rattle.std.specs.List.{AllByRecursion, before_first, after_first}

@@ -1,14 +1,12 @@
 -- The lines of an input, one step after another.
-use Rattle.std.proofs.Common.{◌≡◌, ◌≢◌, ◌∙◌, ℕ, ◌+◌, ◌<◌, ◌≤◌, suc, Bool, true, false, ◌||◌, nat_lt, cond, List, [], ◌∷◌, ◌++◌, length, map, take, Option, Some, None, refl, sym, ap, subst, arith, append_assoc, length-append, inl, inr}
+use Rattle.std.proofs.Common.{◌≡◌, ℕ, ◌+◌, ◌<◌, ◌≤◌, Bool, true, false, ◌||◌, nat_lt, cond, List, [], ◌∷◌, ◌++◌, length, Option, Some, None, refl, arith, inl, inr}
 use Rattle.std.proofs.lemmas.Bool.Decides.{nat_tests}
-use Rattle.std.specs.Prelude.{filter, ◌⊎◌}
-use Rattle.std.specs.List.{before_first, after_first, AllByRecursion}
-use Rattle.std.specs.Io.KnownBytes.{prepend_known}
+use Rattle.std.specs.Prelude.{filter}
+use Rattle.std.specs.List.{before_first}
 use Rattle.irl_io.specs.Lines.{lines, longest, most_lines, is_line_feed, IsLine}
-use Rattle.irl_io.specs.Steps.{Progress, OfKnown, TakesLine, RefusesLine}
+use Rattle.irl_io.specs.Steps.{OfKnown, TakesLine, RefusesLine}
 use Rattle.irl_io.proofs.LineLemmas.{lines_first}
-use Rattle.irl_top.specs.Input.{is_refused, is_some_line, refused_from, accepted_from, offered_from}
-use Rattle.irl_top.specs.Batch.{ReadsOn}
+use Rattle.irl_top.specs.Input.{is_refused, is_some_line, refused_from, offered_from}
 
 -- what known bytes become
 pub of_some : (P : List ℕ → List ℕ → Type 0) (b : List ℕ) (x : Option (List ℕ)) → OfKnown P (Some b) x → (a : List ℕ) × (x ≡ Some a) × P b a

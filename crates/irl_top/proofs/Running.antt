@@ -1,36 +1,23 @@
 -- A run between two batches, and how it ends.
-use Rattle.std.proofs.Common.{◌≡◌, ◌≢◌, ◌∙◌, ℕ, ◌+◌, ◌≤◌, List, [], ◌∷◌, ◌++◌, length, map, drop, Option, Some, None, refl, sym, ap, subst, append_assoc, append-nil, inl, inr, arith}
+use Rattle.std.proofs.Common.{◌≡◌, ◌≢◌, ◌∙◌, ℕ, ◌+◌, ◌≤◌, List, [], ◌∷◌, ◌++◌, Option, Some, refl, sym, ap, subst, append_assoc, append-nil, arith}
 use Rattle.std.proofs.KnownBytes.{Appends-nil}
-use Rattle.std.proofs.lemmas.List.{map-append, length-map}
-use Rattle.std.proofs.lemmas.Grind.{flat_map-append}
 use Rattle.std.proofs.lemmas.List.Elements.{recursion_from_All}
-use Rattle.std.specs.Prelude.{Result, Ok, Err, ◌⊎◌}
-use Rattle.std.specs.FinMap.{empty}
 use Rattle.std.specs.List.{AllByRecursion}
 use Rattle.std.specs.Option.{ForSome}
-use Rattle.std.specs.Io.KnownBytes.{Appends, IsAtEnd, prepend_known}
-use Rattle.irl_offer.specs.Faults.{Rose}
-use Rattle.irl_offer.specs.declared.offer.Rule.TheVariants.{Keep}
-use Rattle.irl_offer.specs.declared.offer.Verdict.{Verdict}
-use Rattle.irl_offer.specs.Tuple.{Tuple}
-use Rattle.irl_model.specs.Judging.{KeyMap, after, judgements}
-use Rattle.irl_model.proofs.JudgingLaws.{judged_on, judged_on-append, judgements-drop, judgements-judged_on, after-append}
+use Rattle.std.specs.Io.KnownBytes.{Appends, prepend_known}
 use Rattle.irl_disk.specs.Disk.{Files}
 use Rattle.irl_io.specs.Lines.{lines}
 use Rattle.irl_io.specs.Steps.{Progress}
 use Rattle.irl_io.proofs.LineLemmas.{lines-text}
 use Rattle.irl_bay.specs.declared.kept.Kept.{Kept}
-use Rattle.irl_bay.specs.LineFile.{HasLines, IsKeepable, line_file, line_tuple, text_of}
-use Rattle.irl_bay.specs.Kept.{IsOf, IsOpen, KeepsOthers}
-use Rattle.irl_bay.proofs.Entering.{tuples-more}
+use Rattle.irl_bay.specs.LineFile.{HasLines, IsKeepable, line_file}
+use Rattle.irl_bay.specs.Kept.{Grows, IsOf, IsOpen, KeepsOthers}
 use Rattle.irl_top.proofs.AddedLines.{added-append, added-nil}
 use Rattle.irl_top.proofs.Sinks.{appends_both}
-use Rattle.irl_top.specs.Batch.{ReadsOn, ReadsOnTold, EndsTold, RefusesTold, Commits, CommitsPart}
-use Rattle.irl_top.specs.Input.{IsFrontOf, offered, offered_from, refused, refused_from}
-use Rattle.irl_top.specs.Printed.{printed, added, line_if_unique}
-use Rattle.irl_top.specs.Run.{Outside, Ran, IsEarly}
-use Rattle.irl_top.specs.declared.ending.Ending.{Ending}
-use Rattle.irl_top.specs.declared.ending.Ending.TheVariants.{Done, WordsRefused, LineRefused, NotOurs, DiskFault, InputFault, OutputFault, NoMemory}
+use Rattle.irl_top.specs.Batch.{ReadsOn, ReadsOnTold, Commits}
+use Rattle.irl_top.specs.Input.{offered_from}
+use Rattle.irl_top.specs.Printed.{added}
+use Rattle.irl_top.specs.Run.{Outside}
 
 -- one file has one list of lines
 pub whole_lines : (ls : List (List ℕ)) → AllByRecursion IsKeepable ls → AllByRecursion (AllByRecursion (λ b. b ≢ 10)) ls
@@ -44,10 +31,15 @@ same_lines file xs ys h k = sym (lines-text xs (whole_lines xs h.each)) ∙ ap l
 abbrev pub start : Progress
 start = record { ahead = []; number = 0 }
 
+-- every other file is as it was, and the line file only grew
+abbrev pub Keeps : Option Files → Option Files → Type 0
+Keeps told now = KeepsOthers told now × Grows told now
+
 -- these lines of the input were offered, kept and judged
 pub record Running (before now : Outside) (kept : Kept) (progress : Progress) (news : List (List ℕ)) : Type 0 where
   pub known : IsOpen now.files kept
-  pub others : KeepsOthers before.files now.files
+  pub opened : ForSome before.files (λ files. (old : List (List ℕ)) × HasLines (files line_file) old)
+  pub others : Keeps before.files now.files
   pub reads : (input : List ℕ) → before.input ≡ Some input → (rest : List ℕ) × (prepend_known progress.ahead now.input ≡ Some rest) × ReadsOn start progress input rest news
   pub lines : (files : Files) (old : List (List ℕ)) → before.files ≡ Some files → HasLines (files line_file) old →
       (new : Files) × (now.files ≡ Some new) × HasLines (new line_file) (old ++ news) × IsOf kept (old ++ news) × Appends before.output now.output (added old news)
@@ -55,11 +47,18 @@ pub record Running (before now : Outside) (kept : Kept) (progress : Progress) (n
   pub input_later : before.input_faults ≤ now.input_faults
   pub output_later : before.output_faults ≤ now.output_faults
 
+pub keeps_same : (told now : Option Files) → now ≡ told → Keeps told now
+keeps_same told now same = (
+  λ files tells. (files, same ∙ tells, λ f not. refl),
+  λ files tells. (files, same ∙ tells, [], sym (append-nil (files line_file))),
+)
+
 -- before the first batch
 pub begins : (before now : Outside) (kept : Kept) → IsOpen now.files kept → now.files ≡ before.files → now.input ≡ before.input → now.output ≡ before.output → before.disk_faults ≤ now.disk_faults → before.input_faults ≤ now.input_faults → before.output_faults ≤ now.output_faults → Running before now kept start []
 begins before now kept known files input output disk_later input_later output_later = record {
   known = known;
-  others = λ told tells. (told, files ∙ tells, λ f not. refl);
+  opened = λ told tells. let had = known told (files ∙ tells) in (had.0, had.1);
+  others = keeps_same before.files now.files files;
   reads = λ bytes tells. (bytes, rw (input ∙ tells) refl, record { offers = refl; refuses = refl });
   lines = λ told old tells has.
       let had = known told (files ∙ tells) in
@@ -82,16 +81,23 @@ reads_both a b c x y z xs ys h k = record {
   refuses = h.refuses ∙ k.refuses;
 }
 
-pub keeps_both : (a b c : Option Files) → KeepsOthers a b → KeepsOthers b c → KeepsOthers a c
-keeps_both a b c h k = λ files tells.
-    let x = h files tells in
-    let y = k x.0 x.1 in
-    (y.0, y.1, λ f not. y.2 f not ∙ x.2 f not)
+pub keeps_both : (a b c : Option Files) → Keeps a b → Keeps b c → Keeps a c
+keeps_both a b c h k = (
+  λ files tells.
+      let x = h.0 files tells in
+      let y = k.0 x.0 x.1 in
+      (y.0, y.1, λ f not. y.2 f not ∙ x.2 f not),
+  λ files tells.
+      let x = h.1 files tells in
+      let y = k.1 x.0 x.1 in
+      (y.0, y.1, x.2 ++ y.2, y.3 ∙ ap (λ (front : List ℕ). front ++ y.2) x.3 ∙ append_assoc (files line_file) x.2 y.2),
+)
 
 -- a batch more
-pub goes_on : (before now next : Outside) (kept kept' : Kept) (progress progress' : Progress) (news more : List (List ℕ)) → Running before now kept progress news → ReadsOnTold progress progress' now.input next.input more → Commits now.files next.files kept kept' now.output next.output more → IsOpen next.files kept' → KeepsOthers now.files next.files → now.disk_faults ≤ next.disk_faults → now.input_faults ≤ next.input_faults → now.output_faults ≤ next.output_faults → Running before next kept' progress' (news ++ more)
+pub goes_on : (before now next : Outside) (kept kept' : Kept) (progress progress' : Progress) (news more : List (List ℕ)) → Running before now kept progress news → ReadsOnTold progress progress' now.input next.input more → Commits now.files next.files kept kept' now.output next.output more → IsOpen next.files kept' → Keeps now.files next.files → now.disk_faults ≤ next.disk_faults → now.input_faults ≤ next.input_faults → now.output_faults ≤ next.output_faults → Running before next kept' progress' (news ++ more)
 goes_on before now next kept kept' progress progress' news more so_far reads commits known others disk_later input_later output_later = record {
   known = known;
+  opened = so_far.opened;
   others = keeps_both before.files now.files next.files so_far.others others;
   reads = λ input tells.
       let r = so_far.reads input tells in

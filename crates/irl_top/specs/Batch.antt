@@ -1,7 +1,6 @@
 -- What a run does with a batch of lines.
-use Rattle.std.specs.Prelude.{◌≡◌, ⊤, ◌⊎◌, ℕ, ◌+◌, ◌≤◌, ◌<◌, List, [], ◌++◌, map, Option, Some, None, Bool, true, false, IsTrue, Result, Ok, Err}
+use Rattle.std.specs.Prelude.{◌≡◌, ℕ, ◌+◌, List, [], ◌++◌, map, Option, Some}
 use Rattle.std.specs.Io.KnownBytes.{Appends, prepend_known}
-use Rattle.irl_offer.specs.Faults.{Rose}
 use Rattle.irl_offer.specs.Tuple.{Tuple}
 use Rattle.irl_disk.specs.Disk.{Files}
 use Rattle.irl_io.specs.Lines.{lines}
@@ -39,7 +38,7 @@ abbrev pub Commits : Option Files → Option Files → Kept → Kept → Option 
 Commits told now before kept written_before written news = (files : Files) (lines : List (List ℕ)) → told ≡ Some files → HasLines (files line_file) lines → IsOf before lines →
     (new : Files) × (now ≡ Some new) × HasLines (new line_file) (lines ++ news) × IsOf kept (lines ++ news) × Appends written_before written (added lines news)
 
--- a front of the lines was appended, and a front of the text was written
+-- a front of the lines was appended, and a front of the text of those was written
 abbrev pub CommitsPart : Option Files → Option Files → Kept → Option (List ℕ) → Option (List ℕ) → List (List ℕ) → Type 0
 CommitsPart told now before written_before written news = (files : Files) (lines : List (List ℕ)) → told ≡ Some files → HasLines (files line_file) lines → IsOf before lines →
-    (new : Files) × (some : List (List ℕ)) × (text : List ℕ) × (now ≡ Some new) × HasLines (new line_file) (lines ++ some) × IsFrontOf some news × Appends written_before written text × IsFrontOf text (added lines news)
+    (new : Files) × (some : List (List ℕ)) × (text : List ℕ) × (now ≡ Some new) × HasLines (new line_file) (lines ++ some) × IsFrontOf some news × Appends written_before written text × IsFrontOf text (added lines some)

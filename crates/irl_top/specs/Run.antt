@@ -1,10 +1,11 @@
 -- What a run of `seen` does, by what the store, the source and the two sinks tell before it and after it.
-use Rattle.std.specs.Prelude.{◌≡◌, ◌≢◌, ◌≤◌, ◌⊎◌, ℕ, List, [], ◌∷◌, ◌++◌, take, codes, Option, None, Some, unwrap_or, ◌↔◌}
+use Rattle.std.specs.Prelude.{◌≡◌, ◌≢◌, ◌≤◌, ◌⊎◌, ℕ, List, [], ◌++◌, Bool, true, false, IsTrue, Option, None, Some, unwrap_or, ◌↔◌}
 use Rattle.std.specs.Option.{IsSome, ForSome}
 use Rattle.std.specs.Io.KnownBytes.{Appends}
 use Rattle.irl_offer.specs.Faults.{Rose}
 use Rattle.irl_disk.specs.Disk.{Files}
 use Rattle.irl_bay.specs.LineFile.{line_file, HasLines, IsBrokenAt}
+use Rattle.irl_bay.specs.Kept.{Grows}
 use Rattle.irl_top.specs.declared.ending.Ending.{Ending}
 use Rattle.irl_top.specs.declared.ending.Ending.TheVariants.{Done, WordsRefused, LineRefused, NotOurs, DiskFault, InputFault, OutputFault, NoMemory}
 use Rattle.irl_top.specs.Input.{refused, offered, IsFrontOf}
@@ -24,15 +25,33 @@ pub record Outside : Type 0 where
 abbrev pub IsEarly : Ending → Type 0
 IsEarly ending = (ending ≡ WordsRefused) ⊎ ((n : ℕ) × (ending ≡ NotOurs n))
 
+-- an ending that comes only once the store is opened
+abbrev pub is_late : Ending → Bool
+is_late Done = true
+is_late WordsRefused = false
+is_late (LineRefused n) = true
+is_late (NotOurs n) = false
+is_late DiskFault = false
+is_late InputFault = true
+is_late OutputFault = true
+is_late NoMemory = false
+
 -- One run of `seen`, between what is told before it and after it.
 pub record Ran (before after : Outside) (ending : Ending) : Type 0 where
-  -- the new list is the old one and then a front of the lines that the input offers, all of them at Done
+  -- the new list is the old one and then a front of the lines that the input offers, all of them at Done; what is written
+  -- is of lines that stand in it
   pub lines : (files new : Files) (old : List (List ℕ)) → before.files ≡ Some files → after.files ≡ Some new → HasLines (files line_file) old → ending ≢ DiskFault →
-      (news : List (List ℕ)) × HasLines (new line_file) (old ++ news) × ForSome before.input (λ input. IsFrontOf news (offered input) × (ending ≡ Done → news ≡ offered input))
+      (news : List (List ℕ)) × HasLines (new line_file) (old ++ news) × ((text : List ℕ) × Appends before.output after.output text × IsFrontOf text (added old news)) × ForSome before.input (λ input. IsFrontOf news (offered input) × (ending ≡ Done → news ≡ offered input))
   -- no other file is changed, and a store that tells goes on telling
   pub others : ForSome before.files (λ files. (new : Files) × (after.files ≡ Some new) × ((f : ℕ) → f ≢ line_file → new f ≡ files f))
-  -- an early ending changes no file and writes nothing
-  pub early : IsEarly ending → (after.files ≡ before.files) × (after.output ≡ before.output)
+  -- the list's file only grows, at every ending
+  pub grows : Grows before.files after.files
+  -- an early ending changes no file, reads nothing and writes nothing
+  pub early : IsEarly ending → (after.files ≡ before.files) × (after.input ≡ before.input) × (after.output ≡ before.output)
+  -- where the words are refused nothing is called
+  pub untouched : ending ≡ WordsRefused → after ≡ before
+  -- a late ending is that of a store with a list of lines
+  pub opened : IsTrue (is_late ending) → ForSome before.files (λ files. (old : List (List ℕ)) × HasLines (files line_file) old)
   -- the output grows by a front of the new lines that are judged Unique, in order, by all of them at Done
   pub text : (files : Files) (old : List (List ℕ)) (input : List ℕ) → before.files ≡ Some files → HasLines (files line_file) old → before.input ≡ Some input →
       (text : List ℕ) × Appends before.output after.output text × IsFrontOf text (added old (offered input)) × (ending ≡ Done → text ≡ added old (offered input))

@@ -3,7 +3,7 @@ ghost use Rattle.irl_offer.specs.Faults.{Rose, HasCause};
 ghost use Rattle.std.specs.Io.KnownBytes.{Appends};
 ghost use Rattle.irl_io.specs.Written.{AppendsFront};
 ghost use Rattle.irl_bay.specs.LineFile.{AreLines};
-ghost use Rattle.irl_bay.specs.Kept.{IsOpen, KeepsOthers};
+ghost use Rattle.irl_bay.specs.Kept.{Grows, IsOpen, KeepsOthers};
 ghost use Rattle.irl_top.specs.Batch.{texts, Commits, CommitsPart};
 ghost use Rattle.irl_top.specs.declared.commit.CommitFault.TheVariants.{Disk, Output, Memory};
 ghost use Rattle.irl_top.specs.Message.{commit_fault_of};
@@ -68,6 +68,7 @@ pub fn commit<O: Sink, S: Store>(
     ensures part { OnErr result (result ≢ Err CommitFault.Disk → CommitsPart (S.contents store.old) (S.contents store.new) kept.old (O.written output.old) (O.written output.new) (texts offers.now)) }
     ensures quiet { IsErrOf result CommitFault.Disk → O.written output.new ≡ O.written output.old }
     ensures others { KeepsOthers (S.contents store.old) (S.contents store.new) }
+    ensures grows { Grows (S.contents store.old) (S.contents store.new) }
     ensures disk_later { S.faults store.old ≤ S.faults store.new }
     ensures output_later { O.faults output.old ≤ O.faults output.new }
     ensures disk { IsErrOf result CommitFault.Disk → Rose (S.faults store.old) (S.faults store.new) }

@@ -1,7 +1,6 @@
-use Rattle.std.proofs.Common.{◌≡◌, ◌∙◌, ℕ, ◌+◌, List, Option, Some, sym, ap, subst}
+use Rattle.std.proofs.Common.{◌≡◌, ◌∙◌, ℕ, ◌+◌, List, Some, sym, ap, subst}
 use Rattle.std.specs.Io.KnownBytes.{prepend_known}
-use Rattle.irl_io.specs.Steps.{OfKnown, Moves, RefusesLine}
-use Rattle.irl_io.specs.declared.lines.Step.{Step}
+use Rattle.irl_io.specs.Steps.{RefusesLine}
 use Rattle.irl_top.proofs.Reading.{of_some, first_refused}
 use Rattle.irl_top.proofs.batch.read_batch.Goals as goal
 

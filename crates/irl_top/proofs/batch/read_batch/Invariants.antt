@@ -1,4 +1,4 @@
-use Rattle.std.proofs.Common.{◌≡◌, ℕ, ◌+◌, ◌-◌, ◌<◌, ◌≤◌, vec_len}
+use Rattle.std.proofs.Common.{◌+◌, ◌-◌, ◌<◌, ◌≤◌, vec_len}
 use Rattle.irl_io.specs.Lines.{most_lines}
 use Rattle.irl_bay.specs.LineFile.{AreLines}
 use Rattle.irl_top.specs.Batch.{texts, ReadsOnTold}

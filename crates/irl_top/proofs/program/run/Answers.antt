@@ -1,7 +1,7 @@
 use Rattle.std.proofs.Common.{◌≡◌, ◌∙◌, ℕ, List, [], Bor, Option, sym, ap, map}
 use Rattle.std.specs.Prelude.{is_some, unwrap_or}
-use Rattle.std.specs.Option.{IsSome, option_map}
-use Rattle.irl_top.specs.Message.{refused_word, message}
+use Rattle.std.specs.Option.{option_map}
+use Rattle.irl_top.specs.Message.{refused_word}
 use Rattle.irl_top.proofs.Deciding.{ends_well, says_of, is_some-map, unwrap_or-map, not_some}
 use Rattle.irl_top.proofs.program.run.Goals as goal
 

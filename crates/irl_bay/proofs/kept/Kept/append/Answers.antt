@@ -1,7 +1,7 @@
-use Rattle.std.proofs.Common.{◌≡◌, ◌∙◌, ◌++◌, ℕ, List, length, map, sym, ap, subst, rules}
+use Rattle.std.proofs.Common.{◌≡◌, ◌∙◌, ◌++◌, ℕ, List, length, map, refl, sym, ap, subst, rules}
 use Rattle.irl_disk.specs.Disk.{Files, Holds}
 use Rattle.irl_bay.specs.LineFile.{line_file, text_of}
-use Rattle.irl_bay.proofs.Appending.{told_before, has_more, knows_more, end_more, verdicts_more}
+use Rattle.irl_bay.proofs.Appending.{grows_by_nothing, grows_by_fault, grows_by_write, told_before, has_more, knows_more, end_more, verdicts_more}
 use Rattle.irl_bay.proofs.kept.Kept.append.Goals as goal
 
 pub returns-clause-lines : goal.returns-clause-lines
@@ -30,3 +30,15 @@ returns-clause-known g c = λ new now.
     let had = c.requires.known before.0 before.1 in
     let more = returns-clause-lines g c before.0 new had.0 before.1 now had.1 had.2 in
     (had.0 ++ map (λ offer. offer.aux) c.args.offers.now, more.0, more.1)
+
+pub returns-in_err-verdicts-clause-grows : goal.returns-in_err-verdicts-clause-grows
+returns-in_err-verdicts-clause-grows g c = grows_by_nothing _ _ refl
+
+pub returns-in_err-text-clause-grows : goal.returns-in_err-text-clause-grows
+returns-in_err-text-clause-grows g c = grows_by_nothing _ _ refl
+
+pub returns-in_err-write-clause-grows : goal.returns-in_err-write-clause-grows
+returns-in_err-write-clause-grows g c = grows_by_fault _ _ _ c.args.self.now c.requires.known c.in_err-write.ensures.err
+
+pub returns-clause-grows : goal.returns-clause-grows
+returns-clause-grows g c = grows_by_write _ _ _ c.args.self.now c.requires.known c.in_ok-write.ensures.ok

@@ -1,8 +1,8 @@
 -- What a turn read is a part of the file, and the lines that it took stand there.
-use Rattle.std.proofs.Common.{◌≡◌, ◌∙◌, ℕ, ◌+◌, ◌≤◌, List, ◌++◌, length, take, drop, sym, subst, arith}
+use Rattle.std.proofs.Common.{◌≡◌, ◌∙◌, ℕ, ◌++◌, length, take, drop, subst, arith}
 use Rattle.irl_disk.specs.Disk.{Reads}
 use Rattle.irl_bay.specs.LineFile.{line_file, IsBrokenAt, TakesLines}
-use Rattle.irl_bay.proofs.Opening.{HasRead, chunk_of, breaks, reads_on}
+use Rattle.irl_bay.proofs.Opening.{chunk_of, breaks, reads_on}
 use Rattle.irl_bay.proofs.kept.Kept.open.Goals as goal
 
 pub returns-then-taken-eq0-clause-not_ours : goal.returns-then-taken-eq0-clause-not_ours
