@@ -382,6 +382,18 @@ fn examples_of_the_standard(rt: HostRuntime) -> Result<(), Fail> {
     Ok(())
 }
 
+// RFC 9309, section 5.2: the rule that a target falls under, by its line.
+#[test]
+fn the_longest_rule_is_taken(rt: HostRuntime) -> Result<(), Fail> {
+    let file =
+        b"User-Agent: foobot\nAllow: /example/page/\nDisallow: /example/page/disallowed.gif\n";
+    let robots = Robots::read(rt.alloc(), file, b"foobot")?;
+    assert_eq!(rt; robots.by(b"/example/page/disallowed.gif"), Some((3, false)));
+    assert_eq!(rt; robots.by(b"/example/page/x"), Some((2, true)));
+    assert_eq!(rt; robots.by(b"/y"), None);
+    Ok(())
+}
+
 // The limit of 512,000 bytes, bytes that are no text, agents that are no token, and a pattern that would be tried
 // very often by backtracking.
 #[test]
