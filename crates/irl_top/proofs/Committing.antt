@@ -1,5 +1,5 @@
 -- What a batch leaves in the store and at the output.
-use Rattle.std.proofs.Common.{◌≡◌, ◌≢◌, ◌∙◌, ℕ, List, [], ◌∷◌, ◌++◌, length, map, take, drop, Option, Some, None, refl, sym, ap, subst, append-nil}
+use Rattle.std.proofs.Common.{◌≡◌, ◌≢◌, ◌∙◌, ℕ, List, [], ◌∷◌, ◌++◌, length, map, take, drop, Option, Some, None, refl, sym, ap, subst, append-nil, arith}
 use Rattle.std.proofs.lemmas.List.{take-append-drop}
 use Rattle.std.proofs.KnownBytes.{Appends-nil}
 use Rattle.std.specs.Prelude.{Result, Ok, Err}
@@ -19,6 +19,7 @@ use Rattle.irl_bay.specs.declared.kept.Fault.TheVariants.{Failed, Memory}
 use Rattle.irl_bay.specs.LineFile.{AreLines, HasLines, line_file, line_tuple}
 use Rattle.irl_bay.specs.Kept.{IsOf, KeepsOthers, AreVerdicts, Appends as AppendsLines}
 use Rattle.irl_bay.proofs.Appending.{verdicts_more}
+use Rattle.irl_top.proofs.AddedLines.{added-nil}
 use Rattle.irl_top.specs.declared.commit.CommitFault.{CommitFault}
 use Rattle.irl_top.specs.declared.commit.CommitFault.TheVariants.{Disk}
 use Rattle.irl_top.specs.Batch.{texts, Commits, CommitsPart}
@@ -57,3 +58,9 @@ all_done told now before kept old new offers verdicts text appends others are ju
     let after = others files tells in
     let done = appends files after.0 lines tells after.1 has known in
     (after.0, after.1, done.0, done.1, subst (Appends old new) (is ∙ printed_added before lines offers verdicts are judged known) wrote)
+
+-- there was nothing to do
+pub none_to_do : (told : Option Files) (before : Kept) (written : Option (List ℕ)) (offers : List Tuple) → length offers ≡ 0 → Commits told told before before written written (texts offers)
+none_to_do told before written [] none = λ files lines tells has known.
+    (files, tells, subst (HasLines (files line_file)) (sym (append-nil lines)) has, subst (IsOf before) (sym (append-nil lines)) known, subst (Appends written written) (sym (added-nil lines)) (Appends-nil written))
+none_to_do told before written (o ∷ offers) none = absurd (omega arith)

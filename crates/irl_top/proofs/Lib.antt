@@ -1,3 +1,4 @@
+pub mod AddedLines
 pub mod Committing
 pub mod Deciding
 pub mod Reading

@@ -23,6 +23,7 @@ use Rattle.irl_bay.specs.declared.kept.Kept.{Kept}
 use Rattle.irl_bay.specs.LineFile.{HasLines, IsKeepable, line_file, line_tuple, text_of}
 use Rattle.irl_bay.specs.Kept.{IsOf, IsOpen, KeepsOthers}
 use Rattle.irl_bay.proofs.Entering.{tuples-more}
+use Rattle.irl_top.proofs.AddedLines.{added-append, added-nil}
 use Rattle.irl_top.proofs.Sinks.{appends_both}
 use Rattle.irl_top.specs.Batch.{ReadsOn, ReadsOnTold, EndsTold, RefusesTold, Commits, CommitsPart}
 use Rattle.irl_top.specs.Input.{IsFrontOf, offered, offered_from, refused, refused_from}
@@ -38,30 +39,6 @@ whole_lines (l ∷ ls) h = (recursion_from_All (λ b. b ≢ 10) l h.0.one, whole
 
 pub same_lines : (file : List ℕ) (xs ys : List (List ℕ)) → HasLines file xs → HasLines file ys → xs ≡ ys
 same_lines file xs ys h k = sym (lines-text xs (whole_lines xs h.each)) ∙ ap lines (sym h.bytes ∙ k.bytes) ∙ lines-text ys (whole_lines ys k.each)
-
--- what is printed of new lines, judged one after another
-added_is : (old news : List (List ℕ)) → added old news ≡ printed (judged_on Keep (after Keep empty (map line_tuple old)) (map line_tuple news))
-added_is old news =
-    let later : drop (length old) (judgements Keep empty (map line_tuple (old ++ news))) ≡ judged_on Keep (after Keep empty (map line_tuple old)) (map line_tuple news) =
-    rw (map-append, ← length-map old line_tuple) (judgements-drop Keep empty (map line_tuple old) (map line_tuple news) ∙ judgements-judged_on Keep _ (map line_tuple news)) in
-    ap printed later
-
-printed-append : (xs ys : List (Tuple × Option Verdict)) → printed (xs ++ ys) ≡ printed xs ++ printed ys
-printed-append xs ys = flat_map-append (λ (p : Tuple × Option Verdict). line_if_unique p.0.aux p.1) xs ys
-
--- what two batches print, one after the other
-pub added-append : (old xs ys : List (List ℕ)) → added old (xs ++ ys) ≡ added old xs ++ added (old ++ xs) ys
-added-append old xs ys =
-    let known = after Keep empty (map line_tuple old) in
-    let both : judged_on Keep known (map line_tuple (xs ++ ys)) ≡ judged_on Keep known (map line_tuple xs) ++ judged_on Keep (after Keep known (map line_tuple xs)) (map line_tuple ys) =
-    rw map-append (judged_on-append Keep known (map line_tuple xs) (map line_tuple ys)) in
-    let second : added (old ++ xs) ys ≡ printed (judged_on Keep (after Keep known (map line_tuple xs)) (map line_tuple ys)) =
-    added_is (old ++ xs) ys ∙ ap (λ (m : KeyMap). printed (judged_on Keep m (map line_tuple ys))) (tuples-more empty old xs) in
-    added_is old (xs ++ ys) ∙ ap printed both ∙ printed-append (judged_on Keep known (map line_tuple xs)) (judged_on Keep (after Keep known (map line_tuple xs)) (map line_tuple ys))
-    ∙ rw (← added_is old xs, ← second) refl
-
-pub added-nil : (old : List (List ℕ)) → added old [] ≡ []
-added-nil old = added_is old []
 
 -- a reader that has read nothing
 abbrev pub start : Progress

@@ -11,7 +11,8 @@ use Rattle.irl_io.specs.Steps.{Progress}
 use Rattle.irl_bay.specs.declared.kept.Kept.{Kept}
 use Rattle.irl_bay.specs.LineFile.{HasLines, IsBrokenAt, line_file}
 use Rattle.irl_bay.specs.Kept.{IsOf, IsOpen, KeepsOthers}
-use Rattle.irl_top.proofs.Running.{Running, start, added-append, added-nil}
+use Rattle.irl_top.proofs.AddedLines.{added-append, added-nil}
+use Rattle.irl_top.proofs.Running.{Running, start}
 use Rattle.irl_top.proofs.Sinks.{appends_both}
 use Rattle.irl_top.specs.Batch.{ReadsOn, ReadsOnTold, RefusesTold, CommitsPart}
 use Rattle.irl_top.specs.Input.{IsFrontOf, offered, offered_from, refused, refused_from}

@@ -53,7 +53,7 @@ impl From<Fault> for CommitFault {
     }
 }
 
-/// Keeps the lines of these offers, and writes those that are judged Unique.
+/// Keeps the lines of these offers, and writes those that are judged Unique. Without an offer it calls nothing.
 pub fn commit<O: Sink, S: Store>(
     alloc: Global,
     kept: &mut Kept,
@@ -73,6 +73,9 @@ pub fn commit<O: Sink, S: Store>(
     ensures disk { IsErrOf result CommitFault.Disk → Rose (S.faults store.old) (S.faults store.new) }
     ensures output { IsErrOf result CommitFault.Output → Rose (O.faults output.old) (O.faults output.new) }
 {
+    if offers.is_empty() {
+        return Ok(());
+    }
     let verdicts = kept.append(alloc, store, offers)?;
     let text = printed_text(alloc, offers, &verdicts)?;
     write_some(output, &text)?;

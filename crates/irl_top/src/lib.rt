@@ -12,3 +12,6 @@ mod words;
 
 pub use ending::Ending;
 pub use program::run;
+
+#[cfg(test)]
+mod tests;

@@ -1,4 +1,5 @@
-use Rattle.std.proofs.Common.{◌≡◌, ◌≢◌, ◌∙◌, refl}
+use Rattle.std.proofs.Common.{◌≡◌, ◌≢◌, ◌∙◌, length, refl, sym, arith}
+use Rattle.std.proofs.lemmas.Bool.Decides.{nat_tests}
 use Rattle.std.proofs.KnownBytes.{Appends-nil}
 use Rattle.std.proofs.lemmas.Result.{err_from_is_err_and}
 use Rattle.std.specs.Prelude.{Err}
@@ -6,7 +7,7 @@ use Rattle.std.specs.List.{zip}
 use Rattle.irl_top.specs.Batch.{texts, CommitsPart}
 use Rattle.irl_top.specs.Printed.{printed}
 use Rattle.irl_top.specs.declared.commit.CommitFault.TheVariants.{Disk}
-use Rattle.irl_top.proofs.Committing.{was_memory, nothing_done, part_done, all_done}
+use Rattle.irl_top.proofs.Committing.{was_memory, nothing_done, part_done, all_done, none_to_do}
 use Rattle.irl_top.proofs.Sinks.{on_err_always}
 use Rattle.irl_top.proofs.commit.commit.Goals as goal
 
@@ -48,3 +49,8 @@ returns-clause-whole g c =
     let text : c.deref-2.result.now ≡ printed (zip c.args.offers.now c.in_ok-verdicts.verdicts.items) = c.deref-2.ensures.value ∙ rw c.deref.ensures.value at c.in_ok-text.ensures in
     all_done _ _ _ c.append.new.self _ _ c.args.offers.now c.in_ok-verdicts.verdicts.items _
     c.in_ok-verdicts.ensures.lines c.in_ok-verdicts.ensures.others c.requires.lines c.in_ok-verdicts.ensures.verdicts text c.in_ok-write_some.ensures.ok
+
+pub returns-then-is_empty-clause-whole : goal.returns-then-is_empty-clause-whole
+returns-then-is_empty-clause-whole g c =
+    let none : length c.args.offers.now ≡ 0 = let test = sym c.is_empty.ensures ∙ c.if-is_empty.true in grind (arith, nat_tests) in
+    none_to_do (g.S.Store.contents c.args.store.now) c.args.kept.now (g.O.Sink.written c.args.output.now) c.args.offers.now none
