@@ -1,0 +1,2 @@
+pub mod WebLemmas
+pub mod LinkLemmas

@@ -1,0 +1,4 @@
+pub mod CutLemmas
+pub mod SetLemmas
+pub mod ReadLemmas
+pub mod DomainLemmas

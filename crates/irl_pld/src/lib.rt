@@ -1,0 +1,12 @@
+//! The pay-level domains of hosts, by a list of public suffixes.
+#![tactic(auto)]
+
+mod hosts;
+mod names;
+mod parts;
+mod suffixes;
+
+pub use suffixes::{SuffixFault, Suffixes};
+
+#[cfg(test)]
+mod tests;

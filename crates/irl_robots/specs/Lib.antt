@@ -1,0 +1,12 @@
+pub mod Agents
+pub mod Groups
+pub mod Leave
+pub mod Lines
+pub mod Matching
+pub mod Normal
+pub mod Numbered
+pub mod Octets
+pub mod Place
+pub mod Rule
+pub mod Seen
+pub mod Status

@@ -1,0 +1,19 @@
+//! The rules of a robots file (RFC 9309), and which of them holds for a path.
+#![tactic(auto)]
+
+mod answer;
+mod groups;
+mod lines;
+mod matching;
+mod octets;
+mod robots;
+mod rule;
+mod status;
+
+pub use answer::Class;
+pub use robots::Robots;
+pub use rule::Rule;
+pub use status::class;
+
+#[cfg(test)]
+mod tests;

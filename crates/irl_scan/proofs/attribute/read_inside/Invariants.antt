@@ -1,0 +1,17 @@
+-- What is read from here on, with what was read, is the inside of the tag.
+use Rattle.std.proofs.Common.{ℕ, ◌-◌, ◌≤◌, List, length, Option, IfSome}
+use Rattle.irl_scan.specs.declared.attribute.Ending.{Ending}
+use Rattle.irl_scan.specs.declared.span.Span.{Span}
+use Rattle.irl_scan.specs.Links.{IsWithin}
+use Rattle.irl_scan.specs.Reading.{or_first, ReadsInside}
+use Rattle.irl_scan.proofs.attribute.read_inside.Given as goal
+
+abbrev pub invariant-loop-kind : goal.invariant-loop-kind
+invariant-loop-kind l = record {
+  goes_on : (first : Option Span) (ending : Ending) (rest : List ℕ) → ReadsInside l.kind (l.size - length l.left) l.left first ending rest → ReadsInside l.kind (l.size - length l.fn.inside) l.fn.inside (or_first l.first first) ending rest;
+  shorter : length l.left ≤ length l.fn.inside;
+  within : IfSome l.first (IsWithin l.size);
+}
+
+abbrev pub decreases-loop-kind : goal.decreases-loop-kind
+decreases-loop-kind l = length l.left

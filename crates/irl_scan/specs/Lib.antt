@@ -1,0 +1,5 @@
+pub mod Bytes
+pub mod Page
+pub mod Links
+pub mod Text
+pub mod Reading

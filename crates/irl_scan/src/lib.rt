@@ -1,0 +1,17 @@
+//! Where the links of an HTML page stand, and what their text is.
+#![tactic(auto)]
+
+mod attribute;
+mod kind;
+mod piece;
+mod reference;
+mod scan;
+mod span;
+mod stop;
+
+pub use reference::text;
+pub use scan::{base, links, one_cut};
+pub use span::Span;
+
+#[cfg(test)]
+mod tests;

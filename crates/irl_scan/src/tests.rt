@@ -1,0 +1,263 @@
+use super::*;
+use std::alloc::{AllocError, Global};
+use std::process::Abort;
+use std::test::Fail;
+
+/// The texts of a page's links, each with `;` behind it, and then `^` and that of its base.
+fn told(rt: &impl Abort, alloc: Global, page: &[u8]) -> Result<Vec<u8>, AllocError> {
+    let mut told = Vec::new(alloc);
+    assert!(rt; page.len() <= 1_048_576);
+    for span in &links(alloc, page)? {
+        assert!(rt; span.start <= span.end && span.end as usize <= page.len());
+        told.extend_from_slice(text(alloc, page, span)?.bytes())?;
+        told.push(b';')?;
+    }
+    if let Some(span) = base(page) {
+        assert!(rt; span.start <= span.end && span.end as usize <= page.len());
+        told.push(b'^')?;
+        told.extend_from_slice(text(alloc, page, &span)?.bytes())?;
+    }
+    Ok(told)
+}
+
+/// Pages of tags, and what they give: the text of each link with `;` behind it, then `^` and that of the base.
+static TAGS: [(&[u8], &[u8]); 65] = [
+    (b"<a\thref=x>", b"x;"),
+    (b"<a\nhref=x>", b"x;"),
+    (b"<a\x0chref=x>", b"x;"),
+    (b"<a\rhref=x>", b"x;"),
+    (b"<a href=x>", b"x;"),
+    (b"<a\x0bhref=x>", b""),
+    (b"<a href\t=\nx>", b"x;"),
+    (b"<a href=x\x0cid=y>", b"x;"),
+    (b"<a href=\r'x'>", b"x;"),
+    (b"<a =href=x>", b""),
+    (b"<a = href=x>", b"x;"),
+    (b"<a ==href href=x>", b"x;"),
+    (b"<a href==x>", b"=x;"),
+    (b"<a href=x/y>", b"x/y;"),
+    (b"<a href=x\"y'z>", b"x\"y'z;"),
+    (b"<a href=>", b";"),
+    (b"<a href= >", b";"),
+    (b"<a href= x>", b"x;"),
+    (b"<a href=x/>", b"x/;"),
+    (b"<a href=\"x y\">", b"x y;"),
+    (b"<a href='x\"y'>", b"x\"y;"),
+    (b"<a href=\"x'y>z\">", b"x'y>z;"),
+    (b"<a href=\"\">", b";"),
+    (b"<a href=\"x>", b""),
+    (b"<a href='x\">", b""),
+    (b"<a href = 'p' >", b"p;"),
+    (b"<a href=\"x\"id=y src=z>", b"x;"),
+    (b"<a id=\"1\"href=x>", b"x;"),
+    (b"<a/href=z>", b"z;"),
+    (b"<a / / href=z / >", b"z;"),
+    (b"<a/>", b""),
+    (b"<A HrEf=x>", b"x;"),
+    (b"<a href>", b";"),
+    (b"<a href id=x>", b";"),
+    (b"<a href/id>", b";"),
+    (b"<a hrefx=y>", b""),
+    (b"<a xhref=y>", b""),
+    (b"<a \"href=x>", b""),
+    (b"<a name=\"href\" href=x>", b"x;"),
+    (b"<a href=x href=y>", b"x;"),
+    (b"<a href href=y>", b";"),
+    (b"<a HREF=x href=y>", b"x;"),
+    (b"<area href=x>", b"x;"),
+    (b"<frame src=x>", b"x;"),
+    (b"<iframe src='f' src=g>", b"f;"),
+    (b"<frame href=x>", b""),
+    (b"<a src=x>", b""),
+    (b"<img src=x>", b""),
+    (b"<link href=x>", b""),
+    (b"<abbr href=x>", b""),
+    (b"<ahref=x>", b""),
+    (b"</a href=x>", b""),
+    (b"</ a href=x>", b""),
+    (b"< a href=x>", b""),
+    (b"<1a href=x>", b""),
+    (b"<<a href=x>", b"x;"),
+    (b"</<a href=x>", b"x;"),
+    (b"</a <a href=x>", b""),
+    (b"<a href=x", b""),
+    (b"<a href=x ", b""),
+    (b"<a", b""),
+    (b"<", b""),
+    (b"</", b""),
+    (b"<a href=y><a href=x", b"y;"),
+    (b"<a href=\"x\"", b""),
+];
+
+/// The same of comments, skipped markup, raw text and bases.
+static MARKUP: [(&[u8], &[u8]); 42] = [
+    (b"<!-- <a href=x> --><a href=y>", b"y;"),
+    (b"<!--><a href=x>--><a href=y>", b"y;"),
+    (b"<!---><a href=x>", b""),
+    (b"<!----><a href=x>", b"x;"),
+    (b"<!-- > <a href=x> --", b""),
+    (b"<!--- --><a href=x>", b"x;"),
+    (b"<!-- -- > --!> <a href=x>", b""),
+    (b"<!-<a href=x><a href=y>", b"y;"),
+    (b"<!doctype html><a href=x>", b"x;"),
+    (b"<!><a href=x>", b"x;"),
+    (b"<?xml <a href=x>?><a href=y>", b"y;"),
+    (b"<?><a href=x>", b"x;"),
+    (b"<!", b""),
+    (b"<?", b""),
+    (b"<! <a href=x", b""),
+    (b"<script><a href=x></script><a href=y>", b"y;"),
+    (b"<script><a href=\"x\"></script><a href=y>", b"y;"),
+    (b"<SCRIPT><a href=x></sCrIpT ><a href=y>", b"y;"),
+    (b"<script></scripts><a href=x></script/><a href=y>", b"y;"),
+    (b"<script><a href=x></script", b""),
+    (
+        b"<style><a href=x></script><a href=y></style><a href=z>",
+        b"z;",
+    ),
+    (b"<style/><a href=x>", b""),
+    (b"<script src=f><a href=x>", b""),
+    (b"<scripts><a href=x>", b"x;"),
+    (b"<title><a href=x></title>", b"x;"),
+    (b"<script></script><a href=x>", b"x;"),
+    (b"<script>< /script><a href=x></script\n><a href=y>", b"y;"),
+    (b"<script></script<a href=x>", b""),
+    (b"<script><!-- </script><a href=x>", b"x;"),
+    (b"</script><a href=x>", b"x;"),
+    (b"<base href=/e/>", b"^/e/"),
+    (b"<base href=a><base href=b>", b"^a"),
+    (b"<base><base href=b>", b"^b"),
+    (b"<a href=x><base href=y>", b"x;^y"),
+    (b"<base href><base href=b>", b"^"),
+    (b"<base src=x>", b""),
+    (b"<base href=a href=b>", b"^a"),
+    (b"<base href=\"a", b""),
+    (b"<!-- <base href=a> --><BASE HREF=b>", b"^b"),
+    (b"<a href=&lt;&#x41;>", b"<A;"),
+    (b"<a href=a&amp;lt;>", b"a&lt;;"),
+    (b"no link &amp; < here > \"", b""),
+];
+
+/// Values and their texts.
+static TEXTS: [(&[u8], &[u8]); 36] = [
+    (b"&amp;&lt;&gt;&quot;&apos;", b"&<>\"'"),
+    (b"&AMP;&Lt;", b"&AMP;&Lt;"),
+    (b"&amp", b"&amp"),
+    (b"&amp;lt;", b"&lt;"),
+    (b"&#38;#60;", b"&#60;"),
+    (b"&#65;", b"A"),
+    (b"&#0000065;", b"A"),
+    (b"&#00000065;", b"&#00000065;"),
+    (b"&#127;", b"\x7f"),
+    (b"&#128;", b"&#128;"),
+    (b"&#x41;&#X41;", b"AA"),
+    (b"&#x7f;&#X7F;", b"\x7f\x7f"),
+    (b"&#x80;", b"&#x80;"),
+    (b"&#x000041;", b"A"),
+    (b"&#x0000041;", b"&#x0000041;"),
+    (b"&#;", b"&#;"),
+    (b"&#x;", b"&#x;"),
+    (b"&#x", b"&#x"),
+    (b"&#", b"&#"),
+    (b"&", b"&"),
+    (b"&;", b"&;"),
+    (b"&#6 5;", b"&#6 5;"),
+    (b"&#65", b"&#65"),
+    (b"&#4a;", b"&#4a;"),
+    (b"&#x4g;", b"&#x4g;"),
+    (b"&#-1;", b"&#-1;"),
+    (b"&#0;&#9;", b"\0\t"),
+    (b"&nbsp;", b"&nbsp;"),
+    (b"&&amp;", b"&&"),
+    (b"&#&#65;", b"&#A"),
+    (b"&#9999999;", b"&#9999999;"),
+    (b"a&#x2F;b", b"a/b"),
+    (b"&#xffffff;", b"&#xffffff;"),
+    (b"\xff&lt;", b"\xff<"),
+    (b"&ltx;", b"&ltx;"),
+    (b"& amp;", b"& amp;"),
+];
+
+/// What a hostile page repeats, how often, and how many links it then has.
+static HOSTILE: [(&[u8], usize, usize); 16] = [
+    (b"<a ", 300_000, 0),
+    (b"<", 1_048_576, 0),
+    (b"&#", 524_288, 0),
+    (b"&#1", 349_525, 0),
+    (b"&#x", 349_525, 0),
+    (b"&", 1_048_576, 0),
+    (b"<!--", 262_144, 0),
+    (b"<!", 524_288, 0),
+    (b"<script>", 131_072, 0),
+    (b"</script", 131_072, 0),
+    (b"<a href=", 131_072, 0),
+    (b"<a href=\"", 116_508, 0),
+    (b"<a =/", 209_715, 0),
+    (b"<style></styl", 80_659, 0),
+    (b"<a href>", 131_072, 131_072),
+    (b"<!--><base src=x>", 61_680, 0),
+];
+
+#[test]
+fn hostile_pages_end_at_once(rt: HostRuntime) -> Result<(), Fail> {
+    for (piece, count, wanted) in &HOSTILE {
+        let mut page = Vec::new(rt.alloc());
+        for _ in 0..*count {
+            page.extend_from_slice(piece)?;
+        }
+        assert!(rt; page.len() <= 1_048_576);
+        let spans = links(rt.alloc(), &page)?;
+        assert_eq!(rt; spans.len(), *wanted, "{piece:?}");
+        assert_eq!(rt; base(&page), None);
+        let span = Span {
+            start: 0,
+            end: page.len() as u32,
+        };
+        let text = text(rt.alloc(), &page, &span)?;
+        assert_eq!(rt; text.bytes(), page.as_slice(), "{piece:?}");
+    }
+    Ok(())
+}
+
+#[test]
+fn a_page_of_each_kind(rt: HostRuntime) -> Result<(), Fail> {
+    let page =
+        b"<base href=\"/e/\"><a href=\"q\">1</a><a href=\"/d/p#x\">2</a><a href=\"?a=1&amp;b=2\">3</a>\
+        <a href=\"https://a.test/\">4</a><!-- <a href=\"no\"> --><script>\"<a href='no2'>\"</script><frame src=f>";
+    let spans = links(rt.alloc(), page)?;
+    let wanted = [(26, 27), (43, 49), (65, 77), (93, 108), (181, 182)];
+    assert_eq!(rt; spans.len(), wanted.len());
+    for (span, (start, end)) in spans.iter().zip(wanted) {
+        assert_eq!(rt; *span, Span { start, end });
+    }
+    assert_eq!(rt; base(page), Some(Span { start: 12, end: 15 }));
+    let all = told(&rt, rt.alloc(), page)?;
+    assert_eq!(rt;
+        all.as_slice(),
+        b"q;/d/p#x;?a=1&b=2;https://a.test/;f;^/e/".as_slice()
+    );
+    Ok(())
+}
+
+#[test]
+fn each_rule_of_the_grammar(rt: HostRuntime) -> Result<(), Fail> {
+    for (page, wanted) in TAGS.iter().chain(&MARKUP) {
+        let all = told(&rt, rt.alloc(), page)?;
+        assert_eq!(rt; all.as_slice(), *wanted, "{page:?}");
+    }
+    Ok(())
+}
+
+#[test]
+fn each_kind_of_reference(rt: HostRuntime) -> Result<(), Fail> {
+    for (value, wanted) in &TEXTS {
+        assert!(rt; value.len() < 100);
+        let span = Span {
+            start: 0,
+            end: value.len() as u32,
+        };
+        let text = text(rt.alloc(), value, &span)?;
+        assert_eq!(rt; text.bytes(), *wanted, "{value:?}");
+    }
+    Ok(())
+}
