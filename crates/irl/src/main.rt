@@ -1,9 +1,10 @@
 //! The program `irl`: a web crawler over a store in a folder.
 #![tactic(auto)]
 
-ghost use Rattle.std.specs.Prelude.{◌≡◌, ◌≢◌};
+ghost use Rattle.std.specs.Prelude.{◌≡◌, ◌≢◌, map, drop, IfOk};
 ghost use Rattle.std.specs.Io.KnownBytes.{Appends};
 ghost use Rattle.irl_offer.specs.Faults.{Rose};
+ghost use Rattle.irl.specs.Obeying.{RunsOverFiles, Obeys};
 
 mod file_store;
 mod words;
@@ -77,6 +78,59 @@ fn arguments<R: Env + AllocGlobal>(rt: &R) -> Result<Vec<String>, AllocError> {
     }
 }
 
+/// Runs the command over the folder that the first word names, and gives the exit status.
+fn run_in_folder<R, I, O, E>(
+    rt: &R,
+    words: &[&str],
+    input: &mut I,
+    output: &mut O,
+    errors: &mut E,
+) -> Result<u8, AllocError>
+where
+    R: Files + AllocGlobal + Threads + Wait + Sync,
+    I: Source,
+    O: Sink,
+    E: Sink,
+    ensures { IfOk result (λ status. RunsOverFiles (map (λ word. word.now) (drop 1 words.now))
+        (record { input = I.left input.old; input_faults = I.faults input.old; output = O.written output.old; output_faults = O.faults output.old; errors = E.written errors.old; error_faults = E.faults errors.old })
+        (record { input = I.left input.new; input_faults = I.faults input.new; output = O.written output.new; output_faults = O.faults output.new; errors = E.written errors.new; error_faults = E.faults errors.new })
+        status) }
+{
+    let alloc = rt.alloc();
+    let (folder, command) = folder_and_command(words);
+    let store = FileStore::new(rt, alloc, folder)?;
+    let (status, store) = run(rt, alloc, command, input, output, errors, store);
+    drop(store);
+    Ok(status)
+}
+
+/// Does what the words ask for, and gives the exit status.
+fn obey<R, I, O, E>(
+    rt: &R,
+    request: Request,
+    words: &[&str],
+    input: &mut I,
+    output: &mut O,
+    errors: &mut E,
+) -> Result<u8, AllocError>
+where
+    R: Files + AllocGlobal + Threads + Wait + Sync,
+    I: Source,
+    O: Sink,
+    E: Sink,
+    ensures { IfOk result (λ status. Obeys request HELP.now SEEN_HELP.now VERSION.now (map (λ word. word.now) (drop 1 words.now))
+        (record { input = I.left input.old; input_faults = I.faults input.old; output = O.written output.old; output_faults = O.faults output.old; errors = E.written errors.old; error_faults = E.faults errors.old })
+        (record { input = I.left input.new; input_faults = I.faults input.new; output = O.written output.new; output_faults = O.faults output.new; errors = E.written errors.new; error_faults = E.faults errors.new })
+        status) }
+{
+    match request {
+        Request::Help => Ok(show(output, errors, HELP)),
+        Request::SeenHelp => Ok(show(output, errors, SEEN_HELP)),
+        Request::Version => Ok(show(output, errors, VERSION)),
+        Request::Run => run_in_folder(rt, words, input, output, errors),
+    }
+}
+
 /// Does what the words of the command line ask for, and gives the exit status.
 fn answer<R, I, O, E>(
     rt: &R,
@@ -90,21 +144,13 @@ where
     O: Sink,
     E: Sink,
 {
-    let alloc = rt.alloc();
     let arguments = arguments(rt)?;
-    let words: Vec<&str> = arguments.iter().map(|word| word.as_str()).collect(alloc)?;
-    match Request::from_words(&words) {
-        Request::Help => Ok(show(output, errors, HELP)),
-        Request::SeenHelp => Ok(show(output, errors, SEEN_HELP)),
-        Request::Version => Ok(show(output, errors, VERSION)),
-        Request::Run => {
-            let (folder, command) = folder_and_command(&words);
-            let store = FileStore::new(rt, alloc, folder)?;
-            let (status, store) = run(rt, alloc, command, input, output, errors, store);
-            drop(store);
-            Ok(status)
-        }
-    }
+    let words: Vec<&str> = arguments
+        .iter()
+        .map(|word| word.as_str())
+        .collect(rt.alloc())?;
+    let request = Request::from_words(&words);
+    obey(rt, request, &words, input, output, errors)
 }
 
 fn main(rt: HostRuntime) -> ExitCode {
