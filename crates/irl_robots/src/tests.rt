@@ -388,7 +388,10 @@ fn the_longest_rule_is_taken(rt: HostRuntime) -> Result<(), Fail> {
     let file =
         b"User-Agent: foobot\nAllow: /example/page/\nDisallow: /example/page/disallowed.gif\n";
     let robots = Robots::read(rt.alloc(), file, b"foobot")?;
-    assert_eq!(rt; robots.by(b"/example/page/disallowed.gif"), Some((3, false)));
+    assert_eq!(rt;
+        robots.by(b"/example/page/disallowed.gif"),
+        Some((3, false))
+    );
     assert_eq!(rt; robots.by(b"/example/page/x"), Some((2, true)));
     assert_eq!(rt; robots.by(b"/y"), None);
     Ok(())
