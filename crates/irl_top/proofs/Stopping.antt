@@ -8,7 +8,8 @@ use Rattle.irl_offer.specs.Faults.{Rose}
 use Rattle.irl_disk.specs.Disk.{Files}
 use Rattle.irl_io.specs.Steps.{Progress}
 use Rattle.irl_bay.specs.declared.kept.Kept.{Kept}
-use Rattle.irl_bay.specs.LineFile.{HasLines, IsBrokenAt, line_file}
+use Rattle.irl_bay.specs.LineFile.{HasLines, IsBrokenAt, line_file, text_of}
+use Rattle.irl_bay.specs.Kept.{Grows}
 use Rattle.irl_top.proofs.AddedLines.{added-append}
 use Rattle.irl_top.proofs.Running.{Keeps, Running, keeps_same, start}
 use Rattle.irl_top.proofs.Sinks.{appends_both}
@@ -36,6 +37,16 @@ LeavesPart before after = (files : Files) (old : List (List ℕ)) → before.fil
 abbrev pub LeavesText : Outside → Outside → Type 0
 LeavesText before after = (old : List (List ℕ)) (input : List ℕ) → before.input ≡ Some input → (files : Files) → before.files ≡ Some files → HasLines (files line_file) old → (text : List ℕ) × Appends before.output after.output text × IsFrontOf text (added old (offered input))
 
+-- what was written is of lines that the line file begins with
+abbrev pub LeavesKept : Outside → Outside → Type 0
+LeavesKept before after = (files : Files) (old : List (List ℕ)) → before.files ≡ Some files → HasLines (files line_file) old →
+    (new : Files) × (news : List (List ℕ)) × (rest : List ℕ) × (text : List ℕ) × (after.files ≡ Some new) × (new line_file ≡ text_of (old ++ news) ++ rest) × Appends before.output after.output text × IsFrontOf text (added old news)
+
+pub kept_of_part : (before after : Outside) → LeavesPart before after → LeavesKept before after
+kept_of_part before after part = λ files old tells has.
+    let p = part files old tells has in
+    (p.0, p.1, [], p.2, p.3, p.4.bytes ∙ sym (append-nil (text_of (old ++ p.1))), p.5, p.6)
+
 -- the causes of an ending within a run
 pub record HasReason (before after : Outside) (ending : Ending) : Type 0 where
   pub not_done : ending ≢ Done
@@ -58,13 +69,14 @@ text_of_part before after part = λ old input told files tells has.
     let text : added old p.1 ≡ p.2 ++ p.6.0 = p.6.1 in
     (p.2, p.5, (p.6.0 ++ added (old ++ p.1) (p.7 input told).0, ap (added old) some ∙ added-append old p.1 (p.7 input told).0 ∙ rw text (simp append_assoc)))
 
-pub stops : (before after : Outside) (ending : Ending) → (ending ≢ DiskFault → LeavesPart before after) → LeavesText before after → Keeps before.files after.files → HasReason before after ending → NeverFalls before after → Ran before after ending
-stops before after ending part text others reason later = record {
+pub stops : (before after : Outside) (ending : Ending) → (ending ≢ DiskFault → LeavesPart before after) → LeavesText before after → LeavesKept before after → Keeps before.files after.files → HasReason before after ending → NeverFalls before after → Ran before after ending
+stops before after ending part text kept others reason later = record {
   lines = λ files new old tells now has fine.
       let p = part fine files old tells has in
       let same : p.0 ≡ new = let e = sym p.3 ∙ now in cc in
       (p.1, subst (λ (f : Files). HasLines (f line_file) (old ++ p.1)) same p.4, (p.2, p.5, p.6), λ input told. (p.7 input told, λ is. absurd (reason.not_done is)));
   others = others.0;
+  kept = kept;
   grows = others.1;
   early = λ is. absurd (reason.not_early is);
   untouched = λ is. absurd (reason.not_early (inl is));
@@ -137,6 +149,9 @@ done before now kept progress news so_far ended = record {
             let all = whole input known in ((([], sym (append-nil news ∙ sym all.0))), λ is. sym all.0),
       );
   others = so_far.others.0;
+  kept = λ files old tells has.
+      let r = so_far.lines files old tells has in
+      (r.0, news, [], added old news, r.1, r.2.bytes ∙ sym (append-nil (text_of (old ++ news))), r.4, ([], sym (append-nil (added old news))));
   grows = so_far.others.1;
   early = λ is. elim is [ inl e ↦ absurd (cc) | inr e ↦ absurd (let f = e.1 in cc) ];
   untouched = λ is. absurd (cc);
@@ -182,7 +197,7 @@ same_others before after files = keeps_same before.files after.files files
 
 -- want of memory, with a front of the lines kept
 pub no_memory : (before after : Outside) → LeavesPart before after → Keeps before.files after.files → NeverFalls before after → Ran before after NoMemory
-no_memory before after part others later = stops before after NoMemory (λ fine. part) (text_of_part before after part) others (record {
+no_memory before after part others later = stops before after NoMemory (λ fine. part) (text_of_part before after part) (kept_of_part before after part) others (record {
   not_done = λ e. absurd (cc);
   not_early = elim [ inl e ↦ absurd (cc) | inr e ↦ absurd (let f = e.1 in cc) ];
   opened = λ e. absurd (cc);
@@ -192,8 +207,8 @@ no_memory before after part others later = stops before after NoMemory (λ fine.
   output = λ e. absurd (cc);
 }) later
 
-pub disk_fault : (before after : Outside) → LeavesText before after → Keeps before.files after.files → Rose before.disk_faults after.disk_faults → NeverFalls before after → Ran before after DiskFault
-disk_fault before after text others rose later = stops before after DiskFault (λ fine. absurd (fine refl)) text others (record {
+pub disk_fault : (before after : Outside) → LeavesText before after → LeavesKept before after → Keeps before.files after.files → Rose before.disk_faults after.disk_faults → NeverFalls before after → Ran before after DiskFault
+disk_fault before after text kept others rose later = stops before after DiskFault (λ fine. absurd (fine refl)) text kept others (record {
   not_done = λ e. absurd (cc);
   not_early = elim [ inl e ↦ absurd (cc) | inr e ↦ absurd (let f = e.1 in cc) ];
   opened = λ e. absurd (cc);
@@ -204,7 +219,7 @@ disk_fault before after text others rose later = stops before after DiskFault (�
 }) later
 
 pub input_fault : (before after : Outside) → LeavesPart before after → ForSome before.files (λ files. (old : List (List ℕ)) × HasLines (files line_file) old) → Keeps before.files after.files → Rose before.input_faults after.input_faults → NeverFalls before after → Ran before after InputFault
-input_fault before after part opened others rose later = stops before after InputFault (λ fine. part) (text_of_part before after part) others (record {
+input_fault before after part opened others rose later = stops before after InputFault (λ fine. part) (text_of_part before after part) (kept_of_part before after part) others (record {
   not_done = λ e. absurd (cc);
   not_early = elim [ inl e ↦ absurd (cc) | inr e ↦ absurd (let f = e.1 in cc) ];
   opened = λ e. opened;
@@ -215,7 +230,7 @@ input_fault before after part opened others rose later = stops before after Inpu
 }) later
 
 pub output_fault : (before after : Outside) → LeavesPart before after → ForSome before.files (λ files. (old : List (List ℕ)) × HasLines (files line_file) old) → Keeps before.files after.files → Rose before.output_faults after.output_faults → NeverFalls before after → Ran before after OutputFault
-output_fault before after part opened others rose later = stops before after OutputFault (λ fine. part) (text_of_part before after part) others (record {
+output_fault before after part opened others rose later = stops before after OutputFault (λ fine. part) (text_of_part before after part) (kept_of_part before after part) others (record {
   not_done = λ e. absurd (cc);
   not_early = elim [ inl e ↦ absurd (cc) | inr e ↦ absurd (let f = e.1 in cc) ];
   opened = λ e. opened;
@@ -226,7 +241,7 @@ output_fault before after part opened others rose later = stops before after Out
 }) later
 
 pub line_refused : (before after : Outside) (n : ℕ) → LeavesPart before after → ForSome before.files (λ files. (old : List (List ℕ)) × HasLines (files line_file) old) → Keeps before.files after.files → ForSome before.input (λ input. refused input ≡ Some n) → NeverFalls before after → Ran before after (LineRefused n)
-line_refused before after n part opened others refuses later = stops before after (LineRefused n) (λ fine. part) (text_of_part before after part) others (record {
+line_refused before after n part opened others refuses later = stops before after (LineRefused n) (λ fine. part) (text_of_part before after part) (kept_of_part before after part) others (record {
   not_done = λ e. absurd (cc);
   not_early = elim [ inl e ↦ absurd (cc) | inr e ↦ absurd (let f = e.1 in cc) ];
   opened = λ e. opened;
@@ -246,6 +261,7 @@ not_ours before after n files input output broken later =
           let same : p.0 ≡ new = let e = sym p.3 ∙ has in cc in
           (p.1, subst (λ (f : Files). HasLines (f line_file) (old ++ p.1)) same p.4, (p.2, p.5, p.6), λ input known. (p.7 input known, λ is. absurd (cc)));
       others = (same_others before after files).0;
+      kept = kept_of_part before after part;
       grows = (same_others before after files).1;
       early = λ is. (files, input, output);
       untouched = λ is. absurd (cc);
@@ -265,7 +281,7 @@ not_ours before after n files input output broken later =
 -- a refused opening
 pub not_opened : (before after : Outside) (fault : OpenFault) → after.files ≡ before.files → after.input ≡ before.input → after.output ≡ before.output → ((n : ℕ) → fault ≡ OpenNotOurs n → ForSome before.files (λ files. IsBrokenAt (files line_file) n)) → (fault ≡ OpenFailed → Rose before.disk_faults after.disk_faults) → NeverFalls before after → Ran before after (ending_of_open fault)
 not_opened before after (OpenNotOurs n) files input output broken failed later = not_ours before after n files input output (broken n refl) later
-not_opened before after OpenFailed files input output broken failed later = disk_fault before after (text_of_part before after (unchanged before after files output)) (same_others before after files) (failed refl) later
+not_opened before after OpenFailed files input output broken failed later = disk_fault before after (text_of_part before after (unchanged before after files output)) (kept_of_part before after (unchanged before after files output)) (same_others before after files) (failed refl) later
 not_opened before after OpenMemory files input output broken failed later = no_memory before after (unchanged before after files output) (same_others before after files) later
 
 -- a refused batch
@@ -275,10 +291,10 @@ not_read before after ReadFailed part opened others refuses failed later = input
 not_read before after ReadMemory part opened others refuses failed later = no_memory before after part others later
 
 -- a batch that was not done whole
-pub not_committed : (before after : Outside) (fault : CommitFault) → (fault ≢ Disk → LeavesPart before after) → (fault ≡ Disk → LeavesText before after) → ForSome before.files (λ files. (old : List (List ℕ)) × HasLines (files line_file) old) → Keeps before.files after.files → (fault ≡ Disk → Rose before.disk_faults after.disk_faults) → (fault ≡ Output → Rose before.output_faults after.output_faults) → NeverFalls before after → Ran before after (ending_of_commit fault)
-not_committed before after Disk part text opened others disk output later = disk_fault before after (text refl) others (disk refl) later
-not_committed before after Output part text opened others disk output later = output_fault before after (part (λ e. absurd (cc))) opened others (output refl) later
-not_committed before after Memory part text opened others disk output later = no_memory before after (part (λ e. absurd (cc))) others later
+pub not_committed : (before after : Outside) (fault : CommitFault) → (fault ≢ Disk → LeavesPart before after) → (fault ≡ Disk → LeavesText before after) → (fault ≡ Disk → LeavesKept before after) → ForSome before.files (λ files. (old : List (List ℕ)) × HasLines (files line_file) old) → Keeps before.files after.files → (fault ≡ Disk → Rose before.disk_faults after.disk_faults) → (fault ≡ Output → Rose before.output_faults after.output_faults) → NeverFalls before after → Ran before after (ending_of_commit fault)
+not_committed before after Disk part text kept opened others disk output later = disk_fault before after (text refl) (kept refl) others (disk refl) later
+not_committed before after Output part text kept opened others disk output later = output_fault before after (part (λ e. absurd (cc))) opened others (output refl) later
+not_committed before after Memory part text kept opened others disk output later = no_memory before after (part (λ e. absurd (cc))) others later
 
 -- what was written between two batches is a front of the text
 pub text_between : (before now after : Outside) (kept : Kept) (progress : Progress) (news : List (List ℕ)) → Running before now kept progress news → after.output ≡ now.output → LeavesText before after
@@ -299,6 +315,7 @@ words_refused before =
           let same : p.0 ≡ new = let e = sym p.3 ∙ now in cc in
           (p.1, subst (λ (f : Files). HasLines (f line_file) (old ++ p.1)) same p.4, (p.2, p.5, p.6), λ input known. (p.7 input known, λ is. absurd (cc)));
       others = same.0;
+      kept = kept_of_part before before part;
       grows = same.1;
       early = λ is. (refl, refl, refl);
       untouched = λ is. refl;
@@ -314,3 +331,10 @@ words_refused before =
       input_later = omega arith;
       output_later = omega arith;
     }
+
+-- and it is of lines that the line file begins with, which only grew
+pub kept_between : (before now after : Outside) (kept : Kept) (progress : Progress) (news : List (List ℕ)) → Running before now kept progress news → after.output ≡ now.output → Grows now.files after.files → LeavesKept before after
+kept_between before now after kept progress news so_far output grows = λ told old tells has.
+    let r = so_far.lines told old tells has in
+    let g = grows r.0 r.1 in
+    (g.0, news, g.2, added old news, g.1, g.3 ∙ ap (λ (front : List ℕ). front ++ g.2) r.2.bytes, subst (λ (w : Option (List ℕ)). Appends before.output w (added old news)) (sym output) r.4, ([], sym (append-nil (added old news))))

@@ -4,7 +4,7 @@ use Rattle.std.specs.Option.{IsSome, ForSome}
 use Rattle.std.specs.Io.KnownBytes.{Appends}
 use Rattle.irl_offer.specs.Faults.{Rose}
 use Rattle.irl_disk.specs.Disk.{Files}
-use Rattle.irl_bay.specs.LineFile.{line_file, HasLines, IsBrokenAt}
+use Rattle.irl_bay.specs.LineFile.{line_file, text_of, HasLines, IsBrokenAt}
 use Rattle.irl_bay.specs.Kept.{Grows}
 use Rattle.irl_top.specs.declared.ending.Ending.{Ending}
 use Rattle.irl_top.specs.declared.ending.Ending.TheVariants.{Done, WordsRefused, LineRefused, NotOurs, DiskFault, InputFault, OutputFault, NoMemory}
@@ -44,6 +44,9 @@ pub record Ran (before after : Outside) (ending : Ending) : Type 0 where
       (news : List (List ℕ)) × HasLines (new line_file) (old ++ news) × ((text : List ℕ) × Appends before.output after.output text × IsFrontOf text (added old news)) × ForSome before.input (λ input. IsFrontOf news (offered input) × (ending ≡ Done → news ≡ offered input))
   -- no other file is changed, and a store that tells goes on telling
   pub others : ForSome before.files (λ files. (new : Files) × (after.files ≡ Some new) × ((f : ℕ) → f ≢ line_file → new f ≡ files f))
+  -- at every ending, a disk fault too: what is written is of lines that the list's file begins with
+  pub kept : (files : Files) (old : List (List ℕ)) → before.files ≡ Some files → HasLines (files line_file) old →
+      (new : Files) × (news : List (List ℕ)) × (rest : List ℕ) × (text : List ℕ) × (after.files ≡ Some new) × (new line_file ≡ text_of (old ++ news) ++ rest) × Appends before.output after.output text × IsFrontOf text (added old news)
   -- the list's file only grows, at every ending
   pub grows : Grows before.files after.files
   -- an early ending changes no file, reads nothing and writes nothing

@@ -3,7 +3,7 @@ use Rattle.std.proofs.lemmas.Result.{err_from_is_err_and}
 use Rattle.irl_top.specs.Batch.{texts}
 use Rattle.irl_top.specs.Run.{Outside}
 use Rattle.irl_top.proofs.Running.{begins, goes_on, keeps_both}
-use Rattle.irl_top.proofs.Stopping.{not_opened, no_memory, unchanged, same_others, not_read, part_between, not_committed, part_within, text_between, done}
+use Rattle.irl_top.proofs.Stopping.{not_opened, no_memory, unchanged, same_others, not_read, part_between, not_committed, part_within, text_between, kept_between, done}
 use Rattle.irl_top.proofs.seen.seen.Goals as goal
 
 pub returns-in_err-kept-clause-ran : goal.returns-in_err-kept-clause-ran
@@ -48,6 +48,7 @@ returns-in_err-commit-clause-ran g c =
     (λ not. part_within before now after c.batches.kept c.batches.lines c.read_batch.new.lines so_far.0 (texts c.in_ok-batch.batch.offers.items) so_far.1 c.in_ok-batch.ensures.bytes
     (rw c.deref.ensures.value at (c.in_err-commit.ensures.part (λ e. not (cc)))))
     (λ e. text_between before now after c.batches.kept c.batches.lines so_far.0 so_far.1 (c.in_err-commit.ensures.quiet (rw e refl)))
+    (λ e. kept_between before now after c.batches.kept c.batches.lines so_far.0 so_far.1 (c.in_err-commit.ensures.quiet (rw e refl)) c.in_err-commit.ensures.grows)
     so_far.1.opened (keeps_both _ _ _ so_far.1.others (c.in_err-commit.ensures.others, c.in_err-commit.ensures.grows))
     (λ e. omega (arith, so_far.1.disk_later, c.in_err-commit.ensures.disk (rw e refl))) (λ e. omega (arith, so_far.1.output_later, c.in_err-commit.ensures.output (rw e refl)))
     (record { disk = omega (arith, so_far.1.disk_later, c.in_err-commit.ensures.disk_later); input = omega (arith, so_far.1.input_later, c.in_ok-batch.ensures.later); output = omega (arith, so_far.1.output_later, c.in_err-commit.ensures.output_later) }))

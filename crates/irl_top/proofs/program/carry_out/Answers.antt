@@ -1,0 +1,5 @@
+use Rattle.irl_top.proofs.Stopping.{words_refused}
+use Rattle.irl_top.proofs.program.carry_out.Goals as goal
+
+pub returns-then-is_refused-clause-ran : goal.returns-then-is_refused-clause-ran
+returns-then-is_refused-clause-ran g c = words_refused _
