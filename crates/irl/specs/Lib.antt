@@ -1,3 +1,2 @@
-pub mod FileStore
 pub mod Obeying
 pub mod Words

@@ -20,6 +20,9 @@ abbrev pub outside_of : Streams → ℕ → Outside
 outside_of streams faults =
     record {
       files = None;
+      images = λ image. ⊥;
+      moment = 0;
+      images_since = λ t image. ⊥;
       disk_faults = faults;
       input = streams.input;
       input_faults = streams.input_faults;

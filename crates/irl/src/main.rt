@@ -6,10 +6,9 @@ ghost use Rattle.std.specs.Io.KnownBytes.{Appends};
 ghost use Rattle.irl_offer.specs.Faults.{Rose};
 ghost use Rattle.irl.specs.Obeying.{RunsOverFiles, Obeys};
 
-mod file_store;
 mod words;
 
-use file_store::FileStore;
+use irl_files::FileStore;
 use irl_io::{ReadSource, Sink, Source, WriteSink};
 use irl_top::run;
 use std::alloc::AllocError;
@@ -39,12 +38,13 @@ Usage: irl DIR seen
 
 Keeps the lines of standard input in the folder DIR, and prints each line that is
 new, in order. A line has at most 2,048 bytes, and empty lines are passed over.
+Each line is synced to the disk before it is printed.
 
 Options:
   --help  prints this text
 
-Exit status: 0 done, 1 words refused, 2 a line refused, 3 not a store, 4 disk
-fault, 5 input fault, 6 output fault, 7 no memory.
+Exit status: 0 done, 1 words refused, 2 a line refused, 3 not a store or damaged,
+4 disk fault, 5 input fault, 6 output fault, 7 no memory.
 ";
 
 const VERSION: &str = "irl 0.1.0\n";

@@ -1,4 +1,2 @@
-pub mod Appending
-pub mod Entering
-pub mod Fronts
-pub mod Opening
+pub mod Extending
+pub mod Lines

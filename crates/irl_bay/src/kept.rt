@@ -1,31 +1,36 @@
-ghost use Rattle.std.specs.Prelude.{◌≡◌, ◌++◌, ◌∷◌, [], ◌≤◌, List, ℕ, Some, length, map, drop, vec_len, IfOk, OnOk, OnErr, IsErrOf};
+ghost use Rattle.std.specs.Prelude.{◌≡◌, ◌≢◌, ◌++◌, ◌∷◌, [], ◌<◌, ◌≤◌, List, ℕ, Some, length, map, IfOk, OnOk, OnErr, IsErrOf, ⊤, true};
 ghost use Rattle.std.specs.Option.{ForSome};
-ghost use Rattle.std.specs.List.{AllByRecursion};
-ghost use Rattle.std.specs.FinMap.{empty};
-ghost use Rattle.irl_offer.specs.declared.offer.Rule.TheVariants.{Keep};
-ghost use Rattle.irl_offer.specs.Faults.{Rose};
+ghost use Rattle.irl_offer.specs.Faults.{Rose, HasCause};
+ghost use Rattle.irl_disk.specs.Disk.{Files, Changes, ChangesFile};
+ghost use Rattle.irl_disk.specs.Images.{Follows, Leaves};
+ghost use Rattle.irl_journal.specs.Appending.{IsOpen, HasOrGains};
+ghost use Rattle.irl_journal.specs.Visiting.{IsOpened};
 ghost use Rattle.irl_bay.specs.declared.kept.OpenFault.TheVariants.{Failed as OpenFailed, Memory as OpenMemory};
 ghost use Rattle.irl_bay.specs.declared.kept.Fault.TheVariants.{Failed as AppendFailed, Memory as AppendMemory};
-ghost use Rattle.irl_model.specs.Judging.{judgements};
-ghost use Rattle.irl_bay.specs.LineFile.{line_file, text_of, AreLines, IsBrokenAt};
+ghost use Rattle.irl_bay.specs.Faults.{open_fault_of};
+ghost use Rattle.irl_bay.specs.Lines.{line_file, other_file, AreLines, HasLines, IsDamagedAt, IsKeepable};
 
-use crate::line::enter_lines;
+use crate::line::MAX_LINE;
+use crate::opening::Entering;
 use irl_disk::{Failed, Store};
+use irl_journal::{Frame, Journal, JournalFault};
 use irl_model::KeySet;
 use irl_offer::{Offer, Rule, Verdict};
 use std::alloc::{AllocError, AllocFailed, Global};
 
-/// The file of the lines that were offered so far.
-pub const LINE_FILE: u16 = 998;
+/// The journal of the lines that were offered so far.
+pub const LINE_FILE: u16 = 999;
 
-// How many bytes are read at once: more than the longest line with its LF.
-const PIECE: usize = 65_536;
+/// A file that a store of lines leaves empty.
+pub const OTHER_FILE: u16 = 998;
 
 /// What a store that holds no list of lines is refused with.
 #[derive(Clone, Copy, Debug, PartialEq, Eq)]
 pub enum OpenFault {
-    /// The line at this byte of the line file is empty, too long or without LF.
+    /// The store is of another make.
     NotOurs(u64),
+    /// The record of the line journal at this byte passes the file's end, or is no line.
+    Damaged(u64),
     /// The store failed.
     Failed,
     /// Memory ran out.
@@ -57,6 +62,18 @@ impl From<AllocError> for OpenFault {
     }
 }
 
+impl From<JournalFault> for OpenFault {
+    ghost from_gives = { λ fault e. e ≡ open_fault_of fault };
+
+    fn from(fault: JournalFault) -> OpenFault {
+        match fault {
+            JournalFault::Failed => OpenFault::Failed,
+            JournalFault::Memory => OpenFault::Memory,
+            JournalFault::Damaged(at) => OpenFault::Damaged(at),
+        }
+    }
+}
+
 impl From<Failed> for Fault {
     ghost from_gives = { λ _ e. e ≡ AppendFailed };
 
@@ -73,51 +90,51 @@ impl From<AllocError> for Fault {
     }
 }
 
-// A buffer of this length.
-fn zeros(alloc: Global, len: usize) -> Result<Vec<u8>, AllocError>
-    ensures { IfOk result (λ buffer. vec_len buffer ≡ len) }
-{
-    vec![in alloc; 0; len]
-}
-
-/// The lines that a store keeps: their keys, and where their text ends.
+/// The lines that a store keeps: their keys, and the journal that they stand in.
 #[derive(Drop)]
 pub struct Kept {
     seen: KeySet,
-    end: u64,
+    journal: Journal,
+    frame: Frame,
 }
 
 impl Kept {
-    ghost use Rattle.irl_bay.specs.Kept.{IsOpen, Appends, AreVerdicts, Grows, KeepsOthers};
+    ghost use Rattle.irl_bay.specs.Kept.{IsReady, IsKept, IsKnown, AreVerdicts, Extends};
 
-    /// Reads the lines of a store. It writes nothing.
+    /// Reads the lines of a store. It writes only where the journal's file has at most one byte: its closed gate.
     pub fn open<S: Store>(alloc: Global, store: &mut S) -> Result<Kept, OpenFault>
-        ensures lines { IfOk result (λ kept. IsOpen (S.contents store.new) kept) }
-        ensures not_ours { (n : ℕ) → IsErrOf result (OpenFault.NotOurs n) →
-            ForSome (S.contents store.old) (λ files. IsBrokenAt (files line_file) n) }
-        ensures same { S.contents store.new ≡ S.contents store.old }
+        ensures ready { IfOk result (λ kept. IsReady kept) }
+        ensures lines { IfOk result (λ kept. ForSome (S.contents store.old) (λ files. (lines : List (List ℕ)) × HasLines files lines × IsKept (S.images store.new) kept lines)) }
+        ensures known { IfOk result (λ kept. IsKnown (S.contents store.new) (S.images store.new) kept) }
+        ensures not_ours { (n : ℕ) → IsErrOf result (OpenFault.NotOurs n) → (n ≡ 0) × ForSome (S.contents store.old) (λ files. 1 < length (files other_file)) }
+        ensures damaged { (at : ℕ) → IsErrOf result (OpenFault.Damaged at) → ForSome (S.contents store.old) (λ files. (length (files other_file) ≤ 1) × IsDamagedAt (files line_file) at) }
+        ensures not_ours_same { (n : ℕ) → IsErrOf result (OpenFault.NotOurs n) → S.contents store.new ≡ S.contents store.old }
+        ensures damaged_same { (at : ℕ) → IsErrOf result (OpenFault.Damaged at) → S.contents store.new ≡ S.contents store.old }
+        ensures changes { Changes line_file IsOpened (S.contents store.old) (S.contents store.new) }
+        // A stop at any moment leaves each file as it was, but that a line file of at most one byte has at most one.
+        ensures stops { Leaves S.moment S.images_since store.old store.new (Follows (ChangesFile line_file IsOpened) (S.images store.old)) }
         ensures later { S.faults store.old ≤ S.faults store.new }
         ensures failed { IsErrOf result OpenFault.Failed → Rose (S.faults store.old) (S.faults store.new) }
     {
-        let length = store.length(LINE_FILE)?;
-        let mut piece = zeros(alloc, PIECE)?;
-        let mut kept = Kept {
-            seen: KeySet::new(alloc),
-            end: 0,
-        };
-        while kept.end < length {
-            let count = store.read(LINE_FILE, kept.end, &mut piece)?;
-            let taken = enter_lines(&mut kept.seen, &piece[..count])?;
-            if taken == 0 {
-                return Err(OpenFault::NotOurs(kept.end));
-            }
-            kept.end += taken as u64;
+        if store.length(OTHER_FILE)? > 1 {
+            return Err(OpenFault::NotOurs(0));
         }
-        Ok(kept)
+        let frame = Frame::with_room(alloc, MAX_LINE)?;
+        let mut entering = Entering {
+            seen: KeySet::new(alloc),
+        };
+        let journal = Journal::visit(alloc, store, LINE_FILE, &mut entering)?;
+        let Entering { seen } = entering;
+        Ok(Kept {
+            seen,
+            journal,
+            frame,
+        })
     }
 
-    /// Appends the lines of these offers to the store's file, and gives their verdicts. After want of memory the file
-    /// is as before; of the lines that are known no more can be said then, nor after a failed write.
+    /// Appends the lines of these offers to the store's journal, one after the other, and gives their verdicts. Each line
+    /// is acknowledged before the next is written. After want of memory the store is as before; of the lines that are known
+    /// no more can be said then.
     pub fn append<S: Store>(
         &mut self,
         alloc: Global,
@@ -125,33 +142,50 @@ impl Kept {
         offers: &[Offer],
     ) -> Result<Vec<Option<Verdict>>, Fault>
         requires lines { AreLines offers.now }
-        requires known { IsOpen (S.contents store.old) self.old }
-        ensures lines { OnOk result (Appends (S.contents store.old) (S.contents store.new) self.old self.new (map (λ offer. offer.aux) offers.now)) }
-        ensures known { OnOk result (IsOpen (S.contents store.new) self.new) }
+        requires ready { IsReady self.old }
+        requires known { IsKnown (S.contents store.old) (S.images store.old) self.old }
+        ensures ready { OnOk result (IsReady self.new) }
+        ensures known { OnOk result (IsKnown (S.contents store.new) (S.images store.new) self.new) }
+        ensures kept { OnOk result ((lines : List (List ℕ)) → IsKept (S.images store.old) self.old lines → IsKept (S.images store.new) self.new (lines ++ map (λ offer. offer.aux) offers.now)) }
         ensures verdicts { IfOk result (λ verdicts. AreVerdicts self.old (map (λ offer. offer.aux) offers.now) verdicts.items) }
         ensures count { IfOk result (λ verdicts. length verdicts.items ≡ length offers.now) }
-        ensures others { KeepsOthers (S.contents store.old) (S.contents store.new) }
-        ensures grows { Grows (S.contents store.old) (S.contents store.new) }
-        ensures memory { IsErrOf result Fault.Memory → S.contents store.new ≡ S.contents store.old }
+        ensures whole { OnOk result ((lines : List (List ℕ)) → IsKept (S.images store.old) self.old lines →
+            Extends S.contents S.images S.moment S.images_since store.old store.new lines (map (λ offer. offer.aux) offers.now) (length offers.now) (length offers.now) (length offers.now)) }
+        ensures part { IsErrOf result Fault.Failed → (lines : List (List ℕ)) → IsKept (S.images store.old) self.old lines → (kept told most : ℕ) ×
+            Extends S.contents S.images S.moment S.images_since store.old store.new lines (map (λ offer. offer.aux) offers.now) kept told most }
+        ensures memory { IsErrOf result Fault.Memory → store.new ≡ store.old }
         ensures later { S.faults store.old ≤ S.faults store.new }
         ensures failed { IsErrOf result Fault.Failed → Rose (S.faults store.old) (S.faults store.new) }
     {
         let verdicts = self.seen.ask_all(alloc, Rule::Keep, offers)?;
-        let text = text_of_offers(alloc, offers)?;
-        store.write(LINE_FILE, self.end, &text)?;
-        self.end += text.len() as u64;
+        for offer in offers {
+            append_line(&mut self.journal, &mut self.frame, store, offer.aux.bytes())?;
+        }
         Ok(verdicts)
     }
 }
 
-// The lines of offers, each followed by LF.
-fn text_of_offers(alloc: Global, offers: &[Offer]) -> Result<Vec<u8>, AllocError>
-    ensures { IfOk result (λ text. text.items ≡ text_of (map (λ offer. offer.aux) offers.now)) }
+// Appends a line to the journal.
+fn append_line<S: Store>(
+    journal: &mut Journal,
+    frame: &mut Frame,
+    store: &mut S,
+    line: &[u8],
+) -> Result<(), Failed>
+    requires few { length line.now ≤ frame.old.room }
+    requires sound { journal.old.is_sound ≡ true }
+    requires open_ { (files : Files) → S.contents store.old ≡ Some files → (lines : List (List ℕ)) × IsOpen (S.images store.old) journal.old lines }
+    ensures file { journal.new.file ≡ journal.old.file }
+    ensures sound { OnOk result (journal.new.is_sound ≡ true) }
+    ensures room { frame.new.room ≡ frame.old.room }
+    ensures acknowledged { OnOk result ((lines : List (List ℕ)) → IsOpen (S.images store.old) journal.old lines → IsOpen (S.images store.new) journal.new (lines ++ line.now ∷ [])) }
+    ensures changes { (lines : List (List ℕ)) → IsOpen (S.images store.old) journal.old lines →
+        Changes journal.old.file (HasOrGains lines line.now) (S.contents store.old) (S.contents store.new) }
+    ensures stops { (lines : List (List ℕ)) → IsOpen (S.images store.old) journal.old lines →
+        Leaves S.moment S.images_since store.old store.new (Follows (ChangesFile journal.old.file (HasOrGains lines line.now)) (S.images store.old)) }
+    ensures cause { HasCause (S.faults store.old) (S.faults store.new) result }
 {
-    let mut text = Vec::new(alloc);
-    for offer in offers {
-        text.extend_from_slice(offer.aux.bytes())?;
-        text.push(b'\n')?;
-    }
-    Ok(text)
+    frame.clear();
+    frame.put(line);
+    journal.append(store, frame)
 }

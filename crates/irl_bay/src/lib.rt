@@ -3,6 +3,7 @@
 
 mod kept;
 mod line;
+mod opening;
 
 pub use kept::{Fault, Kept, OpenFault};
 pub use line::line_offer;

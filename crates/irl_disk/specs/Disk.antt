@@ -1,5 +1,5 @@
 -- A store of numbered files, each a list of bytes, and what each call does to what a read gives.
-use Rattle.std.specs.Prelude.{◌≡◌, ◌≢◌, ℕ, ◌+◌, ◌-◌, ◌≤◌, min, max, List, ◌++◌, length, take, drop, Option, None, Some, IfSome}
+use Rattle.std.specs.Prelude.{◌≡◌, ◌≢◌, ℕ, ◌+◌, ◌-◌, ◌≤◌, min, max, List, ◌++◌, length, take, drop, Option, None, Some}
 
 -- the bytes of each file, by its number
 abbrev pub Files : Type 0

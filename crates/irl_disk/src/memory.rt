@@ -1,21 +1,30 @@
-ghost use Rattle.std.specs.Prelude.{◌≡◌, ◌+◌, ◌^◌, ◌<◌, ◌≤◌, ℕ, [], Some, length, ◌↔◌, IsOk, OnErr, OnOk, IfOk};
+ghost use Rattle.std.specs.Prelude.{◌≡◌, ◌+◌, ◌^◌, ◌<◌, ◌≤◌, ◌⊎◌, ℕ, [], Bool, true, false, Some, Vec, length, ◌↔◌, refl, OnErr, OnOk, IfOk, IfSome};
+ghost use Rattle.std.specs.List.{Contains};
+ghost use Rattle.std.specs.declared.alloc.Global.{Global};
 ghost use Rattle.irl_offer.specs.Faults.{Rose, HasCause};
-ghost use Rattle.irl_disk.specs.Disk.{Holds, IsFront, Reads};
-ghost use Rattle.irl_disk.specs.Memory.{files_of, files_in, fault_count, Writes};
+ghost use Rattle.std.specs.Option.{ForSome};
+ghost use Rattle.irl_disk.specs.Disk.{Files, Changes, ChangesFile, Holds, IsFront, PartlyCut, Reads, Scribbled};
+ghost use Rattle.irl_disk.specs.Images.{CountsBytes, Follows, Leaves, Takes};
+ghost use Rattle.irl_disk.specs.Model.{AreImages, after_write, after_cut, after_sync};
+ghost use Rattle.irl_disk.specs.Calls.{History, ChangesState, ImagesSince, IsLogged, IsLooked, IsWriteLogged, states, states_at, Logs, EndsWithin, IsPart};
+ghost use Rattle.irl_disk.specs.Memory.{files_in, fault_count, call_count, counts_of, images_of, images_of_since};
+ghost use Rattle.irl_disk.specs.MemoryLaws.{now_are_images, counted_now, since_now, since_before};
 
+use crate::calls::{Call, Part};
+use crate::log::{Log, NotDone};
 use crate::{Failed, Store};
 use std::alloc::{AllocError, Global};
 use std::collections::BTreeMap;
 
-/// A store in memory, for tests. The calls whose numbers (from 0) are listed fail, and so does one that finds no
-/// memory for a file's growth.
+/// A store in memory, for tests. It keeps all its calls, so that it can tell what a stop inside each of them may leave. The
+/// calls whose numbers (from 0) are listed fail, and so does one that finds no memory.
 #[derive(Drop)]
 pub struct MemStore {
     alloc: Global,
-    files: BTreeMap<u16, Vec<u8>>,
+    log: Log,
     failing: Vec<u64>,
-    calls: u64,
     faults: u64,
+    taken: BTreeMap<u16, u64>,
 }
 
 impl MemStore {
@@ -23,31 +32,49 @@ impl MemStore {
     pub fn new(alloc: Global, failing: Vec<u64>) -> MemStore
         ensures empty { (f : ℕ) → files_in result f ≡ [] }
         ensures no_fault { fault_count result ≡ 0 }
+        ensures no_call { call_count result ≡ 0 }
+        ensures failing { result.failing.items ≡ failing.items }
+        ensures none_taken { (f : ℕ) → counts_of result.taken f ≡ 0 }
     {
         MemStore {
             alloc,
-            files: BTreeMap::new(alloc),
+            log: Log::new(alloc),
             failing,
-            calls: 0,
             faults: 0,
+            taken: BTreeMap::new(alloc),
         }
     }
 
-    // Counts a call, and a fault where it is to fail.
-    fn begin(&mut self) -> Result<(), Failed>
-        ensures files { self.new.files ≡ self.old.files }
-        ensures cause { HasCause self.old.faults self.new.faults result }
+    /// How many calls were made.
+    pub fn calls(&self) -> u64
+        ensures { result ≡ call_count self.now }
     {
-        let call = self.calls;
-        self.calls = call.saturating_add(1);
-        if self.failing.contains(&call) {
-            return Err(self.fault());
-        }
-        Ok(())
+        self.log.calls()
+    }
+
+    /// A store that starts again on what a stop in this call left: this part of each file.
+    pub fn image(&self, alloc: Global, call: u64, part: Part) -> Result<MemStore, AllocError>
+        requires made { call < call_count self.now }
+        ensures part { IfOk result (λ store. (f : ℕ) → IsPart part (states_at (call + 1) self.now.log f) (files_in store f)) }
+        ensures image { IfOk result (λ store. AreImages (states_at (call + 1) self.now.log) (files_in store)) }
+        ensures no_fault { IfOk result (λ store. fault_count store ≡ 0) }
+        ensures no_call { IfOk result (λ store. call_count store ≡ 0) }
+        ensures none_fails { IfOk result (λ store. store.failing.items ≡ []) }
+        ensures none_taken { IfOk result (λ store. (f : ℕ) → counts_of store.taken f ≡ 0) }
+    {
+        let files = self.log.image(alloc, call, part)?;
+        Ok(MemStore {
+            alloc,
+            log: Log::begun(alloc, files)?,
+            failing: Vec::new(alloc),
+            faults: 0,
+            taken: BTreeMap::new(alloc),
+        })
     }
 
     fn fault(&mut self) -> Failed
-        ensures files { self.new.files ≡ self.old.files }
+        ensures log { self.new.log ≡ self.old.log }
+        ensures taken { self.new.taken ≡ self.old.taken }
         ensures later { self.old.faults ≤ self.new.faults }
         ensures rose { Rose self.old.faults self.new.faults }
     {
@@ -55,72 +82,51 @@ impl MemStore {
         Failed
     }
 
-    fn file(&self, f: u16) -> &[u8]
-        ensures { result.now ≡ files_of self.now.files f }
+    // Makes a call and logs it. One that is listed fails, and so does one that finds no memory.
+    fn make(&mut self, call: Call) -> Result<(), Failed>
+        ensures done { OnOk result (Logs call true self.old.log self.new.log) }
+        ensures failed { OnErr result ((self.new.log ≡ self.old.log) ⊎ Logs call false self.old.log self.new.log) }
+        ensures listed { OnOk result (Contains self.old.failing.items (call_count self.old) → ⊥) }
+        ensures within { OnOk result (EndsWithin call (files_in self.old)) }
+        ensures taken { self.new.taken ≡ self.old.taken }
+        ensures cause { HasCause self.old.faults self.new.faults result }
     {
-        match self.files.get(&f) {
-            Some(bytes) => bytes,
-            None => &[],
+        let is_failing = self.failing.contains(&self.log.calls());
+        match self.log.attempt(self.alloc, call, is_failing) {
+            Ok(()) => Ok(()),
+            Err(NotDone) => Err(self.fault()),
         }
     }
 
-    // Puts other bytes in a file's place.
-    fn replace(&mut self, f: u16, bytes: Vec<u8>) -> Result<(), AllocError>
-        ensures ok { OnOk result (Writes f (λ _ new. new ≡ bytes.items) self.old.files self.new.files) }
-        ensures err { OnErr result ((g : ℕ) → files_of self.new.files g ≡ files_of self.old.files g) }
-        ensures faults { self.new.faults ≡ self.old.faults }
-    {
-        self.files.insert(f, bytes)?;
-        Ok(())
-    }
-
-    fn try_write(&mut self, f: u16, at: usize, bytes: &[u8]) -> Result<(), AllocError>
-        requires { at ≤ length (files_of self.old.files f) }
-        ensures ok { OnOk result (Writes f (Holds at bytes.now) self.old.files self.new.files) }
-        ensures within { at + length bytes.now < 2 ^ 64 }
-        ensures err { OnErr result ((g : ℕ) → files_of self.new.files g ≡ files_of self.old.files g) }
-        ensures faults { self.new.faults ≡ self.old.faults }
-    {
-        let new = overwritten(self.alloc, self.file(f), at, bytes)?;
-        self.replace(f, new)
-    }
-
-    fn try_cut(&mut self, f: u16, to: usize) -> Result<(), AllocError>
-        requires { to ≤ length (files_of self.old.files f) }
-        ensures ok { OnOk result (Writes f (IsFront to) self.old.files self.new.files) }
-        ensures err { OnErr result ((g : ℕ) → files_of self.new.files g ≡ files_of self.old.files g) }
-        ensures faults { self.new.faults ≡ self.old.faults }
-    {
-        let new = self.file(f)[..to].to_vec(self.alloc)?;
-        self.replace(f, new)
-    }
-
-    // A call that found no memory is a failed one.
-    fn end(&mut self, done: Result<(), AllocError>) -> Result<(), Failed>
-        ensures files { self.new.files ≡ self.old.files }
-        ensures variant { IsOk result ↔ IsOk done }
+    // Counts the bytes that a read gave of a file.
+    fn count(&mut self, f: u16, bytes: usize) -> Result<(), Failed>
+        ensures counted { OnOk result (CountsBytes f bytes (counts_of self.old.taken) (counts_of self.new.taken)) }
+        ensures failed { OnErr result (counts_of self.new.taken ≡ counts_of self.old.taken) }
+        ensures log { self.new.log ≡ self.old.log }
         ensures cause { HasCause self.old.faults self.new.faults result }
     {
-        match done {
-            Ok(()) => Ok(()),
+        let before = self.taken.get(&f).copied().unwrap_or(0);
+        let Some(after) = before.checked_add(bytes as u64) else {
+            return Err(self.fault());
+        };
+        match self.taken.insert(f, after) {
+            Ok(_) => Ok(()),
             Err(_) => Err(self.fault()),
         }
     }
 }
 
-// The old bytes with these at a place.
-fn overwritten(alloc: Global, old: &[u8], at: usize, bytes: &[u8]) -> Result<Vec<u8>, AllocError>
-    requires { at ≤ length old.now }
-    ensures new { IfOk result (λ new. Holds at bytes.now old.now new.items) }
-    ensures within { at + length bytes.now < 2 ^ 64 }
-{
-    let mut new = old[..at].to_vec(alloc)?;
-    new.extend_from_slice(bytes)?;
-    if bytes.len() < old.len() - at {
-        new.extend_from_slice(&old[at + bytes.len()..])?;
-    }
-    Ok(new)
-}
+/// What a stop may leave of a store in memory is just what the disk model says of the calls that it keeps.
+pub fn images_are_the_models()
+    ensures contents { (store : MemStore) → ⟦<MemStore as Store>⟧.contents store ≡ Some (files_in store) }
+    ensures moment { (store : MemStore) → ⟦<MemStore as Store>⟧.moment store ≡ call_count store }
+    ensures now { (store : MemStore) (image : Files) → ⟦<MemStore as Store>⟧.images store image ↔ AreImages (states store.log) image }
+    ensures since { (store : MemStore) (t : ℕ) (image : Files) → ⟦<MemStore as Store>⟧.images_since store t image ↔ ImagesSince store.log t image }
+    ensures look { (old new : History) (is_done : Bool) → Logs Call.Look is_done old new → (f : ℕ) → states new f ≡ states old f }
+    ensures write { (old new : History) (is_done : Bool) (file at : ℕ) (bytes : Vec ℕ Global) → Logs (Call.Write file at bytes) is_done old new → ChangesState file (after_write is_done at bytes.items) old new }
+    ensures cut { (old new : History) (is_done : Bool) (file to : ℕ) → Logs (Call.Cut file to) is_done old new → ChangesState file (after_cut is_done to) old new }
+    ensures sync { (old new : History) (is_done : Bool) (file : ℕ) → Logs (Call.Sync file) is_done old new → ChangesState file (after_sync is_done) old new }
+{}
 
 // Copies the file's bytes from a place on, as many as there is room for, and says how many.
 fn copied(file: &[u8], at: usize, into: &mut [u8]) -> usize
@@ -137,31 +143,101 @@ fn copied(file: &[u8], at: usize, into: &mut [u8]) -> usize
 impl Store for MemStore {
     ghost contents = { λ s. Some (files_in s) };
 
+    ghost images = { images_of };
+
+    ghost moment = { call_count };
+
+    ghost images_since = { images_of_since };
+
     ghost faults = { λ s. s.faults };
 
-    fn length(&mut self, f: u16) -> Result<u64, Failed> {
-        self.begin()?;
-        Ok(self.file(f).len() as u64)
+    ghost taken = { λ s. Some (counts_of s.taken) };
+
+    fn length(&mut self, f: u16) -> Result<u64, Failed>
+        requires { f < 10000 }
+        ensures logs { IsLooked result self.old.log self.new.log }
+        ensures listed { OnOk result (Contains self.old.failing.items (call_count self.old) → ⊥) }
+        ensures value { IfOk result (λ n. IfSome (Some (files_in self.old)) (λ files. n ≡ length (files f))) }
+        ensures same { Some (files_in self.new) ≡ Some (files_in self.old) }
+        ensures stops { Leaves call_count images_of_since self.old self.new (images_of self.old) }
+        ensures taken { Some (counts_of self.new.taken) ≡ Some (counts_of self.old.taken) }
+        ensures cause { HasCause self.old.faults self.new.faults result }
+    {
+        self.make(Call::Look)?;
+        Ok(self.log.file(f).len() as u64)
     }
 
-    fn read(&mut self, f: u16, at: u64, into: &mut [u8]) -> Result<usize, Failed> {
-        self.begin()?;
-        Ok(copied(self.file(f), at as usize, into))
+    fn read(&mut self, f: u16, at: u64, into: &mut [u8]) -> Result<usize, Failed>
+        requires file { f < 10000 }
+        requires place { ForSome (Some (files_in self.old)) (λ files. at ≤ length (files f)) }
+        ensures logs { IsLooked result self.old.log self.new.log }
+        ensures listed { OnOk result (Contains self.old.failing.items (call_count self.old) → ⊥) }
+        ensures within { IfOk result (λ n. (n ≤ length into.new) × (at + n < 2 ^ 64)) }
+        ensures bytes { IfOk result (λ n. IfSome (Some (files_in self.old)) (λ files. Reads at (length into.new) n into.new (files f))) }
+        ensures same { Some (files_in self.new) ≡ Some (files_in self.old) }
+        ensures stops { Leaves call_count images_of_since self.old self.new (images_of self.old) }
+        ensures taken { IfOk result (λ n. Takes f n (Some (counts_of self.old.taken)) (Some (counts_of self.new.taken))) }
+        ensures taken_err { OnErr result (Some (counts_of self.new.taken) ≡ Some (counts_of self.old.taken)) }
+        ensures cause { HasCause self.old.faults self.new.faults result }
+    {
+        self.make(Call::Look)?;
+        let count = copied(self.log.file(f), at as usize, into);
+        self.count(f, count)?;
+        Ok(count)
     }
 
-    fn write(&mut self, f: u16, at: u64, bytes: &[u8]) -> Result<(), Failed> {
-        self.begin()?;
-        let done = self.try_write(f, at as usize, bytes);
-        self.end(done)
+    fn write(&mut self, f: u16, at: u64, bytes: &[u8]) -> Result<(), Failed>
+        requires file { f < 10000 }
+        requires place { ForSome (Some (files_in self.old)) (λ files. at ≤ length (files f)) }
+        ensures logs { IsWriteLogged f at bytes.now result self.old.log self.new.log }
+        ensures listed { OnOk result (Contains self.old.failing.items (call_count self.old) → ⊥) }
+        ensures within { OnOk result (at + length bytes.now < 2 ^ 64) }
+        ensures ok { OnOk result (Changes f (Holds at bytes.now) (Some (files_in self.old)) (Some (files_in self.new))) }
+        ensures err { OnErr result (Changes f (Scribbled at (length bytes.now)) (Some (files_in self.old)) (Some (files_in self.new))) }
+        ensures stops { Leaves call_count images_of_since self.old self.new (Follows (ChangesFile f (Scribbled at (length bytes.now))) (images_of self.old)) }
+        ensures taken { Some (counts_of self.new.taken) ≡ Some (counts_of self.old.taken) }
+        ensures cause { HasCause self.old.faults self.new.faults result }
+    {
+        match bytes.to_vec(self.alloc) {
+            Ok(bytes) => self.make(Call::Write { file: f, at, bytes }),
+            Err(_) => Err(self.fault()),
+        }
     }
 
-    fn cut(&mut self, f: u16, to: u64) -> Result<(), Failed> {
-        self.begin()?;
-        let done = self.try_cut(f, to as usize);
-        self.end(done)
+    fn cut(&mut self, f: u16, to: u64) -> Result<(), Failed>
+        requires file { f < 10000 }
+        requires place { ForSome (Some (files_in self.old)) (λ files. to ≤ length (files f)) }
+        ensures logs { IsLogged (Call.Cut f to) result self.old.log self.new.log }
+        ensures listed { OnOk result (Contains self.old.failing.items (call_count self.old) → ⊥) }
+        ensures ok { OnOk result (Changes f (IsFront to) (Some (files_in self.old)) (Some (files_in self.new))) }
+        ensures err { OnErr result (Changes f (PartlyCut to) (Some (files_in self.old)) (Some (files_in self.new))) }
+        ensures stops { Leaves call_count images_of_since self.old self.new (Follows (ChangesFile f (PartlyCut to)) (images_of self.old)) }
+        ensures taken { Some (counts_of self.new.taken) ≡ Some (counts_of self.old.taken) }
+        ensures cause { HasCause self.old.faults self.new.faults result }
+    {
+        self.make(Call::Cut { file: f, to })
     }
 
-    fn sync(&mut self, _f: u16) -> Result<(), Failed> {
-        self.begin()
+    fn sync(&mut self, f: u16) -> Result<(), Failed>
+        requires { f < 10000 }
+        ensures logs { IsLogged (Call.Sync f) result self.old.log self.new.log }
+        ensures listed { OnOk result (Contains self.old.failing.items (call_count self.old) → ⊥) }
+        ensures durable { OnOk result (ForSome (Some (files_in self.old)) (λ files. (image : Files) → images_of self.new image → image f ≡ files f)) }
+        ensures same { Some (files_in self.new) ≡ Some (files_in self.old) }
+        ensures stops { Leaves call_count images_of_since self.old self.new (images_of self.old) }
+        ensures taken { Some (counts_of self.new.taken) ≡ Some (counts_of self.old.taken) }
+        ensures cause { HasCause self.old.faults self.new.faults result }
+    {
+        self.make(Call::Sync { file: f })
     }
+
+    ghost told_is_image = { λ s files told. now_are_images s files told };
+
+    ghost told_where_image = { λ s image left. (files_in s, refl) };
+
+    ghost counts_now = { λ s t image le left. counted_now s t image le left };
+
+    ghost only_now = { λ s image left. since_now s image left };
+
+    ghost since_earlier = { λ s t u image le left. since_before s t u image le left };
 }

@@ -8,8 +8,8 @@ use Rattle.irl_offer.specs.declared.offer.Verdict.{Verdict}
 use Rattle.irl_offer.specs.Tuple.{Tuple}
 use Rattle.irl_model.specs.Judging.{KeyMap, after, judgements}
 use Rattle.irl_model.proofs.JudgingLaws.{judged_on, judged_on-append, judgements-drop, judgements-judged_on}
-use Rattle.irl_bay.specs.LineFile.{line_tuple}
-use Rattle.irl_bay.proofs.Entering.{tuples-more}
+use Rattle.irl_bay.specs.Lines.{line_tuple}
+use Rattle.irl_bay.proofs.Lines.{tuples-more}
 use Rattle.irl_top.specs.Printed.{printed, added, line_if_unique}
 
 -- what is printed of new lines, judged one after another

@@ -1,34 +1,38 @@
 -- What a batch leaves in the store and at the output.
-use Rattle.std.proofs.Common.{◌≡◌, ◌≢◌, ◌∙◌, ℕ, List, [], ◌∷◌, length, map, take, drop, Option, refl, sym, ap, subst, append-nil, arith}
-use Rattle.std.proofs.lemmas.List.{take-append-drop}
+use Rattle.std.proofs.Common.{◌≡◌, ◌≢◌, ◌∙◌, ◌≤◌, ℕ, List, [], ◌∷◌, ◌++◌, length, map, take, drop, Option, refl, sym, ap, subst, append-nil, arith, take_all}
+use Rattle.std.proofs.lemmas.List.{take-append-drop, length-map}
 use Rattle.std.proofs.KnownBytes.{Appends-nil}
-use Rattle.std.specs.Prelude.{Result, Err}
+use Rattle.std.specs.Prelude.{Result, Err, Some}
 use Rattle.std.specs.List.{zip}
+use Rattle.std.specs.FinMap.{empty}
 use Rattle.std.specs.Io.KnownBytes.{Appends}
 use Rattle.irl_offer.specs.declared.offer.Rule.TheVariants.{Keep}
 use Rattle.irl_offer.specs.declared.offer.Verdict.{Verdict}
 use Rattle.irl_offer.specs.Tuple.{Tuple}
+use Rattle.irl_model.specs.Judging.{KeyMap, after}
 use Rattle.irl_model.proofs.JudgingLaws.{zip-judgements}
 use Rattle.irl_disk.specs.Disk.{Files}
 use Rattle.irl_io.specs.Written.{AppendsFront}
 use Rattle.irl_bay.specs.declared.kept.Kept.{Kept}
 use Rattle.irl_bay.specs.declared.kept.Fault.{Fault}
 use Rattle.irl_bay.specs.declared.kept.Fault.TheVariants.{Failed, Memory}
-use Rattle.irl_bay.specs.LineFile.{AreLines, HasLines, line_file}
-use Rattle.irl_bay.specs.Kept.{IsOf, KeepsOthers, AreVerdicts, Appends as AppendsLines}
-use Rattle.irl_bay.proofs.Appending.{verdicts_more}
+use Rattle.irl_bay.specs.Lines.{AreLines, line_tuple, line_file}
+use Rattle.irl_bay.specs.Kept.{IsKept, Extends, AreVerdicts}
+use Rattle.irl_bay.proofs.Extending.{none_yet}
+use Rattle.irl_bay.proofs.Lines.{verdicts_more}
 use Rattle.irl_top.proofs.AddedLines.{added-nil}
 use Rattle.irl_top.specs.declared.commit.CommitFault.{CommitFault}
 use Rattle.irl_top.specs.declared.commit.CommitFault.TheVariants.{Disk}
 use Rattle.irl_top.specs.Batch.{texts, Commits, CommitsPart}
+use Rattle.irl_top.specs.Input.{IsFrontOf}
 use Rattle.irl_top.specs.Message.{commit_fault_of}
 use Rattle.irl_top.specs.Printed.{printed, added}
 
 -- the text of offers beside their verdicts is that of looking back over all lines
-pub printed_added : (before : Kept) (lines : List (List ℕ)) (offers : List Tuple) (verdicts : List (Option Verdict)) → AreLines offers → AreVerdicts before (texts offers) verdicts → IsOf before lines → printed (zip offers verdicts) ≡ added lines (texts offers)
-printed_added before lines offers verdicts are told known =
-    let back = verdicts_more before.seen lines (texts offers) offers known.seen are.lines in
-    ap (λ (vs : List (Option Verdict)). printed (zip offers vs)) (told lines known ∙ ap (λ (js : List (Tuple × Option Verdict)). map (λ p. p.1) js) (sym back))
+pub printed_added : (before : Kept) (lines : List (List ℕ)) (offers : List Tuple) (verdicts : List (Option Verdict)) → AreLines offers → AreVerdicts before (texts offers) verdicts → before.seen ≡ after Keep empty (map line_tuple lines) → printed (zip offers verdicts) ≡ added lines (texts offers)
+printed_added before lines offers verdicts are told seen =
+    let back = verdicts_more before.seen lines (texts offers) offers seen are.lines in
+    ap (λ (vs : List (Option Verdict)). printed (zip offers vs)) (told lines seen ∙ ap (λ (js : List (Tuple × Option Verdict)). map (λ p. p.1) js) (sym back))
     ∙ ap printed (zip-judgements Keep before.seen offers ∙ back)
 
 -- a fault that isn't the store's was want of memory
@@ -36,28 +40,61 @@ pub was_memory : (fault : Fault) (r : Result (Unit {0}) CommitFault) → r ≡ E
 was_memory Failed r is not = absurd (not is)
 was_memory Memory r is not = refl
 
--- nothing was done
-pub nothing_done : (told now : Option Files) (before : Kept) (written : Option (List ℕ)) (news : List (List ℕ)) → now ≡ told → CommitsPart told now before written written news
-nothing_done told now before written news same = λ files lines tells has known.
-    (files, [], [], same ∙ tells, subst (HasLines (files line_file)) (sym (append-nil lines)) has, (news, refl), Appends-nil written, (added lines [], refl))
+module _ {S : Type 0} (contents : S → Option Files) (images : S → Files → Type 0) (moment : S → ℕ) (images_since : S → ℕ → Files → Type 0) where
+  -- all was done
+  pub all_done : (old new : S) (before kept : Kept) (w w' : Option (List ℕ)) (lines : List (List ℕ)) (offers : List Tuple) (verdicts : List (Option Verdict)) (text : List ℕ) → AreLines offers → AreVerdicts before (texts offers) verdicts → before.seen ≡ after Keep empty (map line_tuple lines) → text ≡ printed (zip offers verdicts)
+      → IsKept (images new) kept (lines ++ texts offers) → Extends contents images moment images_since old new lines (texts offers) (length offers) (length offers) (length offers) → Appends w w' text → Commits contents images moment images_since old new kept w w' lines (texts offers)
+  all_done old new before kept w w' lines offers verdicts text are judged seen is known extends wrote = record {
+    known = known;
+    extends = subst (λ (n : ℕ). Extends contents images moment images_since old new lines (texts offers) n n n) (sym (length-map offers (λ (o : Tuple). o.aux))) extends;
+    printed = subst (Appends w w') (is ∙ printed_added before lines offers verdicts are judged seen) wrote;
+  }
 
--- the lines were appended, and a front of their text was written
-pub part_done : (told now : Option Files) (before kept : Kept) (old new : Option (List ℕ)) (offers : List Tuple) (verdicts : List (Option Verdict)) (text : List ℕ) → AppendsLines told now before kept (texts offers) → KeepsOthers told now → AreLines offers → AreVerdicts before (texts offers) verdicts → text ≡ printed (zip offers verdicts) → AppendsFront old new text → CommitsPart told now before old new (texts offers)
-part_done told now before kept old new offers verdicts text appends others are judged is front = λ files lines tells has known.
-    let after = others files tells in
-    let done = appends files after.0 lines tells after.1 has known in
-    let all = is ∙ printed_added before lines offers verdicts are judged known in
-    (after.0, texts offers, take front.0 text, after.1, done.0, ([], sym (append-nil (texts offers))), front.1, (drop front.0 text, sym all ∙ sym (take-append-drop front.0 text)))
+  -- all lines were appended, and a front of their text was written
+  pub part_printed : (old new : S) (before : Kept) (w w' : Option (List ℕ)) (lines : List (List ℕ)) (offers : List Tuple) (verdicts : List (Option Verdict)) (text : List ℕ) (IsSettled : Type 0) → AreLines offers → AreVerdicts before (texts offers) verdicts → before.seen ≡ after Keep empty (map line_tuple lines) → text ≡ printed (zip offers verdicts)
+      → Extends contents images moment images_since old new lines (texts offers) (length offers) (length offers) (length offers) → AppendsFront w w' text → CommitsPart contents images moment images_since old new w w' lines (texts offers) IsSettled
+  part_printed old new before w w' lines offers verdicts text IsSettled are judged seen is extends front =
+      let n = length offers in
+      let all : take n (texts offers) ≡ texts offers = take_all _ _ (rw length-map (omega arith)) in
+      let whole : text ≡ added lines (take n (texts offers)) = is ∙ printed_added before lines offers verdicts are judged seen ∙ ap (added lines) (sym all) in
+      record {
+        kept = n;
+        told = n;
+        most = n;
+        text = take front.0 text;
+        extends = extends;
+        written_is = front.1;
+        printed = (drop front.0 text, sym whole ∙ sym (take-append-drop front.0 text));
+        settled = λ s. refl;
+      }
 
--- all was done
-pub all_done : (told now : Option Files) (before kept : Kept) (old new : Option (List ℕ)) (offers : List Tuple) (verdicts : List (Option Verdict)) (text : List ℕ) → AppendsLines told now before kept (texts offers) → KeepsOthers told now → AreLines offers → AreVerdicts before (texts offers) verdicts → text ≡ printed (zip offers verdicts) → Appends old new text → Commits told now before kept old new (texts offers)
-all_done told now before kept old new offers verdicts text appends others are judged is wrote = λ files lines tells has known.
-    let after = others files tells in
-    let done = appends files after.0 lines tells after.1 has known in
-    (after.0, after.1, done.0, done.1, subst (Appends old new) (is ∙ printed_added before lines offers verdicts are judged known) wrote)
+  -- some lines were appended, and nothing was written
+  pub none_printed : (old new : S) (w : Option (List ℕ)) (lines news : List (List ℕ)) (kept told most : ℕ) (IsSettled : Type 0) → Extends contents images moment images_since old new lines news kept told most → (IsSettled → kept ≡ most) → CommitsPart contents images moment images_since old new w w lines news IsSettled
+  none_printed old new w lines news kept told most IsSettled extends settled = record {
+    kept = kept;
+    told = told;
+    most = most;
+    text = [];
+    extends = extends;
+    written_is = Appends-nil w;
+    printed = (added lines (take kept news), refl);
+    settled = settled;
+  }
 
--- there was nothing to do
-pub none_to_do : (told : Option Files) (before : Kept) (written : Option (List ℕ)) (offers : List Tuple) → length offers ≡ 0 → Commits told told before before written written (texts offers)
-none_to_do told before written [] none = λ files lines tells has known.
-    (files, tells, subst (HasLines (files line_file)) (sym (append-nil lines)) has, subst (IsOf before) (sym (append-nil lines)) known, subst (Appends written written) (sym (added-nil lines)) (Appends-nil written))
-none_to_do told before written (o ∷ offers) none = absurd (omega arith)
+  -- an append was refused
+  pub append_failed : (fault : Fault) (r : Result (Unit {0}) CommitFault) (old new : S) (w : Option (List ℕ)) (lines news : List (List ℕ)) → r ≡ Err (commit_fault_of fault)
+      → (fault ≡ Failed → (kept told most : ℕ) × Extends contents images moment images_since old new lines news kept told most) → (fault ≡ Memory → Extends contents images moment images_since old new lines news 0 0 0)
+      → CommitsPart contents images moment images_since old new w w lines news (r ≢ Err Disk)
+  append_failed Failed r old new w lines news is part none =
+      let p = part refl in
+      none_printed old new w lines news p.0 p.1 p.2 _ p.3 (λ not. absurd (not is))
+  append_failed Memory r old new w lines news is part none = none_printed old new w lines news 0 0 0 _ (none refl) (λ not. refl)
+
+  -- there was nothing to do
+  pub none_to_do : (store : S) (kept : Kept) (w : Option (List ℕ)) (lines : List (List ℕ)) (offers : List Tuple) → length offers ≡ 0 → IsKept (images store) kept lines → Extends contents images moment images_since store store lines [] 0 0 0 → Commits contents images moment images_since store store kept w w lines (texts offers)
+  none_to_do store kept w lines [] none known extends = record {
+    known = subst (IsKept (images store) kept) (sym (append-nil lines)) known;
+    extends = extends;
+    printed = subst (Appends w w) (sym (added-nil lines)) (Appends-nil w);
+  }
+  none_to_do store kept w lines (o ∷ offers) none known extends = absurd (omega arith)

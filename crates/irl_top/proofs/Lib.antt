@@ -1,6 +1,7 @@
 pub mod AddedLines
 pub mod Committing
 pub mod Deciding
+pub mod Images
 pub mod Reading
 pub mod Running
 pub mod Sinks

@@ -1,57 +1,60 @@
 -- How a run ends, by what stood before.
-use Rattle.std.proofs.Common.{◌≡◌, ◌≢◌, ◌∙◌, ℕ, ◌+◌, ◌≤◌, List, [], ◌∷◌, ◌++◌, Option, Some, None, refl, sym, ap, subst, append_assoc, append-nil, inl, inr, arith}
+use Rattle.std.proofs.Common.{◌≡◌, ◌≢◌, ◌∙◌, ◌⊎◌, ℕ, ◌+◌, ◌<◌, ◌≤◌, List, [], ◌∷◌, ◌++◌, length, take, drop, Option, Some, None, refl, sym, ap, subst, append_assoc, append-nil, inl, inr, arith, take_all}
+use Rattle.std.proofs.lemmas.List.{take-append-drop}
 use Rattle.std.proofs.KnownBytes.{Appends-nil}
 use Rattle.std.specs.Prelude.{IsTrue}
+use Rattle.std.specs.List.{AllByRecursion}
 use Rattle.std.specs.Option.{ForSome}
 use Rattle.std.specs.Io.KnownBytes.{Appends, prepend_known}
 use Rattle.irl_offer.specs.Faults.{Rose}
-use Rattle.irl_disk.specs.Disk.{Files}
+use Rattle.irl_disk.specs.Disk.{Files, Changes, ChangesFile}
+use Rattle.irl_disk.specs.Images.{Follows}
+use Rattle.irl_disk.proofs.Stretches.{stays, widens}
 use Rattle.irl_io.specs.Steps.{Progress}
+use Rattle.irl_journal.specs.Records.{HasRecords}
+use Rattle.irl_journal.specs.Visiting.{IsOpened}
 use Rattle.irl_bay.specs.declared.kept.Kept.{Kept}
-use Rattle.irl_bay.specs.LineFile.{HasLines, IsBrokenAt, line_file, text_of}
-use Rattle.irl_bay.specs.Kept.{Grows}
-use Rattle.irl_top.proofs.AddedLines.{added-append}
-use Rattle.irl_top.proofs.Running.{Keeps, Running, keeps_same, start}
+use Rattle.irl_bay.specs.Kept.{IsKept}
+use Rattle.irl_bay.specs.Lines.{HasLines, IsDamagedAt, IsKeepable, line_file, other_file}
+use Rattle.irl_bay.proofs.Lines.{lines_after, opened_lines, same_file, told_before, each-append}
+use Rattle.irl_top.proofs.AddedLines.{added-append, added-nil}
+use Rattle.irl_top.proofs.Images.{StopsAt, ExtendsOutside, has_front, stops_on, take_each, split_each, front_behind, length_both}
+use Rattle.irl_top.proofs.Running.{KeepsOthers, Running, others_same, others_step, others_both, start}
 use Rattle.irl_top.proofs.Sinks.{appends_both}
-use Rattle.irl_top.specs.Batch.{ReadsOn, ReadsOnTold, CommitsPart}
+use Rattle.irl_top.specs.Batch.{ReadsOn, ReadsOnTold}
 use Rattle.irl_top.specs.Input.{IsFrontOf, offered, offered_from, refused}
 use Rattle.irl_top.specs.Printed.{added}
-use Rattle.irl_top.specs.Run.{Outside, Ran, IsEarly, is_late}
+use Rattle.irl_top.specs.Run.{Outside, Ran, Gains, Spares, Continues, LeavesOnly, HasFront, IsEarly, is_late}
 use Rattle.irl_bay.specs.declared.kept.OpenFault.{OpenFault}
-use Rattle.irl_bay.specs.declared.kept.OpenFault.TheVariants.{NotOurs as OpenNotOurs, Failed as OpenFailed, Memory as OpenMemory}
+use Rattle.irl_bay.specs.declared.kept.OpenFault.TheVariants.{NotOurs as OpenNotOurs, Damaged as OpenDamaged, Failed as OpenFailed, Memory as OpenMemory}
 use Rattle.irl_top.specs.Message.{ending_of_open, ending_of_read, ending_of_commit}
 use Rattle.irl_top.specs.declared.batch.ReadFault.{ReadFault}
 use Rattle.irl_top.specs.declared.batch.ReadFault.TheVariants.{LineRefused as ReadRefused, Failed as ReadFailed, Memory as ReadMemory}
 use Rattle.irl_top.specs.declared.commit.CommitFault.{CommitFault}
 use Rattle.irl_top.specs.declared.commit.CommitFault.TheVariants.{Disk, Output, Memory}
 use Rattle.irl_top.specs.declared.ending.Ending.{Ending}
-use Rattle.irl_top.specs.declared.ending.Ending.TheVariants.{Done, WordsRefused, LineRefused, NotOurs, DiskFault, InputFault, OutputFault, NoMemory}
+use Rattle.irl_top.specs.declared.ending.Ending.TheVariants.{Done, WordsRefused, LineRefused, NotOurs, Damaged, DiskFault, InputFault, OutputFault, NoMemory}
 
--- a front of the offered lines was kept, and a front of the text of those was written
-abbrev pub LeavesPart : Outside → Outside → Type 0
-LeavesPart before after = (files : Files) (old : List (List ℕ)) → before.files ≡ Some files → HasLines (files line_file) old →
-    (new : Files) × (some : List (List ℕ)) × (text : List ℕ) × (after.files ≡ Some new) × HasLines (new line_file) (old ++ some) × Appends before.output after.output text × IsFrontOf text (added old some)
-    × ((input : List ℕ) → before.input ≡ Some input → IsFrontOf some (offered input))
+-- over each store with lines
+abbrev pub GainsAll : Outside → Outside → Ending → Type 0
+GainsAll before after ending = (files : Files) (old : List (List ℕ)) → before.files ≡ Some files → HasLines files old → Gains before after ending old
 
--- a front of the text was written, whatever became of the line file
-abbrev pub LeavesText : Outside → Outside → Type 0
-LeavesText before after = (old : List (List ℕ)) (input : List ℕ) → before.input ≡ Some input → (files : Files) → before.files ≡ Some files → HasLines (files line_file) old → (text : List ℕ) × Appends before.output after.output text × IsFrontOf text (added old (offered input))
+-- over each store without
+abbrev pub SparesAll : Outside → Outside → Type 0
+SparesAll before after = ForSome before.files (λ files. ((old : List (List ℕ)) → HasLines files old → ⊥) → Spares before after)
 
--- what was written is of lines that the line file begins with
-abbrev pub LeavesKept : Outside → Outside → Type 0
-LeavesKept before after = (files : Files) (old : List (List ℕ)) → before.files ≡ Some files → HasLines (files line_file) old →
-    (new : Files) × (news : List (List ℕ)) × (rest : List ℕ) × (text : List ℕ) × (after.files ≡ Some new) × (new line_file ≡ text_of (old ++ news) ++ rest) × Appends before.output after.output text × IsFrontOf text (added old news)
+abbrev pub OpenedBefore : Outside → Type 0
+OpenedBefore before = ForSome before.files (λ files. (old : List (List ℕ)) × HasLines files old)
 
-pub kept_of_part : (before after : Outside) → LeavesPart before after → LeavesKept before after
-kept_of_part before after part = λ files old tells has.
-    let p = part files old tells has in
-    (p.0, p.1, [], p.2, p.3, p.4.bytes ∙ sym (append-nil (text_of (old ++ p.1))), p.5, p.6)
+-- a store that was opened has a list
+pub lists_spare : (before after : Outside) → OpenedBefore before → SparesAll before after
+lists_spare before after opened = λ files tells none. let had = opened files tells in absurd (none had.0 had.1)
 
 -- the causes of an ending within a run
 pub record HasReason (before after : Outside) (ending : Ending) : Type 0 where
   pub not_done : ending ≢ Done
   pub not_early : IsEarly ending → ⊥
-  pub opened : IsTrue (is_late ending) → ForSome before.files (λ files. (old : List (List ℕ)) × HasLines (files line_file) old)
+  pub opened : IsTrue (is_late ending) → OpenedBefore before
   pub line : (n : ℕ) → ending ≡ LineRefused n → ForSome before.input (λ input. refused input ≡ Some n)
   pub disk : ending ≡ DiskFault → Rose before.disk_faults after.disk_faults
   pub input : ending ≡ InputFault → Rose before.input_faults after.input_faults
@@ -62,29 +65,19 @@ pub record NeverFalls (before after : Outside) : Type 0 where
   pub input : before.input_faults ≤ after.input_faults
   pub output : before.output_faults ≤ after.output_faults
 
-pub text_of_part : (before after : Outside) → LeavesPart before after → LeavesText before after
-text_of_part before after part = λ old input told files tells has.
-    let p = part files old tells has in
-    let some : offered input ≡ p.1 ++ (p.7 input told).0 = (p.7 input told).1 in
-    let text : added old p.1 ≡ p.2 ++ p.6.0 = p.6.1 in
-    (p.2, p.5, (p.6.0 ++ added (old ++ p.1) (p.7 input told).0, ap (added old) some ∙ added-append old p.1 (p.7 input told).0 ∙ rw text (simp append_assoc)))
-
-pub stops : (before after : Outside) (ending : Ending) → (ending ≢ DiskFault → LeavesPart before after) → LeavesText before after → LeavesKept before after → Keeps before.files after.files → HasReason before after ending → NeverFalls before after → Ran before after ending
-stops before after ending part text kept others reason later = record {
-  lines = λ files new old tells now has fine.
-      let p = part fine files old tells has in
-      let same : p.0 ≡ new = let e = sym p.3 ∙ now in cc in
-      (p.1, subst (λ (f : Files). HasLines (f line_file) (old ++ p.1)) same p.4, (p.2, p.5, p.6), λ input told. (p.7 input told, λ is. absurd (reason.not_done is)));
-  others = others.0;
-  kept = kept;
-  grows = others.1;
+-- an ending in the middle of a run
+pub stops : (before after : Outside) (ending : Ending) → GainsAll before after ending → SparesAll before after → KeepsOthers before.files after.files → HasReason before after ending → NeverFalls before after → Ran before after ending
+stops before after ending gains spares others reason later = record {
+  gains = gains;
+  spares = spares;
+  others = others;
   early = λ is. absurd (reason.not_early is);
   untouched = λ is. absurd (reason.not_early (inl is));
   opened = reason.opened;
-  text = λ files old input tells has told. let t = text old input told files tells has in (t.0, t.1, t.2, λ is. absurd (reason.not_done is));
-  whole = λ is. absurd (reason.not_done is);
+  read = λ is. absurd (reason.not_done is);
   line = reason.line;
-  not_ours = λ n is. absurd (reason.not_early (inr (n, is)));
+  not_ours = λ n is. absurd (reason.not_early (inr (inl (n, is))));
+  damaged = λ n is. absurd (reason.not_early (inr (inr (n, is))));
   disk = reason.disk;
   input = reason.input;
   output = reason.output;
@@ -93,42 +86,141 @@ stops before after ending part text kept others reason later = record {
   output_later = later.output;
 }
 
--- what stands between two batches
-pub part_between : (before now after : Outside) (kept : Kept) (progress : Progress) (news : List (List ℕ)) → Running before now kept progress news → after.files ≡ now.files → after.output ≡ now.output → LeavesPart before after
-part_between before now after kept progress news so_far files output = λ told old tells has.
-    let r = so_far.lines told old tells has in (
-      r.0,
-      news,
-      added old news,
-      files ∙ r.1,
-      r.2,
-      subst (λ (w : Option (List ℕ)). Appends before.output w (added old news)) (sym output) r.4,
-      ([], sym (append-nil (added old news))),
-      λ input known. let s = so_far.reads input known in (offered_from (progress.number + 1) s.0, s.2.offers),
-    )
+-- the store was opened at most
+pub not_begun : (before after : Outside) (ending : Ending) → ending ≢ Done → Changes line_file IsOpened before.files after.files → LeavesOnly before after (Follows (ChangesFile line_file IsOpened) before.images)
+    → ((t : ℕ) (image : Files) → t ≤ after.moment → after.images image → after.images_since t image) → after.output ≡ before.output → GainsAll before after ending
+not_begun before after ending not changes leaves counts output = λ files old tells has.
+    let told = others_step before.files after.files IsOpened changes files tells in
+    let change : ChangesFile line_file IsOpened files told.0 =
+    let step = rw tells at changes in
+    let same : step.0 ≡ told.0 = let e = sym step.1 ∙ told.1 in cc in
+    subst (λ (f : Files). ChangesFile line_file IsOpened files f) same step.2 in
+    let front : (a b : Files) → HasLines a old → ChangesFile line_file IsOpened a b → HasFront old [] 0 b = λ a b had step. subst (HasLines b) (sym (append-nil old)) (opened_lines a b old step had) in
+    let stopped : LeavesOnly before after (Continues before old [] 0) =
+    widens (λ (o : Outside). o.moment) (λ (o : Outside). o.images_since) before after _ _ leaves (λ image from. record { was = from.0; left = from.1; others = from.2.others; lines = λ had. (0, omega arith, omega arith, front from.0 image had from.2) }) in
+    record {
+      news = [];
+      kept = 0;
+      told = 0;
+      new = told.0;
+      text = [];
+      acknowledged = omega arith;
+      no_more = omega arith;
+      one = omega arith;
+      settled = λ fine. refl;
+      tells = told.1;
+      lines = front files told.0 has change;
+      offers = λ input known. ((offered input, refl), λ is. absurd (not is));
+      written = subst (λ (w : Option (List ℕ)). Appends before.output w []) (sym output) (Appends-nil before.output);
+      printed = (added old [], refl);
+      whole = λ is. absurd (not is);
+      stops = stopped;
+      now = λ image left. stopped.each image (counts before.moment image stopped.later left);
+    }
 
--- and what a batch that was not done whole leaves
-pub part_within : (before now after : Outside) (kept : Kept) (progress progress' : Progress) (news more : List (List ℕ)) → Running before now kept progress news → ReadsOnTold progress progress' now.input after.input more → CommitsPart now.files after.files kept now.output after.output more → LeavesPart before after
-part_within before now after kept progress progress' news more so_far reads commits = λ told old tells has.
-    let r = so_far.lines told old tells has in
-    let p = commits r.0 (old ++ news) r.1 r.2 r.3 in
-    let regroup = append_assoc old news p.1 in
-    let text : added (old ++ news) p.1 ≡ p.2 ++ p.7.0 = p.7.1 in (
-      p.0,
-      news ++ p.1,
-      added old news ++ p.2,
-      p.3,
-      subst (HasLines (p.0 line_file)) regroup p.4,
-      appends_both before.output now.output after.output (added old news) p.2 r.4 p.6,
-      (p.7.0, added-append old news p.1 ∙ rw text (simp append_assoc)),
-      λ input known.
+-- what stands between two batches
+pub between : (before now after : Outside) (ending : Ending) (kept : Kept) (progress : Progress) (news : List (List ℕ)) → ending ≢ Done → Running before now kept progress news → after.files ≡ now.files → after.output ≡ now.output
+    → ((P : Files → Type 0) → LeavesOnly before now P → LeavesOnly before after P) → ((image : Files) → after.images image → now.images image) → GainsAll before after ending
+between before now after ending kept progress news not so_far files output moved same = λ told old tells has.
+    let r = so_far.grown told old tells has in
+    let all : take (length news) news ≡ news = take_all _ _ (omega arith) in
+    let whole : (f : Files) → HasLines f (old ++ news) → HasFront old news (length news) f = λ f had. subst (λ (l : List (List ℕ)). HasLines f (old ++ l)) (sym all) had in
+    let stopped : LeavesOnly before now (Continues before old news 0) =
+    widens (λ (o : Outside). o.moment) (λ (o : Outside). o.images_since) before now _ _ r.stops (λ image from. record { was = from.0; left = from.1; others = from.2.others; lines = λ had. let f = has_front from.0 image old news had r.known.each from.2 in (f.0, omega arith, f.1, f.2) }) in
+    record {
+      news = news;
+      kept = length news;
+      told = length news;
+      new = r.new;
+      text = added old news;
+      acknowledged = omega arith;
+      no_more = omega arith;
+      one = omega arith;
+      settled = λ fine. refl;
+      tells = files ∙ r.tells;
+      lines = whole r.new r.lines;
+      offers = λ input known. let s = so_far.reads input known in ((offered_from (progress.number + 1) s.0, s.2.offers), λ is. absurd (not is));
+      written = subst (λ (w : Option (List ℕ)). Appends before.output w (added old news)) (sym output) r.written;
+      printed = ([], ap (added old) all ∙ sym (append-nil (added old news)));
+      whole = λ is. absurd (not is);
+      stops = moved _ stopped;
+      now = λ image left.
+          let found = stopped.each image (so_far.counts before.moment image stopped.later (same image left)) in
+          let records : HasRecords (image line_file) (old ++ news) = rw so_far.ready.file at (r.known.open_ image (same image left)).records in
+          record {
+            was = found.was;
+            left = found.left;
+            others = found.others;
+            lines = λ had. (length news, omega arith, omega arith, whole image (record { ours = (found.lines had).3.ours; records = inr records; each = r.known.each }));
+          };
+    }
+
+-- what was appended and written of a batch that was not done whole
+pub record CommitsPartOutside (now after : Outside) (lines more : List (List ℕ)) (IsSettled : Type 0) : Type 0 where
+  pub kept : ℕ
+  pub told : ℕ
+  pub most : ℕ
+  pub text : List ℕ
+  pub extends : ExtendsOutside now after lines more kept told most
+  pub written_is : Appends now.output after.output text
+  pub printed : IsFrontOf text (added lines (take kept more))
+  pub settled : IsSettled → kept ≡ most
+
+pub within : (before now after : Outside) (ending : Ending) (kept : Kept) (progress progress' : Progress) (news more : List (List ℕ)) → ending ≢ Done → Running before now kept progress news → AllByRecursion IsKeepable more → ReadsOnTold progress progress' now.input after.input more
+    → ((lines : List (List ℕ)) → IsKept now.images kept lines → CommitsPartOutside now after lines more (ending ≢ DiskFault)) → ((t : ℕ) (image : Files) → t ≤ after.moment → after.images image → after.images_since t image) → GainsAll before after ending
+within before now after ending kept progress progress' news more not so_far keepable reads commits counts = λ told old tells has.
+    let r = so_far.grown told old tells has in
+    let p = commits (old ++ news) r.known in
+    let all = length_both news more p.most p.extends.all in
+    let now_told = others_step now.files after.files _ p.extends.tells r.new r.tells in
+    let each : AllByRecursion IsKeepable (old ++ (news ++ take p.most more)) =
+    subst (AllByRecursion IsKeepable) (append_assoc old news (take p.most more)) (each-append (old ++ news) (take p.most more) r.known.each (take_each p.most more keepable)) in
+    let front : (n : ℕ) → n ≤ p.most → (old ++ news) ++ take n more ≡ old ++ take (length news + n) (news ++ take p.most more) = λ n le.
+    append_assoc old news (take n more) ∙ ap (λ (l : List (List ℕ)). old ++ l) (sym (front_behind news more p.most n le)) in
+    let stopped : LeavesOnly before after (Continues before old (news ++ take p.most more) 0) =
+    widens (λ (o : Outside). o.moment) (λ (o : Outside). o.images_since) before after _ _ (stops_on before now after old news more p.most p.extends.all so_far.counts r.stops p.extends.stops)
+    (λ image from. record { was = from.0; left = from.1; others = from.2.others; lines = λ had. let f = has_front from.0 image old (news ++ take p.most more) had each from.2 in (f.0, omega arith, f.1, f.2) }) in
+    record {
+      news = news ++ take p.most more;
+      kept = length news + p.kept;
+      told = length news + p.told;
+      new = now_told.0;
+      text = added old news ++ p.text;
+      acknowledged = omega (arith, p.extends.acknowledged);
+      no_more = rw all (omega (arith, p.extends.no_more));
+      one = rw all (omega (arith, p.extends.one));
+      settled = λ fine. rw all (ap (λ (n : ℕ). length news + n) (p.settled fine));
+      tells = now_told.1;
+      lines = subst (HasLines now_told.0) (front p.told p.extends.no_more) (lines_after now.files after.files r.new now_told.0 (old ++ news) more p.told r.tells now_told.1 p.extends.tells r.lines (take_each p.told more keepable));
+      offers = λ input known.
           let s = so_far.reads input known in
           let b = reads s.0 s.1 in
           let rest = offered_from (progress'.number + 1) b.0 in
-          let all : offered input ≡ news ++ (more ++ rest) = s.2.offers ∙ ap (λ (l : List (List ℕ)). news ++ l) b.2.offers in
-          let some : more ≡ p.1 ++ p.5.0 = p.5.1 in
-          (p.5.0 ++ rest, all ∙ rw some (simp append_assoc)),
-    )
+          let split : more ≡ take p.most more ++ drop p.most more = sym (take-append-drop p.most more) in
+          let offers : offered input ≡ news ++ (more ++ rest) = s.2.offers ∙ ap (λ (l : List (List ℕ)). news ++ l) b.2.offers in
+          ((drop p.most more ++ rest, offers ∙ ap (λ (l : List (List ℕ)). news ++ (l ++ rest)) split ∙ simp append_assoc), λ is. absurd (not is));
+      written = appends_both before.output now.output after.output (added old news) p.text r.written p.written_is;
+      printed =
+          let le : p.kept ≤ p.most = omega (arith, p.extends.acknowledged, p.extends.no_more) in
+          let text : added (old ++ news) (take p.kept more) ≡ p.text ++ p.printed.0 = p.printed.1 in
+          (p.printed.0, ap (added old) (front_behind news more p.most p.kept le) ∙ added-append old news (take p.kept more) ∙ ap (λ (t : List ℕ). added old news ++ t) text ∙ sym (append_assoc (added old news) p.text p.printed.0));
+      whole = λ is. absurd (not is);
+      stops = stopped;
+      now = λ image left.
+          let found = stopped.each image (counts before.moment image stopped.later left) in
+          let n = p.extends.now image left in
+          record {
+            was = found.was;
+            left = found.left;
+            others = found.others;
+            lines = λ had. (
+              length news + n.0,
+              omega (arith, n.1),
+              rw all (omega (arith, n.2)),
+              subst (HasLines image) (front n.0 n.2) (record { ours = (found.lines had).3.ours; records = inr n.3; each = each-append (old ++ news) (take n.0 more) r.known.each (take_each n.0 more keepable) }),
+            );
+          };
+    }
 
 -- nothing is left of known bytes
 pub at_end : (ahead : List ℕ) (left : Option (List ℕ)) → prepend_known ahead left ≡ Some [] → left ≡ Some []
@@ -138,32 +230,38 @@ at_end (b ∷ ahead) (Some bytes) is = absurd (let e : b ∷ (ahead ++ bytes) �
 
 -- the input was read to its end
 pub done : (before now : Outside) (kept : Kept) (progress : Progress) (news : List (List ℕ)) → Running before now kept progress news → ((input : List ℕ) → before.input ≡ Some input → prepend_known progress.ahead now.input ≡ Some []) → Ran before now Done
+unfolding between
 done before now kept progress news so_far ended = record {
-  lines = λ files new old tells told has fine.
-      let r = so_far.lines files old tells has in
-      let same : r.0 ≡ new = let e = sym r.1 ∙ told in cc in (
-        news,
-        subst (λ (f : Files). HasLines (f line_file) (old ++ news)) same r.2,
-        (added old news, r.4, ([], sym (append-nil (added old news)))),
-        λ input known.
-            let all = whole input known in ((([], sym (append-nil news ∙ sym all.0))), λ is. sym all.0),
-      );
-  others = so_far.others.0;
-  kept = λ files old tells has.
-      let r = so_far.lines files old tells has in
-      (r.0, news, [], added old news, r.1, r.2.bytes ∙ sym (append-nil (text_of (old ++ news))), r.4, ([], sym (append-nil (added old news))));
-  grows = so_far.others.1;
-  early = λ is. elim is [ inl e ↦ absurd (cc) | inr e ↦ absurd (let f = e.1 in cc) ];
+  gains = λ files old tells has.
+      let part = between before now now NoMemory kept progress news (λ e. absurd (cc)) so_far refl refl (λ P leaves. leaves) (λ image left. left) files old tells has in
+      record {
+        news = part.news;
+        kept = part.kept;
+        told = part.told;
+        new = part.new;
+        text = part.text;
+        acknowledged = part.acknowledged;
+        no_more = part.no_more;
+        one = part.one;
+        settled = λ fine. part.settled (λ e. absurd (cc));
+        tells = part.tells;
+        lines = part.lines;
+        offers = λ input known. let all = whole input known in (([], sym (append-nil news ∙ sym all.0)), λ is. sym all.0);
+        written = part.written;
+        printed = part.printed;
+        whole = λ is. refl;
+        stops = part.stops;
+        now = part.now;
+      };
+  spares = lists_spare before now so_far.opened;
+  others = so_far.others;
+  early = elim [ inl e ↦ absurd (cc) | inr (inl e) ↦ absurd (let f = e.1 in cc) | inr (inr e) ↦ absurd (let f = e.1 in cc) ];
   untouched = λ is. absurd (cc);
   opened = λ is. so_far.opened;
-  text = λ files old input tells has known.
-      let r = so_far.lines files old tells has in
-      let all = whole input known in
-      let same : added old news ≡ added old (offered input) = ap (added old) (sym all.0) in
-      (added old news, r.4, ([], sym (append-nil (added old news) ∙ same)), λ is. same);
-  whole = λ is input known. (at_end progress.ahead now.input (ended input known), (whole input known).1);
+  read = λ is input known. (at_end progress.ahead now.input (ended input known), (whole input known).1);
   line = λ n is. absurd (cc);
   not_ours = λ n is. absurd (cc);
+  damaged = λ n is. absurd (cc);
   disk = λ is. absurd (cc);
   input = λ is. absurd (cc);
   output = λ is. absurd (cc);
@@ -179,27 +277,11 @@ done before now kept progress news so_far ended = record {
         let reads : ReadsOn start progress input [] news = subst (λ (bytes : List ℕ). ReadsOn start progress input bytes news) none s.2 in
         (reads.offers ∙ append-nil news, reads.refuses)
 
--- nothing was changed
-pub unchanged : (before after : Outside) → after.files ≡ before.files → after.output ≡ before.output → LeavesPart before after
-unchanged before after files output = λ told old tells has. (
-  told,
-  [],
-  [],
-  files ∙ tells,
-  subst (HasLines (told line_file)) (sym (append-nil old)) has,
-  subst (λ (w : Option (List ℕ)). Appends before.output w []) (sym output) (Appends-nil before.output),
-  (added old [], refl),
-  λ input known. (offered input, refl),
-)
-
-pub same_others : (before after : Outside) → after.files ≡ before.files → Keeps before.files after.files
-same_others before after files = keeps_same before.files after.files files
-
--- want of memory, with a front of the lines kept
-pub no_memory : (before after : Outside) → LeavesPart before after → Keeps before.files after.files → NeverFalls before after → Ran before after NoMemory
-no_memory before after part others later = stops before after NoMemory (λ fine. part) (text_of_part before after part) (kept_of_part before after part) others (record {
+-- want of memory
+pub no_memory : (before after : Outside) → GainsAll before after NoMemory → SparesAll before after → KeepsOthers before.files after.files → NeverFalls before after → Ran before after NoMemory
+no_memory before after gains spares others later = stops before after NoMemory gains spares others (record {
   not_done = λ e. absurd (cc);
-  not_early = elim [ inl e ↦ absurd (cc) | inr e ↦ absurd (let f = e.1 in cc) ];
+  not_early = elim [ inl e ↦ absurd (cc) | inr (inl e) ↦ absurd (let f = e.1 in cc) | inr (inr e) ↦ absurd (let f = e.1 in cc) ];
   opened = λ e. absurd (cc);
   line = λ n e. absurd (cc);
   disk = λ e. absurd (cc);
@@ -207,10 +289,10 @@ no_memory before after part others later = stops before after NoMemory (λ fine.
   output = λ e. absurd (cc);
 }) later
 
-pub disk_fault : (before after : Outside) → LeavesText before after → LeavesKept before after → Keeps before.files after.files → Rose before.disk_faults after.disk_faults → NeverFalls before after → Ran before after DiskFault
-disk_fault before after text kept others rose later = stops before after DiskFault (λ fine. absurd (fine refl)) text kept others (record {
+pub disk_fault : (before after : Outside) → GainsAll before after DiskFault → SparesAll before after → KeepsOthers before.files after.files → Rose before.disk_faults after.disk_faults → NeverFalls before after → Ran before after DiskFault
+disk_fault before after gains spares others rose later = stops before after DiskFault gains spares others (record {
   not_done = λ e. absurd (cc);
-  not_early = elim [ inl e ↦ absurd (cc) | inr e ↦ absurd (let f = e.1 in cc) ];
+  not_early = elim [ inl e ↦ absurd (cc) | inr (inl e) ↦ absurd (let f = e.1 in cc) | inr (inr e) ↦ absurd (let f = e.1 in cc) ];
   opened = λ e. absurd (cc);
   line = λ n e. absurd (cc);
   disk = λ e. rose;
@@ -218,10 +300,10 @@ disk_fault before after text kept others rose later = stops before after DiskFau
   output = λ e. absurd (cc);
 }) later
 
-pub input_fault : (before after : Outside) → LeavesPart before after → ForSome before.files (λ files. (old : List (List ℕ)) × HasLines (files line_file) old) → Keeps before.files after.files → Rose before.input_faults after.input_faults → NeverFalls before after → Ran before after InputFault
-input_fault before after part opened others rose later = stops before after InputFault (λ fine. part) (text_of_part before after part) (kept_of_part before after part) others (record {
+pub input_fault : (before after : Outside) → GainsAll before after InputFault → SparesAll before after → OpenedBefore before → KeepsOthers before.files after.files → Rose before.input_faults after.input_faults → NeverFalls before after → Ran before after InputFault
+input_fault before after gains spares opened others rose later = stops before after InputFault gains spares others (record {
   not_done = λ e. absurd (cc);
-  not_early = elim [ inl e ↦ absurd (cc) | inr e ↦ absurd (let f = e.1 in cc) ];
+  not_early = elim [ inl e ↦ absurd (cc) | inr (inl e) ↦ absurd (let f = e.1 in cc) | inr (inr e) ↦ absurd (let f = e.1 in cc) ];
   opened = λ e. opened;
   line = λ n e. absurd (cc);
   disk = λ e. absurd (cc);
@@ -229,10 +311,10 @@ input_fault before after part opened others rose later = stops before after Inpu
   output = λ e. absurd (cc);
 }) later
 
-pub output_fault : (before after : Outside) → LeavesPart before after → ForSome before.files (λ files. (old : List (List ℕ)) × HasLines (files line_file) old) → Keeps before.files after.files → Rose before.output_faults after.output_faults → NeverFalls before after → Ran before after OutputFault
-output_fault before after part opened others rose later = stops before after OutputFault (λ fine. part) (text_of_part before after part) (kept_of_part before after part) others (record {
+pub output_fault : (before after : Outside) → GainsAll before after OutputFault → SparesAll before after → OpenedBefore before → KeepsOthers before.files after.files → Rose before.output_faults after.output_faults → NeverFalls before after → Ran before after OutputFault
+output_fault before after gains spares opened others rose later = stops before after OutputFault gains spares others (record {
   not_done = λ e. absurd (cc);
-  not_early = elim [ inl e ↦ absurd (cc) | inr e ↦ absurd (let f = e.1 in cc) ];
+  not_early = elim [ inl e ↦ absurd (cc) | inr (inl e) ↦ absurd (let f = e.1 in cc) | inr (inr e) ↦ absurd (let f = e.1 in cc) ];
   opened = λ e. opened;
   line = λ n e. absurd (cc);
   disk = λ e. absurd (cc);
@@ -240,10 +322,10 @@ output_fault before after part opened others rose later = stops before after Out
   output = λ e. rose;
 }) later
 
-pub line_refused : (before after : Outside) (n : ℕ) → LeavesPart before after → ForSome before.files (λ files. (old : List (List ℕ)) × HasLines (files line_file) old) → Keeps before.files after.files → ForSome before.input (λ input. refused input ≡ Some n) → NeverFalls before after → Ran before after (LineRefused n)
-line_refused before after n part opened others refuses later = stops before after (LineRefused n) (λ fine. part) (text_of_part before after part) (kept_of_part before after part) others (record {
+pub line_refused : (before after : Outside) (n : ℕ) → GainsAll before after (LineRefused n) → SparesAll before after → OpenedBefore before → KeepsOthers before.files after.files → ForSome before.input (λ input. refused input ≡ Some n) → NeverFalls before after → Ran before after (LineRefused n)
+line_refused before after n gains spares opened others refuses later = stops before after (LineRefused n) gains spares others (record {
   not_done = λ e. absurd (cc);
-  not_early = elim [ inl e ↦ absurd (cc) | inr e ↦ absurd (let f = e.1 in cc) ];
+  not_early = elim [ inl e ↦ absurd (cc) | inr (inl e) ↦ absurd (let f = e.1 in cc) | inr (inr e) ↦ absurd (let f = e.1 in cc) ];
   opened = λ e. opened;
   line = λ m e. let same : n ≡ m = cc in subst (λ (k : ℕ). ForSome before.input (λ input. refused input ≡ Some k)) same refuses;
   disk = λ e. absurd (cc);
@@ -251,79 +333,63 @@ line_refused before after n part opened others refuses later = stops before afte
   output = λ e. absurd (cc);
 }) later
 
--- a store that holds no list of lines
-pub not_ours : (before after : Outside) (n : ℕ) → after.files ≡ before.files → after.input ≡ before.input → after.output ≡ before.output → ForSome before.files (λ files. IsBrokenAt (files line_file) n) → NeverFalls before after → Ran before after (NotOurs n)
-not_ours before after n files input output broken later =
-    let part = unchanged before after files output in
-    record {
-      lines = λ told new old tells has fine not.
-          let p = part told old tells fine in
-          let same : p.0 ≡ new = let e = sym p.3 ∙ has in cc in
-          (p.1, subst (λ (f : Files). HasLines (f line_file) (old ++ p.1)) same p.4, (p.2, p.5, p.6), λ input known. (p.7 input known, λ is. absurd (cc)));
-      others = (same_others before after files).0;
-      kept = kept_of_part before after part;
-      grows = (same_others before after files).1;
-      early = λ is. (files, input, output);
-      untouched = λ is. absurd (cc);
-      opened = λ is. absurd (cc);
-      text = λ told old input tells has known. let t = text_of_part before after part old input known told tells has in (t.0, t.1, t.2, λ is. absurd (cc));
-      whole = λ is. absurd (cc);
-      line = λ m is. absurd (cc);
-      not_ours = λ m is. let same : n ≡ m = cc in subst (λ (k : ℕ). ForSome before.files (λ told. IsBrokenAt (told line_file) k)) same broken;
-      disk = λ is. absurd (cc);
-      input = λ is. absurd (cc);
-      output = λ is. absurd (cc);
-      disk_later = later.disk;
-      input_later = later.input;
-      output_later = later.output;
-    }
+-- a store of another make
+pub not_ours : (before after : Outside) (n : ℕ) → GainsAll before after (NotOurs n) → SparesAll before after → KeepsOthers before.files after.files → after.files ≡ before.files → after.input ≡ before.input → after.output ≡ before.output → (n ≡ 0) × ForSome before.files (λ files. 1 < length (files other_file)) → NeverFalls before after → Ran before after (NotOurs n)
+not_ours before after n gains spares others files input output cause later = record {
+  gains = gains;
+  spares = spares;
+  others = others;
+  early = λ is. (files, input, output);
+  untouched = λ is. absurd (cc);
+  opened = λ is. absurd (cc);
+  read = λ is. absurd (cc);
+  line = λ m is. absurd (cc);
+  not_ours = λ m is. let same : n ≡ m = cc in subst (λ (k : ℕ). (k ≡ 0) × ForSome before.files (λ told. 1 < length (told other_file))) same cause;
+  damaged = λ m is. absurd (cc);
+  disk = λ is. absurd (cc);
+  input = λ is. absurd (cc);
+  output = λ is. absurd (cc);
+  disk_later = later.disk;
+  input_later = later.input;
+  output_later = later.output;
+}
 
--- a refused opening
-pub not_opened : (before after : Outside) (fault : OpenFault) → after.files ≡ before.files → after.input ≡ before.input → after.output ≡ before.output → ((n : ℕ) → fault ≡ OpenNotOurs n → ForSome before.files (λ files. IsBrokenAt (files line_file) n)) → (fault ≡ OpenFailed → Rose before.disk_faults after.disk_faults) → NeverFalls before after → Ran before after (ending_of_open fault)
-not_opened before after (OpenNotOurs n) files input output broken failed later = not_ours before after n files input output (broken n refl) later
-not_opened before after OpenFailed files input output broken failed later = disk_fault before after (text_of_part before after (unchanged before after files output)) (kept_of_part before after (unchanged before after files output)) (same_others before after files) (failed refl) later
-not_opened before after OpenMemory files input output broken failed later = no_memory before after (unchanged before after files output) (same_others before after files) later
-
--- a refused batch
-pub not_read : (before after : Outside) (fault : ReadFault) → LeavesPart before after → ForSome before.files (λ files. (old : List (List ℕ)) × HasLines (files line_file) old) → Keeps before.files after.files → ((n : ℕ) → fault ≡ ReadRefused n → ForSome before.input (λ input. refused input ≡ Some n)) → (fault ≡ ReadFailed → Rose before.input_faults after.input_faults) → NeverFalls before after → Ran before after (ending_of_read fault)
-not_read before after (ReadRefused n) part opened others refuses failed later = line_refused before after n part opened others (refuses n refl) later
-not_read before after ReadFailed part opened others refuses failed later = input_fault before after part opened others (failed refl) later
-not_read before after ReadMemory part opened others refuses failed later = no_memory before after part others later
-
--- a batch that was not done whole
-pub not_committed : (before after : Outside) (fault : CommitFault) → (fault ≢ Disk → LeavesPart before after) → (fault ≡ Disk → LeavesText before after) → (fault ≡ Disk → LeavesKept before after) → ForSome before.files (λ files. (old : List (List ℕ)) × HasLines (files line_file) old) → Keeps before.files after.files → (fault ≡ Disk → Rose before.disk_faults after.disk_faults) → (fault ≡ Output → Rose before.output_faults after.output_faults) → NeverFalls before after → Ran before after (ending_of_commit fault)
-not_committed before after Disk part text kept opened others disk output later = disk_fault before after (text refl) (kept refl) others (disk refl) later
-not_committed before after Output part text kept opened others disk output later = output_fault before after (part (λ e. absurd (cc))) opened others (output refl) later
-not_committed before after Memory part text kept opened others disk output later = no_memory before after (part (λ e. absurd (cc))) others later
-
--- what was written between two batches is a front of the text
-pub text_between : (before now after : Outside) (kept : Kept) (progress : Progress) (news : List (List ℕ)) → Running before now kept progress news → after.output ≡ now.output → LeavesText before after
-text_between before now after kept progress news so_far output = λ old input known told tells has.
-    let r = so_far.lines told old tells has in
-    let s = so_far.reads input known in
-    let rest = offered_from (progress.number + 1) s.0 in
-    (added old news, subst (λ (w : Option (List ℕ)). Appends before.output w (added old news)) (sym output) r.4, (added (old ++ news) rest, ap (added old) s.2.offers ∙ added-append old news rest))
+-- a damaged store
+pub damaged : (before after : Outside) (n : ℕ) → GainsAll before after (Damaged n) → SparesAll before after → KeepsOthers before.files after.files → after.files ≡ before.files → after.input ≡ before.input → after.output ≡ before.output → ForSome before.files (λ files. (length (files other_file) ≤ 1) × IsDamagedAt (files line_file) n) → NeverFalls before after → Ran before after (Damaged n)
+damaged before after n gains spares others files input output cause later = record {
+  gains = gains;
+  spares = spares;
+  others = others;
+  early = λ is. (files, input, output);
+  untouched = λ is. absurd (cc);
+  opened = λ is. absurd (cc);
+  read = λ is. absurd (cc);
+  line = λ m is. absurd (cc);
+  not_ours = λ m is. absurd (cc);
+  damaged = λ m is. let same : n ≡ m = cc in subst (λ (k : ℕ). ForSome before.files (λ told. (length (told other_file) ≤ 1) × IsDamagedAt (told line_file) k)) same cause;
+  disk = λ is. absurd (cc);
+  input = λ is. absurd (cc);
+  output = λ is. absurd (cc);
+  disk_later = later.disk;
+  input_later = later.input;
+  output_later = later.output;
+}
 
 -- nothing was called
-pub words_refused : (before : Outside) → Ran before before WordsRefused
-words_refused before =
-    let part = unchanged before before refl refl in
-    let same = keeps_same before.files before.files refl in
+pub words_refused : (before : Outside) → ((image : Files) → before.images_since before.moment image → before.images image) → ((t : ℕ) (image : Files) → t ≤ before.moment → before.images image → before.images_since t image) → Ran before before WordsRefused
+words_refused before only counts =
+    let leaves : LeavesOnly before before (Follows (ChangesFile line_file IsOpened) before.images) = stays (λ (o : Outside). o.moment) (λ (o : Outside). o.images_since) before _ (λ image since. (image, only image since, same_file image)) in
     record {
-      lines = λ told new old tells now has fine.
-          let p = part told old tells has in
-          let same : p.0 ≡ new = let e = sym p.3 ∙ now in cc in
-          (p.1, subst (λ (f : Files). HasLines (f line_file) (old ++ p.1)) same p.4, (p.2, p.5, p.6), λ input known. (p.7 input known, λ is. absurd (cc)));
-      others = same.0;
-      kept = kept_of_part before before part;
-      grows = same.1;
+      gains = not_begun before before WordsRefused (λ e. absurd (cc)) (changes_none before.files) leaves counts refl;
+      spares = λ files tells none. record { files = changes_none before.files; stops = leaves; input = refl; output = refl };
+      others = others_same before.files before.files refl;
       early = λ is. (refl, refl, refl);
-      untouched = λ is. refl;
+      untouched = λ is. record { files = refl; moment = refl; disk_faults = refl; input = refl; input_faults = refl; output = refl; output_faults = refl };
       opened = λ is. absurd (cc);
-      text = λ told old input tells has known. let t = text_of_part before before part old input known told tells has in (t.0, t.1, t.2, λ is. absurd (cc));
-      whole = λ is. absurd (cc);
+      read = λ is. absurd (cc);
       line = λ n is. absurd (cc);
       not_ours = λ n is. absurd (cc);
+      damaged = λ n is. absurd (cc);
       disk = λ is. absurd (cc);
       input = λ is. absurd (cc);
       output = λ is. absurd (cc);
@@ -331,10 +397,55 @@ words_refused before =
       input_later = omega arith;
       output_later = omega arith;
     }
+  where
+    changes_none : (told : Option Files) → Changes line_file IsOpened told told
+    changes_none None = refl
+    changes_none (Some files) = (files, refl, same_file files)
 
--- and it is of lines that the line file begins with, which only grew
-pub kept_between : (before now after : Outside) (kept : Kept) (progress : Progress) (news : List (List ℕ)) → Running before now kept progress news → after.output ≡ now.output → Grows now.files after.files → LeavesKept before after
-kept_between before now after kept progress news so_far output grows = λ told old tells has.
-    let r = so_far.lines told old tells has in
-    let g = grows r.0 r.1 in
-    (g.0, news, g.2, added old news, g.1, g.3 ∙ ap (λ (front : List ℕ). front ++ g.2) r.2.bytes, subst (λ (w : Option (List ℕ)). Appends before.output w (added old news)) (sym output) r.4, ([], sym (append-nil (added old news))))
+-- a refused opening
+pub not_opened : (before after : Outside) (fault : OpenFault) → GainsAll before after (ending_of_open fault) → SparesAll before after → KeepsOthers before.files after.files → ((n : ℕ) → fault ≡ OpenNotOurs n → after.files ≡ before.files) → ((n : ℕ) → fault ≡ OpenDamaged n → after.files ≡ before.files) → after.input ≡ before.input → after.output ≡ before.output
+    → ((n : ℕ) → fault ≡ OpenNotOurs n → (n ≡ 0) × ForSome before.files (λ files. 1 < length (files other_file))) → ((n : ℕ) → fault ≡ OpenDamaged n → ForSome before.files (λ files. (length (files other_file) ≤ 1) × IsDamagedAt (files line_file) n)) → (fault ≡ OpenFailed → Rose before.disk_faults after.disk_faults) → NeverFalls before after → Ran before after (ending_of_open fault)
+not_opened before after (OpenNotOurs n) gains spares others same same' input output ours broken failed later = not_ours before after n gains spares others (same n refl) input output (ours n refl) later
+not_opened before after (OpenDamaged n) gains spares others same same' input output ours broken failed later = damaged before after n gains spares others (same' n refl) input output (broken n refl) later
+not_opened before after OpenFailed gains spares others same same' input output ours broken failed later = disk_fault before after gains spares others (failed refl) later
+not_opened before after OpenMemory gains spares others same same' input output ours broken failed later = no_memory before after gains spares others later
+
+pub open_not_done : (fault : OpenFault) → ending_of_open fault ≢ Done
+open_not_done (OpenNotOurs n) = λ e. absurd (cc)
+open_not_done (OpenDamaged n) = λ e. absurd (cc)
+open_not_done OpenFailed = λ e. absurd (cc)
+open_not_done OpenMemory = λ e. absurd (cc)
+
+-- a refused batch
+pub not_read : (before after : Outside) (fault : ReadFault) → GainsAll before after (ending_of_read fault) → SparesAll before after → OpenedBefore before → KeepsOthers before.files after.files → ((n : ℕ) → fault ≡ ReadRefused n → ForSome before.input (λ input. refused input ≡ Some n)) → (fault ≡ ReadFailed → Rose before.input_faults after.input_faults) → NeverFalls before after → Ran before after (ending_of_read fault)
+not_read before after (ReadRefused n) gains spares opened others refuses failed later = line_refused before after n gains spares opened others (refuses n refl) later
+not_read before after ReadFailed gains spares opened others refuses failed later = input_fault before after gains spares opened others (failed refl) later
+not_read before after ReadMemory gains spares opened others refuses failed later = no_memory before after gains spares others later
+
+pub read_not_done : (fault : ReadFault) → ending_of_read fault ≢ Done
+read_not_done (ReadRefused n) = λ e. absurd (cc)
+read_not_done ReadFailed = λ e. absurd (cc)
+read_not_done ReadMemory = λ e. absurd (cc)
+
+-- a batch that was not done whole
+pub not_committed : (before after : Outside) (fault : CommitFault) → GainsAll before after (ending_of_commit fault) → SparesAll before after → OpenedBefore before → KeepsOthers before.files after.files → (fault ≡ Disk → Rose before.disk_faults after.disk_faults) → (fault ≡ Output → Rose before.output_faults after.output_faults) → NeverFalls before after → Ran before after (ending_of_commit fault)
+not_committed before after Disk gains spares opened others disk output later = disk_fault before after gains spares others (disk refl) later
+not_committed before after Output gains spares opened others disk output later = output_fault before after gains spares opened others (output refl) later
+not_committed before after Memory gains spares opened others disk output later = no_memory before after gains spares others later
+
+pub commit_not_done : (fault : CommitFault) → ending_of_commit fault ≢ Done
+commit_not_done Disk = λ e. absurd (cc)
+commit_not_done Output = λ e. absurd (cc)
+commit_not_done Memory = λ e. absurd (cc)
+
+-- a batch that ends in another way than by a disk fault is settled
+pub not_disk : (fault : CommitFault) → ending_of_commit fault ≢ DiskFault → fault ≢ Disk
+not_disk fault not is = not (ap ending_of_commit is)
+
+-- what a batch in which some was appended does to other files
+pub others_part : (before now after : Outside) (kept : Kept) (progress : Progress) (news more : List (List ℕ)) (IsSettled : Type 0) → Running before now kept progress news → ((lines : List (List ℕ)) → IsKept now.images kept lines → CommitsPartOutside now after lines more IsSettled) → KeepsOthers before.files after.files
+others_part before now after kept progress news more IsSettled so_far commits = λ files tells.
+    let had = so_far.opened files tells in
+    let r = so_far.grown files had.0 tells had.1 in
+    let p = commits (had.0 ++ news) r.known in
+    others_both before.files now.files after.files so_far.others (others_step now.files after.files _ p.extends.tells) files tells

@@ -8,13 +8,13 @@ use Rattle.irl_io.specs.Written.{AppendsFront}
 use Rattle.irl_bay.specs.declared.kept.Fault.{Fault}
 use Rattle.irl_bay.specs.declared.kept.Fault.TheVariants.{Failed as AppendFailed, Memory as AppendMemory}
 use Rattle.irl_bay.specs.declared.kept.OpenFault.{OpenFault}
-use Rattle.irl_bay.specs.declared.kept.OpenFault.TheVariants.{NotOurs as OpenNotOurs, Failed as OpenFailed, Memory as OpenMemory}
+use Rattle.irl_bay.specs.declared.kept.OpenFault.TheVariants.{NotOurs as OpenNotOurs, Damaged as OpenDamaged, Failed as OpenFailed, Memory as OpenMemory}
 use Rattle.irl_top.specs.declared.batch.ReadFault.{ReadFault}
 use Rattle.irl_top.specs.declared.batch.ReadFault.TheVariants.{LineRefused as ReadRefused, Failed as ReadFailed, Memory as ReadMemory}
 use Rattle.irl_top.specs.declared.commit.CommitFault.{CommitFault}
 use Rattle.irl_top.specs.declared.commit.CommitFault.TheVariants.{Disk, Output, Memory}
 use Rattle.irl_top.specs.declared.ending.Ending.{Ending}
-use Rattle.irl_top.specs.declared.ending.Ending.TheVariants.{Done, WordsRefused, LineRefused, NotOurs, DiskFault, InputFault, OutputFault, NoMemory}
+use Rattle.irl_top.specs.declared.ending.Ending.TheVariants.{Done, WordsRefused, LineRefused, NotOurs, Damaged, DiskFault, InputFault, OutputFault, NoMemory}
 
 -- the exit status
 abbrev pub status_of : Ending → ℕ
@@ -22,6 +22,7 @@ status_of Done = 0
 status_of WordsRefused = 1
 status_of (LineRefused n) = 2
 status_of (NotOurs n) = 3
+status_of (Damaged n) = 3
 status_of DiskFault = 4
 status_of InputFault = 5
 status_of OutputFault = 6
@@ -38,7 +39,8 @@ abbrev pub message : List ℕ → Ending → List ℕ
 message word Done = []
 message word WordsRefused = codes "words refused: " ++ word ++ 10 ∷ []
 message word (LineRefused n) = codes "line " ++ decimal n ++ (codes " refused" ++ 10 ∷ [])
-message word (NotOurs n) = codes "not a store: byte " ++ decimal n ++ (codes " of file 0998" ++ 10 ∷ [])
+message word (NotOurs n) = codes "not a store: byte " ++ decimal n ++ (codes " of file 0000" ++ 10 ∷ [])
+message word (Damaged n) = codes "damaged: byte " ++ decimal n ++ (codes " of file 0999" ++ 10 ∷ [])
 message word DiskFault = codes "disk fault" ++ 10 ∷ []
 message word InputFault = codes "input fault" ++ 10 ∷ []
 message word OutputFault = codes "output fault" ++ 10 ∷ []
@@ -57,6 +59,7 @@ commit_fault_of AppendMemory = Memory
 -- what a refused opening, and a refused batch, end a run with
 abbrev pub ending_of_open : OpenFault → Ending
 ending_of_open (OpenNotOurs at) = NotOurs at
+ending_of_open (OpenDamaged at) = Damaged at
 ending_of_open OpenFailed = DiskFault
 ending_of_open OpenMemory = NoMemory
 

@@ -7,7 +7,7 @@ use Rattle.irl_offer.specs.declared.offer.Verdict.{Verdict}
 use Rattle.irl_offer.specs.declared.offer.Verdict.TheVariants.{Unique, Absent, Known}
 use Rattle.irl_offer.specs.Tuple.{Tuple}
 use Rattle.irl_model.specs.Judging.{judgements}
-use Rattle.irl_bay.specs.LineFile.{line_tuple}
+use Rattle.irl_bay.specs.Lines.{line_tuple}
 
 -- a text and LF where it was judged Unique, and else nothing
 abbrev pub line_if_unique : List ℕ → Option Verdict → List ℕ

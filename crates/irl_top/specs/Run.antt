@@ -1,20 +1,25 @@
--- What a run of `seen` does, by what the store, the source and the two sinks tell before it and after it.
-use Rattle.std.specs.Prelude.{◌≡◌, ◌≢◌, ◌≤◌, ◌⊎◌, ℕ, List, [], ◌++◌, Bool, true, false, IsTrue, Option, None, Some, unwrap_or, ◌↔◌}
+-- What a run of `seen` does, by what the store, the source and the two sinks tell before it and after it, and by what a
+-- stop at any moment leaves of the store.
+use Rattle.std.specs.Prelude.{◌≡◌, ◌≢◌, ◌+◌, ◌<◌, ◌≤◌, ◌⊎◌, ℕ, List, [], ◌++◌, length, take, Bool, true, false, IsTrue, Option, None, Some, unwrap_or, ◌↔◌}
 use Rattle.std.specs.Option.{IsSome, ForSome}
 use Rattle.std.specs.Io.KnownBytes.{Appends}
 use Rattle.irl_offer.specs.Faults.{Rose}
-use Rattle.irl_disk.specs.Disk.{Files}
-use Rattle.irl_bay.specs.LineFile.{line_file, text_of, HasLines, IsBrokenAt}
-use Rattle.irl_bay.specs.Kept.{Grows}
+use Rattle.irl_disk.specs.Disk.{Files, Changes, ChangesFile}
+use Rattle.irl_disk.specs.Images.{Follows, Leaves}
+use Rattle.irl_journal.specs.Visiting.{IsOpened}
+use Rattle.irl_bay.specs.Lines.{line_file, other_file, HasLines, IsDamagedAt}
 use Rattle.irl_top.specs.declared.ending.Ending.{Ending}
-use Rattle.irl_top.specs.declared.ending.Ending.TheVariants.{Done, WordsRefused, LineRefused, NotOurs, DiskFault, InputFault, OutputFault, NoMemory}
+use Rattle.irl_top.specs.declared.ending.Ending.TheVariants.{Done, WordsRefused, LineRefused, NotOurs, Damaged, DiskFault, InputFault, OutputFault, NoMemory}
 use Rattle.irl_top.specs.Input.{refused, offered, IsFrontOf}
 use Rattle.irl_top.specs.Message.{Says, message, refused_word, status_of}
 use Rattle.irl_top.specs.Printed.{added}
 
--- what the objects that a run is handed tell at one moment, and how often each has failed
-pub record Outside : Type 0 where
+-- what the objects that a run is handed tell at one moment, what a stop leaves of the store, and how often each has failed
+pub record Outside : Type 1 where
   pub files : Option Files
+  pub images : Files → Type 0
+  pub moment : ℕ
+  pub images_since : ℕ → Files → Type 0
   pub disk_faults : ℕ
   pub input : Option (List ℕ)
   pub input_faults : ℕ
@@ -23,7 +28,7 @@ pub record Outside : Type 0 where
 
 -- an ending before anything was read of the input
 abbrev pub IsEarly : Ending → Type 0
-IsEarly ending = (ending ≡ WordsRefused) ⊎ ((n : ℕ) × (ending ≡ NotOurs n))
+IsEarly ending = (ending ≡ WordsRefused) ⊎ ((n : ℕ) × (ending ≡ NotOurs n)) ⊎ ((n : ℕ) × (ending ≡ Damaged n))
 
 -- an ending that comes only once the store is opened
 abbrev pub is_late : Ending → Bool
@@ -31,38 +36,93 @@ is_late Done = true
 is_late WordsRefused = false
 is_late (LineRefused n) = true
 is_late (NotOurs n) = false
+is_late (Damaged n) = false
 is_late DiskFault = false
 is_late InputFault = true
 is_late OutputFault = true
 is_late NoMemory = false
 
+-- nothing was called: what is told is as it was, and the clock stands
+pub record IsUntouched (before after : Outside) : Type 0 where
+  pub files : after.files ≡ before.files
+  pub moment : after.moment ≡ before.moment
+  pub disk_faults : after.disk_faults ≡ before.disk_faults
+  pub input : after.input ≡ before.input
+  pub input_faults : after.input_faults ≡ before.input_faults
+  pub output : after.output ≡ before.output
+  pub output_faults : after.output_faults ≡ before.output_faults
+
+-- a store with the old lines, and the first n of the new ones
+abbrev pub HasFront : List (List ℕ) → List (List ℕ) → ℕ → Files → Type 0
+HasFront old news n files = HasLines files (old ++ take n news)
+
+-- a stop at any moment between two leaves a joint image that has P
+abbrev pub LeavesOnly : Outside → Outside → (Files → Type 0) → Type 0
+LeavesOnly before after P = Leaves (λ (o : Outside). o.moment) (λ (o : Outside). o.images_since) before after P
+
+-- This image goes on from one that a stop before the run could leave: every other file is as it was there; and if the old
+-- lines were there, they are here, and then at least so many of the new ones, in order.
+pub record Continues (before : Outside) (old news : List (List ℕ)) (least : ℕ) (image : Files) : Type 0 where
+  pub was : Files
+  pub left : before.images was
+  pub others : (f : ℕ) → f ≢ line_file → image f ≡ was f
+  pub lines : HasLines was old → (n : ℕ) × (least ≤ n) × (n ≤ length news) × HasFront old news n image
+
+-- What a run leaves of a store with these lines, whatever ends it. `news` are all the new lines that stand anywhere after it,
+-- `kept` of them are acknowledged, and `told` stand in the files.
+pub record Gains (before after : Outside) (ending : Ending) (old : List (List ℕ)) : Type 0 where
+  pub news : List (List ℕ)
+  pub kept : ℕ
+  pub told : ℕ
+  pub new : Files
+  pub text : List ℕ
+  pub acknowledged : kept ≤ told
+  pub no_more : told ≤ length news
+  -- one line at most is in doubt, and none but after a disk fault
+  pub one : length news ≤ kept + 1
+  pub settled : ending ≢ DiskFault → kept ≡ length news
+  -- the files have the old lines and then new ones
+  pub tells : after.files ≡ Some new
+  pub lines : HasFront old news told new
+  -- the new lines are a front of those that the input offers, and all of them at Done
+  pub offers : ForSome before.input (λ input. IsFrontOf news (offered input) × (ending ≡ Done → news ≡ offered input))
+  -- what is written is of acknowledged lines: of those that are judged Unique a front, and all of them at Done
+  pub written : Appends before.output after.output text
+  pub printed : IsFrontOf text (added old (take kept news))
+  pub whole : ending ≡ Done → text ≡ added old news
+  -- a stop at any moment leaves what goes on from before the run: the old lines and then some of the new ones
+  pub stops : LeavesOnly before after (Continues before old news 0)
+  -- and a stop from now on leaves each acknowledged one
+  pub now : (image : Files) → after.images image → Continues before old news kept image
+
+-- What a run leaves of a store without a list of lines: its files as they were, but that a line file of at most one byte may
+-- have had its gate written; nothing is read or written.
+pub record Spares (before after : Outside) : Type 0 where
+  pub files : Changes line_file IsOpened before.files after.files
+  pub stops : LeavesOnly before after (Follows (ChangesFile line_file IsOpened) before.images)
+  pub input : after.input ≡ before.input
+  pub output : after.output ≡ before.output
+
 -- One run of `seen`, between what is told before it and after it.
 pub record Ran (before after : Outside) (ending : Ending) : Type 0 where
-  -- the new list is the old one and then a front of the lines that the input offers, all of them at Done; what is written
-  -- is of lines that stand in it
-  pub lines : (files new : Files) (old : List (List ℕ)) → before.files ≡ Some files → after.files ≡ Some new → HasLines (files line_file) old → ending ≢ DiskFault →
-      (news : List (List ℕ)) × HasLines (new line_file) (old ++ news) × ((text : List ℕ) × Appends before.output after.output text × IsFrontOf text (added old news)) × ForSome before.input (λ input. IsFrontOf news (offered input) × (ending ≡ Done → news ≡ offered input))
+  -- over a store with these lines
+  pub gains : (files : Files) (old : List (List ℕ)) → before.files ≡ Some files → HasLines files old → Gains before after ending old
+  -- over any other
+  pub spares : ForSome before.files (λ files. ((old : List (List ℕ)) → HasLines files old → ⊥) → Spares before after)
   -- no other file is changed, and a store that tells goes on telling
   pub others : ForSome before.files (λ files. (new : Files) × (after.files ≡ Some new) × ((f : ℕ) → f ≢ line_file → new f ≡ files f))
-  -- at every ending, a disk fault too: what is written is of lines that the list's file begins with
-  pub kept : (files : Files) (old : List (List ℕ)) → before.files ≡ Some files → HasLines (files line_file) old →
-      (new : Files) × (news : List (List ℕ)) × (rest : List ℕ) × (text : List ℕ) × (after.files ≡ Some new) × (new line_file ≡ text_of (old ++ news) ++ rest) × Appends before.output after.output text × IsFrontOf text (added old news)
-  -- the list's file only grows, at every ending
-  pub grows : Grows before.files after.files
   -- an early ending changes no file, reads nothing and writes nothing
   pub early : IsEarly ending → (after.files ≡ before.files) × (after.input ≡ before.input) × (after.output ≡ before.output)
   -- where the words are refused nothing is called
-  pub untouched : ending ≡ WordsRefused → after ≡ before
+  pub untouched : ending ≡ WordsRefused → IsUntouched before after
   -- a late ending is that of a store with a list of lines
-  pub opened : IsTrue (is_late ending) → ForSome before.files (λ files. (old : List (List ℕ)) × HasLines (files line_file) old)
-  -- the output grows by a front of the new lines that are judged Unique, in order, by all of them at Done
-  pub text : (files : Files) (old : List (List ℕ)) (input : List ℕ) → before.files ≡ Some files → HasLines (files line_file) old → before.input ≡ Some input →
-      (text : List ℕ) × Appends before.output after.output text × IsFrontOf text (added old (offered input)) × (ending ≡ Done → text ≡ added old (offered input))
+  pub opened : IsTrue (is_late ending) → ForSome before.files (λ files. (old : List (List ℕ)) × HasLines files old)
   -- at Done the input was read to its end, and no line of it is refused
-  pub whole : ending ≡ Done → ForSome before.input (λ input. (after.input ≡ Some []) × (refused input ≡ None))
+  pub read : ending ≡ Done → ForSome before.input (λ input. (after.input ≡ Some []) × (refused input ≡ None))
   -- the cause of each other ending
   pub line : (n : ℕ) → ending ≡ LineRefused n → ForSome before.input (λ input. refused input ≡ Some n)
-  pub not_ours : (n : ℕ) → ending ≡ NotOurs n → ForSome before.files (λ files. IsBrokenAt (files line_file) n)
+  pub not_ours : (n : ℕ) → ending ≡ NotOurs n → (n ≡ 0) × ForSome before.files (λ files. 1 < length (files other_file))
+  pub damaged : (n : ℕ) → ending ≡ Damaged n → ForSome before.files (λ files. (length (files other_file) ≤ 1) × IsDamagedAt (files line_file) n)
   pub disk : ending ≡ DiskFault → Rose before.disk_faults after.disk_faults
   pub input : ending ≡ InputFault → Rose before.input_faults after.input_faults
   pub output : ending ≡ OutputFault → Rose before.output_faults after.output_faults
@@ -85,5 +145,5 @@ pub record Runs (words : List (List ℕ)) (before after : Outside) (errors_befor
   -- the error sink is given the ending's line, or a front of it where the sink failed
   pub says : Says (message (unwrap_or (refused_word words) []) ending) errors_before errors_after error_faults_before error_faults_after
   -- over a store with a list of lines, a source that tells and nothing that fails, the ending is that of the input
-  pub completes : (files : Files) (old : List (List ℕ)) (input : List ℕ) → refused_word words ≡ None → before.files ≡ Some files → HasLines (files line_file) old → before.input ≡ Some input →
+  pub completes : (files : Files) (old : List (List ℕ)) (input : List ℕ) → refused_word words ≡ None → before.files ≡ Some files → HasLines files old → before.input ≡ Some input →
       ¬ Rose before.disk_faults after.disk_faults → ¬ Rose before.input_faults after.input_faults → ¬ Rose before.output_faults after.output_faults → EndsWell ending (refused input)

@@ -2,7 +2,7 @@ ghost use Rattle.std.specs.Prelude.{◌≡◌, ◌≤◌, ◌<◌, ◌+◌, ℕ,
 ghost use Rattle.std.specs.Io.KnownBytes.{prepend_known};
 ghost use Rattle.irl_offer.specs.Faults.{Rose};
 ghost use Rattle.irl_io.specs.Lines.{most_lines};
-ghost use Rattle.irl_bay.specs.LineFile.{AreLines};
+ghost use Rattle.irl_bay.specs.Lines.{AreLines};
 ghost use Rattle.irl_top.specs.Batch.{texts, ReadsOnTold, EndsTold, RefusesTold};
 ghost use Rattle.irl_top.specs.declared.batch.ReadFault.TheVariants.{Memory as ReadMemory};
 

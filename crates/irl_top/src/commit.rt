@@ -1,9 +1,9 @@
-ghost use Rattle.std.specs.Prelude.{◌≡◌, ◌≢◌, ◌≤◌, OnOk, OnErr, IsErrOf};
+ghost use Rattle.std.specs.Prelude.{◌≡◌, ◌≢◌, ◌≤◌, ℕ, List, OnOk, OnErr, IsErrOf};
 ghost use Rattle.irl_offer.specs.Faults.{Rose, HasCause};
 ghost use Rattle.std.specs.Io.KnownBytes.{Appends};
 ghost use Rattle.irl_io.specs.Written.{AppendsFront};
-ghost use Rattle.irl_bay.specs.LineFile.{AreLines};
-ghost use Rattle.irl_bay.specs.Kept.{Grows, IsOpen, KeepsOthers};
+ghost use Rattle.irl_bay.specs.Lines.{AreLines};
+ghost use Rattle.irl_bay.specs.Kept.{IsReady, IsKnown, IsKept};
 ghost use Rattle.irl_top.specs.Batch.{texts, Commits, CommitsPart};
 ghost use Rattle.irl_top.specs.declared.commit.CommitFault.TheVariants.{Disk, Output, Memory};
 ghost use Rattle.irl_top.specs.Message.{commit_fault_of};
@@ -62,13 +62,14 @@ pub fn commit<O: Sink, S: Store>(
     offers: &[Offer],
 ) -> Result<(), CommitFault>
     requires lines { AreLines offers.now }
-    requires known { IsOpen (S.contents store.old) kept.old }
-    ensures whole { OnOk result (Commits (S.contents store.old) (S.contents store.new) kept.old kept.new (O.written output.old) (O.written output.new) (texts offers.now)) }
-    ensures known { OnOk result (IsOpen (S.contents store.new) kept.new) }
-    ensures part { OnErr result (result ≢ Err CommitFault.Disk → CommitsPart (S.contents store.old) (S.contents store.new) kept.old (O.written output.old) (O.written output.new) (texts offers.now)) }
-    ensures quiet { IsErrOf result CommitFault.Disk → O.written output.new ≡ O.written output.old }
-    ensures others { KeepsOthers (S.contents store.old) (S.contents store.new) }
-    ensures grows { Grows (S.contents store.old) (S.contents store.new) }
+    requires ready { IsReady kept.old }
+    requires known { IsKnown (S.contents store.old) (S.images store.old) kept.old }
+    ensures ready { OnOk result (IsReady kept.new) }
+    ensures known { OnOk result (IsKnown (S.contents store.new) (S.images store.new) kept.new) }
+    ensures whole { OnOk result ((lines : List (List ℕ)) → IsKept (S.images store.old) kept.old lines →
+        Commits S.contents S.images S.moment S.images_since store.old store.new kept.new (O.written output.old) (O.written output.new) lines (texts offers.now)) }
+    ensures part { OnErr result ((lines : List (List ℕ)) → IsKept (S.images store.old) kept.old lines →
+        CommitsPart S.contents S.images S.moment S.images_since store.old store.new (O.written output.old) (O.written output.new) lines (texts offers.now) (result ≢ Err CommitFault.Disk)) }
     ensures disk_later { S.faults store.old ≤ S.faults store.new }
     ensures output_later { O.faults output.old ≤ O.faults output.new }
     ensures disk { IsErrOf result CommitFault.Disk → Rose (S.faults store.old) (S.faults store.new) }

@@ -9,8 +9,10 @@ pub enum Ending {
     WordsRefused,
     /// The line of this number is too long, or past the last.
     LineRefused(u64),
-    /// The line that begins at this byte of the line file is none that a store keeps.
+    /// The store is of another make: this byte of its first file is not that of a store of ours.
     NotOurs(u64),
+    /// The record at this byte of the line journal passes the file's end, or is no line.
+    Damaged(u64),
     /// The store failed.
     DiskFault,
     /// The source failed.
@@ -33,6 +35,7 @@ impl Ending {
             Ending::WordsRefused => 1,
             Ending::LineRefused(_) => 2,
             Ending::NotOurs(_) => 3,
+            Ending::Damaged(_) => 3,
             Ending::DiskFault => 4,
             Ending::InputFault => 5,
             Ending::OutputFault => 6,

@@ -25,6 +25,7 @@ impl From<OpenFault> for Ending {
     fn from(fault: OpenFault) -> Ending {
         match fault {
             OpenFault::NotOurs(at) => Ending::NotOurs(at),
+            OpenFault::Damaged(at) => Ending::Damaged(at),
             OpenFault::Failed => Ending::DiskFault,
             OpenFault::Memory => Ending::NoMemory,
         }
@@ -64,8 +65,8 @@ pub fn seen<I: Source, O: Sink, S: Store>(
 ) -> Result<(), Ending>
     ensures accepted { ending_of result ≢ WordsRefused }
     ensures ran { Ran
-        (record { files = S.contents store.old; disk_faults = S.faults store.old; input = I.left input.old; input_faults = I.faults input.old; output = O.written output.old; output_faults = O.faults output.old })
-        (record { files = S.contents store.new; disk_faults = S.faults store.new; input = I.left input.new; input_faults = I.faults input.new; output = O.written output.new; output_faults = O.faults output.new })
+        (record { files = S.contents store.old; images = S.images store.old; moment = S.moment store.old; images_since = S.images_since store.old; disk_faults = S.faults store.old; input = I.left input.old; input_faults = I.faults input.old; output = O.written output.old; output_faults = O.faults output.old })
+        (record { files = S.contents store.new; images = S.images store.new; moment = S.moment store.new; images_since = S.images_since store.new; disk_faults = S.faults store.new; input = I.left input.new; input_faults = I.faults input.new; output = O.written output.new; output_faults = O.faults output.new })
         (ending_of result) }
 {
     let mut kept = Kept::open(alloc, store)?;

@@ -1,5 +1,5 @@
 use crate::run;
-use irl_disk::{MemStore, Store};
+use irl_disk::{MemStore, Part, Store};
 use irl_io::{MemSink, MemSource};
 use std::alloc::{AllocError, Global};
 use std::process::Abort;
@@ -7,7 +7,12 @@ use std::sync::Wait;
 use std::test::Fail;
 use std::thread::Threads;
 
-const LINE_FILE: u16 = 998;
+const LINE_FILE: u16 = 999;
+
+const OTHER_FILE: u16 = 998;
+
+// The journal of the one line `ab`: an open gate, the length, the line, and the closed gate.
+const AB: &[u8] = &[0xA5, 2, 0, 0, 0, b'a', b'b', 0];
 
 const ROW: &[u8] = b"http://a.test/\nhttp://b.test/\nhttp://a.test/\n";
 
@@ -125,83 +130,158 @@ fn other_words_are_refused(rt: HostRuntime) -> Result<(), Fail> {
     Ok(())
 }
 
-// The place is that of the first line that is empty, too long or without its LF.
-#[test]
-fn a_broken_list_is_refused(rt: HostRuntime) -> Result<(), Fail> {
+// Whether a store's journal has these bytes and no more.
+fn is_journal<R: Abort + AllocGlobal>(
+    rt: &R,
+    store: &mut MemStore,
+    bytes: &[u8],
+) -> Result<bool, AllocError> {
+    let mut buffer = vec![in rt.alloc(); 0; bytes.len() + 1]?;
+    match store.read(LINE_FILE, 0, &mut buffer) {
+        Ok(count) => Ok(&buffer[..count] == bytes),
+        Err(_) => Ok(false),
+    }
+}
+
+// A run on `ab` over a store with these bytes in a file.
+fn run_over_file<R: Threads + Wait + Sync + Abort + AllocGlobal>(
+    rt: &R,
+    file: u16,
+    bytes: &[u8],
+) -> Result<Left, AllocError> {
     let alloc = rt.alloc();
-    let mut long = vec![in alloc; b'x'; 2049]?;
-    long.push(b'\n')?;
-    for (file, message) in [
-        (
-            b"ab\n\ncd\n".as_slice(),
-            b"not a store: byte 3 of file 0998\n".as_slice(),
-        ),
-        (b"ab\ncd", b"not a store: byte 3 of file 0998\n"),
-        (b"\n", b"not a store: byte 0 of file 0998\n"),
-        (long.as_slice(), b"not a store: byte 0 of file 0998\n"),
+    let mut store = MemStore::new(alloc, Vec::new(alloc));
+    assert!(rt; file < 10_000);
+    assert_eq!(rt; store.write(file, 0, bytes), Ok(()));
+    run_over(rt, &["seen"], b"ab", store, NONE)
+}
+
+#[test]
+fn a_line_stands_in_the_journal(rt: HostRuntime) -> Result<(), Fail> {
+    for (file, bytes) in [
+        (LINE_FILE, b"".as_slice()),
+        (LINE_FILE, &[0xA5]),
+        (OTHER_FILE, b"x"),
     ] {
-        let mut store = MemStore::new(alloc, Vec::new(alloc));
-        assert_eq!(rt; store.write(LINE_FILE, 0, file), Ok(()));
-        let mut left = run_over(&rt, &["seen"], ROW, store, NONE)?;
-        check(&rt, &left, 3, b"", message);
-        assert_eq!(rt; left.store.length(LINE_FILE), Ok(file.len() as u64));
+        let mut left = run_over_file(&rt, file, bytes)?;
+        check(&rt, &left, 0, b"ab\n", b"");
+        assert!(rt; is_journal(&rt, &mut left.store, AB)?);
     }
     Ok(())
 }
 
-// Each call of each object fails once; one number further none does.
+// The place is the gate of the first record that passes the file's end or is no line.
+#[test]
+fn a_damaged_journal_is_refused(rt: HostRuntime) -> Result<(), Fail> {
+    let alloc = rt.alloc();
+    let mut long = vec![in alloc; b'x'; 2055]?;
+    long[..5].copy_from_slice(&[0xA5, 1, 8, 0, 0]);
+    long[2054] = 0;
+    for (bytes, message) in [
+        (
+            [0xA5, 0xFF, 0, 0, 0, 0].as_slice(),
+            b"damaged: byte 0 of file 0999\n".as_slice(),
+        ),
+        (&[0xA5, 0, 0, 0, 0, 0], b"damaged: byte 0 of file 0999\n"),
+        (
+            &[0xA5, 2, 0, 0, 0, b'a', b'b', 0xA5, 0, 0, 0, 0, 0],
+            b"damaged: byte 7 of file 0999\n",
+        ),
+        (&long, b"damaged: byte 0 of file 0999\n"),
+    ] {
+        let mut left = run_over_file(&rt, LINE_FILE, bytes)?;
+        check(&rt, &left, 3, b"", message);
+        assert!(rt; is_journal(&rt, &mut left.store, bytes)?);
+    }
+    let left = run_over_file(&rt, OTHER_FILE, b"xy")?;
+    check(&rt, &left, 3, b"", b"not a store: byte 0 of file 0000\n");
+    Ok(())
+}
+
+// Whether a stop in this call of a run on `ab` leaves the line. What it leaves is opened, and `ab` is printed again just
+// where it was lost.
+fn leaves_line<R: Threads + Wait + Sync + Abort + AllocGlobal>(
+    rt: &R,
+    store: &MemStore,
+    call: u64,
+    part: Part,
+) -> Result<bool, AllocError> {
+    assert!(rt; call < store.calls());
+    let mut image = store.image(rt.alloc(), call, part)?;
+    let is_left = is_journal(rt, &mut image, AB)?;
+    let opened = run_over(rt, &["seen"], b"", image, NONE)?;
+    check(rt, &opened, 0, b"", b"");
+    let again = run_over(rt, &["seen"], b"ab", opened.store, NONE)?;
+    let printed = if is_left { b"".as_slice() } else { b"ab\n" };
+    check(rt, &again, 0, printed, b"");
+    Ok(is_left)
+}
+
+// Of the four calls that append the line the first two leave none, and after the last it stays.
+#[test]
+fn a_stop_leaves_the_line_or_none(rt: HostRuntime) -> Result<(), Fail> {
+    let mut left = run_new(&rt, &["seen"], b"ab", NONE)?;
+    check(&rt, &left, 0, b"ab\n", b"");
+    let calls = left.store.calls();
+    assert_eq!(rt; left.store.length(LINE_FILE), Ok(8));
+    for call in 0..=calls {
+        for part in [Part::Old, Part::New, Part::Torn] {
+            let is_left = leaves_line(&rt, &left.store, call, part)?;
+            assert!(rt; calls - call <= 2 || !is_left, "at {call}");
+            assert!(rt; call < calls || is_left);
+        }
+    }
+    Ok(())
+}
+
+fn check_failing<R: Threads + Wait + Sync + Abort + AllocGlobal>(
+    rt: &R,
+    failing: Failing<'_>,
+    status: u8,
+    errors: &[u8],
+) -> Result<(), AllocError> {
+    let left = run_new(rt, &["seen"], ROW, failing)?;
+    let output = if status == 0 {
+        b"http://a.test/\nhttp://b.test/\n".as_slice()
+    } else {
+        b""
+    };
+    check(rt, &left, status, output, errors);
+    Ok(())
+}
+
+// The first call of each object fails, and the last; one number further none does.
 #[test]
 fn a_fault_ends_the_run(rt: HostRuntime) -> Result<(), Fail> {
-    let whole = b"http://a.test/\nhttp://b.test/\n";
-    for (call, status, output, errors) in [
-        (0, 4, b"".as_slice(), b"disk fault\n".as_slice()),
-        (1, 4, b"", b"disk fault\n"),
-        (2, 0, whole, b""),
+    let calls = run_new(&rt, &["seen"], ROW, NONE)?.store.calls();
+    for (call, status, errors) in [
+        (0, 4, b"disk fault\n".as_slice()),
+        (calls.saturating_sub(1), 4, b"disk fault\n"),
+        (calls, 0, b""),
     ] {
         let failing = Failing {
             store: &[call],
             ..NONE
         };
-        check(
-            &rt,
-            &run_new(&rt, &["seen"], ROW, failing)?,
-            status,
-            output,
-            errors,
-        );
+        check_failing(&rt, failing, status, errors)?;
     }
-    for (call, status, output, errors) in [
-        (0, 5, b"".as_slice(), b"input fault\n".as_slice()),
-        (1, 5, b"", b"input fault\n"),
-        (2, 0, whole, b""),
+    for (call, status, errors) in [
+        (0, 5, b"input fault\n".as_slice()),
+        (1, 5, b"input fault\n"),
+        (2, 0, b""),
     ] {
         let failing = Failing {
             input: &[call],
             ..NONE
         };
-        check(
-            &rt,
-            &run_new(&rt, &["seen"], ROW, failing)?,
-            status,
-            output,
-            errors,
-        );
+        check_failing(&rt, failing, status, errors)?;
     }
-    for (call, status, output, errors) in [
-        (0, 6, b"".as_slice(), b"output fault\n".as_slice()),
-        (1, 0, whole, b""),
-    ] {
+    for (call, status, errors) in [(0, 6, b"output fault\n".as_slice()), (1, 0, b"")] {
         let failing = Failing {
             output: &[call],
             ..NONE
         };
-        check(
-            &rt,
-            &run_new(&rt, &["seen"], ROW, failing)?,
-            status,
-            output,
-            errors,
-        );
+        check_failing(&rt, failing, status, errors)?;
     }
     Ok(())
 }

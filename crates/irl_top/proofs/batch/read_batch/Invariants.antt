@@ -1,6 +1,6 @@
 use Rattle.std.proofs.Common.{◌+◌, ◌-◌, ◌<◌, ◌≤◌, vec_len}
 use Rattle.irl_io.specs.Lines.{most_lines}
-use Rattle.irl_bay.specs.LineFile.{AreLines}
+use Rattle.irl_bay.specs.Lines.{AreLines}
 use Rattle.irl_top.specs.Batch.{texts, ReadsOnTold}
 use Rattle.irl_top.proofs.batch.read_batch.Given as goal
 

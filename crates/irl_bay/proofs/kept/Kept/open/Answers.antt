@@ -1,39 +1,53 @@
--- What a turn read is a part of the file, and the lines that it took stand there.
-use Rattle.std.proofs.Common.{◌≡◌, ◌∙◌, ℕ, ◌++◌, length, take, drop, subst, arith}
-use Rattle.irl_disk.specs.Disk.{Reads}
-use Rattle.irl_bay.specs.LineFile.{line_file, IsBrokenAt, TakesLines}
-use Rattle.irl_bay.proofs.Opening.{chunk_of, breaks, reads_on}
+-- What the visitor was handed are the lines.
+use Rattle.std.proofs.Common.{◌≡◌, ◌∙◌, ◌⊎◌, inl, inr, ℕ, ◌≤◌, length, map, List, refl, sym, subst, ap, arith, ⊎_elim}
+use Rattle.std.proofs.lemmas.Result.{err_from_is_err_and}
+use Rattle.std.specs.FinMap.{empty}
+use Rattle.irl_offer.specs.declared.offer.Rule.TheVariants.{Keep}
+use Rattle.irl_model.specs.Judging.{after}
+use Rattle.irl_disk.specs.Disk.{Files, ChangesFile}
+use Rattle.irl_disk.specs.Images.{Follows, Leaves}
+use Rattle.irl_disk.proofs.Stretches.{widens, goes_on}
+use Rattle.irl_journal.specs.Visiting.{IsOpened}
+use Rattle.irl_bay.specs.declared.kept.OpenFault.TheVariants.{Damaged}
+use Rattle.irl_bay.specs.Faults.{open_fault_of}
+use Rattle.irl_bay.specs.Lines.{line_file, other_file, line_tuple, HasLines}
+use Rattle.irl_bay.proofs.Lines.{took_lines, damaged_line, told_before, opened_lines, same_file, opened_twice}
 use Rattle.irl_bay.proofs.kept.Kept.open.Goals as goal
 
-pub returns-then-taken-eq0-clause-not_ours : goal.returns-then-taken-eq0-clause-not_ours
-returns-then-taken-eq0-clause-not_ours g c = λ n e files tells.
-    let taken = c.in_ok-taken.ensures in
-    let told = c.loop-kept.invariant.told files tells in
-    let file = files line_file in
-    let end = c.loop-kept.kept.end in
-    let count = c.in_ok-count.count in
-    let read : Reads end (length c.read.new.into) count c.read.new.into file = rw (c.loop-kept.invariant.same ∙ tells) at c.in_ok-count.ensures.bytes in
-    let len : length c.read.new.into ≡ c.loop-kept.piece.len = c.read.auto.into ∙ c.deref_mut.ensures.len in
-    let chunk : take count c.deref.result.now ≡ take count (drop end file) = chunk_of _ _ _ _ count c.deref.ensures.value len ∙ read.bytes in
-    let same : end ≡ n = cc in
-    let none : TakesLines taken.0 0 (take count c.deref.result.now) = subst (λ (k : ℕ). TakesLines taken.0 k (take count c.deref.result.now)) c.if-taken-eq0.true taken.1 in
-    subst (λ (k : ℕ). IsBrokenAt file k) same
-    (breaks file _ end count c.loop-kept.kept.seen told.1.0 taken.0 told.1.1 none chunk (rw (len, c.loop-kept.invariant.piece) at read.count) (omega (arith, told.0, c.loop-kept-test.true)))
+pub returns-in_err-journal-clause-damaged : goal.returns-in_err-journal-clause-damaged
+returns-in_err-journal-clause-damaged g c = λ at e files tells.
+    let out = err_from_is_err_and c.from_residual-in_err-journal.result c.from_residual-in_err-journal.ensures.1 in
+    let value = rw tells at c.in_ok-length.ensures.value in
+    let short : length (files other_file) ≤ 1 = rw (← value) (omega (arith, c.if-branch-gt1.false)) in
+    let is = rw (out.1, out.2) at e in
+    let same : open_fault_of c.in_err-journal.field-0.0 ≡ Damaged at = cc in
+    (short, damaged_line _ _ c.in_err-journal.field-0.0 at same (λ place is. c.in_err-journal.ensures.damaged place (rw is refl) files (c.in_ok-length.ensures.same ∙ tells)))
 
-pub loop-kept-preserved : goal.loop-kept-preserved
-loop-kept-preserved g c =
-    record {
-      same = c.in_ok-count.ensures.same ∙ c.loop-kept.invariant.same;
-      later = omega (arith, c.loop-kept.invariant.later, c.in_ok-count.ensures.cause.later);
-      piece = c.loop-kept.invariant.piece;
-      told = λ files tells.
-          let taken = c.in_ok-taken.ensures in
-          let told = c.loop-kept.invariant.told files tells in
-          let file = files line_file in
-          let end = c.loop-kept.kept.end in
-          let count = c.in_ok-count.count in
-          let read : Reads end (length c.read.new.into) count c.read.new.into file = rw (c.loop-kept.invariant.same ∙ tells) at c.in_ok-count.ensures.bytes in
-          let len : length c.read.new.into ≡ c.loop-kept.piece.len = c.read.auto.into ∙ c.deref_mut.ensures.len in
-          let chunk : take count c.deref.result.now ≡ take count (drop end file) = chunk_of _ _ _ _ count c.deref.ensures.value len ∙ read.bytes in
-          (told.0, (told.1.0 ++ taken.0, reads_on file _ end count c.in_ok-taken.taken c.loop-kept.kept.seen c.enter_lines.new.seen told.1.0 taken.0 told.1.1 taken.1 chunk (omega (arith, read.count, told.1.1.within)) taken.2));
-    }
+pub returns-clause-lines : goal.returns-clause-lines
+returns-clause-lines g c = λ files tells.
+    let found = c.in_ok-journal.ensures.records files (c.in_ok-length.ensures.same ∙ tells) in
+    let took = took_lines _ c.visit.new.visitor 0 found.0 found.3 in
+    let value = rw tells at c.in_ok-length.ensures.value in
+    let short : length (files other_file) ≤ 1 = rw (← value) (omega (arith, c.if-branch-gt1.false)) in
+    let seen : c.visit.new.visitor.seen ≡ after Keep empty (map line_tuple found.0) = rw c.new.ensures at took.0 in
+    (found.0, record { ours = short; records = found.1; each = took.1 }, record { seen = seen; each = took.1; open_ = found.4 })
+
+pub returns-clause-known : goal.returns-clause-known
+returns-clause-known g c = λ files tells.
+    let was = told_before line_file IsOpened _ _ files c.in_ok-journal.ensures.changes tells in
+    let had = returns-clause-lines g c was.0 (sym c.in_ok-length.ensures.same ∙ was.1) in
+    (had.0, opened_lines was.0 files had.0 was.2 had.1, had.2)
+
+pub returns-in_err-journal-clause-stops : goal.returns-in_err-journal-clause-stops
+returns-in_err-journal-clause-stops g c =
+    let store = g.S.Store in
+    let P : Files → Type 0 = Follows (ChangesFile line_file IsOpened) (store.images c.args.store.now) in
+    let first : Leaves store.moment store.images_since c.args.store.now c.length.new.self P = widens _ _ _ _ _ _ c.in_ok-length.ensures.stops (λ image was. (image, was, same_file image)) in
+    goes_on _ _ store.images g.met.S.Store.counts_now _ _ _ P _ first c.in_err-journal.ensures.stops (λ before image from step. (from.0, from.1, opened_twice from.0 before image from.2 step))
+
+pub returns-clause-stops : goal.returns-clause-stops
+returns-clause-stops g c =
+    let store = g.S.Store in
+    let P : Files → Type 0 = Follows (ChangesFile line_file IsOpened) (store.images c.args.store.now) in
+    let first : Leaves store.moment store.images_since c.args.store.now c.length.new.self P = widens _ _ _ _ _ _ c.in_ok-length.ensures.stops (λ image was. (image, was, same_file image)) in
+    goes_on _ _ store.images g.met.S.Store.counts_now _ _ _ P _ first c.in_ok-journal.ensures.stops (λ before image from step. (from.0, from.1, opened_twice from.0 before image from.2 step))

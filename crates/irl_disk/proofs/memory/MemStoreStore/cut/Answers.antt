@@ -1,5 +1,14 @@
-use Rattle.std.proofs.Common.{refl}
+use Rattle.irl_disk.specs.declared.calls.Call.TheVariants.{Cut}
+use Rattle.irl_disk.proofs.Steps.{cut_front, cut_leaves, cut_none, made, not_done_stays, told}
+use Rattle.std.proofs.lemmas.Result.{on_ok_weaker, on_err_weaker}
+use Rattle.irl_disk.specs.Disk.{IsFront, PartlyCut}
 use Rattle.irl_disk.proofs.memory.MemStoreStore.cut.Goals as goal
 
-pub try_cut-done-requires : goal.try_cut-done-requires
-try_cut-done-requires c = rw c.in_ok-begin.ensures.files (c.requires.place _ refl)
+pub returns-clause-ok : goal.returns-clause-ok
+returns-clause-ok c = on_ok_weaker c.make.result (λ logs. told c.args.self.now c.make.new.self c.args.f (IsFront c.args.to) (cut_front c.args.f c.args.to c.args.self.now c.make.new.self logs)) c.make.ensures.done
+
+pub returns-clause-err : goal.returns-clause-err
+returns-clause-err c = on_err_weaker c.make.result (λ failed. told c.args.self.now c.make.new.self c.args.f (PartlyCut c.args.to) (cut_none c.args.to c.args.f _ _ (not_done_stays (Cut c.args.f c.args.to) c.args.self.now c.make.new.self failed))) c.make.ensures.failed
+
+pub returns-clause-stops : goal.returns-clause-stops
+returns-clause-stops c = cut_leaves c.args.f c.args.to c.args.self.now c.make.new.self (made c.make.result (Cut c.args.f c.args.to) _ _ c.make.ensures.done c.make.ensures.failed)

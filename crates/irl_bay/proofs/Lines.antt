@@ -1,0 +1,178 @@
+-- The lines of a journal that was opened.
+use Rattle.std.proofs.Common.{◌≡◌, ◌≢◌, ◌∙◌, ◌⊎◌, inl, inr, ⊎_elim, ℕ, ◌+◌, ◌≤◌, List, [], ◌∷◌, ◌++◌, length, map, take, drop, get_or, ◌<◌, Option, Some, None, refl, sym, ap, subst, arith, length-append, append_assoc}
+use Rattle.std.proofs.lemmas.List.{map-append, length-map, take_more, get_or-map}
+use Rattle.std.specs.List.{AllByRecursion}
+use Rattle.std.specs.FinMap.{empty}
+use Rattle.irl_offer.specs.declared.offer.Rule.TheVariants.{Keep}
+use Rattle.irl_model.specs.Judging.{KeyMap, after, entered, judgements}
+use Rattle.irl_model.proofs.JudgingLaws.{after-append, judgements-drop}
+use Rattle.irl_offer.specs.Tuple.{Tuple}
+use Rattle.irl_disk.specs.Disk.{Files, Changes, ChangesFile}
+use Rattle.irl_journal.proofs.Lists.{one_list, whole_list, same_bodies, records-cons}
+use Rattle.irl_journal.specs.Records.{HasRecords, StandsFor, IsBrokenAt, IsPayload, records_text, body_text, open_gate, placed_from}
+use Rattle.irl_journal.specs.Visiting.{TakesAll, IsRefusedAt, IsOpened}
+use Rattle.irl_journal.specs.Appending.{IsOpen, Ends}
+use Rattle.irl_journal.specs.declared.journal.JournalFault.{JournalFault}
+use Rattle.irl_journal.specs.declared.journal.JournalFault.TheVariants.{Failed as JournalFailed, Memory as JournalMemory, Damaged as JournalDamaged}
+use Rattle.irl_bay.specs.declared.kept.OpenFault.TheVariants.{Damaged as OpenDamaged}
+use Rattle.irl_bay.specs.Faults.{open_fault_of}
+use Rattle.irl_bay.specs.declared.opening.Entering.{Entering}
+use Rattle.irl_bay.specs.declared.kept.Kept.{Kept}
+use Rattle.irl_bay.specs.Lines.{IsKeepable, HasLines, HasNoLineAt, IsDamagedAt, line_file, other_file, line_tuple}
+use Rattle.irl_bay.specs.Kept.{IsKept}
+
+pub each-append : (xs ys : List (List ℕ)) → AllByRecursion IsKeepable xs → AllByRecursion IsKeepable ys → AllByRecursion IsKeepable (xs ++ ys)
+each-append [] ys h k = k
+each-append (x ∷ xs) ys h k = (h.0, each-append xs ys h.1 k)
+
+pub tuples-more : (seen : KeyMap) (lines news : List (List ℕ)) → after Keep seen (map line_tuple (lines ++ news)) ≡ after Keep (after Keep seen (map line_tuple lines)) (map line_tuple news)
+tuples-more seen lines news = rw map-append (after-append Keep seen (map line_tuple lines) (map line_tuple news))
+
+-- a line's key is entered
+abbrev pub EntersLine : Entering → ℕ → List ℕ → Entering → Type 0
+EntersLine old at payload new = IsKeepable payload × (new.seen ≡ entered Keep old.seen (line_tuple payload))
+
+-- the records that were handed over are lines, and their keys were entered
+pub took_lines : (old new : Entering) (at : ℕ) (lines : List (List ℕ)) → TakesAll EntersLine old (placed_from at lines) new → (new.seen ≡ after Keep old.seen (map line_tuple lines)) × AllByRecursion IsKeepable lines
+took_lines old new at [] is = (ap (λ (e : Entering). e.seen) is, tt)
+took_lines old new at (line ∷ lines) took =
+    let rest = took_lines took.0 new (at + 5 + length line) lines took.2 in
+    (rest.0 ∙ ap (λ m. after Keep m (map line_tuple lines)) took.1.1, (took.1.0, rest.1))
+
+-- a record that was refused is no line
+pub refused_line : (visitor : Entering) (file : List ℕ) (at : ℕ) → IsRefusedAt EntersLine (λ v place payload. IsKeepable payload → ⊥) visitor file at → HasNoLineAt file at
+refused_line visitor file at refused = record {
+  lines = refused.payloads;
+  payload = refused.payload;
+  gate = refused.gate;
+  rest = refused.rest;
+  bytes = refused.bytes;
+  each = (took_lines visitor refused.reached 0 refused.payloads refused.took).1;
+  fits = refused.fits;
+  place = refused.place;
+  none = refused.refused;
+}
+
+-- damage of the journal is damage of the lines
+pub damaged_line : (visitor : Entering) (file : List ℕ) (fault : JournalFault) (at : ℕ) → open_fault_of fault ≡ OpenDamaged at
+    → ((place : ℕ) → fault ≡ JournalDamaged place → IsBrokenAt file place ⊎ IsRefusedAt EntersLine (λ v p payload. IsKeepable payload → ⊥) visitor file place) → IsDamagedAt file at
+damaged_line visitor file JournalFailed at is found = absurd (cc)
+damaged_line visitor file JournalMemory at is found = absurd (cc)
+damaged_line visitor file (JournalDamaged place) at is found =
+    let same : place ≡ at = cc in
+    subst (λ (p : ℕ). IsDamagedAt file p) same (⊎_elim (λ broken. inl broken) (λ refused. inr (refused_line visitor file place refused)) (found place refl))
+
+-- a file of at most one byte has no record
+pub no_records : (file : List ℕ) (lines : List (List ℕ)) → HasRecords file lines → length file ≤ 1 → lines ≡ []
+no_records file [] has short = refl
+no_records file (line ∷ lines) has short =
+    let front = body_text line ++ records_text lines in
+    let long : length file ≡ length (open_gate ∷ front) + length (has.gate ∷ has.rest) = ap length has.bytes ∙ length-append (open_gate ∷ front) (has.gate ∷ has.rest) in
+    absurd (omega arith)
+
+pub short_stands : (old new : List ℕ) (lines : List (List ℕ)) → length old ≤ 1 → length new ≤ 1 → StandsFor old lines → StandsFor new lines
+short_stands old new lines short still (inl has) = inl (still, has.1)
+short_stands old new lines short still (inr has) = inl (still, no_records old lines has short)
+
+-- opening leaves the lines
+pub opened_stands : (old new : List ℕ) (lines : List (List ℕ)) → IsOpened old new → StandsFor old lines → StandsFor new lines
+opened_stands old new lines (inl same) stands = subst (λ (file : List ℕ). StandsFor file lines) (sym same) stands
+opened_stands old new lines (inr short) stands = short_stands old new lines short.0 short.1 stands
+
+-- a store that tells after a change told before it
+pub told_before : (f : ℕ) (step : List ℕ → List ℕ → Type 0) (told now : Option Files) (new : Files) → Changes f step told now → now ≡ Some new → (old : Files) × (told ≡ Some old) × ChangesFile f step old new
+told_before f step None now new changes tells = absurd (let e = sym changes ∙ tells in cc)
+told_before f step (Some old) now new changes tells =
+    let same : changes.0 ≡ new = let e = sym changes.1 ∙ tells in cc in
+    (old, refl, subst (λ (files : Files). ChangesFile f step old files) same changes.2)
+
+pub opened_lines : (old new : Files) (lines : List (List ℕ)) → ChangesFile line_file IsOpened old new → HasLines old lines → HasLines new lines
+opened_lines old new lines change has = record {
+  ours = rw (change.others other_file (λ e. absurd (let f : 998 ≡ 999 = e in omega arith))) has.ours;
+  records = opened_stands (old line_file) (new line_file) lines change.changed has.records;
+  each = has.each;
+}
+
+-- a file that nothing was done to
+pub same_file : (files : Files) → ChangesFile line_file IsOpened files files
+same_file files = record { changed = inl refl; others = λ g not. refl }
+
+-- opening twice is opening
+pub opened_twice : (a b c : Files) → ChangesFile line_file IsOpened a b → ChangesFile line_file IsOpened b c → ChangesFile line_file IsOpened a c
+opened_twice a b c h k = record {
+  changed = both h.changed k.changed;
+  others = λ g not. k.others g not ∙ h.others g not;
+}
+  where
+    both : IsOpened (a line_file) (b line_file) → IsOpened (b line_file) (c line_file) → IsOpened (a line_file) (c line_file)
+    both (inl e) (inl d) = inl (d ∙ e)
+    both (inl e) (inr s) = inr (rw (← e) s.0, s.1)
+    both (inr s) (inl d) = inr (s.0, rw d s.1)
+    both (inr s) (inr t) = inr (s.0, t.1)
+
+-- the keys of the new lines are known too
+pub knows_more : (seen next : KeyMap) (lines news : List (List ℕ)) (offers : List Tuple) → seen ≡ after Keep empty (map line_tuple lines) → next ≡ after Keep seen offers → offers ≡ map line_tuple news → next ≡ after Keep empty (map line_tuple (lines ++ news))
+knows_more seen next lines news offers known asked are = asked ∙ ap (after Keep seen) are ∙ ap (λ (m : KeyMap). after Keep m (map line_tuple news)) known ∙ sym (tuples-more empty lines news)
+
+-- the verdicts on the new lines are those of looking back over all of them
+pub verdicts_more : (seen : KeyMap) (lines news : List (List ℕ)) (offers : List Tuple) → seen ≡ after Keep empty (map line_tuple lines) → offers ≡ map line_tuple news → judgements Keep seen offers ≡ drop (length lines) (judgements Keep empty (map line_tuple (lines ++ news)))
+verdicts_more seen lines news offers known are =
+    let later = judgements-drop Keep empty (map line_tuple lines) (map line_tuple news) in
+    rw (known, are, map-append, ← length-map lines line_tuple) (sym later)
+
+-- the line of one offer more
+pub next_line : (offers : List Tuple) (i : ℕ) (offer : Tuple) → i < length offers → offer ≡ get_or offers i offer → take (i + 1) (map (λ (o : Tuple). o.aux) offers) ≡ take i (map (λ (o : Tuple). o.aux) offers) ++ offer.aux ∷ []
+next_line offers i offer within is =
+    let texts : List (List ℕ) = map (λ (o : Tuple). o.aux) offers in
+    let here : get_or texts i offer.aux ≡ offer.aux = get_or-map (λ (o : Tuple). o.aux) offers i offer offer.aux within ∙ ap (λ (o : Tuple). o.aux) (sym is) in
+    take_more texts i offer.aux (rw length-map within) ∙ ap (λ (line : List ℕ). take i texts ++ line ∷ []) here
+
+-- a store whose journal gained lines has them
+pub lines_after : (told now : Option Files) (old files : Files) (lines news : List (List ℕ)) (n : ℕ) → told ≡ Some old → now ≡ Some files → Changes line_file (λ before file. HasRecords file (lines ++ take n news)) told now → HasLines old lines → AllByRecursion IsKeepable (take n news) → HasLines files (lines ++ take n news)
+lines_after told now old files lines news n was is changes has each =
+    let change = rw was at changes in
+    let same : change.0 ≡ files = let e = sym change.1 ∙ is in cc in
+    let step : ChangesFile line_file (λ before file. HasRecords file (lines ++ take n news)) old files = subst (λ (f : Files). ChangesFile line_file (λ before file. HasRecords file (lines ++ take n news)) old f) same change.2 in
+    record {
+      ours = rw (step.others other_file (λ e. absurd (let f : 998 ≡ 999 = e in omega arith))) has.ours;
+      records = inr step.changed;
+      each = each-append lines (take n news) has.each each;
+    }
+
+-- a store has one list of lines
+pub same_list : (files : Files) (xs ys : List (List ℕ)) → HasLines files xs → HasLines files ys → xs ≡ ys
+same_list files xs ys h k = one_list (files line_file) xs ys h.records k.records
+
+first_byte : (a b : ℕ) (xs ys : List ℕ) → a ∷ xs ≡ b ∷ ys → a ≡ b
+first_byte a b xs ys same = cc
+
+-- where records of lines stand, a record behind some of them is a line
+all_lines : (xs lines : List (List ℕ)) (payload r s : List ℕ) (a : ℕ) → a ≢ open_gate → AllByRecursion IsKeepable xs → AllByRecursion IsKeepable lines → IsPayload payload
+    → records_text xs ++ a ∷ r ≡ records_text lines ++ (open_gate ∷ (body_text payload ++ s)) → IsKeepable payload
+all_lines [] [] payload r s a closed each each' fits same = absurd (closed (cc))
+all_lines [] (line ∷ lines) payload r s a closed each each' fits same =
+    let e = same ∙ records-cons line lines (open_gate ∷ (body_text payload ++ s)) in
+    absurd (closed (first_byte a open_gate r _ e))
+all_lines (x ∷ xs) [] payload r s a closed each each' fits same =
+    let e : open_gate ∷ (body_text x ++ (records_text xs ++ a ∷ r)) ≡ open_gate ∷ (body_text payload ++ s) = sym (records-cons x xs (a ∷ r)) ∙ same in
+    let both = same_bodies x payload (records_text xs ++ a ∷ r) s (omega (arith, each.0.few)) fits (ap (drop 1) e) in
+    subst IsKeepable both.0 each.0
+all_lines (x ∷ xs) (line ∷ lines) payload r s a closed each each' fits same =
+    let rest : List ℕ = records_text lines ++ (open_gate ∷ (body_text payload ++ s)) in
+    let e : open_gate ∷ (body_text x ++ (records_text xs ++ a ∷ r)) ≡ open_gate ∷ (body_text line ++ rest) = sym (records-cons x xs (a ∷ r)) ∙ same ∙ records-cons line lines (open_gate ∷ (body_text payload ++ s)) in
+    let both = same_bodies x line (records_text xs ++ a ∷ r) rest (omega (arith, each.0.few)) (omega (arith, each'.0.few)) (ap (drop 1) e) in
+    all_lines xs lines payload r s a closed each.1 each'.1 fits both.1
+
+-- a store that has lines is not damaged
+pub not_damaged : (files : Files) (lines : List (List ℕ)) (at : ℕ) → HasLines files lines → IsDamagedAt (files line_file) at → ⊥
+not_damaged files lines at has (inl broken) = whole_list (files line_file) lines at has.records broken
+not_damaged files lines at has (inr none) = behind has.records
+  where
+    behind : StandsFor (files line_file) lines → ⊥
+    behind (inl short) =
+        let tail : List ℕ = body_text none.payload ++ none.gate ∷ none.rest in
+        let bytes : files line_file ≡ records_text none.lines ++ (open_gate ∷ tail) = none.bytes ∙ append_assoc (records_text none.lines) (open_gate ∷ body_text none.payload) (none.gate ∷ none.rest) in
+        let long : length (files line_file) ≡ length (records_text none.lines) + length (open_gate ∷ tail) = ap length bytes ∙ length-append (records_text none.lines) (open_gate ∷ tail) in
+        let back : length tail ≡ length (body_text none.payload) + length (none.gate ∷ none.rest) = length-append (body_text none.payload) (none.gate ∷ none.rest) in
+        absurd (omega (arith, short.0, long, back))
+    behind (inr records) = none.none (all_lines lines none.lines none.payload records.rest (none.gate ∷ none.rest) records.gate records.closed has.each none.each none.fits (sym records.bytes ∙ none.bytes ∙ append_assoc (records_text none.lines) (open_gate ∷ body_text none.payload) (none.gate ∷ none.rest)))

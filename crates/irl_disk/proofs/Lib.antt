@@ -1,0 +1,7 @@
+pub mod Before
+pub mod Clones
+pub mod Logged
+pub mod Replayed
+pub mod Steps
+pub mod Stretches
+pub mod Torn

@@ -1,0 +1,2 @@
+pub mod FileStore
+pub mod Folder

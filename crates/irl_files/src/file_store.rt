@@ -1,0 +1,148 @@
+ghost use Rattle.std.specs.Prelude.{◌≡◌, ◌+◌, ◌^◌, ◌<◌, ◌≤◌, None, Ok, length, IfOk, OnOk, IsErr, is_ok, if◌then◌else◌, MatchResult};
+ghost use Rattle.std.proofs.Common.{rules};
+ghost use Rattle.irl_offer.specs.Faults.{HasCause};
+ghost use Rattle.irl_files.specs.FileStore.{fault_count, folder_path, counted};
+ghost use Rattle.irl_files.specs.Folder.{named_folder};
+
+use crate::folder::Folder;
+use irl_disk::{Failed, Store};
+use std::alloc::{AllocError, Global};
+use std::io;
+use std::rt::Files;
+
+/// A store over the files of one folder, where file f has the name of its number in four digits, as `0998`. It tells no
+/// content, and counts each call that failed. A file that isn't there is empty: the folder and the file are made at the
+/// first write. A read that got past place 2 ^ 64 - 1 and a write that would go past it are refused.
+#[derive(Drop)]
+pub struct FileStore<R: Files> {
+    folder: Folder<R>,
+    faults: u64,
+}
+
+impl<R: Files + Drop> FileStore<R> {
+    /// A store over the files of this folder; with no name of the one that the program runs in. Nothing is opened or made
+    /// yet.
+    pub fn new(rt: R, alloc: Global, folder: &str) -> Result<FileStore<R>, AllocError>
+        ensures faults { IfOk result (λ store. fault_count store ≡ 0) }
+        ensures folder { IfOk result (λ store. folder_path store ≡ named_folder folder.now) }
+    {
+        Ok(FileStore {
+            folder: Folder::new(rt, alloc, folder)?,
+            faults: 0,
+        })
+    }
+
+    /// Counts a fault where the system refused.
+    fn end<T>(&mut self, answer: io::Result<T>) -> Result<T, Failed>
+        ensures value { MatchResult answer (λ value. result ≡ Ok value) (λ _. IsErr result) }
+        ensures faults { self.new.faults ≡ (if is_ok answer then self.old.faults else counted self.old.faults) }
+        ensures cause { HasCause self.old.faults self.new.faults result }
+    {
+        match answer {
+            Ok(value) => Ok(value),
+            Err(_) => {
+                self.faults = self.faults.saturating_add(1);
+                Err(Failed)
+            }
+        }
+    }
+}
+
+impl<R: Files + Drop> Store for FileStore<R> {
+    ghost contents = { λ _. None };
+
+    ghost images = { λ _ _. ⊥ };
+
+    ghost moment = { λ _. 0 };
+
+    ghost images_since = { λ _ _ _. ⊥ };
+
+    ghost faults = { λ s. s.faults };
+
+    ghost taken = { λ _. None };
+
+    ghost told_is_image = { Prim.search rules };
+
+    ghost told_where_image = { λ _ _ left. absurd left };
+
+    ghost counts_now = { λ _ _ _ _ left. left };
+
+    ghost only_now = { λ _ _ left. left };
+
+    ghost since_earlier = { λ _ _ _ _ _ left. left };
+
+    fn length(&mut self, f: u16) -> Result<u64, Failed> {
+        let answer = self.folder.length(f);
+        self.end(answer)
+    }
+
+    fn read(&mut self, f: u16, at: u64, into: &mut [u8]) -> Result<usize, Failed> {
+        let answer = self.folder.read(f, at, into);
+        self.end(answer)
+    }
+
+    fn write(&mut self, f: u16, at: u64, bytes: &[u8]) -> Result<(), Failed> {
+        let answer = self.folder.write(f, at, bytes);
+        self.end(answer)
+    }
+
+    fn cut(&mut self, f: u16, to: u64) -> Result<(), Failed> {
+        let answer = self.folder.cut(f, to);
+        self.end(answer)
+    }
+
+    fn sync(&mut self, f: u16) -> Result<(), Failed> {
+        let answer = self.folder.sync(f);
+        self.end(answer)
+    }
+}
+
+#[cfg(test)]
+mod tests {
+    use super::FileStore;
+    use irl_disk::{Failed, Store};
+    use std::fs;
+    use std::test::Fail;
+
+    const FOLDER: &str = "irl_file_store/deep";
+
+    #[test]
+    fn a_folder_keeps_files(rt: HostRuntime) -> Result<(), Fail> {
+        let alloc = rt.alloc();
+        let _ = fs::remove_dir_all(&rt, "irl_file_store");
+        let mut store = FileStore::new(&rt, alloc, FOLDER)?;
+        let mut into = [b'-'; 8];
+        assert_eq!(rt; store.length(7), Ok(0));
+        assert_eq!(rt; store.read(7, 0, &mut into), Ok(0));
+        assert_eq!(rt; store.cut(7, 0), Ok(()));
+        assert_eq!(rt; store.sync(7), Ok(()));
+        assert!(rt; !fs::exists(&rt, "irl_file_store")?);
+
+        assert_eq!(rt; store.write(7, 0, b"abcd"), Ok(()));
+        assert_eq!(rt; store.write(7, 2, b"xyz"), Ok(()));
+        assert_eq!(rt; store.write(998, 0, b"other"), Ok(()));
+        assert_eq!(rt; store.sync(7), Ok(()));
+        assert_eq!(rt; store.length(7), Ok(5));
+        assert_eq!(rt; store.read(7, 1, &mut into), Ok(4));
+        assert_eq!(rt; into, *b"bxyz----");
+        assert_eq!(rt; store.cut(7, 3), Ok(()));
+        assert_eq!(rt; store.write(7, u64::MAX, b"a"), Err(Failed));
+        assert_eq!(rt;
+            fs::read(&rt, "irl_file_store/deep/0007")?.as_slice(),
+            b"abx".as_slice()
+        );
+        assert_eq!(rt;
+            fs::read(&rt, "irl_file_store/deep/0998")?.as_slice(),
+            b"other".as_slice()
+        );
+        drop(store);
+
+        let mut store = FileStore::new(&rt, alloc, FOLDER)?;
+        assert_eq!(rt; store.read(7, 0, &mut into), Ok(3));
+        assert_eq!(rt; into, *b"abxz----");
+        let mut inside_file = FileStore::new(&rt, alloc, "irl_file_store/deep/0007")?;
+        assert_eq!(rt; inside_file.write(1, 0, b"a"), Err(Failed));
+        fs::remove_dir_all(&rt, "irl_file_store")?;
+        Ok(())
+    }
+}

@@ -1,0 +1,133 @@
+use Rattle.std.proofs.Common.{List, ℕ, sym, subst, arith}
+use Rattle.irl_disk.specs.Disk.{Files}
+use Rattle.irl_journal.specs.Appending.{Ends, IsOpen, Tail}
+use Rattle.irl_journal.proofs.Gates.{within, within_behind, length-record}
+use Rattle.irl_journal.proofs.Appended.{Begun, after_record, after_sync, is_behind, after_gate, is_gained, changes}
+use Rattle.irl_journal.proofs.journal.Journal.append.Given.{Over}
+use Rattle.irl_journal.proofs.journal.Journal.append.Goals as goal
+
+abbrev begun : (g : Over) (file end : ℕ) (payloads : List (List ℕ)) (payload : List ℕ) (old : g.row.S.Denot) → ((image : Files) → g.S.Store.images old image → Ends end (image file) payloads) → Begun g.S.Store.contents g.S.Store.images g.S.Store.moment g.S.Store.images_since
+begun g file end payloads payload old is_open =
+    let met = g.met.S.Store in
+    record {
+      told_is_image = met.told_is_image;
+      told_where_image = met.told_where_image;
+      counts_now = met.counts_now;
+      file = file;
+      end = end;
+      payloads = payloads;
+      payload = payload;
+      old = old;
+      is_open = is_open;
+    }
+
+pub write-requires-clause-place : goal.write-requires-clause-place
+write-requires-clause-place g c =
+    let payloads = c.requires.open.0 in
+    let is_open = subst (λ (tail : Tail). IsOpen (g.S.Store.images c.args.store.now) tail payloads) (sym c.self.view_is) c.requires.open.1 in
+    λ files told. within payloads (files c.self.inside.file) c.self.inside.end (is_open files (g.met.S.Store.told_is_image c.args.store.now files told))
+
+-- the write behind the gate failed
+pub returns-in_err-write-clause-changes : goal.returns-in_err-write-clause-changes
+returns-in_err-write-clause-changes g c = rw (← c.self.view_is) (λ payloads is_open.
+    let b = begun g c.self.inside.file c.self.inside.end payloads c.args.frame.now.bytes c.args.store.now is_open in
+    let wrote = after_record b _ _ _ c.in_err-write.ensures.err c.write.ensures.stops in
+    changes b _ wrote)
+
+pub returns-in_err-write-clause-stops : goal.returns-in_err-write-clause-stops
+returns-in_err-write-clause-stops g c = rw (← c.self.view_is) (λ payloads is_open.
+    let b = begun g c.self.inside.file c.self.inside.end payloads c.args.frame.now.bytes c.args.store.now is_open in
+    let wrote = after_record b _ _ _ c.in_err-write.ensures.err c.write.ensures.stops in
+    wrote.stops)
+
+-- the sync behind it failed
+pub returns-in_err-sync-clause-changes : goal.returns-in_err-sync-clause-changes
+returns-in_err-sync-clause-changes g c = rw (← c.self.view_is) (λ payloads is_open.
+    let b = begun g c.self.inside.file c.self.inside.end payloads c.args.frame.now.bytes c.args.store.now is_open in
+    let wrote = after_record b _ _ _ c.in_ok-write.ensures.ok c.write.ensures.stops in
+    let kept = after_sync b _ _ wrote c.sync.ensures.same c.sync.ensures.stops in
+    changes b _ kept)
+
+pub returns-in_err-sync-clause-stops : goal.returns-in_err-sync-clause-stops
+returns-in_err-sync-clause-stops g c = rw (← c.self.view_is) (λ payloads is_open.
+    let b = begun g c.self.inside.file c.self.inside.end payloads c.args.frame.now.bytes c.args.store.now is_open in
+    let wrote = after_record b _ _ _ c.in_ok-write.ensures.ok c.write.ensures.stops in
+    let kept = after_sync b _ _ wrote c.sync.ensures.same c.sync.ensures.stops in
+    kept.stops)
+
+pub write-requires-2-clause-place : goal.write-requires-2-clause-place
+write-requires-2-clause-place g c =
+    let payloads = c.requires.open.0 in
+    let is_open = subst (λ (tail : Tail). IsOpen (g.S.Store.images c.args.store.now) tail payloads) (sym c.self.view_is) c.requires.open.1 in
+    let b = begun g c.self.inside.file c.self.inside.end payloads c.args.frame.now.bytes c.args.store.now is_open in
+    let behind = is_behind b _ _ _ c.closed_record-bytes.ensures.bytes c.closed_record-bytes.ensures.limit c.in_ok-write.ensures.ok c.sync.ensures.same c.in_ok-sync.ensures.durable in
+    λ files told. within_behind payloads c.args.frame.now.bytes (files c.self.inside.file) c.self.inside.end (behind files (g.met.S.Store.told_is_image c.sync.new.self files told))
+
+-- the write of the open gate failed
+pub returns-in_err-write-2-clause-changes : goal.returns-in_err-write-2-clause-changes
+returns-in_err-write-2-clause-changes g c = rw (← c.self.view_is) (λ payloads is_open.
+    let b = begun g c.self.inside.file c.self.inside.end payloads c.args.frame.now.bytes c.args.store.now is_open in
+    let wrote = after_record b _ _ _ c.in_ok-write.ensures.ok c.write.ensures.stops in
+    let kept = after_sync b _ _ wrote c.sync.ensures.same c.sync.ensures.stops in
+    let behind = is_behind b _ _ _ c.closed_record-bytes.ensures.bytes c.closed_record-bytes.ensures.limit c.in_ok-write.ensures.ok c.sync.ensures.same c.in_ok-sync.ensures.durable in
+    let opened = after_gate b _ _ _ kept behind c.in_err-write-2.ensures.err c.write-2.ensures.stops in
+    changes b _ opened)
+
+pub returns-in_err-write-2-clause-stops : goal.returns-in_err-write-2-clause-stops
+returns-in_err-write-2-clause-stops g c = rw (← c.self.view_is) (λ payloads is_open.
+    let b = begun g c.self.inside.file c.self.inside.end payloads c.args.frame.now.bytes c.args.store.now is_open in
+    let wrote = after_record b _ _ _ c.in_ok-write.ensures.ok c.write.ensures.stops in
+    let kept = after_sync b _ _ wrote c.sync.ensures.same c.sync.ensures.stops in
+    let behind = is_behind b _ _ _ c.closed_record-bytes.ensures.bytes c.closed_record-bytes.ensures.limit c.in_ok-write.ensures.ok c.sync.ensures.same c.in_ok-sync.ensures.durable in
+    let opened = after_gate b _ _ _ kept behind c.in_err-write-2.ensures.err c.write-2.ensures.stops in
+    opened.stops)
+
+-- the last sync failed
+pub returns-in_err-sync-2-clause-changes : goal.returns-in_err-sync-2-clause-changes
+returns-in_err-sync-2-clause-changes g c = rw (← c.self.view_is) (λ payloads is_open.
+    let b = begun g c.self.inside.file c.self.inside.end payloads c.args.frame.now.bytes c.args.store.now is_open in
+    let wrote = after_record b _ _ _ c.in_ok-write.ensures.ok c.write.ensures.stops in
+    let kept = after_sync b _ _ wrote c.sync.ensures.same c.sync.ensures.stops in
+    let behind = is_behind b _ _ _ c.closed_record-bytes.ensures.bytes c.closed_record-bytes.ensures.limit c.in_ok-write.ensures.ok c.sync.ensures.same c.in_ok-sync.ensures.durable in
+    let opened = after_gate b _ _ _ kept behind c.in_ok-write-2.ensures.ok c.write-2.ensures.stops in
+    let ended = after_sync b _ _ opened c.sync-2.ensures.same c.sync-2.ensures.stops in
+    changes b _ ended)
+
+pub returns-in_err-sync-2-clause-stops : goal.returns-in_err-sync-2-clause-stops
+returns-in_err-sync-2-clause-stops g c = rw (← c.self.view_is) (λ payloads is_open.
+    let b = begun g c.self.inside.file c.self.inside.end payloads c.args.frame.now.bytes c.args.store.now is_open in
+    let wrote = after_record b _ _ _ c.in_ok-write.ensures.ok c.write.ensures.stops in
+    let kept = after_sync b _ _ wrote c.sync.ensures.same c.sync.ensures.stops in
+    let behind = is_behind b _ _ _ c.closed_record-bytes.ensures.bytes c.closed_record-bytes.ensures.limit c.in_ok-write.ensures.ok c.sync.ensures.same c.in_ok-sync.ensures.durable in
+    let opened = after_gate b _ _ _ kept behind c.in_ok-write-2.ensures.ok c.write-2.ensures.stops in
+    let ended = after_sync b _ _ opened c.sync-2.ensures.same c.sync-2.ensures.stops in
+    ended.stops)
+
+-- each call is done
+pub returns-clause-changes : goal.returns-clause-changes
+returns-clause-changes g c = rw (← c.self.view_is) (λ payloads is_open.
+    let b = begun g c.self.inside.file c.self.inside.end payloads c.args.frame.now.bytes c.args.store.now is_open in
+    let wrote = after_record b _ _ _ c.in_ok-write.ensures.ok c.write.ensures.stops in
+    let kept = after_sync b _ _ wrote c.sync.ensures.same c.sync.ensures.stops in
+    let behind = is_behind b _ _ _ c.closed_record-bytes.ensures.bytes c.closed_record-bytes.ensures.limit c.in_ok-write.ensures.ok c.sync.ensures.same c.in_ok-sync.ensures.durable in
+    let opened = after_gate b _ _ _ kept behind c.in_ok-write-2.ensures.ok c.write-2.ensures.stops in
+    let ended = after_sync b _ _ opened c.sync-2.ensures.same c.sync-2.ensures.stops in
+    changes b _ ended)
+
+pub returns-clause-stops : goal.returns-clause-stops
+returns-clause-stops g c = rw (← c.self.view_is) (λ payloads is_open.
+    let b = begun g c.self.inside.file c.self.inside.end payloads c.args.frame.now.bytes c.args.store.now is_open in
+    let wrote = after_record b _ _ _ c.in_ok-write.ensures.ok c.write.ensures.stops in
+    let kept = after_sync b _ _ wrote c.sync.ensures.same c.sync.ensures.stops in
+    let behind = is_behind b _ _ _ c.closed_record-bytes.ensures.bytes c.closed_record-bytes.ensures.limit c.in_ok-write.ensures.ok c.sync.ensures.same c.in_ok-sync.ensures.durable in
+    let opened = after_gate b _ _ _ kept behind c.in_ok-write-2.ensures.ok c.write-2.ensures.stops in
+    let ended = after_sync b _ _ opened c.sync-2.ensures.same c.sync-2.ensures.stops in
+    ended.stops)
+
+-- and then the record is on the disk
+pub returns-clause-acknowledged : goal.returns-clause-acknowledged
+returns-clause-acknowledged g c = rw (← c.self.view_is) (λ payloads is_open image left.
+    let b = begun g c.self.inside.file c.self.inside.end payloads c.args.frame.now.bytes c.args.store.now is_open in
+    let behind = is_behind b _ _ _ c.closed_record-bytes.ensures.bytes c.closed_record-bytes.ensures.limit c.in_ok-write.ensures.ok c.sync.ensures.same c.in_ok-sync.ensures.durable in
+    let gained = is_gained b _ _ _ behind c.in_ok-write-2.ensures.ok c.sync-2.ensures.same c.in_ok-sync-2.ensures.durable image left in
+    record { records = gained.records; place = omega (arith, gained.place, length-record c.args.frame.now.bytes c.closed_record-bytes.result.now c.closed_record-bytes.ensures.bytes) })

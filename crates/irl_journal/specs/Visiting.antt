@@ -1,0 +1,54 @@
+-- Handing a journal's records to a visitor, one after the other.
+use Rattle.std.specs.Prelude.{◌≡◌, ◌⊎◌, ◌≢◌, ℕ, ◌+◌, ◌<◌, ◌≤◌, List, [], ◌∷◌, ◌++◌, length, take, drop, Bool, true, false}
+use Rattle.std.specs.List.{AllByRecursion}
+use Rattle.irl_journal.specs.Records.{records_text, body_text, open_gate, placed_from, IsPayload, HasNoRecord}
+
+-- the visitor took these records in order, each at its place
+abbrev pub TakesAll : {V : Type 0} → (V → ℕ → List ℕ → V → Type 0) → V → List (ℕ × List ℕ) → V → Type 0
+TakesAll {V} takes old [] new = new ≡ old
+TakesAll {V} takes old (record_ ∷ records) new = (mid : V) × takes old record_.0 record_.1 mid × TakesAll takes mid records new
+
+-- the visitor took the records before this place, and refuses the one there
+pub record IsRefusedAt {V : Type 0} (takes : V → ℕ → List ℕ → V → Type 0) (refuses : V → ℕ → List ℕ → Type 0) (visitor : V) (file : List ℕ) (at : ℕ) : Type 0 where
+  pub payloads : List (List ℕ)
+  pub payload : List ℕ
+  pub gate : ℕ
+  pub rest : List ℕ
+  pub bytes : file ≡ records_text payloads ++ open_gate ∷ body_text payload ++ gate ∷ rest
+  pub each : AllByRecursion IsPayload payloads
+  pub fits : IsPayload payload
+  pub place : at ≡ length (records_text payloads)
+  pub reached : V
+  pub took : TakesAll takes visitor (placed_from 0 payloads) reached
+  pub refused : refuses reached at payload
+
+-- The first n of the bytes are open records that the visitor took; behind them stands a closed gate, or no whole record.
+-- Of bytes that there are they leave at least the next gate.
+pub record HandsOver {V : Type 0} (takes : V → ℕ → List ℕ → V → Type 0) (old new : V) (at n : ℕ) (is_closed : Bool) (bytes : List ℕ) : Type 0 where
+  pub payloads : List (List ℕ)
+  pub each : AllByRecursion IsPayload payloads
+  pub within : n ≤ length bytes
+  pub more : 1 ≤ length bytes → n < length bytes
+  pub front : take n bytes ≡ records_text payloads
+  pub took : TakesAll takes old (placed_from at payloads) new
+  pub ended : is_closed ≡ true → (gate : ℕ) × (rest : List ℕ) × (drop n bytes ≡ gate ∷ rest) × (gate ≢ open_gate)
+  pub cut_short : is_closed ≡ false → HasNoRecord (drop n bytes) × ((drop n bytes ≡ []) ⊎ ((rest : List ℕ) × (drop n bytes ≡ open_gate ∷ rest)))
+
+-- Of bytes whose first gate stands at this place of a file: the visitor took the records before another place, and refuses
+-- the one there.
+pub record RefusesAt {V : Type 0} (takes : V → ℕ → List ℕ → V → Type 0) (refuses : V → ℕ → List ℕ → Type 0) (visitor : V) (at : ℕ) (bytes : List ℕ) (place : ℕ) : Type 0 where
+  pub payloads : List (List ℕ)
+  pub payload : List ℕ
+  pub behind : List ℕ
+  pub bytes_are : bytes ≡ records_text payloads ++ open_gate ∷ body_text payload ++ behind
+  pub more : 1 ≤ length behind
+  pub each : AllByRecursion IsPayload payloads
+  pub fits : IsPayload payload
+  pub place_is : place ≡ at + length (records_text payloads)
+  pub reached : V
+  pub took : TakesAll takes visitor (placed_from at payloads) reached
+  pub refused : refuses reached place payload
+
+-- what opening a journal may do to its file: where it has at most one byte, it has at most one afterwards
+abbrev pub IsOpened : List ℕ → List ℕ → Type 0
+IsOpened old new = (new ≡ old) ⊎ ((length old ≤ 1) × (length new ≤ 1))

@@ -1,0 +1,219 @@
+ghost use Rattle.std.specs.Prelude.{◌≡◌, ⊤, List, ℕ, true, IfOk};
+ghost use Rattle.irl_disk.specs.Memory.{images_of};
+ghost use Rattle.irl_journal.specs.Appending.{IsOpen};
+
+use super::*;
+use irl_disk::{Failed, MemStore, Part, Store};
+use std::alloc::{AllocError, Global};
+use std::test::Fail;
+
+// Keeps the places and the payloads that it is handed, and refuses the record at one place.
+#[derive(Drop)]
+struct Keeping {
+    refused: u64,
+    places: Vec<u64>,
+    // Each with a line feed behind it.
+    payloads: Vec<u8>,
+}
+
+impl Visit for Keeping {
+    ghost takes = { λ _ _ _ _. ⊤ };
+
+    ghost refuses = { λ _ _ _. ⊤ };
+
+    fn take(&mut self, at: u64, payload: &[u8]) -> Result<bool, AllocError> {
+        if at == self.refused {
+            return Ok(false);
+        }
+        self.places.push(at)?;
+        self.payloads.extend_from_slice(payload)?;
+        self.payloads.push(b'\n')?;
+        Ok(true)
+    }
+}
+
+// A visitor that was handed nothing, and refuses no record but one at this place.
+fn refusing(alloc: Global, refused: u64) -> Keeping {
+    Keeping {
+        refused,
+        places: Vec::new(alloc),
+        payloads: Vec::new(alloc),
+    }
+}
+
+// Opens the journal of file 7: where its end is, or why it was refused.
+fn opened(alloc: Global, store: &mut MemStore, keeping: &mut Keeping) -> Result<u64, JournalFault> {
+    Ok(Journal::visit(alloc, store, 7, keeping)?.end())
+}
+
+// The first bytes of file 7, and zeros where it ends before.
+fn front(store: &mut MemStore) -> Result<[u8; 8], Failed> {
+    let mut into = [0; 8];
+    store.read(7, 0, &mut into)?;
+    Ok(into)
+}
+
+// A store with a journal in its file 7.
+#[derive(Drop)]
+struct Kept {
+    store: MemStore,
+    journal: Journal,
+    frame: Frame,
+}
+
+// A journal that was made in calls 0 and 1 of its store, with a record of `ab` that was appended in calls 2 to 5.
+fn append_first(alloc: Global, failing: Vec<u64>) -> Result<Kept, Fail>
+    ensures sound { IfOk result (λ kept. kept.journal.is_sound ≡ true) }
+    ensures open { IfOk result (λ kept. (payloads : List (List ℕ)) × IsOpen (images_of kept.store) kept.journal payloads) }
+    ensures room { IfOk result (λ kept. kept.frame.room ≡ 8) }
+{
+    let mut store = MemStore::new(alloc, failing);
+    let mut journal = Journal::make(&mut store, 7)?;
+    let mut frame = Frame::with_room(alloc, 8)?;
+    frame.put(b"ab");
+    journal.append(&mut store, &mut frame)?;
+    Ok(Kept {
+        store,
+        journal,
+        frame,
+    })
+}
+
+// Appends a second record, of `cde`, in calls 6 to 9. Its gate stands at 7.
+fn append_second(kept: &mut Kept) -> Result<(), Failed>
+    requires sound { kept.old.journal.is_sound ≡ true }
+    requires open { (payloads : List (List ℕ)) × IsOpen (images_of kept.old.store) kept.old.journal payloads }
+    requires room { kept.old.frame.room ≡ 8 }
+{
+    kept.frame.clear();
+    kept.frame.put(b"cde");
+    kept.journal.append(&mut kept.store, &mut kept.frame)
+}
+
+// The payloads that opening the journal finds after a stop in this call.
+fn left(alloc: Global, store: &MemStore, call: u64, part: Part) -> Result<Vec<u8>, Fail> {
+    let mut keeping = refusing(alloc, 1);
+    if call < store.calls() {
+        opened(alloc, &mut store.image(alloc, call, part)?, &mut keeping)?;
+    }
+    Ok(keeping.payloads)
+}
+
+#[test]
+fn a_record_stands_between_two_gates(rt: HostRuntime) -> Result<(), Fail> {
+    let alloc = rt.alloc();
+    let mut kept = append_first(alloc, Vec::new(alloc))?;
+    assert_eq!(rt; front(&mut kept.store)?, *b"\xA5\x02\0\0\0ab\0");
+    assert_eq!(rt; kept.store.length(7)?, 8);
+    assert_eq!(rt; kept.journal.end(), 7);
+    Ok(())
+}
+
+#[test]
+fn records_are_handed_out_as_they_were_appended(rt: HostRuntime) -> Result<(), Fail> {
+    let alloc = rt.alloc();
+    let mut kept = append_first(alloc, Vec::new(alloc))?;
+    append_second(&mut kept)?;
+    let mut keeping = refusing(alloc, 1);
+    assert_eq!(rt; opened(alloc, &mut kept.store, &mut keeping), Ok(15));
+    assert_eq!(rt; keeping.places.as_slice(), [0, 7].as_slice());
+    assert_eq!(rt; keeping.payloads.as_slice(), b"ab\ncde\n".as_slice());
+    Ok(())
+}
+
+#[test]
+fn bytes_are_read_as_a_journal(rt: HostRuntime) -> Result<(), Fail> {
+    let alloc = rt.alloc();
+    let table: [(&[u8], u64, Result<u64, JournalFault>, &[u64]); 7] = [
+        // A file of at most one byte is an empty journal, and so is one that begins with a closed gate.
+        (b"", 1, Ok(0), &[]),
+        (b"\xA5", 1, Ok(0), &[]),
+        (b"\0\xA5\x01\0\0\0c\0", 1, Ok(0), &[]),
+        // A record passes the file's end.
+        (b"\xA5\xFF\0\0\0\0", 1, Err(JournalFault::Damaged(0)), &[]),
+        // The visitor refuses the second record.
+        (
+            b"\xA5\x02\0\0\0ab\xA5\x01\0\0\0c\0",
+            7,
+            Err(JournalFault::Damaged(7)),
+            &[0],
+        ),
+        // No byte but `A5` is an open gate, and what lies past a closed one means nothing.
+        (b"\xA5\x02\0\0\0ab\x5A\xA5\xFF\0\0\0\0", 1, Ok(7), &[0]),
+        (b"\xA5\x02\0\0\0ab\0\x01\0\0\0c\xA5", 1, Ok(7), &[0]),
+    ];
+    for (bytes, refused, answer, places) in table {
+        let mut store = MemStore::new(alloc, Vec::new(alloc));
+        store.write(7, 0, bytes)?;
+        let mut keeping = refusing(alloc, refused);
+        assert_eq!(rt;
+            opened(alloc, &mut store, &mut keeping),
+            answer,
+            "at {bytes:?}"
+        );
+        assert_eq!(rt; keeping.places.as_slice(), places, "at {bytes:?}");
+    }
+    Ok(())
+}
+
+#[test]
+fn the_one_byte_of_an_empty_journal_is_closed(rt: HostRuntime) -> Result<(), Fail> {
+    let alloc = rt.alloc();
+    let mut store = MemStore::new(alloc, Vec::new(alloc));
+    store.write(7, 0, b"\xA5")?;
+    assert_eq!(rt; opened(alloc, &mut store, &mut refusing(alloc, 0)), Ok(0));
+    assert_eq!(rt; front(&mut store)?, [0; 8]);
+    assert_eq!(rt; store.length(7)?, 1);
+    Ok(())
+}
+
+#[test]
+fn an_append_fails_where_a_call_fails(rt: HostRuntime) -> Result<(), Fail> {
+    let alloc = rt.alloc();
+    for call in 6..10 {
+        let mut kept = append_first(alloc, vec![in alloc; call]?)?;
+        assert_eq!(rt; append_second(&mut kept), Err(Failed), "at {call}");
+        assert!(rt; !kept.journal.is_sound(), "at {call}");
+    }
+    let mut kept = append_first(alloc, Vec::new(alloc))?;
+    assert_eq!(rt; append_second(&mut kept), Ok(()));
+    assert!(rt; kept.journal.is_sound());
+    Ok(())
+}
+
+#[test]
+fn a_stop_leaves_whole_records(rt: HostRuntime) -> Result<(), Fail> {
+    let alloc = rt.alloc();
+    let before = b"ab\n".as_slice();
+    let after = b"ab\ncde\n".as_slice();
+    // The call of the stop, whether it failed, and what is left as old, as new and torn.
+    let table = [
+        (6, false, [before, before, before]),
+        (6, true, [before, before, before]),
+        (7, false, [before, before, before]),
+        (7, true, [before, before, before]),
+        (8, false, [before, after, after]),
+        (8, true, [before, before, after]),
+        (9, true, [before, after, after]),
+        // The append answered Ok.
+        (9, false, [after, after, after]),
+    ];
+    for (call, is_failing, [old, new, torn]) in table {
+        let failing = if is_failing {
+            vec![in alloc; call]?
+        } else {
+            Vec::new(alloc)
+        };
+        let mut kept = append_first(alloc, failing)?;
+        assert_eq!(rt; append_second(&mut kept).is_err(), is_failing, "at {call}");
+        for (part, payloads) in [(Part::Old, old), (Part::New, new), (Part::Torn, torn)] {
+            let found = left(alloc, &kept.store, call, part)?;
+            assert_eq!(rt;
+                found.as_slice(),
+                payloads,
+                "{part:?} at {call}, {is_failing}"
+            );
+        }
+    }
+    Ok(())
+}
