@@ -8,9 +8,9 @@ use Rattle.irl_model.specs.Judging.{KeyMap, after, entered, judgements}
 use Rattle.irl_model.proofs.JudgingLaws.{after-append, judgements-drop}
 use Rattle.irl_offer.specs.Tuple.{Tuple}
 use Rattle.irl_disk.specs.Disk.{Files, Changes, ChangesFile}
-use Rattle.irl_journal.proofs.Lists.{one_list, whole_list, same_bodies, records-cons}
+use Rattle.irl_journal.proofs.Lists.{one_list, whole_list, record_behind}
 use Rattle.irl_journal.specs.Records.{HasRecords, StandsFor, IsBrokenAt, IsPayload, records_text, body_text, open_gate, placed_from}
-use Rattle.irl_journal.specs.Visiting.{TakesAll, IsRefusedAt, IsOpened}
+use Rattle.irl_journal.specs.Visiting.{TakesAll, IsBrokenFor, IsRefusedAt, IsOpened}
 use Rattle.irl_journal.specs.Appending.{IsOpen, Ends}
 use Rattle.irl_journal.specs.declared.journal.JournalFault.{JournalFault}
 use Rattle.irl_journal.specs.declared.journal.JournalFault.TheVariants.{Failed as JournalFailed, Memory as JournalMemory, Damaged as JournalDamaged}
@@ -40,8 +40,8 @@ took_lines old new at (line ∷ lines) took =
     (rest.0 ∙ ap (λ m. after Keep m (map line_tuple lines)) took.1.1, (took.1.0, rest.1))
 
 -- a record that was refused is no line
-pub refused_line : (visitor : Entering) (file : List ℕ) (at : ℕ) → IsRefusedAt EntersLine (λ v place payload. IsKeepable payload → ⊥) visitor file at → HasNoLineAt file at
-refused_line visitor file at refused = record {
+pub refused_line : (visitor after : Entering) (file : List ℕ) (at : ℕ) → IsRefusedAt EntersLine (λ v place payload next. IsKeepable payload → ⊥) visitor after file at → HasNoLineAt file at
+refused_line visitor after file at refused = record {
   lines = refused.payloads;
   payload = refused.payload;
   gate = refused.gate;
@@ -54,13 +54,13 @@ refused_line visitor file at refused = record {
 }
 
 -- damage of the journal is damage of the lines
-pub damaged_line : (visitor : Entering) (file : List ℕ) (fault : JournalFault) (at : ℕ) → open_fault_of fault ≡ OpenDamaged at
-    → ((place : ℕ) → fault ≡ JournalDamaged place → IsBrokenAt file place ⊎ IsRefusedAt EntersLine (λ v p payload. IsKeepable payload → ⊥) visitor file place) → IsDamagedAt file at
-damaged_line visitor file JournalFailed at is found = absurd (cc)
-damaged_line visitor file JournalMemory at is found = absurd (cc)
-damaged_line visitor file (JournalDamaged place) at is found =
+pub damaged_line : (visitor after : Entering) (file : List ℕ) (fault : JournalFault) (at : ℕ) → open_fault_of fault ≡ OpenDamaged at
+    → ((place : ℕ) → fault ≡ JournalDamaged place → IsBrokenFor EntersLine visitor after file place ⊎ IsRefusedAt EntersLine (λ v p payload next. IsKeepable payload → ⊥) visitor after file place) → IsDamagedAt file at
+damaged_line visitor after file JournalFailed at is found = absurd (cc)
+damaged_line visitor after file JournalMemory at is found = absurd (cc)
+damaged_line visitor after file (JournalDamaged place) at is found =
     let same : place ≡ at = cc in
-    subst (λ (p : ℕ). IsDamagedAt file p) same (⊎_elim (λ broken. inl broken) (λ refused. inr (refused_line visitor file place refused)) (found place refl))
+    subst (λ (p : ℕ). IsDamagedAt file p) same (⊎_elim (λ broken. inl (broken.broken, (took_lines visitor after 0 broken.broken.payloads broken.took).1)) (λ refused. inr (refused_line visitor after file place refused)) (found place refl))
 
 -- a file of at most one byte has no record
 pub no_records : (file : List ℕ) (lines : List (List ℕ)) → HasRecords file lines → length file ≤ 1 → lines ≡ []
@@ -143,36 +143,19 @@ lines_after told now old files lines news n was is changes has each =
 pub same_list : (files : Files) (xs ys : List (List ℕ)) → HasLines files xs → HasLines files ys → xs ≡ ys
 same_list files xs ys h k = one_list (files line_file) xs ys h.records k.records
 
-first_byte : (a b : ℕ) (xs ys : List ℕ) → a ∷ xs ≡ b ∷ ys → a ≡ b
-first_byte a b xs ys same = cc
+-- lines are payloads
+payloads_of : (lines : List (List ℕ)) → AllByRecursion IsKeepable lines → AllByRecursion IsPayload lines
+payloads_of [] each = tt
+payloads_of (line ∷ lines) each = (omega (arith, each.0.few), payloads_of lines each.1)
 
--- where records of lines stand, a record behind some of them is a line
-all_lines : (xs lines : List (List ℕ)) (payload r s : List ℕ) (a : ℕ) → a ≢ open_gate → AllByRecursion IsKeepable xs → AllByRecursion IsKeepable lines → IsPayload payload
-    → records_text xs ++ a ∷ r ≡ records_text lines ++ (open_gate ∷ (body_text payload ++ s)) → IsKeepable payload
-all_lines [] [] payload r s a closed each each' fits same = absurd (closed (cc))
-all_lines [] (line ∷ lines) payload r s a closed each each' fits same =
-    let e = same ∙ records-cons line lines (open_gate ∷ (body_text payload ++ s)) in
-    absurd (closed (first_byte a open_gate r _ e))
-all_lines (x ∷ xs) [] payload r s a closed each each' fits same =
-    let e : open_gate ∷ (body_text x ++ (records_text xs ++ a ∷ r)) ≡ open_gate ∷ (body_text payload ++ s) = sym (records-cons x xs (a ∷ r)) ∙ same in
-    let both = same_bodies x payload (records_text xs ++ a ∷ r) s (omega (arith, each.0.few)) fits (ap (drop 1) e) in
-    subst IsKeepable both.0 each.0
-all_lines (x ∷ xs) (line ∷ lines) payload r s a closed each each' fits same =
-    let rest : List ℕ = records_text lines ++ (open_gate ∷ (body_text payload ++ s)) in
-    let e : open_gate ∷ (body_text x ++ (records_text xs ++ a ∷ r)) ≡ open_gate ∷ (body_text line ++ rest) = sym (records-cons x xs (a ∷ r)) ∙ same ∙ records-cons line lines (open_gate ∷ (body_text payload ++ s)) in
-    let both = same_bodies x line (records_text xs ++ a ∷ r) rest (omega (arith, each.0.few)) (omega (arith, each'.0.few)) (ap (drop 1) e) in
-    all_lines xs lines payload r s a closed each.1 each'.1 fits both.1
+each_at : (front : List (List ℕ)) (line : List ℕ) (more : List (List ℕ)) → AllByRecursion IsKeepable (front ++ line ∷ more) → IsKeepable line
+each_at [] line more each = each.0
+each_at (first ∷ front) line more each = each_at front line more each.1
 
 -- a store that has lines is not damaged
 pub not_damaged : (files : Files) (lines : List (List ℕ)) (at : ℕ) → HasLines files lines → IsDamagedAt (files line_file) at → ⊥
-not_damaged files lines at has (inl broken) = whole_list (files line_file) lines at has.records broken
-not_damaged files lines at has (inr none) = behind has.records
-  where
-    behind : StandsFor (files line_file) lines → ⊥
-    behind (inl short) =
-        let tail : List ℕ = body_text none.payload ++ none.gate ∷ none.rest in
-        let bytes : files line_file ≡ records_text none.lines ++ (open_gate ∷ tail) = none.bytes ∙ append_assoc (records_text none.lines) (open_gate ∷ body_text none.payload) (none.gate ∷ none.rest) in
-        let long : length (files line_file) ≡ length (records_text none.lines) + length (open_gate ∷ tail) = ap length bytes ∙ length-append (records_text none.lines) (open_gate ∷ tail) in
-        let back : length tail ≡ length (body_text none.payload) + length (none.gate ∷ none.rest) = length-append (body_text none.payload) (none.gate ∷ none.rest) in
-        absurd (omega (arith, short.0, long, back))
-    behind (inr records) = none.none (all_lines lines none.lines none.payload records.rest (none.gate ∷ none.rest) records.gate records.closed has.each none.each none.fits (sym records.bytes ∙ none.bytes ∙ append_assoc (records_text none.lines) (open_gate ∷ body_text none.payload) (none.gate ∷ none.rest)))
+not_damaged files lines at has (inl broken) = whole_list (files line_file) lines at has.records broken.0
+not_damaged files lines at has (inr none) =
+    let bytes : files line_file ≡ records_text none.lines ++ (open_gate ∷ (body_text none.payload ++ (none.gate ∷ none.rest))) = none.bytes ∙ append_assoc (records_text none.lines) (open_gate ∷ body_text none.payload) (none.gate ∷ none.rest) in
+    let found = record_behind (files line_file) lines none.lines none.payload none.rest none.gate has.records (payloads_of none.lines none.each) none.fits bytes in
+    none.none (each_at none.lines none.payload found.0 (subst (AllByRecursion IsKeepable) found.1 has.each))

@@ -38,9 +38,13 @@ pub record HasNoLineAt (file : List ℕ) (at : ℕ) : Type 0 where
   pub place : at ≡ length (records_text lines)
   pub none : IsKeepable payload → ⊥
 
--- the first record of the file that is broken or no line has its gate at this place
+-- behind records of lines the one at this place passes the file's end or the limit of a payload
+abbrev pub IsCutOffAt : List ℕ → ℕ → Type 0
+IsCutOffAt file at = (broken : IsBrokenAt file at) × AllByRecursion IsKeepable broken.payloads
+
+-- the first record of the file that is cut off or no line has its gate at this place
 abbrev pub IsDamagedAt : List ℕ → ℕ → Type 0
-IsDamagedAt file at = IsBrokenAt file at ⊎ HasNoLineAt file at
+IsDamagedAt file at = IsCutOffAt file at ⊎ HasNoLineAt file at
 
 -- the offer of a line: it asks for the line's key and enters it
 abbrev pub line_tuple : List ℕ → Tuple

@@ -19,7 +19,7 @@ pub struct Entering {
 impl Visit for Entering {
     ghost takes = { λ old _ payload new. IsKeepable payload × (new.seen ≡ entered Keep old.seen (line_tuple payload)) };
 
-    ghost refuses = { λ _ _ payload. IsKeepable payload → ⊥ };
+    ghost refuses = { λ _ _ payload _. IsKeepable payload → ⊥ };
 
     fn take(&mut self, _at: u64, payload: &[u8]) -> Result<bool, AllocError> {
         if payload.is_empty() || payload.len() > MAX_LINE as usize {

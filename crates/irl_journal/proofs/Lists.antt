@@ -90,3 +90,31 @@ whole_list file xs at for_x broken = ⊎_elim
     (λ few. omega (arith, few.0, broken.long))
     (λ has. not_broken xs broken.payloads has.gate has.rest broken.rest has.closed has.each broken.each broken.broken (sym has.bytes ∙ broken.bytes))
     for_x
+
+-- where records have a closed gate behind them, a record behind some of them is one of them
+record_of : (xs ps : List (List ℕ)) (p r s : List ℕ) (a : ℕ) → a ≢ open_gate → AllByRecursion IsPayload xs → AllByRecursion IsPayload ps → IsPayload p
+    → records_text xs ++ a ∷ r ≡ records_text ps ++ (open_gate ∷ (body_text p ++ s)) → (more : List (List ℕ)) × (xs ≡ ps ++ p ∷ more)
+record_of [] [] p r s a closed each_x each_p fits same = absurd (closed (first_of_two a open_gate r (body_text p ++ s) same))
+record_of [] (q ∷ ps) p r s a closed each_x each_p fits same =
+    absurd (closed (first_of_two a open_gate r _ (same ∙ records-cons q ps (open_gate ∷ (body_text p ++ s)))))
+record_of (x ∷ xs) [] p r s a closed each_x each_p fits same =
+    let apart : open_gate ∷ (body_text x ++ (records_text xs ++ a ∷ r)) ≡ open_gate ∷ (body_text p ++ s) = sym (records-cons x xs (a ∷ r)) ∙ same in
+    let parts = same_bodies x p (records_text xs ++ a ∷ r) s each_x.0 fits (ap (drop 1) apart) in
+    (xs, ap (λ (l : List ℕ). l ∷ xs) parts.0)
+record_of (x ∷ xs) (q ∷ ps) p r s a closed each_x each_p fits same =
+    let rest : List ℕ = records_text ps ++ (open_gate ∷ (body_text p ++ s)) in
+    let apart : open_gate ∷ (body_text x ++ (records_text xs ++ a ∷ r)) ≡ open_gate ∷ (body_text q ++ rest) = sym (records-cons x xs (a ∷ r)) ∙ same ∙ records-cons q ps (open_gate ∷ (body_text p ++ s)) in
+    let parts = same_bodies x q (records_text xs ++ a ∷ r) rest each_x.0 each_p.0 (ap (drop 1) apart) in
+    let behind = record_of xs ps p r s a closed each_x.1 each_p.1 fits parts.1 in
+    (behind.0, ap (λ (l : List ℕ). l ∷ xs) parts.0 ∙ ap (λ (ls : List (List ℕ)). q ∷ ls) behind.1)
+
+-- an open, whole record behind records of a file that stands for a list is one of that list
+pub record_behind : (file : List ℕ) (xs ps : List (List ℕ)) (p rest : List ℕ) (gate : ℕ) → StandsFor file xs → AllByRecursion IsPayload ps → IsPayload p → file ≡ records_text ps ++ (open_gate ∷ (body_text p ++ (gate ∷ rest)))
+    → (more : List (List ℕ)) × (xs ≡ ps ++ p ∷ more)
+record_behind file xs ps p rest gate for_x each fits is = ⊎_elim
+    (λ few.
+    let tail : List ℕ = body_text p ++ gate ∷ rest in
+    let long : length file ≡ length (records_text ps) + length (open_gate ∷ tail) = ap length is ∙ length-append (records_text ps) (open_gate ∷ tail) in
+    absurd (omega (arith, few.0, long, length-append (body_text p) (gate ∷ rest))))
+    (λ has. record_of xs ps p has.rest (gate ∷ rest) has.gate has.closed has.each each fits (sym has.bytes ∙ is))
+    for_x

@@ -1,12 +1,12 @@
 -- Reading the records of a file piece by piece.
 use Rattle.std.proofs.Common.{◌≡◌, ◌≢◌, ◌∙◌, ◌⊎◌, ⊎_elim, inl, inr, ℕ, ◌+◌, ◌-◌, ◌<◌, ◌≤◌, min, List, [], ◌∷◌, ◌++◌, length, take, drop, Bool, true, false, append_assoc, sym, ap, subst, refl, arith, suc, length-append, length-take, length-take-le, length-drop}
-use Rattle.std.proofs.lemmas.List.{drop-drop, take-append-drop, take-append-le, drop-append-le}
+use Rattle.std.proofs.lemmas.List.{append-nil, drop-drop, take-append-drop, take-append-le, drop-append-le}
 use Rattle.std.proofs.lemmas.Grind.{flat_map-append}
 use Rattle.std.proofs.Math.Seq.{take-add, take-append-add, take-append_seam, drop-append_seam}
 use Rattle.std.specs.List.{AllByRecursion}
 use Rattle.irl_disk.specs.Disk.{Reads}
-use Rattle.irl_journal.specs.Records.{open_gate, body_text, records_text, placed_from, IsPayload, HasNoRecord, IsBrokenAt}
-use Rattle.irl_journal.specs.Visiting.{TakesAll, HandsOver, RefusesAt, IsRefusedAt}
+use Rattle.irl_journal.specs.Records.{open_gate, body_text, records_text, placed_from, IsPayload, HasNoRecord}
+use Rattle.irl_journal.specs.Visiting.{TakesAll, HandsOver, RefusesAt, IsRefusedAt, IsBrokenFor}
 use Rattle.irl_journal.specs.Appending.{Ends}
 use Rattle.irl_journal.proofs.Lists.{length-body, records-cons}
 
@@ -31,6 +31,11 @@ next_gate (gate ∷ rest) some = (gate, rest, refl)
 -- parts of a file put together
 joined : (a b c behind more : List ℕ) (gate : ℕ) (rest : List ℕ) → behind ≡ gate ∷ rest → a ++ (b ++ c ++ behind ++ more) ≡ a ++ b ++ c ++ gate ∷ (rest ++ more)
 joined a b c behind more gate rest is = rw is (simp append_assoc)
+
+-- only no records have no bytes
+no_records : (payloads : List (List ℕ)) → records_text payloads ≡ [] → payloads ≡ []
+no_records [] is = refl
+no_records (payload ∷ payloads) is = absurd (omega (arith, length-cons payload payloads, ap length is))
 
 module _ {V : Type 0} (takes : V → ℕ → List ℕ → V → Type 0) where
   -- records, and behind them more
@@ -140,37 +145,42 @@ module _ {V : Type 0} (takes : V → ℕ → List ℕ → V → Type 0) where
       )
 
   -- a piece that begins with no closed gate and no whole record
-  pub breaks-there : (old now next : V) (file chunk : List ℕ) (at count : ℕ) (payloads : List (List ℕ)) → 1 < length file → HasRead old now file at payloads → HandsOver takes now next at 0 false chunk → chunk ≡ take count (drop at file) → 1 ≤ length chunk → count ≡ min (min (length file) 16777222) (length file - at) → IsBrokenAt file at
+  pub breaks-there : (old now next : V) (file chunk : List ℕ) (at count : ℕ) (payloads : List (List ℕ)) → 1 < length file → HasRead old now file at payloads → HandsOver takes now next at 0 false chunk → chunk ≡ take count (drop at file) → 1 ≤ length chunk → count ≡ min (min (length file) 16777222) (length file - at) → IsBrokenFor takes old next file at
   breaks-there old now next file chunk at count payloads long so_far handed is some most =
       let whole = rest_of file chunk at count is in
       let cut = handed.cut_short refl in
+      let reads = reads-on old now next file chunk at count 0 false payloads so_far handed is some in
+      let all : payloads ++ handed.payloads ≡ payloads = ap (λ (more : List (List ℕ)). payloads ++ more) (no_records handed.payloads (sym handed.front)) ∙ append-nil payloads in
       ⊎_elim
       (λ (e : chunk ≡ []). absurd (omega (arith, some, ap length e)))
-      (λ (next : (tail : List ℕ) × (chunk ≡ open_gate ∷ tail)).
-      let tail = next.0 ++ drop count (drop at file) in
-      let begins : drop at file ≡ open_gate ∷ tail = whole ∙ ap (λ (bs : List ℕ). bs ++ drop count (drop at file)) next.1 in
+      (λ (begun : (tail : List ℕ) × (chunk ≡ open_gate ∷ tail)).
+      let tail = begun.0 ++ drop count (drop at file) in
+      let begins : drop at file ≡ open_gate ∷ tail = whole ∙ ap (λ (bs : List ℕ). bs ++ drop count (drop at file)) begun.1 in
       record {
-        payloads = payloads;
-        rest = tail;
-        long = long;
-        bytes = sym (take-append-drop at file) ∙ ap (λ (bs : List ℕ). bs ++ drop at file) so_far.front ∙ ap (λ (bs : List ℕ). records_text payloads ++ bs) begins;
-        each = so_far.each;
-        place = place_of old now file at payloads so_far;
-        broken = λ payload rest gate fits same.
-            let record_ = open_gate ∷ body_text payload in
-            let size : length record_ ≡ 5 + length payload = omega (arith, length-body payload) in
-            let there : drop at file ≡ record_ ++ gate ∷ rest = begins ∙ same in
-            let many : length file - at ≡ length record_ + length (gate ∷ rest) = sym (length-drop at file) ∙ ap length there ∙ length-append record_ (gate ∷ rest) in
-            let split : count ≡ length record_ + suc (count - length record_ - 1) = omega (arith, fits) in
-            let front : chunk ≡ record_ ++ gate ∷ take (count - length record_ - 1) rest =
-            is ∙ ap (take count) there ∙ ap (λ (k : ℕ). take k (record_ ++ gate ∷ rest)) split ∙ take-append-add record_ (gate ∷ rest) (suc (count - length record_ - 1)) in
-            cut.0 payload (take (count - length record_ - 1) rest) gate fits front;
+        broken = record {
+          payloads = payloads;
+          rest = tail;
+          long = long;
+          bytes = sym (take-append-drop at file) ∙ ap (λ (bs : List ℕ). bs ++ drop at file) so_far.front ∙ ap (λ (bs : List ℕ). records_text payloads ++ bs) begins;
+          each = so_far.each;
+          place = place_of old now file at payloads so_far;
+          broken = λ payload rest gate fits same.
+              let record_ = open_gate ∷ body_text payload in
+              let size : length record_ ≡ 5 + length payload = omega (arith, length-body payload) in
+              let there : drop at file ≡ record_ ++ gate ∷ rest = begins ∙ same in
+              let many : length file - at ≡ length record_ + length (gate ∷ rest) = sym (length-drop at file) ∙ ap length there ∙ length-append record_ (gate ∷ rest) in
+              let split : count ≡ length record_ + suc (count - length record_ - 1) = omega (arith, fits) in
+              let front : chunk ≡ record_ ++ gate ∷ take (count - length record_ - 1) rest =
+              is ∙ ap (take count) there ∙ ap (λ (k : ℕ). take k (record_ ++ gate ∷ rest)) split ∙ take-append-add record_ (gate ∷ rest) (suc (count - length record_ - 1)) in
+              cut.0 payload (take (count - length record_ - 1) rest) gate fits front;
+        };
+        took = subst (λ (ps : List (List ℕ)). TakesAll takes old (placed_from 0 ps) next) all reads.took;
       })
       cut.1
 
   -- a piece whose records the visitor refuses
-  pub refuses-there : (refuses : V → ℕ → List ℕ → Type 0) (old now : V) (file chunk : List ℕ) (at count place : ℕ) (payloads : List (List ℕ)) → HasRead old now file at payloads → (refusal : RefusesAt takes refuses now at chunk place) → chunk ≡ take count (drop at file) → IsRefusedAt takes refuses old file place
-  refuses-there refuses old now file chunk at count place payloads so_far refusal is =
+  pub refuses-there : (refuses : V → ℕ → List ℕ → V → Type 0) (old now next : V) (file chunk : List ℕ) (at count place : ℕ) (payloads : List (List ℕ)) → HasRead old now file at payloads → (refusal : RefusesAt takes refuses now next at chunk place) → chunk ≡ take count (drop at file) → IsRefusedAt takes refuses old next file place
+  refuses-there refuses old now next file chunk at count place payloads so_far refusal is =
       let here = place_of old now file at payloads so_far in
       let record_ = open_gate ∷ body_text refusal.payload in
       let whole : file ≡ records_text payloads ++ (records_text refusal.payloads ++ record_ ++ refusal.behind ++ drop count (drop at file)) =

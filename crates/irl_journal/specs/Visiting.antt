@@ -1,15 +1,15 @@
 -- Handing a journal's records to a visitor, one after the other.
 use Rattle.std.specs.Prelude.{◌≡◌, ◌⊎◌, ◌≢◌, ℕ, ◌+◌, ◌<◌, ◌≤◌, List, [], ◌∷◌, ◌++◌, length, take, drop, Bool, true, false}
 use Rattle.std.specs.List.{AllByRecursion}
-use Rattle.irl_journal.specs.Records.{records_text, body_text, open_gate, placed_from, IsPayload, HasNoRecord}
+use Rattle.irl_journal.specs.Records.{records_text, body_text, open_gate, placed_from, IsPayload, HasNoRecord, IsBrokenAt}
 
 -- the visitor took these records in order, each at its place
 abbrev pub TakesAll : {V : Type 0} → (V → ℕ → List ℕ → V → Type 0) → V → List (ℕ × List ℕ) → V → Type 0
 TakesAll {V} takes old [] new = new ≡ old
 TakesAll {V} takes old (record_ ∷ records) new = (mid : V) × takes old record_.0 record_.1 mid × TakesAll takes mid records new
 
--- the visitor took the records before this place, and refuses the one there
-pub record IsRefusedAt {V : Type 0} (takes : V → ℕ → List ℕ → V → Type 0) (refuses : V → ℕ → List ℕ → Type 0) (visitor : V) (file : List ℕ) (at : ℕ) : Type 0 where
+-- the visitor took the records before this place, and refuses the one there; `after` is the visitor afterwards
+pub record IsRefusedAt {V : Type 0} (takes refuses : V → ℕ → List ℕ → V → Type 0) (visitor after : V) (file : List ℕ) (at : ℕ) : Type 0 where
   pub payloads : List (List ℕ)
   pub payload : List ℕ
   pub gate : ℕ
@@ -20,7 +20,12 @@ pub record IsRefusedAt {V : Type 0} (takes : V → ℕ → List ℕ → V → Ty
   pub place : at ≡ length (records_text payloads)
   pub reached : V
   pub took : TakesAll takes visitor (placed_from 0 payloads) reached
-  pub refused : refuses reached at payload
+  pub refused : refuses reached at payload after
+
+-- the visitor took all records before the broken one at this place; `after` is the visitor afterwards
+pub record IsBrokenFor {V : Type 0} (takes : V → ℕ → List ℕ → V → Type 0) (visitor after : V) (file : List ℕ) (at : ℕ) : Type 0 where
+  pub broken : IsBrokenAt file at
+  pub took : TakesAll takes visitor (placed_from 0 broken.payloads) after
 
 -- The first n of the bytes are open records that the visitor took; behind them stands a closed gate, or no whole record.
 -- Of bytes that there are they leave at least the next gate.
@@ -35,8 +40,8 @@ pub record HandsOver {V : Type 0} (takes : V → ℕ → List ℕ → V → Type
   pub cut_short : is_closed ≡ false → HasNoRecord (drop n bytes) × ((drop n bytes ≡ []) ⊎ ((rest : List ℕ) × (drop n bytes ≡ open_gate ∷ rest)))
 
 -- Of bytes whose first gate stands at this place of a file: the visitor took the records before another place, and refuses
--- the one there.
-pub record RefusesAt {V : Type 0} (takes : V → ℕ → List ℕ → V → Type 0) (refuses : V → ℕ → List ℕ → Type 0) (visitor : V) (at : ℕ) (bytes : List ℕ) (place : ℕ) : Type 0 where
+-- the one there; `after` is the visitor afterwards.
+pub record RefusesAt {V : Type 0} (takes refuses : V → ℕ → List ℕ → V → Type 0) (visitor after : V) (at : ℕ) (bytes : List ℕ) (place : ℕ) : Type 0 where
   pub payloads : List (List ℕ)
   pub payload : List ℕ
   pub behind : List ℕ
@@ -47,7 +52,7 @@ pub record RefusesAt {V : Type 0} (takes : V → ℕ → List ℕ → V → Type
   pub place_is : place ≡ at + length (records_text payloads)
   pub reached : V
   pub took : TakesAll takes visitor (placed_from at payloads) reached
-  pub refused : refuses reached place payload
+  pub refused : refuses reached place payload after
 
 -- what opening a journal may do to its file: where it has at most one byte, it has at most one afterwards
 abbrev pub IsOpened : List ℕ → List ℕ → Type 0

@@ -1,11 +1,11 @@
-ghost use Rattle.std.specs.Prelude.{◌≡◌, ◌≢◌, ◌⊎◌, ◌↔◌, ◌<◌, ◌≤◌, ◌+◌, ◌^◌, ◌++◌, [], ◌∷◌, List, ℕ, Some, length, length as len, true, false, IfOk, IfSome, IfNone, vec_len, OnOk, OnErr, IsOk, IsTrue, IsErrOf};
+ghost use Rattle.std.specs.Prelude.{◌≡◌, ◌≢◌, ◌⊎◌, ◌↔◌, ◌<◌, ◌≤◌, ◌+◌, ◌^◌, ◌++◌, [], ◌∷◌, List, ℕ, Some, length, length as len, true, false, IfOk, IfSome, IfNone, take, drop, ⊤, vec_len, OnOk, OnErr, IsOk, IsTrue, IsErrOf};
 ghost use Rattle.std.specs.Option.{ForSome};
 ghost use Rattle.irl_offer.specs.Faults.{Rose, HasCause};
 ghost use Rattle.irl_disk.specs.Disk.{Files, Changes, ChangesFile, Scribbled};
-ghost use Rattle.irl_disk.specs.Images.{Follows, Leaves};
+ghost use Rattle.irl_disk.specs.Images.{Follows, Leaves, TakesOnly};
 ghost use Rattle.irl_journal.specs.declared.journal.JournalFault.TheVariants.{Failed as VisitFailed, Memory as VisitMemory};
-ghost use Rattle.irl_journal.specs.Records.{records_text, placed_from, open_gate, body_text, StandsFor, IsBrokenAt, IsPayload, HasNoRecord};
-ghost use Rattle.irl_journal.specs.Visiting.{TakesAll, IsRefusedAt, RefusesAt, HandsOver, IsOpened};
+ghost use Rattle.irl_journal.specs.Records.{records_text, placed_from, open_gate, body_text, StandsFor, IsPayload, HasNoRecord};
+ghost use Rattle.irl_journal.specs.Visiting.{TakesAll, IsBrokenFor, IsRefusedAt, RefusesAt, HandsOver, IsOpened};
 ghost use Rattle.irl_journal.specs.Appending.{Ends, IsOpen, HasOrGains};
 
 use crate::frame::{Frame, HEAD, MAX_PAYLOAD};
@@ -106,11 +106,17 @@ impl Journal {
         ensures records { IfOk result (λ journal. ForSome (S.contents store.old) (λ files. (payloads : List (List ℕ)) × StandsFor (files f) payloads
             × (journal.end ≡ length (records_text payloads)) × TakesAll V.takes visitor.old (placed_from 0 payloads) visitor.new × IsOpen (S.images store.new) journal payloads)) }
         ensures damaged { (at : ℕ) → IsErrOf result (JournalFault.Damaged at) →
-            ForSome (S.contents store.old) (λ files. IsBrokenAt (files f) at ⊎ IsRefusedAt V.takes V.refuses visitor.old (files f) at) }
+            ForSome (S.contents store.old) (λ files. IsBrokenFor V.takes visitor.old visitor.new (files f) at ⊎ IsRefusedAt V.takes V.refuses visitor.old visitor.new (files f) at) }
         ensures same { (at : ℕ) → IsErrOf result (JournalFault.Damaged at) → S.contents store.new ≡ S.contents store.old }
+        ensures memory_same { IsErrOf result JournalFault.Memory → S.contents store.new ≡ S.contents store.old }
+        // A file of at most one byte is then the closed gate.
+        ensures short { OnOk result (ForSome (S.contents store.old) (λ files. length (files f) ≤ 1 → (new : Files) × (S.contents store.new ≡ Some new) × (new f ≡ 0 ∷ []))) }
         ensures changes { Changes f IsOpened (S.contents store.old) (S.contents store.new) }
         // A stop at any moment leaves each file as it was, but that a file of at most one byte has at most one.
         ensures stops { Leaves S.moment S.images_since store.old store.new (Follows (ChangesFile f IsOpened) (S.images store.old)) }
+        // Where memory runs out or the file is damaged, it leaves what a stop left before.
+        ensures quiet { (IsErrOf result JournalFault.Memory) ⊎ ((at : ℕ) × IsErrOf result (JournalFault.Damaged at)) → Leaves S.moment S.images_since store.old store.new (S.images store.old) }
+        ensures taken { TakesOnly f (S.taken store.old) (S.taken store.new) }
         ensures later { S.faults store.old ≤ S.faults store.new }
         ensures failed { IsErrOf result JournalFault.Failed → Rose (S.faults store.old) (S.faults store.new) }
     {
@@ -132,9 +138,10 @@ impl Journal {
     /// the journal's soundness, and the file stands for the records before or for these and the new one. It takes no memory.
     pub fn append<S: Store>(&mut self, store: &mut S, frame: &mut Frame) -> Result<(), Failed>
         requires sound { self.old.is_sound ≡ true }
-        requires open { (payloads : List (List ℕ)) × IsOpen (S.images store.old) self.old payloads }
+        requires place { ForSome (S.contents store.old) (λ files. self.old.end < length (files self.old.file)) }
         ensures acknowledged { OnOk result ((payloads : List (List ℕ)) → IsOpen (S.images store.old) self.old payloads → IsOpen (S.images store.new) self.new (payloads ++ frame.old.bytes ∷ [])) }
         ensures end { OnOk result (self.new.end ≡ self.old.end + 5 + length frame.old.bytes) }
+        ensures end_kept { OnErr result (self.new.end ≡ self.old.end) }
         ensures file { self.new.file ≡ self.old.file }
         ensures sound { (self.new.is_sound ≡ true) ↔ IsOk result }
         ensures frame { frame.new ≡ frame.old }
@@ -143,6 +150,11 @@ impl Journal {
         // A stop at any moment leaves the records from before, with the new one or without, and every other file as it was.
         ensures stops { (payloads : List (List ℕ)) → IsOpen (S.images store.old) self.old payloads →
             Leaves S.moment S.images_since store.old store.new (Follows (ChangesFile self.old.file (HasOrGains payloads frame.old.bytes)) (S.images store.old)) }
+        // At its end the file has the open gate, the record's bytes and the next gate; the rest is as it was.
+        ensures bytes { OnOk result (Changes self.old.file (λ old new. new ≡ take self.old.end old ++ (open_gate ∷ (body_text frame.old.bytes ++ (0 ∷ drop (self.old.end + 6 + length frame.old.bytes) old)))) (S.contents store.old) (S.contents store.new)) }
+        // Every other file stays, whatever this one has.
+        ensures others { Changes self.old.file (λ _ _. ⊤) (S.contents store.old) (S.contents store.new) }
+        ensures others_stop { Leaves S.moment S.images_since store.old store.new (Follows (ChangesFile self.old.file (λ _ _. ⊤)) (S.images store.old)) }
         ensures taken { S.taken store.new ≡ S.taken store.old }
         ensures cause { HasCause (S.faults store.old) (S.faults store.new) result }
     {
@@ -192,9 +204,10 @@ fn read_records<S: Store, V: Visit>(
     ensures within { IfOk result (λ end. end + 1 < 2 ^ 64) }
     ensures records { IfOk result (λ end. ForSome (S.contents store.old) (λ files. (payloads : List (List ℕ)) × Ends end (files f) payloads × TakesAll V.takes visitor.old (placed_from 0 payloads) visitor.new)) }
     ensures damaged { (at : ℕ) → IsErrOf result (JournalFault.Damaged at) →
-        ForSome (S.contents store.old) (λ files. IsBrokenAt (files f) at ⊎ IsRefusedAt V.takes V.refuses visitor.old (files f) at) }
+        ForSome (S.contents store.old) (λ files. IsBrokenFor V.takes visitor.old visitor.new (files f) at ⊎ IsRefusedAt V.takes V.refuses visitor.old visitor.new (files f) at) }
     ensures same { S.contents store.new ≡ S.contents store.old }
     ensures stops { Leaves S.moment S.images_since store.old store.new (S.images store.old) }
+    ensures taken { TakesOnly f (S.taken store.old) (S.taken store.new) }
     ensures later { S.faults store.old ≤ S.faults store.new }
     ensures failed { IsErrOf result JournalFault.Failed → Rose (S.faults store.old) (S.faults store.new) }
 {
@@ -223,7 +236,7 @@ fn hand_over<V: Visit>(
 ) -> Result<(usize, bool), JournalFault>
     requires { at + len bytes.now < 2 ^ 64 }
     ensures records { IfOk result (λ p. HandsOver V.takes visitor.old visitor.new at p.0 p.1 bytes.now) }
-    ensures refused { (place : ℕ) → IsErrOf result (JournalFault.Damaged place) → RefusesAt V.takes V.refuses visitor.old at bytes.now place }
+    ensures refused { (place : ℕ) → IsErrOf result (JournalFault.Damaged place) → RefusesAt V.takes V.refuses visitor.old visitor.new at bytes.now place }
     ensures no_fault { IsErrOf result JournalFault.Failed → ⊥ }
 {
     let mut rest = bytes;

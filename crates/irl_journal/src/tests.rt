@@ -19,7 +19,7 @@ struct Keeping {
 impl Visit for Keeping {
     ghost takes = { λ _ _ _ _. ⊤ };
 
-    ghost refuses = { λ _ _ _. ⊤ };
+    ghost refuses = { λ _ _ _ _. ⊤ };
 
     fn take(&mut self, at: u64, payload: &[u8]) -> Result<bool, AllocError> {
         if at == self.refused {

@@ -24,7 +24,7 @@ use Rattle.irl_top.proofs.Sinks.{appends_both}
 use Rattle.irl_top.specs.Batch.{ReadsOn, ReadsOnTold}
 use Rattle.irl_top.specs.Input.{IsFrontOf, offered, offered_from, refused}
 use Rattle.irl_top.specs.Printed.{added}
-use Rattle.irl_top.specs.Run.{Outside, Ran, Gains, Spares, Continues, LeavesOnly, HasFront, IsEarly, is_late}
+use Rattle.irl_top.specs.Run.{Outside, Ran, Gains, Spares, Continues, LeavesOnly, HasFront, IsEarly, is_late, prints_all}
 use Rattle.irl_bay.specs.declared.kept.OpenFault.{OpenFault}
 use Rattle.irl_bay.specs.declared.kept.OpenFault.TheVariants.{NotOurs as OpenNotOurs, Damaged as OpenDamaged, Failed as OpenFailed, Memory as OpenMemory}
 use Rattle.irl_top.specs.Message.{ending_of_open, ending_of_read, ending_of_commit}
@@ -113,7 +113,7 @@ not_begun before after ending not changes leaves counts output = λ files old te
       offers = λ input known. ((offered input, refl), λ is. absurd (not is));
       written = subst (λ (w : Option (List ℕ)). Appends before.output w []) (sym output) (Appends-nil before.output);
       printed = (added old [], refl);
-      whole = λ is. absurd (not is);
+      whole = λ is. sym (added-nil old);
       stops = stopped;
       now = λ image left. stopped.each image (counts before.moment image stopped.later left);
     }
@@ -142,7 +142,7 @@ between before now after ending kept progress news not so_far files output moved
       offers = λ input known. let s = so_far.reads input known in ((offered_from (progress.number + 1) s.0, s.2.offers), λ is. absurd (not is));
       written = subst (λ (w : Option (List ℕ)). Appends before.output w (added old news)) (sym output) r.written;
       printed = ([], ap (added old) all ∙ sym (append-nil (added old news)));
-      whole = λ is. absurd (not is);
+      whole = λ is. refl;
       stops = moved _ stopped;
       now = λ image left.
           let found = stopped.each image (so_far.counts before.moment image stopped.later (same image left)) in
@@ -166,9 +166,9 @@ pub record CommitsPartOutside (now after : Outside) (lines more : List (List ℕ
   pub printed : IsFrontOf text (added lines (take kept more))
   pub settled : IsSettled → kept ≡ most
 
-pub within : (before now after : Outside) (ending : Ending) (kept : Kept) (progress progress' : Progress) (news more : List (List ℕ)) → ending ≢ Done → Running before now kept progress news → AllByRecursion IsKeepable more → ReadsOnTold progress progress' now.input after.input more
+pub within : (before now after : Outside) (ending : Ending) (kept : Kept) (progress progress' : Progress) (news more : List (List ℕ)) → ending ≢ Done → (IsTrue (prints_all ending) → ⊥) → Running before now kept progress news → AllByRecursion IsKeepable more → ReadsOnTold progress progress' now.input after.input more
     → ((lines : List (List ℕ)) → IsKept now.images kept lines → CommitsPartOutside now after lines more (ending ≢ DiskFault)) → ((t : ℕ) (image : Files) → t ≤ after.moment → after.images image → after.images_since t image) → GainsAll before after ending
-within before now after ending kept progress progress' news more not so_far keepable reads commits counts = λ told old tells has.
+within before now after ending kept progress progress' news more not part so_far keepable reads commits counts = λ told old tells has.
     let r = so_far.grown told old tells has in
     let p = commits (old ++ news) r.known in
     let all = length_both news more p.most p.extends.all in
@@ -204,7 +204,7 @@ within before now after ending kept progress progress' news more not so_far keep
           let le : p.kept ≤ p.most = omega (arith, p.extends.acknowledged, p.extends.no_more) in
           let text : added (old ++ news) (take p.kept more) ≡ p.text ++ p.printed.0 = p.printed.1 in
           (p.printed.0, ap (added old) (front_behind news more p.most p.kept le) ∙ added-append old news (take p.kept more) ∙ ap (λ (t : List ℕ). added old news ++ t) text ∙ sym (append_assoc (added old news) p.text p.printed.0));
-      whole = λ is. absurd (not is);
+      whole = λ is. absurd (part is);
       stops = stopped;
       now = λ image left.
           let found = stopped.each image (counts before.moment image stopped.later left) in
@@ -437,6 +437,11 @@ pub commit_not_done : (fault : CommitFault) → ending_of_commit fault ≢ Done
 commit_not_done Disk = λ e. absurd (cc)
 commit_not_done Output = λ e. absurd (cc)
 commit_not_done Memory = λ e. absurd (cc)
+
+pub commit_prints_part : (fault : CommitFault) → IsTrue (prints_all (ending_of_commit fault)) → ⊥
+commit_prints_part Disk = λ e. absurd (cc)
+commit_prints_part Output = λ e. absurd (cc)
+commit_prints_part Memory = λ e. absurd (cc)
 
 -- a batch that ends in another way than by a disk fault is settled
 pub not_disk : (fault : CommitFault) → ending_of_commit fault ≢ DiskFault → fault ≢ Disk

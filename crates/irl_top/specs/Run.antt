@@ -42,6 +42,18 @@ is_late InputFault = true
 is_late OutputFault = true
 is_late NoMemory = false
 
+-- an ending at which all that is to be printed of the kept lines is written
+abbrev pub prints_all : Ending → Bool
+prints_all Done = true
+prints_all WordsRefused = false
+prints_all (LineRefused n) = true
+prints_all (NotOurs n) = false
+prints_all (Damaged n) = false
+prints_all DiskFault = false
+prints_all InputFault = true
+prints_all OutputFault = false
+prints_all NoMemory = false
+
 -- nothing was called: what is told is as it was, and the clock stands
 pub record IsUntouched (before after : Outside) : Type 0 where
   pub files : after.files ≡ before.files
@@ -86,10 +98,11 @@ pub record Gains (before after : Outside) (ending : Ending) (old : List (List �
   pub lines : HasFront old news told new
   -- the new lines are a front of those that the input offers, and all of them at Done
   pub offers : ForSome before.input (λ input. IsFrontOf news (offered input) × (ending ≡ Done → news ≡ offered input))
-  -- what is written is of acknowledged lines: of those that are judged Unique a front, and all of them at Done
+  -- what is written is of acknowledged lines: of those that are judged Unique a front, and all of them where the input ended
+  -- the run
   pub written : Appends before.output after.output text
   pub printed : IsFrontOf text (added old (take kept news))
-  pub whole : ending ≡ Done → text ≡ added old news
+  pub whole : IsTrue (prints_all ending) → text ≡ added old news
   -- a stop at any moment leaves what goes on from before the run: the old lines and then some of the new ones
   pub stops : LeavesOnly before after (Continues before old news 0)
   -- and a stop from now on leaves each acknowledged one

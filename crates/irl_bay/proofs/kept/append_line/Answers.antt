@@ -1,10 +1,13 @@
-use Rattle.std.proofs.Common.{◌≡◌, ◌∙◌, ◌++◌, ℕ, List, ap}
+use Rattle.std.proofs.Common.{◌≡◌, ◌∙◌, ◌++◌, ℕ, List, ap, arith}
 use Rattle.irl_journal.specs.Appending.{Draft}
-use Rattle.irl_bay.proofs.Extending.{open_where_told}
+use Rattle.irl_journal.proofs.Gates.{within}
 use Rattle.irl_bay.proofs.kept.append_line.Goals as goal
 
-pub append-requires-clause-open : goal.append-requires-clause-open
-append-requires-clause-open g c = open_where_told (g.S.Store.contents c.args.store.now) (g.S.Store.images c.args.store.now) c.args.journal.now (g.met.S.Store.told_where_image c.args.store.now) c.requires.open_
+pub append-requires-clause-place : goal.append-requires-clause-place
+append-requires-clause-place g c = λ files tells.
+    let known = c.requires.open_ files tells in
+    let fits = within known.0 (files c.args.journal.now.file) c.args.journal.now.end (known.1 files (g.met.S.Store.told_is_image c.args.store.now files tells)) in
+    omega (arith, fits)
 
 pub returns-clause-acknowledged : goal.returns-clause-acknowledged
 returns-clause-acknowledged g c =

@@ -2,8 +2,9 @@
 use Rattle.std.proofs.Common.{◌≡◌, ◌∙◌, ℕ, ◌<◌, ◌++◌, length, min, subst, arith, rules, inl, inr}
 use Rattle.irl_disk.specs.Disk.{Reads}
 use Rattle.irl_disk.proofs.Stretches.{joins, widens, left_now}
-use Rattle.irl_journal.specs.Records.{IsBrokenAt}
+use Rattle.irl_journal.specs.Visiting.{IsBrokenFor}
 use Rattle.irl_journal.proofs.Reading.{piece_read, reads-on, ends-there, breaks-there, refuses-there}
+use Rattle.irl_journal.proofs.Counting.{takes_more}
 use Rattle.irl_journal.proofs.journal.read_records.Goals as goal
 
 pub returns-in_err-taken-clause-damaged : goal.returns-in_err-taken-clause-damaged
@@ -13,7 +14,7 @@ returns-in_err-taken-clause-damaged g c = λ at e files tells.
     let read : Reads c.loop-at.at (length c.read.new.into) c.in_ok-count.count c.read.new.into file = rw (c.loop-at.invariant.same ∙ tells) at c.in_ok-count.ensures.bytes in
     let room : c.loop-at.piece.len ≡ min (length file) 16777222 = rw (c.requires.long files tells).0 at c.loop-at.invariant.piece in
     let piece = piece_read _ _ _ file _ _ _ c.deref.ensures.value (c.read.auto.into ∙ c.deref_mut.ensures.len) read room told.1.within in
-    inr (refuses-there g.V.Visit.takes g.V.Visit.refuses c.args.visitor.now c.loop-at.visitor file _ c.loop-at.at _ at told.0 told.1 (c.in_err-taken.ensures.refused at (search rules)) piece.is)
+    inr (refuses-there g.V.Visit.takes g.V.Visit.refuses c.args.visitor.now c.loop-at.visitor c.hand_over.new.visitor file _ c.loop-at.at _ at told.0 told.1 (c.in_err-taken.ensures.refused at (search rules)) piece.is)
 
 pub returns-then-is_closed-clause-records : goal.returns-then-is_closed-clause-records
 returns-then-is_closed-clause-records g c = λ files tells.
@@ -36,7 +37,7 @@ returns-then-taken-eq0-clause-damaged g c = λ at e files tells.
     let handed = rw (c.if-is_closed.false, c.if-taken-eq0.true) at c.in_ok-taken.ensures.records in
     let long : 1 < length file = omega (arith, c.requires.long files tells) in
     let same : c.loop-at.at ≡ at = cc in
-    inl (subst (λ (k : ℕ). IsBrokenAt file k) same
+    inl (subst (λ (k : ℕ). IsBrokenFor g.V.Visit.takes c.args.visitor.now c.hand_over.new.visitor file k) same
     (breaks-there g.V.Visit.takes c.args.visitor.now c.loop-at.visitor c.hand_over.new.visitor file _ c.loop-at.at _ told.0 long told.1 handed piece.is piece.some piece.most))
 
 pub loop-at-preserved : goal.loop-at-preserved
@@ -49,6 +50,7 @@ loop-at-preserved g c =
       stops = joins store.moment store.images_since c.args.store.now c.loop-at.store c.read.new.self (store.images c.args.store.now) before.stops
           (widens store.moment store.images_since c.loop-at.store c.read.new.self (store.images c.loop-at.store) (store.images c.args.store.now) reads
           (left_now store.moment store.images_since store.images g.met.S.Store.counts_now c.args.store.now c.loop-at.store (store.images c.args.store.now) before.stops));
+      taken = takes_more c.args.f _ _ _ _ before.taken c.in_ok-count.ensures.taken;
       later = omega (arith, before.later, c.in_ok-count.ensures.cause.later);
       piece = before.piece;
       told = λ files tells.

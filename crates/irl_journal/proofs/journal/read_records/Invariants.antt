@@ -1,6 +1,6 @@
 use Rattle.std.proofs.Common.{◌≡◌, ℕ, ◌-◌, ◌≤◌, List, vec_len, min}
 use Rattle.std.specs.Option.{ForSome}
-use Rattle.irl_disk.specs.Images.{Leaves}
+use Rattle.irl_disk.specs.Images.{Leaves, TakesOnly}
 use Rattle.irl_journal.proofs.Reading.{HasRead}
 use Rattle.irl_journal.proofs.journal.read_records.Given as goal
 
@@ -10,6 +10,7 @@ invariant-loop-at g l =
     record {
       same : store.contents l.store ≡ store.contents l.fn.store;
       stops : Leaves store.moment store.images_since l.fn.store l.store (store.images l.fn.store);
+      taken : TakesOnly l.f (store.taken l.fn.store) (store.taken l.store);
       later : store.faults l.fn.store ≤ store.faults l.store;
       piece : vec_len l.piece ≡ min l.length 16777222;
       told : ForSome (store.contents l.fn.store) (λ files. (payloads : List (List ℕ)) × HasRead g.V.Visit.takes l.fn.visitor l.visitor (files l.f) l.at payloads);

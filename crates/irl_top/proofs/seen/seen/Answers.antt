@@ -11,7 +11,7 @@ use Rattle.irl_top.specs.Batch.{texts, Commits, CommitsPart}
 use Rattle.irl_top.specs.Run.{Outside, LeavesOnly}
 use Rattle.irl_top.proofs.Images.{beside, leaves_beside, extends_beside}
 use Rattle.irl_top.proofs.Running.{CommitsOutside, begins, goes_on, others_step}
-use Rattle.irl_top.proofs.Stopping.{CommitsPartOutside, lists_spare, GainsAll, not_begun, not_opened, open_not_done, no_memory, between, not_read, read_not_done, within, not_committed, commit_not_done, not_disk, others_part, done}
+use Rattle.irl_top.proofs.Stopping.{CommitsPartOutside, lists_spare, GainsAll, not_begun, not_opened, open_not_done, no_memory, between, not_read, read_not_done, within, not_committed, commit_not_done, commit_prints_part, not_disk, others_part, done}
 use Rattle.irl_top.specs.Message.{ending_of_commit}
 use Rattle.irl_top.specs.declared.ending.Ending.TheVariants.{DiskFault}
 use Rattle.irl_top.proofs.seen.seen.Given.{Over}
@@ -101,7 +101,7 @@ returns-in_err-commit-clause-ran g c =
       settled = λ not. p.settled (λ e. not_disk fault not (cc));
     } in
     rw (out.1, out.2) (not_committed before after fault
-    (within before now after _ c.batches.kept c.batches.lines c.read_batch.new.lines so_far.0 more (commit_not_done fault) so_far.1 c.in_ok-batch.ensures.offers.each c.in_ok-batch.ensures.bytes part (g.met.S.Store.counts_now c.commit.new.store))
+    (within before now after _ c.batches.kept c.batches.lines c.read_batch.new.lines so_far.0 more (commit_not_done fault) (commit_prints_part fault) so_far.1 c.in_ok-batch.ensures.offers.each c.in_ok-batch.ensures.bytes part (g.met.S.Store.counts_now c.commit.new.store))
     (lists_spare before after so_far.1.opened) so_far.1.opened (others_part before now after c.batches.kept c.batches.lines so_far.0 more _ so_far.1 part)
     (λ e. omega (arith, so_far.1.disk_later, c.in_err-commit.ensures.disk (rw e refl))) (λ e. omega (arith, so_far.1.output_later, c.in_err-commit.ensures.output (rw e refl)))
     (record { disk = omega (arith, so_far.1.disk_later, c.in_err-commit.ensures.disk_later); input = omega (arith, so_far.1.input_later, c.in_ok-batch.ensures.later); output = omega (arith, so_far.1.output_later, c.in_err-commit.ensures.output_later) }))

@@ -21,7 +21,7 @@ returns-in_err-journal-clause-damaged g c = λ at e files tells.
     let short : length (files other_file) ≤ 1 = rw (← value) (omega (arith, c.if-branch-gt1.false)) in
     let is = rw (out.1, out.2) at e in
     let same : open_fault_of c.in_err-journal.field-0.0 ≡ Damaged at = cc in
-    (short, damaged_line _ _ c.in_err-journal.field-0.0 at same (λ place is. c.in_err-journal.ensures.damaged place (rw is refl) files (c.in_ok-length.ensures.same ∙ tells)))
+    (short, damaged_line _ c.visit.new.visitor _ c.in_err-journal.field-0.0 at same (λ place is. c.in_err-journal.ensures.damaged place (rw is refl) files (c.in_ok-length.ensures.same ∙ tells)))
 
 pub returns-clause-lines : goal.returns-clause-lines
 returns-clause-lines g c = λ files tells.

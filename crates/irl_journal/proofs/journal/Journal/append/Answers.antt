@@ -1,8 +1,10 @@
-use Rattle.std.proofs.Common.{List, ℕ, sym, subst, arith}
+use Rattle.std.proofs.Common.{◌≡◌, ◌<◌, List, ℕ, length, sym, subst, arith}
+use Rattle.std.specs.Option.{ForSome}
 use Rattle.irl_disk.specs.Disk.{Files}
-use Rattle.irl_journal.specs.Appending.{Ends, IsOpen, Tail}
-use Rattle.irl_journal.proofs.Gates.{within, within_behind, length-record}
+use Rattle.irl_journal.specs.Appending.{Ends, Tail}
+use Rattle.irl_journal.proofs.Gates.{length-record}
 use Rattle.irl_journal.proofs.Appended.{Begun, after_record, after_sync, is_behind, after_gate, is_gained, changes}
+use Rattle.irl_journal.proofs.Writing.{still_within, told_bytes, others_wrote, others_synced, others_on}
 use Rattle.irl_journal.proofs.journal.Journal.append.Given.{Over}
 use Rattle.irl_journal.proofs.journal.Journal.append.Goals as goal
 
@@ -21,11 +23,12 @@ begun g file end payloads payload old is_open =
       is_open = is_open;
     }
 
+-- the closed gate's place is within what is told
+abbrev told_within : (g : Over) (tail : Tail) (view : Tail) (old : g.row.S.Denot) → view ≡ tail → ForSome (g.S.Store.contents old) (λ files. tail.end < length (files tail.file)) → ForSome (g.S.Store.contents old) (λ files. view.end < length (files view.file))
+told_within g tail view old is within = subst (λ (t : Tail). ForSome (g.S.Store.contents old) (λ files. t.end < length (files t.file))) (sym is) within
+
 pub write-requires-clause-place : goal.write-requires-clause-place
-write-requires-clause-place g c =
-    let payloads = c.requires.open.0 in
-    let is_open = subst (λ (tail : Tail). IsOpen (g.S.Store.images c.args.store.now) tail payloads) (sym c.self.view_is) c.requires.open.1 in
-    λ files told. within payloads (files c.self.inside.file) c.self.inside.end (is_open files (g.met.S.Store.told_is_image c.args.store.now files told))
+write-requires-clause-place g c = λ files told. omega (arith, told_within g _ _ c.args.store.now c.self.view_is c.requires.place files told)
 
 -- the write behind the gate failed
 pub returns-in_err-write-clause-changes : goal.returns-in_err-write-clause-changes
@@ -57,11 +60,7 @@ returns-in_err-sync-clause-stops g c = rw (← c.self.view_is) (λ payloads is_o
 
 pub write-requires-2-clause-place : goal.write-requires-2-clause-place
 write-requires-2-clause-place g c =
-    let payloads = c.requires.open.0 in
-    let is_open = subst (λ (tail : Tail). IsOpen (g.S.Store.images c.args.store.now) tail payloads) (sym c.self.view_is) c.requires.open.1 in
-    let b = begun g c.self.inside.file c.self.inside.end payloads c.args.frame.now.bytes c.args.store.now is_open in
-    let behind = is_behind b _ _ _ c.closed_record-bytes.ensures.bytes c.closed_record-bytes.ensures.limit c.in_ok-write.ensures.ok c.sync.ensures.same c.in_ok-sync.ensures.durable in
-    λ files told. within_behind payloads c.args.frame.now.bytes (files c.self.inside.file) c.self.inside.end (behind files (g.met.S.Store.told_is_image c.sync.new.self files told))
+    still_within c.self.inside.file c.self.inside.end c.closed_record-bytes.result.now _ _ _ (told_within g _ _ c.args.store.now c.self.view_is c.requires.place) c.in_ok-write.ensures.ok c.sync.ensures.same
 
 -- the write of the open gate failed
 pub returns-in_err-write-2-clause-changes : goal.returns-in_err-write-2-clause-changes
@@ -131,3 +130,50 @@ returns-clause-acknowledged g c = rw (← c.self.view_is) (λ payloads is_open i
     let behind = is_behind b _ _ _ c.closed_record-bytes.ensures.bytes c.closed_record-bytes.ensures.limit c.in_ok-write.ensures.ok c.sync.ensures.same c.in_ok-sync.ensures.durable in
     let gained = is_gained b _ _ _ behind c.in_ok-write-2.ensures.ok c.sync-2.ensures.same c.in_ok-sync-2.ensures.durable image left in
     record { records = gained.records; place = omega (arith, gained.place, length-record c.args.frame.now.bytes c.closed_record-bytes.result.now c.closed_record-bytes.ensures.bytes) })
+
+-- every other file stays, whatever this one has
+pub returns-in_err-sync-clause-others_stop : goal.returns-in_err-sync-clause-others_stop
+returns-in_err-sync-clause-others_stop g c = rw (← c.self.view_is) (
+    let store = g.S.Store in
+    let counts_now = g.met.S.Store.counts_now in
+    let f = c.self.inside.file in
+    let wrote = others_wrote store.moment store.images_since store.images counts_now f _ _ c.args.store.now c.write.new.self c.write.ensures.stops in
+    let kept = others_synced store.moment store.images_since store.images counts_now f c.args.store.now c.write.new.self c.sync.new.self wrote c.sync.ensures.stops in
+    kept)
+
+pub returns-in_err-write-2-clause-others_stop : goal.returns-in_err-write-2-clause-others_stop
+returns-in_err-write-2-clause-others_stop g c = rw (← c.self.view_is) (
+    let store = g.S.Store in
+    let counts_now = g.met.S.Store.counts_now in
+    let f = c.self.inside.file in
+    let wrote = others_wrote store.moment store.images_since store.images counts_now f _ _ c.args.store.now c.write.new.self c.write.ensures.stops in
+    let kept = others_synced store.moment store.images_since store.images counts_now f c.args.store.now c.write.new.self c.sync.new.self wrote c.sync.ensures.stops in
+    let opened = others_on store.moment store.images_since store.images counts_now f _ _ c.args.store.now c.sync.new.self c.write-2.new.self kept c.write-2.ensures.stops in
+    opened)
+
+pub returns-in_err-sync-2-clause-others_stop : goal.returns-in_err-sync-2-clause-others_stop
+returns-in_err-sync-2-clause-others_stop g c = rw (← c.self.view_is) (
+    let store = g.S.Store in
+    let counts_now = g.met.S.Store.counts_now in
+    let f = c.self.inside.file in
+    let wrote = others_wrote store.moment store.images_since store.images counts_now f _ _ c.args.store.now c.write.new.self c.write.ensures.stops in
+    let kept = others_synced store.moment store.images_since store.images counts_now f c.args.store.now c.write.new.self c.sync.new.self wrote c.sync.ensures.stops in
+    let opened = others_on store.moment store.images_since store.images counts_now f _ _ c.args.store.now c.sync.new.self c.write-2.new.self kept c.write-2.ensures.stops in
+    let ended = others_synced store.moment store.images_since store.images counts_now f c.args.store.now c.write-2.new.self c.sync-2.new.self opened c.sync-2.ensures.stops in
+    ended)
+
+pub returns-clause-others_stop : goal.returns-clause-others_stop
+returns-clause-others_stop g c = rw (← c.self.view_is) (
+    let store = g.S.Store in
+    let counts_now = g.met.S.Store.counts_now in
+    let f = c.self.inside.file in
+    let wrote = others_wrote store.moment store.images_since store.images counts_now f _ _ c.args.store.now c.write.new.self c.write.ensures.stops in
+    let kept = others_synced store.moment store.images_since store.images counts_now f c.args.store.now c.write.new.self c.sync.new.self wrote c.sync.ensures.stops in
+    let opened = others_on store.moment store.images_since store.images counts_now f _ _ c.args.store.now c.sync.new.self c.write-2.new.self kept c.write-2.ensures.stops in
+    let ended = others_synced store.moment store.images_since store.images counts_now f c.args.store.now c.write-2.new.self c.sync-2.new.self opened c.sync-2.ensures.stops in
+    ended)
+
+-- the record's bytes with the next gate, behind the open gate
+pub returns-clause-bytes : goal.returns-clause-bytes
+returns-clause-bytes g c = rw (← c.self.view_is) (
+    told_bytes c.self.inside.file c.self.inside.end c.closed_record-bytes.result.now c.args.frame.now.bytes _ _ _ _ _ c.closed_record-bytes.ensures.bytes (told_within g _ _ c.args.store.now c.self.view_is c.requires.place) c.in_ok-write.ensures.ok c.sync.ensures.same c.in_ok-write-2.ensures.ok c.sync-2.ensures.same)
