@@ -1,5 +1,5 @@
 -- The lines of a journal that was opened.
-use Rattle.std.proofs.Common.{◌≡◌, ◌≢◌, ◌∙◌, ◌⊎◌, inl, inr, ⊎_elim, ℕ, ◌+◌, ◌≤◌, List, [], ◌∷◌, ◌++◌, length, map, take, drop, get_or, ◌<◌, Option, Some, None, refl, sym, ap, subst, arith, length-append, append_assoc}
+use Rattle.std.proofs.Common.{◌≡◌, ◌∙◌, ◌⊎◌, inl, inr, ⊎_elim, ℕ, ◌+◌, ◌≤◌, List, [], ◌∷◌, ◌++◌, length, map, take, drop, get_or, ◌<◌, Option, Some, None, refl, sym, ap, subst, arith, length-append, append_assoc}
 use Rattle.std.proofs.lemmas.List.{map-append, length-map, take_more, get_or-map}
 use Rattle.std.specs.List.{AllByRecursion}
 use Rattle.std.specs.FinMap.{empty}
@@ -9,17 +9,14 @@ use Rattle.irl_model.proofs.JudgingLaws.{after-append, judgements-drop}
 use Rattle.irl_offer.specs.Tuple.{Tuple}
 use Rattle.irl_disk.specs.Disk.{Files, Changes, ChangesFile}
 use Rattle.irl_journal.proofs.Lists.{one_list, whole_list, record_behind}
-use Rattle.irl_journal.specs.Records.{HasRecords, StandsFor, IsBrokenAt, IsPayload, records_text, body_text, open_gate, placed_from}
+use Rattle.irl_journal.specs.Records.{HasRecords, StandsFor, IsPayload, records_text, body_text, open_gate, placed_from}
 use Rattle.irl_journal.specs.Visiting.{TakesAll, IsBrokenFor, IsRefusedAt, IsOpened}
-use Rattle.irl_journal.specs.Appending.{IsOpen, Ends}
 use Rattle.irl_journal.specs.declared.journal.JournalFault.{JournalFault}
 use Rattle.irl_journal.specs.declared.journal.JournalFault.TheVariants.{Failed as JournalFailed, Memory as JournalMemory, Damaged as JournalDamaged}
 use Rattle.irl_bay.specs.declared.kept.OpenFault.TheVariants.{Damaged as OpenDamaged}
 use Rattle.irl_bay.specs.Faults.{open_fault_of}
 use Rattle.irl_bay.specs.declared.opening.Entering.{Entering}
-use Rattle.irl_bay.specs.declared.kept.Kept.{Kept}
 use Rattle.irl_bay.specs.Lines.{IsKeepable, HasLines, HasNoLineAt, IsDamagedAt, line_file, other_file, line_tuple}
-use Rattle.irl_bay.specs.Kept.{IsKept}
 
 pub each-append : (xs ys : List (List ℕ)) → AllByRecursion IsKeepable xs → AllByRecursion IsKeepable ys → AllByRecursion IsKeepable (xs ++ ys)
 each-append [] ys h k = k

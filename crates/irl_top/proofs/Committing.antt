@@ -1,30 +1,28 @@
 -- What a batch leaves in the store and at the output.
-use Rattle.std.proofs.Common.{◌≡◌, ◌≢◌, ◌∙◌, ◌≤◌, ℕ, List, [], ◌∷◌, ◌++◌, length, map, take, drop, Option, refl, sym, ap, subst, append-nil, arith, take_all}
+use Rattle.std.proofs.Common.{◌≡◌, ◌≢◌, ◌∙◌, ℕ, List, [], ◌∷◌, ◌++◌, length, map, take, drop, Option, refl, sym, ap, subst, append-nil, arith, take_all}
 use Rattle.std.proofs.lemmas.List.{take-append-drop, length-map}
 use Rattle.std.proofs.KnownBytes.{Appends-nil}
-use Rattle.std.specs.Prelude.{Result, Err, Some}
+use Rattle.std.specs.Prelude.{Result, Err}
 use Rattle.std.specs.List.{zip}
 use Rattle.std.specs.FinMap.{empty}
 use Rattle.std.specs.Io.KnownBytes.{Appends}
 use Rattle.irl_offer.specs.declared.offer.Rule.TheVariants.{Keep}
 use Rattle.irl_offer.specs.declared.offer.Verdict.{Verdict}
 use Rattle.irl_offer.specs.Tuple.{Tuple}
-use Rattle.irl_model.specs.Judging.{KeyMap, after}
+use Rattle.irl_model.specs.Judging.{after}
 use Rattle.irl_model.proofs.JudgingLaws.{zip-judgements}
 use Rattle.irl_disk.specs.Disk.{Files}
 use Rattle.irl_io.specs.Written.{AppendsFront}
 use Rattle.irl_bay.specs.declared.kept.Kept.{Kept}
 use Rattle.irl_bay.specs.declared.kept.Fault.{Fault}
 use Rattle.irl_bay.specs.declared.kept.Fault.TheVariants.{Failed, Memory}
-use Rattle.irl_bay.specs.Lines.{AreLines, line_tuple, line_file}
+use Rattle.irl_bay.specs.Lines.{AreLines, line_tuple}
 use Rattle.irl_bay.specs.Kept.{IsKept, Extends, AreVerdicts}
-use Rattle.irl_bay.proofs.Extending.{none_yet}
 use Rattle.irl_bay.proofs.Lines.{verdicts_more}
 use Rattle.irl_top.proofs.AddedLines.{added-nil}
 use Rattle.irl_top.specs.declared.commit.CommitFault.{CommitFault}
 use Rattle.irl_top.specs.declared.commit.CommitFault.TheVariants.{Disk}
 use Rattle.irl_top.specs.Batch.{texts, Commits, CommitsPart}
-use Rattle.irl_top.specs.Input.{IsFrontOf}
 use Rattle.irl_top.specs.Message.{commit_fault_of}
 use Rattle.irl_top.specs.Printed.{printed, added}
 

@@ -1,14 +1,11 @@
 -- What a run is, by what its parts answered.
-use Rattle.std.proofs.Common.{◌≡◌, ◌≢◌, ◌∙◌, ℕ, List, [], ◌∷◌, ◌++◌, length, drop, Option, Some, None, refl, sym, ap, subst, inl, inr, arith}
-use Rattle.std.proofs.Math.Seq.{drop-append_seam}
+use Rattle.std.proofs.Common.{◌≡◌, ◌≢◌, ℕ, List, Option, Some, None, refl, inl, inr, arith}
 use Rattle.std.specs.Prelude.{Result, Ok, Err, OnOk, OnErr, unwrap_or, is_some}
 use Rattle.std.specs.Option.{option_map}
 use Rattle.std.proofs.Common.{true}
-use Rattle.std.specs.List.{AllByRecursion, before_first, after_first}
 use Rattle.std.specs.Io.KnownBytes.{Appends}
 use Rattle.irl_offer.specs.Faults.{Rose, HasCause}
 use Rattle.irl_disk.specs.Disk.{Files}
-use Rattle.irl_io.specs.Lines.{lines, is_line_feed}
 use Rattle.irl_io.specs.Written.{AppendsFront}
 use Rattle.irl_bay.specs.Lines.{HasLines}
 use Rattle.irl_bay.proofs.Lines.{not_damaged}

@@ -1,5 +1,5 @@
 -- A run between two batches, and how it goes on.
-use Rattle.std.proofs.Common.{◌≡◌, ◌≢◌, ◌∙◌, ◌⊎◌, inl, ℕ, ◌+◌, ◌≤◌, List, [], ◌∷◌, ◌++◌, length, take, Option, Some, refl, sym, ap, subst, append_assoc, append-nil, arith, take_all}
+use Rattle.std.proofs.Common.{◌≡◌, ◌≢◌, ◌∙◌, inl, ℕ, ◌+◌, ◌≤◌, List, [], ◌++◌, length, take, Option, Some, refl, sym, ap, subst, append_assoc, append-nil, arith, take_all}
 use Rattle.std.proofs.KnownBytes.{Appends-nil}
 use Rattle.std.specs.Option.{ForSome}
 use Rattle.std.specs.Io.KnownBytes.{Appends, prepend_known}
@@ -7,11 +7,10 @@ use Rattle.irl_disk.specs.Disk.{Files, Changes, ChangesFile}
 use Rattle.irl_disk.specs.Images.{Follows}
 use Rattle.irl_io.specs.Lines.{lines}
 use Rattle.irl_io.specs.Steps.{Progress}
-use Rattle.irl_journal.specs.Records.{HasRecords}
 use Rattle.irl_journal.specs.Visiting.{IsOpened}
 use Rattle.irl_bay.specs.declared.kept.Kept.{Kept}
 use Rattle.irl_bay.specs.Lines.{HasLines, IsKeepable, line_file}
-use Rattle.irl_bay.specs.Kept.{IsKept, IsKnown, IsReady, Extends}
+use Rattle.irl_bay.specs.Kept.{IsKept, IsKnown, IsReady}
 use Rattle.irl_bay.proofs.Lines.{same_list, lines_after, opened_lines}
 use Rattle.irl_disk.proofs.Stretches.{widens}
 use Rattle.std.specs.List.{AllByRecursion}

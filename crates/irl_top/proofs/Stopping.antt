@@ -1,5 +1,5 @@
 -- How a run ends, by what stood before.
-use Rattle.std.proofs.Common.{◌≡◌, ◌≢◌, ◌∙◌, ◌⊎◌, ℕ, ◌+◌, ◌<◌, ◌≤◌, List, [], ◌∷◌, ◌++◌, length, take, drop, Option, Some, None, refl, sym, ap, subst, append_assoc, append-nil, inl, inr, arith, take_all}
+use Rattle.std.proofs.Common.{◌≡◌, ◌≢◌, ◌∙◌, ℕ, ◌+◌, ◌<◌, ◌≤◌, List, [], ◌∷◌, ◌++◌, length, take, drop, Option, Some, None, refl, sym, ap, subst, append_assoc, append-nil, inl, inr, arith, take_all}
 use Rattle.std.proofs.lemmas.List.{take-append-drop}
 use Rattle.std.proofs.KnownBytes.{Appends-nil}
 use Rattle.std.specs.Prelude.{IsTrue}
@@ -16,9 +16,9 @@ use Rattle.irl_journal.specs.Visiting.{IsOpened}
 use Rattle.irl_bay.specs.declared.kept.Kept.{Kept}
 use Rattle.irl_bay.specs.Kept.{IsKept}
 use Rattle.irl_bay.specs.Lines.{HasLines, IsDamagedAt, IsKeepable, line_file, other_file}
-use Rattle.irl_bay.proofs.Lines.{lines_after, opened_lines, same_file, told_before, each-append}
+use Rattle.irl_bay.proofs.Lines.{lines_after, opened_lines, same_file, each-append}
 use Rattle.irl_top.proofs.AddedLines.{added-append, added-nil}
-use Rattle.irl_top.proofs.Images.{StopsAt, ExtendsOutside, has_front, stops_on, take_each, split_each, front_behind, length_both}
+use Rattle.irl_top.proofs.Images.{ExtendsOutside, has_front, stops_on, take_each, front_behind, length_both}
 use Rattle.irl_top.proofs.Running.{KeepsOthers, Running, others_same, others_step, others_both, start}
 use Rattle.irl_top.proofs.Sinks.{appends_both}
 use Rattle.irl_top.specs.Batch.{ReadsOn, ReadsOnTold}

@@ -1,4 +1,4 @@
-use Rattle.std.proofs.Common.{◌≡◌, ◌∙◌, ◌++◌, ℕ, List, ap, arith}
+use Rattle.std.proofs.Common.{◌≡◌, ◌∙◌, ◌++◌, ap, arith}
 use Rattle.irl_journal.specs.Appending.{Draft}
 use Rattle.irl_journal.proofs.Gates.{within}
 use Rattle.irl_bay.proofs.kept.append_line.Goals as goal

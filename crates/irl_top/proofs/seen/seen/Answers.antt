@@ -1,17 +1,16 @@
 -- Each ending, by what the run had done by then.
-use Rattle.std.proofs.Common.{◌≡◌, ◌≢◌, ◌∙◌, ℕ, List, [], ◌++◌, refl, arith}
+use Rattle.std.proofs.Common.{◌≢◌, ◌∙◌, ℕ, List, [], ◌++◌, refl, arith}
 use Rattle.std.proofs.lemmas.Result.{err_from_is_err_and}
-use Rattle.irl_bay.specs.declared.kept.Kept.{Kept}
 use Rattle.irl_bay.specs.Kept.{IsKept}
 use Rattle.irl_disk.specs.Images.{Follows}
 use Rattle.irl_disk.specs.Disk.{ChangesFile}
 use Rattle.irl_journal.specs.Visiting.{IsOpened}
 use Rattle.irl_bay.specs.Lines.{line_file}
-use Rattle.irl_top.specs.Batch.{texts, Commits, CommitsPart}
+use Rattle.irl_top.specs.Batch.{texts}
 use Rattle.irl_top.specs.Run.{Outside, LeavesOnly}
 use Rattle.irl_top.proofs.Images.{beside, leaves_beside, extends_beside}
 use Rattle.irl_top.proofs.Running.{CommitsOutside, begins, goes_on, others_step}
-use Rattle.irl_top.proofs.Stopping.{CommitsPartOutside, lists_spare, GainsAll, not_begun, not_opened, open_not_done, no_memory, between, not_read, read_not_done, within, not_committed, commit_not_done, commit_prints_part, not_disk, others_part, done}
+use Rattle.irl_top.proofs.Stopping.{CommitsPartOutside, lists_spare, not_begun, not_opened, open_not_done, no_memory, between, not_read, read_not_done, within, not_committed, commit_not_done, commit_prints_part, not_disk, others_part, done}
 use Rattle.irl_top.specs.Message.{ending_of_commit}
 use Rattle.irl_top.specs.declared.ending.Ending.TheVariants.{DiskFault}
 use Rattle.irl_top.proofs.seen.seen.Given.{Over}

@@ -1,12 +1,11 @@
 -- One line after the other is acknowledged.
-use Rattle.std.proofs.Common.{◌≡◌, ◌∙◌, ℕ, ◌+◌, ◌<◌, ◌≤◌, List, [], ◌∷◌, ◌++◌, map, take, length, sym, ap, subst, refl, arith, append-nil, append_assoc, take_all}
+use Rattle.std.proofs.Common.{◌≡◌, ◌∙◌, ℕ, ◌+◌, List, [], ◌∷◌, ◌++◌, map, take, length, sym, ap, subst, arith, append-nil, append_assoc, take_all}
 use Rattle.std.proofs.lemmas.List.{length-map}
 use Rattle.irl_offer.specs.Tuple.{Tuple}
-use Rattle.irl_disk.specs.Disk.{Files}
 use Rattle.irl_journal.specs.Appending.{IsOpen}
 use Rattle.std.specs.List.{AllByRecursion}
 use Rattle.irl_bay.specs.Lines.{HasLines, IsKeepable}
-use Rattle.irl_bay.specs.Kept.{IsKept, Extends}
+use Rattle.irl_bay.specs.Kept.{Extends}
 use Rattle.irl_bay.proofs.Extending.{open_where_told, none_yet, one_more, may_be_more}
 use Rattle.irl_bay.proofs.Lines.{next_line, knows_more, verdicts_more, each-append, told_before, lines_after}
 use Rattle.irl_bay.proofs.kept.Kept.append.Goals as goal

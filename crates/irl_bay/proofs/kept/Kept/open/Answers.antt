@@ -1,5 +1,5 @@
 -- What the visitor was handed are the lines.
-use Rattle.std.proofs.Common.{◌≡◌, ◌∙◌, ◌⊎◌, inl, inr, ℕ, ◌≤◌, length, map, List, refl, sym, subst, ap, arith, ⊎_elim}
+use Rattle.std.proofs.Common.{◌≡◌, ◌∙◌, ◌≤◌, length, map, refl, sym, arith}
 use Rattle.std.proofs.lemmas.Result.{err_from_is_err_and}
 use Rattle.std.specs.FinMap.{empty}
 use Rattle.irl_offer.specs.declared.offer.Rule.TheVariants.{Keep}
@@ -10,7 +10,7 @@ use Rattle.irl_disk.proofs.Stretches.{widens, goes_on}
 use Rattle.irl_journal.specs.Visiting.{IsOpened}
 use Rattle.irl_bay.specs.declared.kept.OpenFault.TheVariants.{Damaged}
 use Rattle.irl_bay.specs.Faults.{open_fault_of}
-use Rattle.irl_bay.specs.Lines.{line_file, other_file, line_tuple, HasLines}
+use Rattle.irl_bay.specs.Lines.{line_file, other_file, line_tuple}
 use Rattle.irl_bay.proofs.Lines.{took_lines, damaged_line, told_before, opened_lines, same_file, opened_twice}
 use Rattle.irl_bay.proofs.kept.Kept.open.Goals as goal
 
