@@ -2,7 +2,7 @@
 use Rattle.std.specs.Prelude.{◌≡◌, ◌⊎◌, ℕ, ◌<◌, ◌≤◌, List, ◌∷◌, ◌++◌, length, map}
 use Rattle.std.specs.List.{AllByRecursion}
 use Rattle.irl_offer.specs.declared.offer.Op.TheVariants.{Both}
-use Rattle.irl_offer.specs.Key.{key_of}
+use Rattle.irl_key.specs.Key.{key_of}
 use Rattle.irl_offer.specs.Tuple.{Tuple}
 use Rattle.irl_disk.specs.Disk.{Files}
 use Rattle.irl_journal.specs.Records.{records_text, body_text, open_gate, IsPayload, StandsFor, IsBrokenAt}

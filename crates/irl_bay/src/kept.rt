@@ -1,4 +1,4 @@
-ghost use Rattle.std.specs.Prelude.{◌≡◌, ◌≢◌, ◌++◌, ◌∷◌, [], ◌<◌, ◌≤◌, List, ℕ, Some, length, map, IfOk, OnOk, OnErr, IsErrOf, ⊤, true};
+ghost use Rattle.std.specs.Prelude.{◌≡◌, ◌≢◌, ◌++◌, ◌∷◌, [], ◌<◌, ◌≤◌, List, ℕ, Some, length, map, IfOk, OnOk, OnErr, IsErrOf, ⊤, true, IsErr};
 ghost use Rattle.std.specs.Option.{ForSome};
 ghost use Rattle.irl_offer.specs.Faults.{Rose, HasCause};
 ghost use Rattle.irl_disk.specs.Disk.{Files, Changes, ChangesFile};
@@ -183,7 +183,7 @@ fn append_line<S: Store>(
         Changes journal.old.file (HasOrGains lines line.now) (S.contents store.old) (S.contents store.new) }
     ensures stops { (lines : List (List ℕ)) → IsOpen (S.images store.old) journal.old lines →
         Leaves S.moment S.images_since store.old store.new (Follows (ChangesFile journal.old.file (HasOrGains lines line.now)) (S.images store.old)) }
-    ensures cause { HasCause (S.faults store.old) (S.faults store.new) result }
+    ensures cause { HasCause (IsErr result) (S.faults store.old) (S.faults store.new) }
 {
     frame.clear();
     frame.put(line);

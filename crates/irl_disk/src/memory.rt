@@ -1,4 +1,4 @@
-ghost use Rattle.std.specs.Prelude.{◌≡◌, ◌+◌, ◌^◌, ◌<◌, ◌≤◌, ◌⊎◌, ℕ, [], Bool, true, false, Some, Vec, length, ◌↔◌, refl, OnErr, OnOk, IfOk, IfSome};
+ghost use Rattle.std.specs.Prelude.{◌≡◌, ◌+◌, ◌^◌, ◌<◌, ◌≤◌, ◌⊎◌, ℕ, [], Bool, true, false, Some, Vec, length, ◌↔◌, refl, OnErr, OnOk, IfOk, IfSome, IsErr};
 ghost use Rattle.std.specs.List.{Contains};
 ghost use Rattle.std.specs.declared.alloc.Global.{Global};
 ghost use Rattle.irl_offer.specs.Faults.{Rose, HasCause};
@@ -89,7 +89,7 @@ impl MemStore {
         ensures listed { OnOk result (Contains self.old.failing.items (call_count self.old) → ⊥) }
         ensures within { OnOk result (EndsWithin call (files_in self.old)) }
         ensures taken { self.new.taken ≡ self.old.taken }
-        ensures cause { HasCause self.old.faults self.new.faults result }
+        ensures cause { HasCause (IsErr result) self.old.faults self.new.faults }
     {
         let is_failing = self.failing.contains(&self.log.calls());
         match self.log.attempt(self.alloc, call, is_failing) {
@@ -103,7 +103,7 @@ impl MemStore {
         ensures counted { OnOk result (CountsBytes f bytes (counts_of self.old.taken) (counts_of self.new.taken)) }
         ensures failed { OnErr result (counts_of self.new.taken ≡ counts_of self.old.taken) }
         ensures log { self.new.log ≡ self.old.log }
-        ensures cause { HasCause self.old.faults self.new.faults result }
+        ensures cause { HasCause (IsErr result) self.old.faults self.new.faults }
     {
         let before = self.taken.get(&f).copied().unwrap_or(0);
         let Some(after) = before.checked_add(bytes as u64) else {
@@ -161,7 +161,7 @@ impl Store for MemStore {
         ensures same { Some (files_in self.new) ≡ Some (files_in self.old) }
         ensures stops { Leaves call_count images_of_since self.old self.new (images_of self.old) }
         ensures taken { Some (counts_of self.new.taken) ≡ Some (counts_of self.old.taken) }
-        ensures cause { HasCause self.old.faults self.new.faults result }
+        ensures cause { HasCause (IsErr result) self.old.faults self.new.faults }
     {
         self.make(Call::Look)?;
         Ok(self.log.file(f).len() as u64)
@@ -178,7 +178,7 @@ impl Store for MemStore {
         ensures stops { Leaves call_count images_of_since self.old self.new (images_of self.old) }
         ensures taken { IfOk result (λ n. Takes f n (Some (counts_of self.old.taken)) (Some (counts_of self.new.taken))) }
         ensures taken_err { OnErr result (Some (counts_of self.new.taken) ≡ Some (counts_of self.old.taken)) }
-        ensures cause { HasCause self.old.faults self.new.faults result }
+        ensures cause { HasCause (IsErr result) self.old.faults self.new.faults }
     {
         self.make(Call::Look)?;
         let count = copied(self.log.file(f), at as usize, into);
@@ -196,7 +196,7 @@ impl Store for MemStore {
         ensures err { OnErr result (Changes f (Scribbled at (length bytes.now)) (Some (files_in self.old)) (Some (files_in self.new))) }
         ensures stops { Leaves call_count images_of_since self.old self.new (Follows (ChangesFile f (Scribbled at (length bytes.now))) (images_of self.old)) }
         ensures taken { Some (counts_of self.new.taken) ≡ Some (counts_of self.old.taken) }
-        ensures cause { HasCause self.old.faults self.new.faults result }
+        ensures cause { HasCause (IsErr result) self.old.faults self.new.faults }
     {
         match bytes.to_vec(self.alloc) {
             Ok(bytes) => self.make(Call::Write { file: f, at, bytes }),
@@ -213,7 +213,7 @@ impl Store for MemStore {
         ensures err { OnErr result (Changes f (PartlyCut to) (Some (files_in self.old)) (Some (files_in self.new))) }
         ensures stops { Leaves call_count images_of_since self.old self.new (Follows (ChangesFile f (PartlyCut to)) (images_of self.old)) }
         ensures taken { Some (counts_of self.new.taken) ≡ Some (counts_of self.old.taken) }
-        ensures cause { HasCause self.old.faults self.new.faults result }
+        ensures cause { HasCause (IsErr result) self.old.faults self.new.faults }
     {
         self.make(Call::Cut { file: f, to })
     }
@@ -226,7 +226,7 @@ impl Store for MemStore {
         ensures same { Some (files_in self.new) ≡ Some (files_in self.old) }
         ensures stops { Leaves call_count images_of_since self.old self.new (images_of self.old) }
         ensures taken { Some (counts_of self.new.taken) ≡ Some (counts_of self.old.taken) }
-        ensures cause { HasCause self.old.faults self.new.faults result }
+        ensures cause { HasCause (IsErr result) self.old.faults self.new.faults }
     {
         self.make(Call::Sync { file: f })
     }

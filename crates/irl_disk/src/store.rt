@@ -1,4 +1,4 @@
-ghost use Rattle.std.specs.Prelude.{◌≡◌, ◌+◌, ◌^◌, ◌<◌, ◌≤◌, List, ℕ, Option, Some, length, OnOk, OnErr, IfOk, IfSome};
+ghost use Rattle.std.specs.Prelude.{◌≡◌, ◌+◌, ◌^◌, ◌<◌, ◌≤◌, List, ℕ, Option, Some, length, OnOk, OnErr, IfOk, IfSome, IsErr};
 ghost use Rattle.std.specs.Option.{ForSome};
 ghost use Rattle.irl_offer.specs.Faults.{HasCause};
 ghost use Rattle.irl_disk.specs.Disk.{Files, Changes, ChangesFile, Holds, Scribbled, IsFront, PartlyCut, Reads};
@@ -39,7 +39,7 @@ pub trait Store {
         ensures same { contents self.new ≡ contents self.old }
         ensures stops { Leaves moment images_since self.old self.new (images self.old) }
         ensures taken { taken self.new ≡ taken self.old }
-        ensures cause { HasCause (faults self.old) (faults self.new) result };
+        ensures cause { HasCause (IsErr result) (faults self.old) (faults self.new) };
 
     /// Reads from a place: the lesser of the slice's length and what the file has from there. A read that would carry the
     /// count of bytes past 2 ^ 64 - 1 fails.
@@ -52,7 +52,7 @@ pub trait Store {
         ensures stops { Leaves moment images_since self.old self.new (images self.old) }
         ensures taken { IfOk result (λ n. Takes f n (taken self.old) (taken self.new)) }
         ensures taken_err { OnErr result (taken self.new ≡ taken self.old) }
-        ensures cause { HasCause (faults self.old) (faults self.new) result };
+        ensures cause { HasCause (IsErr result) (faults self.old) (faults self.new) };
 
     /// Writes over what is there, and past the end. A write that failed leaves any bytes in its range. Until a sync a stop
     /// may leave any bytes there.
@@ -64,7 +64,7 @@ pub trait Store {
         ensures err { OnErr result (Changes f (Scribbled at (length bytes.now)) (contents self.old) (contents self.new)) }
         ensures stops { Leaves moment images_since self.old self.new (Follows (ChangesFile f (Scribbled at (length bytes.now))) (images self.old)) }
         ensures taken { taken self.new ≡ taken self.old }
-        ensures cause { HasCause (faults self.old) (faults self.new) result };
+        ensures cause { HasCause (IsErr result) (faults self.old) (faults self.new) };
 
     /// Cuts a file to a length. A cut that failed leaves any length between, and so may a stop until a sync.
     fn cut(&mut self, f: u16, to: u64) -> Result<(), Failed>
@@ -74,7 +74,7 @@ pub trait Store {
         ensures err { OnErr result (Changes f (PartlyCut to) (contents self.old) (contents self.new)) }
         ensures stops { Leaves moment images_since self.old self.new (Follows (ChangesFile f (PartlyCut to)) (images self.old)) }
         ensures taken { taken self.new ≡ taken self.old }
-        ensures cause { HasCause (faults self.old) (faults self.new) result };
+        ensures cause { HasCause (IsErr result) (faults self.old) (faults self.new) };
 
     /// Makes a file's bytes last: from then on a stop leaves what a read gives. It changes nothing that a read gives. A sync
     /// that failed leaves unsynced what was.
@@ -84,7 +84,7 @@ pub trait Store {
         ensures same { contents self.new ≡ contents self.old }
         ensures stops { Leaves moment images_since self.old self.new (images self.old) }
         ensures taken { taken self.new ≡ taken self.old }
-        ensures cause { HasCause (faults self.old) (faults self.new) result };
+        ensures cause { HasCause (IsErr result) (faults self.old) (faults self.new) };
 
     /// What a read gives is what a stop now may leave.
     ghost told_is_image: { (store : Self) (files : Files) → contents store ≡ Some files → images store files };

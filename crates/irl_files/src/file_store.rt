@@ -36,7 +36,7 @@ impl<R: Files + Drop> FileStore<R> {
     fn end<T>(&mut self, answer: io::Result<T>) -> Result<T, Failed>
         ensures value { MatchResult answer (λ value. result ≡ Ok value) (λ _. IsErr result) }
         ensures faults { self.new.faults ≡ (if is_ok answer then self.old.faults else counted self.old.faults) }
-        ensures cause { HasCause self.old.faults self.new.faults result }
+        ensures cause { HasCause (IsErr result) self.old.faults self.new.faults }
     {
         match answer {
             Ok(value) => Ok(value),

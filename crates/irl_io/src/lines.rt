@@ -1,4 +1,4 @@
-ghost use Rattle.std.specs.Prelude.{◌≡◌, ◌+◌, ◌-◌, ◌<◌, ◌≤◌, [], min, length, take, drop, slice_range, IfOk, IfSome, IfNone};
+ghost use Rattle.std.specs.Prelude.{◌≡◌, ◌+◌, ◌-◌, ◌<◌, ◌≤◌, [], min, length, take, drop, slice_range, IfOk, IfSome, IfNone, IsErr};
 ghost use Rattle.std.specs.Borrow.{sem};
 ghost use Rattle.std.specs.Io.BufRead.{Rests};
 ghost use Rattle.std.specs.Io.KnownBytes.{Keeps, ReadConsumes, IsAtEnd, prepend_known};
@@ -164,7 +164,7 @@ impl Lines {
         ensures count { IfOk result (λ n. length self.new.ahead ≡ length self.old.ahead + n) }
         ensures end { IfOk result (λ n. n ≡ 0 → (self.new.ahead ≡ self.old.ahead) × IsAtEnd (I.left source.new)) }
         ensures number { self.new.number ≡ self.old.number }
-        ensures cause { HasCause (I.faults source.old) (I.faults source.new) result }
+        ensures cause { HasCause (IsErr result) (I.faults source.old) (I.faults source.new) }
     {
         let (start, end) = (self.start, self.end);
         let result = read_behind(&mut self.buffer, start, end, source);
@@ -196,7 +196,7 @@ fn read_behind<I: Source>(
     ensures moved { take (end - start) buffer.new ≡ slice_range buffer.old start end }
     ensures bound { IfOk result (λ n. end - start + n ≤ length buffer.old) }
     ensures bytes { ReadConsumes (I.left source.old) (I.left source.new) result (drop (end - start) buffer.new) }
-    ensures cause { HasCause (I.faults source.old) (I.faults source.new) result }
+    ensures cause { HasCause (IsErr result) (I.faults source.old) (I.faults source.new) }
 {
     buffer.copy_within(start..end, 0);
     source.read(&mut buffer[end - start..])

@@ -56,7 +56,7 @@ impl Sink for MemSink {
     fn write(&mut self, bytes: &[u8]) -> Result<(), Failed>
         ensures ok { OnOk result (Appends (Some self.old.written) (Some self.new.written) bytes.now) }
         ensures err { OnErr result (AppendsFront (Some self.old.written) (Some self.new.written) bytes.now) }
-        ensures cause { HasCause self.old.faults self.new.faults result }
+        ensures cause { HasCause (IsErr result) self.old.faults self.new.faults }
 
         // It fails at the calls that are listed, and then writes nothing.
         ensures listed { Contains self.old.failing self.old.calls → IsErr result }

@@ -51,7 +51,7 @@ impl Source for MemSource {
     fn read(&mut self, into: &mut [u8]) -> Result<usize, Failed>
         ensures bound { ReadsAtMost result into.new }
         ensures bytes { ReadConsumes (Some self.old.left) (Some self.new.left) result into.new }
-        ensures cause { HasCause self.old.faults self.new.faults result }
+        ensures cause { HasCause (IsErr result) self.old.faults self.new.faults }
 
         // It fails exactly at the calls that are listed, and else gives all that there is room for.
         ensures fails { IsErr result ↔ Contains self.old.failing self.old.calls }

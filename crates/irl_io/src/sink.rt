@@ -1,4 +1,4 @@
-ghost use Rattle.std.specs.Prelude.{List, ℕ, Option, OnOk, OnErr};
+ghost use Rattle.std.specs.Prelude.{List, ℕ, Option, OnOk, OnErr, IsErr};
 ghost use Rattle.std.specs.Io.KnownBytes.{Appends};
 ghost use Rattle.irl_offer.specs.Faults.{HasCause};
 ghost use Rattle.irl_io.specs.Written.{AppendsFront};
@@ -17,5 +17,5 @@ pub trait Sink {
     fn write(&mut self, bytes: &[u8]) -> Result<(), Failed>
         ensures ok { OnOk result (Appends (written self.old) (written self.new) bytes.now) }
         ensures err { OnErr result (AppendsFront (written self.old) (written self.new) bytes.now) }
-        ensures cause { HasCause (faults self.old) (faults self.new) result };
+        ensures cause { HasCause (IsErr result) (faults self.old) (faults self.new) };
 }

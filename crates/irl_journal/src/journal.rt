@@ -1,4 +1,4 @@
-ghost use Rattle.std.specs.Prelude.{◌≡◌, ◌≢◌, ◌⊎◌, ◌↔◌, ◌<◌, ◌≤◌, ◌+◌, ◌^◌, ◌++◌, [], ◌∷◌, List, ℕ, Some, length, length as len, true, false, IfOk, IfSome, IfNone, take, drop, ⊤, vec_len, OnOk, OnErr, IsOk, IsTrue, IsErrOf};
+ghost use Rattle.std.specs.Prelude.{◌≡◌, ◌≢◌, ◌⊎◌, ◌↔◌, ◌<◌, ◌≤◌, ◌+◌, ◌^◌, ◌++◌, [], ◌∷◌, List, ℕ, Some, length, length as len, true, false, IfOk, IfSome, IfNone, take, drop, ⊤, vec_len, OnOk, OnErr, IsOk, IsTrue, IsErrOf, IsErr};
 ghost use Rattle.std.specs.Option.{ForSome};
 ghost use Rattle.irl_offer.specs.Faults.{Rose, HasCause};
 ghost use Rattle.irl_disk.specs.Disk.{Files, Changes, ChangesFile, Scribbled};
@@ -82,7 +82,7 @@ impl Journal {
         // A stop at any moment leaves every file as it was, but for the first byte of this one.
         ensures stops { Leaves S.moment S.images_since store.old store.new (Follows (ChangesFile f (Scribbled 0 1)) (S.images store.old)) }
         ensures taken { S.taken store.new ≡ S.taken store.old }
-        ensures cause { HasCause (S.faults store.old) (S.faults store.new) result }
+        ensures cause { HasCause (IsErr result) (S.faults store.old) (S.faults store.new) }
     {
         store.write(f, 0, &[CLOSED])?;
         store.sync(f)?;
@@ -156,7 +156,7 @@ impl Journal {
         ensures others { Changes self.old.file (λ _ _. ⊤) (S.contents store.old) (S.contents store.new) }
         ensures others_stop { Leaves S.moment S.images_since store.old store.new (Follows (ChangesFile self.old.file (λ _ _. ⊤)) (S.images store.old)) }
         ensures taken { S.taken store.new ≡ S.taken store.old }
-        ensures cause { HasCause (S.faults store.old) (S.faults store.new) result }
+        ensures cause { HasCause (IsErr result) (S.faults store.old) (S.faults store.new) }
     {
         self.is_sound = false;
         let bytes = frame.closed_record();

@@ -1,2 +1,3 @@
-pub mod Web
+pub mod Key
 pub mod Links
+pub mod Web

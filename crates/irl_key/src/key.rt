@@ -1,5 +1,5 @@
 ghost use Rattle.std.specs.Prelude.{◌≡◌};
-ghost use Rattle.irl_offer.specs.Key.{key_of as key};
+ghost use Rattle.irl_key.specs.Key.{key_of as key};
 
 use sha1::Sha1;
 

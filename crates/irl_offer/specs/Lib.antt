@@ -1,3 +1,4 @@
 pub mod Faults
-pub mod Key
+pub mod Limits
+pub mod Notes
 pub mod Tuple

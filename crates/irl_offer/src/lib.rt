@@ -1,9 +1,13 @@
 //! Plain data that the crates of the crawler share.
 #![tactic(auto)]
 
+mod limits;
+mod note;
 mod offer;
 mod text;
 
+pub use limits::{MAX_PAGE, MAX_ROBOTS, MAX_TEXT};
+pub use note::{Note, NoteState};
 pub use offer::{Offer, Op, Rule, Verdict};
 pub use text::Text;
 

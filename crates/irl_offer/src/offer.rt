@@ -48,11 +48,12 @@ pub struct Offer {
 
 impl Model for Offer {
     ghost use Rattle.std.specs.Prelude.{◌≤◌, length};
+    ghost use Rattle.irl_offer.specs.Limits.{max_text};
     ghost use Rattle.irl_offer.specs.Tuple.{Tuple};
 
     ghost Value = { Tuple };
 
     ghost view = { λ o. record { op = o.op; key = o.key; value = o.value; from = o.from; aux = o.aux } };
 
-    ghost invariant = { λ o. length o.aux ≤ 2048 };
+    ghost invariant = { λ o. length o.aux ≤ max_text };
 }

@@ -1,4 +1,4 @@
-ghost use Rattle.std.specs.Prelude.{◌≡◌, ◌≢◌, ◌≤◌, ℕ, List, OnOk, OnErr, IsErrOf};
+ghost use Rattle.std.specs.Prelude.{◌≡◌, ◌≢◌, ◌≤◌, ℕ, List, OnOk, OnErr, IsErrOf, IsErr};
 ghost use Rattle.irl_offer.specs.Faults.{Rose, HasCause};
 ghost use Rattle.std.specs.Io.KnownBytes.{Appends};
 ghost use Rattle.irl_io.specs.Written.{AppendsFront};
@@ -88,7 +88,7 @@ pub fn commit<O: Sink, S: Store>(
 fn write_some<O: Sink>(output: &mut O, text: &[u8]) -> Result<(), Failed>
     ensures ok { OnOk result (Appends (O.written output.old) (O.written output.new) text.now) }
     ensures err { OnErr result (AppendsFront (O.written output.old) (O.written output.new) text.now) }
-    ensures cause { HasCause (O.faults output.old) (O.faults output.new) result }
+    ensures cause { HasCause (IsErr result) (O.faults output.old) (O.faults output.new) }
 {
     if text.is_empty() {
         return Ok(());

@@ -1,4 +1,4 @@
-ghost use Rattle.std.specs.Prelude.{◌≡◌, ◌++◌, map, length, OnOk, OnErr};
+ghost use Rattle.std.specs.Prelude.{◌≡◌, ◌++◌, map, length, OnOk, OnErr, IsErr};
 ghost use Rattle.std.specs.Io.KnownBytes.{Appends};
 ghost use Rattle.irl_offer.specs.Faults.{HasCause};
 ghost use Rattle.irl_io.specs.Written.{AppendsFront};
@@ -12,7 +12,7 @@ use itoa::Buffer;
 pub fn tell<E: Sink>(errors: &mut E, refused: &str, ending: Ending) -> Result<(), Failed>
     ensures ok { OnOk result (Appends (E.written errors.old) (E.written errors.new) (message refused.now ending)) }
     ensures err { OnErr result (AppendsFront (E.written errors.old) (E.written errors.new) (message refused.now ending)) }
-    ensures cause { HasCause (E.faults errors.old) (E.faults errors.new) result }
+    ensures cause { HasCause (IsErr result) (E.faults errors.old) (E.faults errors.new) }
 {
     let mut buffer = Buffer::new();
     match ending {
@@ -42,7 +42,7 @@ pub fn tell<E: Sink>(errors: &mut E, refused: &str, ending: Ending) -> Result<()
 fn say<E: Sink>(errors: &mut E, front: &[u8], middle: &[u8], back: &[u8]) -> Result<(), Failed>
     ensures ok { OnOk result (Appends (E.written errors.old) (E.written errors.new) (front.now ++ middle.now ++ back.now)) }
     ensures err { OnErr result (AppendsFront (E.written errors.old) (E.written errors.new) (front.now ++ middle.now ++ back.now)) }
-    ensures cause { HasCause (E.faults errors.old) (E.faults errors.new) result }
+    ensures cause { HasCause (IsErr result) (E.faults errors.old) (E.faults errors.new) }
 {
     errors.write(front)?;
     errors.write(middle)?;

@@ -2,7 +2,7 @@
 use Rattle.std.proofs.Common.{rules, ◌≡◌, ℕ, ◌<◌, List, take, get_or, lit<}
 use Rattle.std.proofs.lemmas.List.{get_or-take}
 use Rattle.sha1.specs.Sha1.{sha1}
-use Rattle.irl_offer.specs.Key.{key_of}
+use Rattle.irl_key.specs.Key.{key_of}
 use Rattle.irl_key.proofs.key.key_of.Goals as goal
 
 in_front : (s : List ℕ) (i : ℕ) → i < 8 → get_or (take 8 s) i 0 ≡ get_or s i 0
