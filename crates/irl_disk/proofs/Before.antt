@@ -94,4 +94,4 @@ partly_cut is_done to s new sound left =
           ∙ ap (λ j. get_or (take s.least s.synced) j 0) e ∙ get_or-take s.least s.synced i 0 (omega arith))
           (below_or_above i (length new));
     } in
-    (new ++ tail, image, record { no_shorter = omega arith; front = sym (take_at new tail (length new) refl) })
+    (new ++ tail, image, record { no_shorter = omega arith; prefix = sym (take_at new tail (length new) refl) })

@@ -1,5 +1,6 @@
 pub mod Before
 pub mod Clones
+pub mod Frames
 pub mod Logged
 pub mod Replayed
 pub mod Steps

@@ -1,25 +1,26 @@
 -- What one call more makes of a store's states, and of what stops leave.
-use Rattle.std.specs.Prelude.{◌≡◌, ◌≢◌, ◌⊎◌, ℕ, ◌+◌, ◌≤◌, ◌<◌, nat_eq, Bool, true, false, if◌then◌else◌, List, [], ◌∷◌, ◌++◌, length, take, drop, min, Vec, Result, Ok, Err, OnOk, OnErr, Some}
+use Rattle.std.specs.Prelude.{◌≡◌, ◌≢◌, ◌⊎◌, ℕ, ◌+◌, ◌≤◌, ◌<◌, nat_eq, Bool, true, false, if◌then◌else◌, List, [], ◌∷◌, ◌++◌, length, take, drop, min, Vec, Result, Ok, Err, OnOk, OnErr, Some, is_ok}
 use Rattle.std.proofs.Common.{refl, sym, ap, ◌∙◌, subst, inl, inr, ⊎_elim, arith, length-append}
 use Rattle.std.proofs.Math.Path.{fun_ext}
 use Rattle.std.proofs.lemmas.Bool.Decides.{nat_tests}
 use Rattle.std.proofs.lemmas.List.{take_all, take-append-le}
 use Rattle.std.specs.declared.alloc.Global.{Global}
 use Rattle.irl_disk.specs.declared.calls.Call.{Call}
-use Rattle.irl_disk.specs.declared.calls.Call.TheVariants.{Look, Write, Cut, Sync}
-use Rattle.irl_disk.specs.declared.calls.Entry.{Entry}
+use Rattle.irl_disk.specs.declared.calls.Call.TheVariants.{Query, Write, Cut, Sync}
+use Rattle.irl_disk.specs.declared.calls.LoggedCall.{LoggedCall}
 use Rattle.irl_disk.specs.declared.memory.MemStore.{MemStore}
-use Rattle.irl_disk.specs.Disk.{Files, ChangesFile, Holds, Scribbled, IsFront, PartlyCut, Changes}
-use Rattle.irl_disk.specs.Images.{Follows, Leaves}
+use Rattle.irl_disk.specs.DeviceCall as device
+use Rattle.irl_disk.specs.Disk.{Files, ChangesFile, Holds, Scribbled, IsPrefix, PartlyCut, Changes}
+use Rattle.irl_disk.specs.Images.{Follows, Leaves, LeavesBy, LeavesSame}
 use Rattle.irl_disk.specs.Model.{FileState, at_rest, after_write, after_cut, after_sync, IsFileImage, AreImages}
 use Rattle.irl_disk.specs.ModelLaws.{IsSound, image_at_rest}
-use Rattle.irl_disk.specs.Calls.{History, ChangesState, IsWriteLogged, Logs, files_among, after_call, after_entry, after_entries, states, states_at, ImagesSince, read_after}
-use Rattle.irl_disk.specs.Memory.{files_in, call_count, images_of, images_of_since}
+use Rattle.irl_disk.specs.Calls.{History, ChangesState, IsLogged, Logs, files_among, after_call, after_entry, after_entries, states, states_at, ImagesSince, read_after}
+use Rattle.irl_disk.specs.Memory.{files_in, call_count, snapshot_of}
 use Rattle.irl_disk.specs.MemoryLaws.{sound_states, since_now}
 use Rattle.irl_disk.proofs.Before.{below_or_above, scribbled, partly_cut}
 
 -- ---- the states
-pub after_more : (entries : List Entry) (entry : Entry) (f : ℕ) (s : FileState) → after_entries (entries ++ entry ∷ []) f s ≡ after_entry entry f (after_entries entries f s)
+pub after_more : (entries : List LoggedCall) (entry : LoggedCall) (f : ℕ) (s : FileState) → after_entries (entries ++ entry ∷ []) f s ≡ after_entry entry f (after_entries entries f s)
 after_more [] entry f s = refl
 after_more (first ∷ entries) entry f s = after_more entries entry f (after_entry first f s)
 
@@ -28,14 +29,14 @@ states_logged call is_done old new logs f = rw (logs.first, logs.entries) (after
 
 -- a call that is not done changes nothing that a read gives
 pub now_not_done : (call : Call) (f : ℕ) (s : FileState) → (after_call call false f s).now ≡ s.now
-now_not_done Look f s = refl
+now_not_done Query f s = refl
 now_not_done (Write file at bytes) f s = grind arith
 now_not_done (Cut file to) f s = grind arith
 now_not_done (Sync file) f s = grind arith
 
 -- what a read gives once the call is done
 pub now_done : (call : Call) (f : ℕ) (s : FileState) → (after_call call true f s).now ≡ read_after call f s.now
-now_done Look f s = refl
+now_done Query f s = refl
 now_done (Write file at bytes) f s = grind arith
 now_done (Cut file to) f s = grind arith
 now_done (Sync file) f s = grind arith
@@ -52,8 +53,8 @@ made (Err e) call old new ok err = ⊎_elim (λ same. inl same) (λ logs. inr (f
 abbrev pub IsQuiet : Call → Type 0
 IsQuiet call = (is_done : Bool) (f : ℕ) (s : FileState) → (after_call call is_done f s).now ≡ s.now
 
-pub look_is_quiet : IsQuiet Look
-look_is_quiet is_done f s = refl
+pub query_is_quiet : IsQuiet Query
+query_is_quiet is_done f s = refl
 
 pub sync_is_quiet : (file : ℕ) → IsQuiet (Sync file)
 sync_is_quiet file true f s = grind arith
@@ -63,8 +64,8 @@ pub files_stay : (call : Call) → IsQuiet call → (old new : MemStore) → Mad
 files_stay call quiet old new (inl same) = fun_ext (λ f. ap (λ (h : History). (states h f).now) same)
 files_stay call quiet old new (inr (is_done, logs)) = fun_ext (λ f. ap (λ (s : FileState). s.now) (states_logged call is_done old.log new.log logs f) ∙ quiet is_done f (states old.log f))
 
-pub look_stays : (old new : MemStore) → Made Look old.log new.log → (f : ℕ) → (states new.log f).now ≡ (states old.log f).now
-look_stays old new was f = ap (λ (files : Files). files f) (files_stay Look look_is_quiet old new was)
+pub query_stays : (old new : MemStore) → Made Query old.log new.log → (f : ℕ) → (states new.log f).now ≡ (states old.log f).now
+query_stays old new was f = ap (λ (files : Files). files f) (files_stay Query query_is_quiet old new was)
 
 -- ---- what stops leave
 -- the states after the same calls
@@ -73,11 +74,11 @@ module _ (call : Call) (is_done : Bool) (old new : History) (logs : Logs call is
   states_before count le f = rw (logs.first, logs.entries, take-append-le count old.entries (record { call = call; is_done = is_done } ∷ []) le) refl
 
   one_longer : length new.entries ≡ length old.entries + 1
-  one_longer = ap (λ (es : List Entry). length es) logs.entries ∙ length-append old.entries (record { call = call; is_done = is_done } ∷ [])
+  one_longer = ap (λ (es : List LoggedCall). length es) logs.entries ∙ length-append old.entries (record { call = call; is_done = is_done } ∷ [])
 
   states_last : (count : ℕ) → length old.entries < count → (f : ℕ) → states_at count new f ≡ after_call call is_done f (states old f)
   states_last count lt f =
-      ap (λ (es : List Entry). after_entries es f (at_rest (files_among new.first f))) (take_all count new.entries (omega (arith, one_longer)))
+      ap (λ (es : List LoggedCall). after_entries es f (at_rest (files_among new.first f))) (take_all count new.entries (omega (arith, one_longer)))
       ∙ states_logged call is_done old new logs f
 
   still_since : (t : ℕ) (image : Files) → ImagesSince old t image → ImagesSince new t image
@@ -90,7 +91,7 @@ module _ (call : Call) (is_done : Bool) (old new : History) (logs : Logs call is
       (below_or_above (length old.entries) left.0)
 
 -- a call that was refused
-pub refused_leaves : (old new : MemStore) (P : Files → Type 0) → new.log ≡ old.log → ((image : Files) → images_of old image → P image) → Leaves call_count images_of_since old new P
+pub refused_leaves : (old new : MemStore) (P : Files → Type 0) → new.log ≡ old.log → ((image : Files) → (snapshot_of old).images image → P image) → Leaves (snapshot_of old) (snapshot_of new) P
 refused_leaves old new P same was = record {
   later = omega (arith, ap (λ (h : History). length h.entries) same);
   each = λ image left. was image (since_now old image (subst (λ (h : History). ImagesSince h (call_count old) image) same left));
@@ -99,9 +100,9 @@ refused_leaves old new P same was = record {
 
 -- what a stop leaves from before the call to behind it
 pub leaves : (call : Call) (P : Files → Type 0) (old new : MemStore) → Made call old.log new.log
-    → ((image : Files) → images_of old image → P image)
+    → ((image : Files) → (snapshot_of old).images image → P image)
     → ((is_done : Bool) (image : Files) → AreImages (λ f. after_call call is_done f (states old.log f)) image → P image)
-    → Leaves call_count images_of_since old new P
+    → Leaves (snapshot_of old) (snapshot_of new) P
 leaves call P old new (inl same) was next = refused_leaves old new P same was
 leaves call P old new (inr (is_done, logs)) was next = record {
   later = omega (arith, one_longer call is_done old.log new.log logs);
@@ -112,18 +113,18 @@ leaves call P old new (inr (is_done, logs)) was next = record {
 -- a call that changes no file's images
 pub quiet_leaves : (call : Call) (old new : MemStore) → Made call old.log new.log
     → ((is_done : Bool) (f : ℕ) (image : List ℕ) → IsFileImage (after_call call is_done f (states old.log f)) image → IsFileImage (states old.log f) image)
-    → Leaves call_count images_of_since old new (images_of old)
-quiet_leaves call old new was same = leaves call (images_of old) old new was (λ image left. left) (λ is_done image left f. same is_done f (image f) (left f))
+    → LeavesSame (snapshot_of old) (snapshot_of new)
+quiet_leaves call old new was same = leaves call ((snapshot_of old).images) old new was (λ image left. left) (λ is_done image left f. same is_done f (image f) (left f))
 
-pub look_leaves : (old new : MemStore) → Made Look old.log new.log → Leaves call_count images_of_since old new (images_of old)
-look_leaves old new was = quiet_leaves Look old new was (λ is_done f image left. left)
+pub query_leaves : (old new : MemStore) → Made Query old.log new.log → LeavesSame (snapshot_of old) (snapshot_of new)
+query_leaves old new was = quiet_leaves Query old new was (λ is_done f image left. left)
 
 synced_before : (b is_done : Bool) (s : FileState) (image : List ℕ) → IsSound s → IsFileImage (if b then after_sync is_done s else s) image → IsFileImage s image
 synced_before true true s image sound left = rw (image_at_rest s.now image left) sound.now
 synced_before true false s image sound left = left
 synced_before false is_done s image sound left = left
 
-pub sync_leaves : (file : ℕ) (old new : MemStore) → Made (Sync file) old.log new.log → Leaves call_count images_of_since old new (images_of old)
+pub sync_leaves : (file : ℕ) (old new : MemStore) → Made (Sync file) old.log new.log → LeavesSame (snapshot_of old) (snapshot_of new)
 sync_leaves file old new was = quiet_leaves (Sync file) old new was (λ is_done f image left. synced_before (nat_eq f file) is_done (states old.log f) image (sound_states old.log f) left)
 
 -- ---- a call that changes one file
@@ -167,18 +168,18 @@ pub scribbled_images : (at n file : ℕ) (images : Files → Type 0) (image : Fi
 scribbled_images at n file images image left = (image, left, record { changed = record { before = refl; after = refl; no_shorter = omega arith; no_longer = omega arith }; others = λ g ne. refl })
 
 pub write_leaves : (file at : ℕ) (bytes : Vec ℕ Global) (old new : MemStore) → at ≤ length (files_in old file) → Made (Write file at bytes) old.log new.log
-    → Leaves call_count images_of_since old new (Follows (ChangesFile file (Scribbled at (length bytes.items))) (images_of old))
-write_leaves file at bytes old new le was = leaves (Write file at bytes) (Follows (ChangesFile file (Scribbled at (length bytes.items))) (images_of old)) old new was
-    (scribbled_images at (length bytes.items) file (images_of old))
+    → LeavesBy (ChangesFile file (Scribbled at (length bytes.items))) (snapshot_of old) (snapshot_of new)
+write_leaves file at bytes old new le was = leaves (Write file at bytes) (Follows (ChangesFile file (Scribbled at (length bytes.items))) ((snapshot_of old).images)) old new was
+    (scribbled_images at (length bytes.items) file ((snapshot_of old).images))
     (λ is_done. one_follows file (states old.log) (λ f. after_call (Write file at bytes) is_done f (states old.log f)) (Scribbled at (length bytes.items))
     (λ f e. rw e refl)
     (λ image left. scribbled is_done at bytes.items (states old.log file) image le (sound_states old.log file)
     (here file (after_write is_done at bytes.items (states old.log file)) (states old.log file) image left)))
 
 pub cut_leaves : (file to : ℕ) (old new : MemStore) → Made (Cut file to) old.log new.log
-    → Leaves call_count images_of_since old new (Follows (ChangesFile file (PartlyCut to)) (images_of old))
-cut_leaves file to old new was = leaves (Cut file to) (Follows (ChangesFile file (PartlyCut to)) (images_of old)) old new was
-    (λ image left. (image, left, record { changed = record { no_shorter = omega arith; front = sym (take_all _ _ (omega arith)) }; others = λ g ne. refl }))
+    → LeavesBy (ChangesFile file (PartlyCut to)) (snapshot_of old) (snapshot_of new)
+cut_leaves file to old new was = leaves (Cut file to) (Follows (ChangesFile file (PartlyCut to)) ((snapshot_of old).images)) old new was
+    (λ image left. (image, left, record { changed = record { no_shorter = omega arith; prefix = sym (take_all _ _ (omega arith)) }; others = λ g ne. refl }))
     (λ is_done. one_follows file (states old.log) (λ f. after_call (Cut file to) is_done f (states old.log f)) (PartlyCut to)
     (λ f e. rw e refl)
     (λ image left. partly_cut is_done to (states old.log file) image (sound_states old.log file)
@@ -199,8 +200,8 @@ write_holds file at bytes old new le logs =
       others = λ g ne. now g ∙ rw (other_number g file ne) refl;
     }
 
-pub cut_front : (file to : ℕ) (old new : MemStore) → Logs (Cut file to) true old.log new.log → ChangesFile file (IsFront to) (files_in old) (files_in new)
-cut_front file to old new logs =
+pub cut_prefix : (file to : ℕ) (old new : MemStore) → Logs (Cut file to) true old.log new.log → ChangesFile file (IsPrefix to) (files_in old) (files_in new)
+cut_prefix file to old new logs =
     let now : (f : ℕ) → files_in new f ≡ (after_call (Cut file to) true f (states old.log f)).now = files_logged (Cut file to) true old.log new.log logs in
     record {
       changed = now file ∙ rw (one_number file) refl;
@@ -213,7 +214,7 @@ not_done_stays call old new (inl same) f = ap (λ (h : History). (states h f).no
 not_done_stays call old new (inr logs) f = files_logged call false old.log new.log logs f ∙ now_not_done call f (states old.log f)
 
 -- of a file sync that was done a stop leaves what a read gives
-pub sync_durable : (file : ℕ) (old new : MemStore) → Logs (Sync file) true old.log new.log → (image : Files) → images_of new image → image file ≡ files_in old file
+pub sync_durable : (file : ℕ) (old new : MemStore) → Logs (Sync file) true old.log new.log → (image : Files) → (snapshot_of new).images image → image file ≡ files_in old file
 sync_durable file old new logs image left =
     image_at_rest (files_in old file) (image file)
     (here file (at_rest (files_in old file)) (states old.log file) (image file)
@@ -228,8 +229,8 @@ failed_made call old new (inl same) = inl same
 failed_made call old new (inr logs) = inr (false, logs)
 
 -- what a call left is what a step made of it
-pub told : (old new : MemStore) (f : ℕ) (step : List ℕ → List ℕ → Type 0) → ChangesFile f step (files_in old) (files_in new) → Changes f step (Some (files_in old)) (Some (files_in new))
-told old new f step changes = (files_in new, refl, changes)
+pub tells_change : (old new : MemStore) (f : ℕ) (step : List ℕ → List ℕ → Type 0) → ChangesFile f step (files_in old) (files_in new) → Changes f step (Some (files_in old)) (Some (files_in new))
+tells_change old new f step changes = (files_in new, refl, changes)
 
 pub scribbled_none : (at n f : ℕ) (old new : Files) → ((g : ℕ) → new g ≡ old g) → ChangesFile f (Scribbled at n) old new
 scribbled_none at n f old new same = record {
@@ -239,7 +240,7 @@ scribbled_none at n f old new same = record {
 
 pub cut_none : (to f : ℕ) (old new : Files) → ((g : ℕ) → new g ≡ old g) → ChangesFile f (PartlyCut to) old new
 cut_none to f old new same = record {
-  changed = record { no_shorter = rw same (omega arith); front = rw same (sym (take_all (length (old f)) (old f) (omega arith))) };
+  changed = record { no_shorter = rw same (omega arith); prefix = rw same (sym (take_all (length (old f)) (old f) (omega arith))) };
   others = λ g ne. same g;
 }
 
@@ -255,6 +256,10 @@ changes_state call is_done file step old new is logs = record {
 }
 
 -- a write that was made is logged
-pub write_logged : {T E : Type 0} (file at : ℕ) (kept : Vec ℕ Global) (bytes : List ℕ) (r : Result T E) (old new : History) → kept.items ≡ bytes → OnOk r (Logs (Write file at kept) true old new) → OnErr r ((new ≡ old) ⊎ Logs (Write file at kept) false old new) → IsWriteLogged file at bytes r old new
+pub write_logged : {T E : Type 0} (file at : ℕ) (kept : Vec ℕ Global) (bytes : List ℕ) (r : Result T E) (old new : History) → kept.items ≡ bytes → OnOk r (Logs (Write file at kept) true old new) → OnErr r ((new ≡ old) ⊎ Logs (Write file at kept) false old new) → IsLogged (device.Write file at bytes) (is_ok r) old new
 write_logged file at kept bytes (Ok value) old new same done failed = (kept, same, done)
 write_logged file at kept bytes (Err error) old new same done failed = ⊎_elim (λ e. inl e) (λ logs. inr (kept, same, logs)) failed
+
+pub on_ok_at : {T E P : Type 0} (r : Result T E) → OnOk r P → is_ok r ≡ true → P
+on_ok_at (Ok value) p e = p
+on_ok_at (Err error) p e = grind arith

@@ -8,10 +8,10 @@ use Rattle.irl_disk.specs.ModelLaws.{length-written, get_or-written, outside}
 use Rattle.std.proofs.lemmas.Bool.{cases_eq}
 use Rattle.std.specs.declared.alloc.Global.{Global}
 use Rattle.irl_disk.specs.declared.calls.Call.TheVariants.{Write}
-use Rattle.irl_disk.specs.declared.calls.Entry.{Entry}
+use Rattle.irl_disk.specs.declared.calls.LoggedCall.{LoggedCall}
 use Rattle.irl_disk.specs.declared.calls.Part.TheVariants.{Torn}
 use Rattle.irl_disk.specs.Disk.{Files, ChangesFile}
-use Rattle.irl_disk.specs.Calls.{Shows}
+use Rattle.irl_disk.specs.Calls.{ShowsNext}
 use Rattle.irl_disk.specs.Changes.{TearsRange, TornNext}
 use Rattle.irl_disk.proofs.Steps.{one_number, other_number}
 
@@ -76,8 +76,8 @@ torn_next is_done at bytes s old new torn next =
     }
 
 -- the files, torn
-pub write_shows_torn : {E : Type 0} (result : Result Unit E) (entry : Entry) (file at : ℕ) (bytes new_bytes : Vec ℕ Global) (now old new : Files) → entry.call ≡ Write file at bytes
-    → TornNext entry.is_done at bytes.items (old file) new_bytes.items → OnOk result (ChangesFile file (λ _ after. after ≡ new_bytes.items) old new) → OnOk result (Shows Torn entry now old new)
+pub write_shows_torn : {E : Type 0} (result : Result Unit E) (entry : LoggedCall) (file at : ℕ) (bytes new_bytes : Vec ℕ Global) (now old new : Files) → entry.call ≡ Write file at bytes
+    → TornNext entry.is_done at bytes.items (old file) new_bytes.items → OnOk result (ChangesFile file (λ _ after. after ≡ new_bytes.items) old new) → OnOk result (ShowsNext Torn entry now old new)
 write_shows_torn (Err e) entry file at bytes new_bytes now old new is next changes = tt
 write_shows_torn (Ok x) entry file at bytes new_bytes now old new is next changes = λ f s _ torn. rw is (⊎_elim
     (λ (same : f ≡ file). rw (same, one_number file, changes.changed) (torn_next entry.is_done at bytes.items s (old file) new_bytes.items (subst (λ (n : ℕ). IsTorn s (old n)) same torn) next))

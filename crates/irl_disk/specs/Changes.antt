@@ -11,8 +11,8 @@ abbrev pub Writes : ℕ → (List ℕ → List ℕ → Type 0) → BTreeMap ℕ 
 Writes f step old new = ChangesFile f step (files_of old) (files_of new)
 
 -- every file stays
-abbrev pub IsKept : BTreeMap ℕ (Vec ℕ Global) → BTreeMap ℕ (Vec ℕ Global) → Type 0
-IsKept old new = (f : ℕ) → files_of new f ≡ files_of old f
+abbrev pub AllStay : BTreeMap ℕ (Vec ℕ Global) → BTreeMap ℕ (Vec ℕ Global) → Type 0
+AllStay old new = (f : ℕ) → files_of new f ≡ files_of old f
 
 -- new has `A5` at the odd places of a range, and is old elsewhere
 pub record TearsRange (start end : ℕ) (old new : List ℕ) : Type 0 where

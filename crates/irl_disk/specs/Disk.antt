@@ -16,21 +16,26 @@ pub record Scribbled (at n : ℕ) (old new : List ℕ) : Type 0 where
   pub no_shorter : length old ≤ length new
   pub no_longer : length new ≤ max (length old) (at + n)
 
--- new is the front of old
-abbrev pub IsFront : ℕ → List ℕ → List ℕ → Type 0
-IsFront n old new = new ≡ take n old
+-- new is the prefix of this length of old
+abbrev pub IsPrefix : ℕ → List ℕ → List ℕ → Type 0
+IsPrefix n old new = new ≡ take n old
 
--- what a failed cut to n bytes leaves: any front of at least n bytes
+-- what a failed cut to n bytes leaves: any prefix of at least n bytes
 pub record PartlyCut (n : ℕ) (old new : List ℕ) : Type 0 where
   pub no_shorter : min n (length old) ≤ length new
-  pub front : new ≡ take (length new) old
+  pub prefix : new ≡ take (length new) old
 
 -- one file changes by a step, and every other file stays
 pub record ChangesFile (f : ℕ) (step : List ℕ → List ℕ → Type 0) (old new : Files) : Type 0 where
   pub changed : step (old f) (new f)
   pub others : (g : ℕ) → g ≢ f → new g ≡ old g
 
--- the same of what is told; a store that tells nothing goes on telling nothing
+-- only these files change, each by its step
+pub record ChangesAmong (among : ℕ → Type 0) (step : ℕ → List ℕ → List ℕ → Type 0) (old new : Files) : Type 0 where
+  pub changed : (f : ℕ) → among f → step f (old f) (new f)
+  pub others : (f : ℕ) → (among f → ⊥) → new f ≡ old f
+
+-- the same of one file, and of what is told; a store that tells nothing goes on telling nothing
 abbrev pub Changes : ℕ → (List ℕ → List ℕ → Type 0) → Option Files → Option Files → Type 0
 Changes f step None new = new ≡ None
 Changes f step (Some old) new = (files : Files) × (new ≡ Some files) × ChangesFile f step old files

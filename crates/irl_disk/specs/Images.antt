@@ -1,31 +1,51 @@
--- What a stop may leave. A joint image gives the bytes of every file as they stand after a stop at one moment.
-use Rattle.std.specs.Prelude.{◌≡◌, ◌≢◌, ◌⊎◌, ℕ, ◌+◌, ◌^◌, ◌<◌, ◌≤◌, Option, None, Some}
+-- What a store tells at one moment, and what a stop then may leave. A joint image gives the bytes of every file as they stand
+-- after a stop at one moment.
+use Rattle.std.specs.Prelude.{◌≡◌, ◌≢◌, ◌⊎◌, ℕ, ◌+◌, ◌^◌, ◌<◌, ◌≤◌, Bool, true, false, Option, None, Some}
 use Rattle.irl_disk.specs.Disk.{Files}
+
+pub record Snapshot : Type 1 where
+  -- the bytes of each file, where the store tells them: what a read gives
+  pub files : Option Files
+  -- the joint images that a stop now may leave
+  pub images : Files → Type 0
+  -- a number that never falls
+  pub moment : ℕ
+  -- the joint images that a stop at some moment from that one on may have left, during a call or between two
+  pub since : ℕ → Files → Type 0
+
+-- what holds of every snapshot
+pub record IsConsistent (now : Snapshot) : Type 0 where
+  -- what a read gives is what a stop now may leave
+  pub told : (files : Files) → now.files ≡ Some files → now.images files
+  -- a store that tells nothing has no images
+  pub tells : (image : Files) → now.images image → (files : Files) × (now.files ≡ Some files)
+  -- what a stop now may leave is among what stops since an earlier moment may
+  pub counts : (t : ℕ) (image : Files) → t ≤ now.moment → now.images image → now.since t image
+  -- a stop since now is a stop now
+  pub only : (image : Files) → now.since now.moment image → now.images image
+  -- a stop since a moment is one since each moment before it
+  pub earlier : (t u : ℕ) (image : Files) → t ≤ u → now.since u image → now.since t image
 
 -- the joint images that a step makes of these
 abbrev pub Follows : (Files → Files → Type 0) → (Files → Type 0) → Files → Type 0
 Follows step images new = (old : Files) × images old × step old new
 
--- From one state of a store to a later one, a stop at any moment leaves a joint image that has P; and of those since an
+-- From one snapshot of a store to a later one, a stop at any moment leaves a joint image that has P; and of those since an
 -- earlier moment each is one that could be left by then, or has P.
-pub record Leaves {ℓ} {S : Type ℓ} (moment : S → ℕ) (images_since : S → ℕ → Files → Type 0) (old new : S) (P : Files → Type 0) : Type 0 where
+pub record Leaves (old new : Snapshot) (P : Files → Type 0) : Type 0 where
   -- the clock never goes back
-  pub later : moment old ≤ moment new
-  pub each : (image : Files) → images_since new (moment old) image → P image
-  pub before : (t : ℕ) (image : Files) → t ≤ moment old → images_since new t image → images_since old t image ⊎ P image
+  pub later : old.moment ≤ new.moment
+  pub each : (image : Files) → new.since old.moment image → P image
+  pub before : (t : ℕ) (image : Files) → t ≤ old.moment → new.since t image → old.since t image ⊎ P image
 
--- n bytes more of one file were read
-pub record CountsBytes (f n : ℕ) (old new : ℕ → ℕ) : Type 0 where
-  pub here : new f ≡ old f + n
-  pub bound : new f < 2 ^ 64
-  pub others : (g : ℕ) → g ≢ f → new g ≡ old g
+-- a stop at any moment between two leaves what was left before the first, after this step
+abbrev pub LeavesBy : (Files → Files → Type 0) → Snapshot → Snapshot → Type 0
+LeavesBy step old new = Leaves old new (Follows step old.images)
 
--- the same of what is told
-abbrev pub Takes : ℕ → ℕ → Option (ℕ → ℕ) → Option (ℕ → ℕ) → Type 0
-Takes f n None new = new ≡ None
-Takes f n (Some old) new = (counts : ℕ → ℕ) × (new ≡ Some counts) × CountsBytes f n old counts
+-- a stop at any moment between two leaves what was left before the first
+abbrev pub LeavesSame : Snapshot → Snapshot → Type 0
+LeavesSame old new = Leaves old new old.images
 
--- only this file's bytes were read
-abbrev pub TakesOnly : ℕ → Option (ℕ → ℕ) → Option (ℕ → ℕ) → Type 0
-TakesOnly f None new = new ≡ None
-TakesOnly f (Some old) new = (counts : ℕ → ℕ) × (new ≡ Some counts) × ((g : ℕ) → g ≢ f → counts g ≡ old g)
+-- what a store tells that tells nothing
+abbrev pub silent : Snapshot
+silent = record { files = None; images = λ image. ⊥; moment = 0; since = λ t image. ⊥ }

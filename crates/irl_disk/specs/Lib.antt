@@ -1,8 +1,10 @@
 pub mod Calls
 pub mod Changes
+pub mod DeviceCall
 pub mod Disk
 pub mod Images
 pub mod Memory
 pub mod MemoryLaws
 pub mod Model
 pub mod ModelLaws
+pub mod Taken

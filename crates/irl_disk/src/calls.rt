@@ -2,7 +2,7 @@
 #[derive(Debug, Drop)]
 pub enum Call {
     /// A length or a read.
-    Look,
+    Query,
     Write { file: u16, at: u64, bytes: Vec<u8> },
     Cut { file: u16, to: u64 },
     Sync { file: u16 },
@@ -10,7 +10,7 @@ pub enum Call {
 
 /// A call that was made, and whether it was done. One that was not done failed.
 #[derive(Debug, Drop)]
-pub struct Entry {
+pub struct LoggedCall {
     pub call: Call,
     pub is_done: bool,
 }

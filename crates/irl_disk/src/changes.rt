@@ -1,10 +1,10 @@
 ghost use Rattle.std.specs.Prelude.{◌≡◌, ◌+◌, ◌^◌, ◌<◌, ◌≤◌, ℕ, length, min, IfOk, OnErr, OnOk};
-ghost use Rattle.irl_disk.specs.Disk.{Holds, IsFront};
+ghost use Rattle.irl_disk.specs.Disk.{Holds, IsPrefix};
 ghost use Rattle.irl_disk.specs.Model.{after_write, at_rest};
-ghost use Rattle.irl_disk.specs.Calls.{EndsWithin, Shows, files_of, read_after};
-ghost use Rattle.irl_disk.specs.Changes.{TearsRange, TornNext, Writes, IsKept};
+ghost use Rattle.irl_disk.specs.Calls.{EndsWithin, ShowsNext, files_of, read_after};
+ghost use Rattle.irl_disk.specs.Changes.{TearsRange, TornNext, Writes, AllStay};
 
-use crate::calls::{Call, Entry, Part};
+use crate::calls::{Call, LoggedCall, Part};
 use std::alloc::{AllocError, Global};
 use std::collections::BTreeMap;
 
@@ -21,7 +21,7 @@ pub fn bytes_in(files: &BTreeMap<u16, Vec<u8>>, file: u16) -> &[u8]
 // Puts other bytes in a file's place.
 fn replace(files: &mut BTreeMap<u16, Vec<u8>>, file: u16, bytes: Vec<u8>) -> Result<(), AllocError>
     ensures ok { OnOk result (Writes file (λ _ new. new ≡ bytes.items) files.old files.new) }
-    ensures err { OnErr result (IsKept files.old files.new) }
+    ensures err { OnErr result (AllStay files.old files.new) }
 {
     files.insert(file, bytes)?;
     Ok(())
@@ -51,7 +51,7 @@ fn write_over(
 ) -> Result<(), AllocError>
     ensures ok { OnOk result (Writes file (λ old new. Holds (min at (length old)) bytes.now old new) files.old files.new) }
     ensures within { min at (length (files_of files.old file)) + length bytes.now < 2 ^ 64 }
-    ensures err { OnErr result (IsKept files.old files.new) }
+    ensures err { OnErr result (AllStay files.old files.new) }
 {
     let old = bytes_in(files, file);
     let start = (at as usize).min(old.len());
@@ -66,8 +66,8 @@ fn cut_off(
     file: u16,
     to: u64,
 ) -> Result<(), AllocError>
-    ensures ok { OnOk result (Writes file (IsFront to) files.old files.new) }
-    ensures err { OnErr result (IsKept files.old files.new) }
+    ensures ok { OnOk result (Writes file (IsPrefix to) files.old files.new) }
+    ensures err { OnErr result (AllStay files.old files.new) }
 {
     let old = bytes_in(files, file);
     let new = old[..(to as usize).min(old.len())].to_vec(alloc)?;
@@ -82,12 +82,12 @@ pub fn carry_out(
 ) -> Result<(), AllocError>
     ensures ok { OnOk result ((f : ℕ) → files_of files.new f ≡ read_after call.now f (files_of files.old f)) }
     ensures within { EndsWithin call.now (files_of files.old) }
-    ensures err { OnErr result (IsKept files.old files.new) }
+    ensures err { OnErr result (AllStay files.old files.new) }
 {
     match call {
         Call::Write { file, at, bytes } => write_over(files, alloc, *file, *at, bytes),
         Call::Cut { file, to } => cut_off(files, alloc, *file, *to),
-        Call::Look | Call::Sync { .. } => Ok(()),
+        Call::Query | Call::Sync { .. } => Ok(()),
     }
 }
 
@@ -155,10 +155,10 @@ fn copy_file(
 fn sync_next(
     shown: &mut BTreeMap<u16, Vec<u8>>,
     alloc: Global,
-    entry: &Entry,
+    entry: &LoggedCall,
     now: &BTreeMap<u16, Vec<u8>>,
 ) -> Result<(), AllocError>
-    ensures { OnOk result (Shows Part.Old entry.now (files_of now.now) (files_of shown.old) (files_of shown.new)) }
+    ensures { OnOk result (ShowsNext Part.Old entry.now (files_of now.now) (files_of shown.old) (files_of shown.new)) }
 {
     match entry.call {
         Call::Sync { file } if entry.is_done => copy_file(shown, alloc, file, now),
@@ -170,10 +170,10 @@ fn sync_next(
 fn tear_next(
     shown: &mut BTreeMap<u16, Vec<u8>>,
     alloc: Global,
-    entry: &Entry,
+    entry: &LoggedCall,
     now: &BTreeMap<u16, Vec<u8>>,
 ) -> Result<(), AllocError>
-    ensures { OnOk result (Shows Part.Torn entry.now (files_of now.now) (files_of shown.old) (files_of shown.new)) }
+    ensures { OnOk result (ShowsNext Part.Torn entry.now (files_of now.now) (files_of shown.old) (files_of shown.new)) }
 {
     match &entry.call {
         Call::Write { file, at, bytes } => {
@@ -193,7 +193,7 @@ fn tear_next(
             }
             Ok(())
         }
-        Call::Look => Ok(()),
+        Call::Query => Ok(()),
     }
 }
 
@@ -202,10 +202,10 @@ pub fn show_next(
     part: Part,
     shown: &mut BTreeMap<u16, Vec<u8>>,
     alloc: Global,
-    entry: &Entry,
+    entry: &LoggedCall,
     now: &BTreeMap<u16, Vec<u8>>,
 ) -> Result<(), AllocError>
-    ensures { OnOk result (Shows part entry.now (files_of now.now) (files_of shown.old) (files_of shown.new)) }
+    ensures { OnOk result (ShowsNext part entry.now (files_of now.now) (files_of shown.old) (files_of shown.new)) }
 {
     match part {
         Part::Old => sync_next(shown, alloc, entry, now),

@@ -1,8 +1,8 @@
 ghost use Rattle.std.specs.Prelude.{◌≡◌, ◌⊎◌, ℕ, ◌+◌, ◌<◌, ◌≤◌, [], ◌∷◌, ◌++◌, true, false, IfOk, OnOk, OnErr, length};
-ghost use Rattle.irl_disk.specs.Changes.{IsKept};
+ghost use Rattle.irl_disk.specs.Changes.{AllStay};
 ghost use Rattle.irl_disk.specs.Calls.{EndsWithin, IsPart, Logs, files_among, files_of, read_after, states, states_at};
 
-use crate::calls::{Call, Entry, Part};
+use crate::calls::{Call, LoggedCall, Part};
 use crate::changes::{bytes_in, carry_out, show_next};
 use std::alloc::{AllocError, Global};
 use std::collections::BTreeMap;
@@ -16,7 +16,7 @@ pub struct NotDone;
 #[derive(Drop)]
 pub struct Log {
     first: BTreeMap<u16, Vec<u8>>,
-    entries: Vec<Entry>,
+    entries: Vec<LoggedCall>,
     files: BTreeMap<u16, Vec<u8>>,
 }
 
@@ -105,7 +105,7 @@ impl Log {
 
 // Logs a call as not done, and then carries it out unless it is to fail.
 fn make_entry(
-    entries: &mut Vec<Entry>,
+    entries: &mut Vec<LoggedCall>,
     files: &mut BTreeMap<u16, Vec<u8>>,
     alloc: Global,
     call: Call,
@@ -114,12 +114,12 @@ fn make_entry(
     ensures done { OnOk result (entries.new.items ≡ entries.old.items ++ record { call = call; is_done = true } ∷ []) }
     ensures files { OnOk result ((f : ℕ) → files_of files.new f ≡ read_after call f (files_of files.old f)) }
     ensures not_done { OnErr result ((entries.new.items ≡ entries.old.items) ⊎ (entries.new.items ≡ entries.old.items ++ record { call = call; is_done = false } ∷ [])) }
-    ensures kept { OnErr result (IsKept files.old files.new) }
+    ensures kept { OnErr result (AllStay files.old files.new) }
     ensures listed { OnOk result (is_failing ≡ false) }
     ensures within { OnOk result (EndsWithin call (files_of files.old)) }
 {
     let place = entries.len();
-    let entry = Entry {
+    let entry = LoggedCall {
         call,
         is_done: false,
     };
@@ -136,13 +136,13 @@ fn make_entry(
 fn finish(
     files: &mut BTreeMap<u16, Vec<u8>>,
     alloc: Global,
-    entry: &mut Entry,
+    entry: &mut LoggedCall,
 ) -> Result<(), AllocError>
     ensures done { OnOk result (entry.new ≡ record { call = entry.old.call; is_done = true }) }
     ensures files { OnOk result ((f : ℕ) → files_of files.new f ≡ read_after entry.old.call f (files_of files.old f)) }
     ensures within { OnOk result (EndsWithin entry.old.call (files_of files.old)) }
     ensures err { OnErr result (entry.new ≡ entry.old) }
-    ensures kept { OnErr result (IsKept files.old files.new) }
+    ensures kept { OnErr result (AllStay files.old files.new) }
 {
     carry_out(files, alloc, &entry.call)?;
     entry.is_done = true;

@@ -1,14 +1,15 @@
-ghost use Rattle.std.specs.Prelude.{◌≡◌, ◌+◌, ◌^◌, ◌<◌, ◌≤◌, ◌⊎◌, ℕ, [], Bool, true, false, Some, Vec, length, ◌↔◌, refl, OnErr, OnOk, IfOk, IfSome, IsErr};
+ghost use Rattle.std.specs.Prelude.{◌≡◌, ◌+◌, ◌^◌, ◌<◌, ◌≤◌, ◌⊎◌, ◌↔◌, ℕ, [], Bool, true, false, Vec, Some};
+ghost use Rattle.std.specs.Prelude.{length, is_ok, if◌then◌else◌, OnErr, OnOk, IfOk, IsErr};
 ghost use Rattle.std.specs.List.{Contains};
 ghost use Rattle.std.specs.declared.alloc.Global.{Global};
-ghost use Rattle.irl_offer.specs.Faults.{Rose, HasCause};
-ghost use Rattle.std.specs.Option.{ForSome};
-ghost use Rattle.irl_disk.specs.Disk.{Files, Changes, ChangesFile, Holds, IsFront, PartlyCut, Reads, Scribbled};
-ghost use Rattle.irl_disk.specs.Images.{CountsBytes, Follows, Leaves, Takes};
+ghost use Rattle.irl_offer.specs.Faults.{HasCause, Rose, counted};
+ghost use Rattle.irl_disk.specs.DeviceCall.{DeviceCall};
+ghost use Rattle.irl_disk.specs.Disk.{Files, Reads};
+ghost use Rattle.irl_disk.specs.Taken.{CountsBytes};
 ghost use Rattle.irl_disk.specs.Model.{AreImages, after_write, after_cut, after_sync};
-ghost use Rattle.irl_disk.specs.Calls.{History, ChangesState, ImagesSince, IsLogged, IsLooked, IsWriteLogged, states, states_at, Logs, EndsWithin, IsPart};
-ghost use Rattle.irl_disk.specs.Memory.{files_in, fault_count, call_count, counts_of, images_of, images_of_since};
-ghost use Rattle.irl_disk.specs.MemoryLaws.{now_are_images, counted_now, since_now, since_before};
+ghost use Rattle.irl_disk.specs.Calls.{History, ChangesState, ImagesSince, states, states_at, Logs, EndsWithin, IsPart};
+ghost use Rattle.irl_disk.specs.Memory.{files_in, fault_count, call_count, counts_of, snapshot_of, LogsCall};
+ghost use Rattle.irl_disk.specs.MemoryLaws.{consistent};
 
 use crate::calls::{Call, Part};
 use crate::log::{Log, NotDone};
@@ -75,6 +76,8 @@ impl MemStore {
     fn fault(&mut self) -> Failed
         ensures log { self.new.log ≡ self.old.log }
         ensures taken { self.new.taken ≡ self.old.taken }
+        ensures failing { self.new.failing ≡ self.old.failing }
+        ensures faults { self.new.faults ≡ counted self.old.faults }
         ensures later { self.old.faults ≤ self.new.faults }
         ensures rose { Rose self.old.faults self.new.faults }
     {
@@ -89,6 +92,8 @@ impl MemStore {
         ensures listed { OnOk result (Contains self.old.failing.items (call_count self.old) → ⊥) }
         ensures within { OnOk result (EndsWithin call (files_in self.old)) }
         ensures taken { self.new.taken ≡ self.old.taken }
+        ensures failing { self.new.failing ≡ self.old.failing }
+        ensures faults { self.new.faults ≡ (if is_ok result then self.old.faults else counted self.old.faults) }
         ensures cause { HasCause (IsErr result) self.old.faults self.new.faults }
     {
         let is_failing = self.failing.contains(&self.log.calls());
@@ -103,6 +108,8 @@ impl MemStore {
         ensures counted { OnOk result (CountsBytes f bytes (counts_of self.old.taken) (counts_of self.new.taken)) }
         ensures failed { OnErr result (counts_of self.new.taken ≡ counts_of self.old.taken) }
         ensures log { self.new.log ≡ self.old.log }
+        ensures failing { self.new.failing ≡ self.old.failing }
+        ensures faults { self.new.faults ≡ (if is_ok result then self.old.faults else counted self.old.faults) }
         ensures cause { HasCause (IsErr result) self.old.faults self.new.faults }
     {
         let before = self.taken.get(&f).copied().unwrap_or(0);
@@ -118,14 +125,23 @@ impl MemStore {
 
 /// What a stop may leave of a store in memory is just what the disk model says of the calls that it keeps.
 pub fn images_are_the_models()
-    ensures contents { (store : MemStore) → ⟦<MemStore as Store>⟧.contents store ≡ Some (files_in store) }
-    ensures moment { (store : MemStore) → ⟦<MemStore as Store>⟧.moment store ≡ call_count store }
-    ensures now { (store : MemStore) (image : Files) → ⟦<MemStore as Store>⟧.images store image ↔ AreImages (states store.log) image }
-    ensures since { (store : MemStore) (t : ℕ) (image : Files) → ⟦<MemStore as Store>⟧.images_since store t image ↔ ImagesSince store.log t image }
-    ensures look { (old new : History) (is_done : Bool) → Logs Call.Look is_done old new → (f : ℕ) → states new f ≡ states old f }
-    ensures write { (old new : History) (is_done : Bool) (file at : ℕ) (bytes : Vec ℕ Global) → Logs (Call.Write file at bytes) is_done old new → ChangesState file (after_write is_done at bytes.items) old new }
-    ensures cut { (old new : History) (is_done : Bool) (file to : ℕ) → Logs (Call.Cut file to) is_done old new → ChangesState file (after_cut is_done to) old new }
-    ensures sync { (old new : History) (is_done : Bool) (file : ℕ) → Logs (Call.Sync file) is_done old new → ChangesState file (after_sync is_done) old new }
+    ensures files { (store : MemStore) → (⟦<MemStore as Store>⟧.snapshot store).files ≡ Some (files_in store) }
+    ensures moment { (store : MemStore) → (⟦<MemStore as Store>⟧.snapshot store).moment ≡ call_count store }
+    ensures now { (store : MemStore) (image : Files) →
+        (⟦<MemStore as Store>⟧.snapshot store).images image ↔ AreImages (states store.log) image }
+    ensures since { (store : MemStore) (t : ℕ) (image : Files) →
+        (⟦<MemStore as Store>⟧.snapshot store).since t image ↔ ImagesSince store.log t image }
+    ensures logs { (call : DeviceCall) (is_ok : Bool) (old new : MemStore) →
+        ⟦<MemStore as Store>⟧.logs call is_ok old new ↔ LogsCall call is_ok old new }
+    ensures query { (old new : History) (is_done : Bool) → Logs Call.Query is_done old new →
+        (f : ℕ) → states new f ≡ states old f }
+    ensures write { (old new : History) (is_done : Bool) (file at : ℕ) (bytes : Vec ℕ Global) →
+        Logs (Call.Write file at bytes) is_done old new →
+        ChangesState file (after_write is_done at bytes.items) old new }
+    ensures cut { (old new : History) (is_done : Bool) (file to : ℕ) →
+        Logs (Call.Cut file to) is_done old new → ChangesState file (after_cut is_done to) old new }
+    ensures sync { (old new : History) (is_done : Bool) (file : ℕ) →
+        Logs (Call.Sync file) is_done old new → ChangesState file (after_sync is_done) old new }
 {}
 
 // Copies the file's bytes from a place on, as many as there is room for, and says how many.
@@ -141,103 +157,40 @@ fn copied(file: &[u8], at: usize, into: &mut [u8]) -> usize
 }
 
 impl Store for MemStore {
-    ghost contents = { λ s. Some (files_in s) };
+    ghost snapshot = { snapshot_of };
 
-    ghost images = { images_of };
-
-    ghost moment = { call_count };
-
-    ghost images_since = { images_of_since };
-
-    ghost faults = { λ s. s.faults };
+    ghost faults = { fault_count };
 
     ghost taken = { λ s. Some (counts_of s.taken) };
 
-    fn length(&mut self, f: u16) -> Result<u64, Failed>
-        requires { f < 10000 }
-        ensures logs { IsLooked result self.old.log self.new.log }
-        ensures listed { OnOk result (Contains self.old.failing.items (call_count self.old) → ⊥) }
-        ensures value { IfOk result (λ n. IfSome (Some (files_in self.old)) (λ files. n ≡ length (files f))) }
-        ensures same { Some (files_in self.new) ≡ Some (files_in self.old) }
-        ensures stops { Leaves call_count images_of_since self.old self.new (images_of self.old) }
-        ensures taken { Some (counts_of self.new.taken) ≡ Some (counts_of self.old.taken) }
-        ensures cause { HasCause (IsErr result) self.old.faults self.new.faults }
-    {
-        self.make(Call::Look)?;
+    ghost logs = { λ call is_ok old new. LogsCall call is_ok old new };
+
+    fn length(&mut self, f: u16) -> Result<u64, Failed> {
+        self.make(Call::Query)?;
         Ok(self.log.file(f).len() as u64)
     }
 
-    fn read(&mut self, f: u16, at: u64, into: &mut [u8]) -> Result<usize, Failed>
-        requires file { f < 10000 }
-        requires place { ForSome (Some (files_in self.old)) (λ files. at ≤ length (files f)) }
-        ensures logs { IsLooked result self.old.log self.new.log }
-        ensures listed { OnOk result (Contains self.old.failing.items (call_count self.old) → ⊥) }
-        ensures within { IfOk result (λ n. (n ≤ length into.new) × (at + n < 2 ^ 64)) }
-        ensures bytes { IfOk result (λ n. IfSome (Some (files_in self.old)) (λ files. Reads at (length into.new) n into.new (files f))) }
-        ensures same { Some (files_in self.new) ≡ Some (files_in self.old) }
-        ensures stops { Leaves call_count images_of_since self.old self.new (images_of self.old) }
-        ensures taken { IfOk result (λ n. Takes f n (Some (counts_of self.old.taken)) (Some (counts_of self.new.taken))) }
-        ensures taken_err { OnErr result (Some (counts_of self.new.taken) ≡ Some (counts_of self.old.taken)) }
-        ensures cause { HasCause (IsErr result) self.old.faults self.new.faults }
-    {
-        self.make(Call::Look)?;
+    fn read(&mut self, f: u16, at: u64, into: &mut [u8]) -> Result<usize, Failed> {
+        self.make(Call::Query)?;
         let count = copied(self.log.file(f), at as usize, into);
         self.count(f, count)?;
         Ok(count)
     }
 
-    fn write(&mut self, f: u16, at: u64, bytes: &[u8]) -> Result<(), Failed>
-        requires file { f < 10000 }
-        requires place { ForSome (Some (files_in self.old)) (λ files. at ≤ length (files f)) }
-        ensures logs { IsWriteLogged f at bytes.now result self.old.log self.new.log }
-        ensures listed { OnOk result (Contains self.old.failing.items (call_count self.old) → ⊥) }
-        ensures within { OnOk result (at + length bytes.now < 2 ^ 64) }
-        ensures ok { OnOk result (Changes f (Holds at bytes.now) (Some (files_in self.old)) (Some (files_in self.new))) }
-        ensures err { OnErr result (Changes f (Scribbled at (length bytes.now)) (Some (files_in self.old)) (Some (files_in self.new))) }
-        ensures stops { Leaves call_count images_of_since self.old self.new (Follows (ChangesFile f (Scribbled at (length bytes.now))) (images_of self.old)) }
-        ensures taken { Some (counts_of self.new.taken) ≡ Some (counts_of self.old.taken) }
-        ensures cause { HasCause (IsErr result) self.old.faults self.new.faults }
-    {
+    fn write(&mut self, f: u16, at: u64, bytes: &[u8]) -> Result<(), Failed> {
         match bytes.to_vec(self.alloc) {
             Ok(bytes) => self.make(Call::Write { file: f, at, bytes }),
             Err(_) => Err(self.fault()),
         }
     }
 
-    fn cut(&mut self, f: u16, to: u64) -> Result<(), Failed>
-        requires file { f < 10000 }
-        requires place { ForSome (Some (files_in self.old)) (λ files. to ≤ length (files f)) }
-        ensures logs { IsLogged (Call.Cut f to) result self.old.log self.new.log }
-        ensures listed { OnOk result (Contains self.old.failing.items (call_count self.old) → ⊥) }
-        ensures ok { OnOk result (Changes f (IsFront to) (Some (files_in self.old)) (Some (files_in self.new))) }
-        ensures err { OnErr result (Changes f (PartlyCut to) (Some (files_in self.old)) (Some (files_in self.new))) }
-        ensures stops { Leaves call_count images_of_since self.old self.new (Follows (ChangesFile f (PartlyCut to)) (images_of self.old)) }
-        ensures taken { Some (counts_of self.new.taken) ≡ Some (counts_of self.old.taken) }
-        ensures cause { HasCause (IsErr result) self.old.faults self.new.faults }
-    {
+    fn cut(&mut self, f: u16, to: u64) -> Result<(), Failed> {
         self.make(Call::Cut { file: f, to })
     }
 
-    fn sync(&mut self, f: u16) -> Result<(), Failed>
-        requires { f < 10000 }
-        ensures logs { IsLogged (Call.Sync f) result self.old.log self.new.log }
-        ensures listed { OnOk result (Contains self.old.failing.items (call_count self.old) → ⊥) }
-        ensures durable { OnOk result (ForSome (Some (files_in self.old)) (λ files. (image : Files) → images_of self.new image → image f ≡ files f)) }
-        ensures same { Some (files_in self.new) ≡ Some (files_in self.old) }
-        ensures stops { Leaves call_count images_of_since self.old self.new (images_of self.old) }
-        ensures taken { Some (counts_of self.new.taken) ≡ Some (counts_of self.old.taken) }
-        ensures cause { HasCause (IsErr result) self.old.faults self.new.faults }
-    {
+    fn sync(&mut self, f: u16) -> Result<(), Failed> {
         self.make(Call::Sync { file: f })
     }
 
-    ghost told_is_image = { λ s files told. now_are_images s files told };
-
-    ghost told_where_image = { λ s image left. (files_in s, refl) };
-
-    ghost counts_now = { λ s t image le left. counted_now s t image le left };
-
-    ghost only_now = { λ s image left. since_now s image left };
-
-    ghost since_earlier = { λ s t u image le left. since_before s t u image le left };
+    ghost is_consistent = { consistent };
 }
