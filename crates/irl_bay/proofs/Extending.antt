@@ -3,7 +3,7 @@ use Rattle.std.proofs.Common.{◌≡◌, ◌∙◌, ◌⊎◌, inl, inr, ℕ, �
 use Rattle.irl_disk.specs.Disk.{Files, Changes, ChangesFile}
 use Rattle.irl_disk.specs.Images.{Follows, Leaves}
 use Rattle.irl_disk.proofs.Stretches.{stays, widens, goes_on, left_now}
-use Rattle.irl_journal.specs.Records.{HasRecords}
+use Rattle.irl_journal.specs.Format.{HasRecords}
 use Rattle.irl_journal.specs.Appending.{Tail, IsOpen, HasOrGains}
 use Rattle.irl_bay.specs.Lines.{line_file}
 use Rattle.irl_bay.specs.Kept.{Extends, HasSome}

@@ -9,7 +9,7 @@ use Rattle.irl_model.proofs.JudgingLaws.{after-append, judgements-drop}
 use Rattle.irl_offer.specs.Tuple.{Tuple}
 use Rattle.irl_disk.specs.Disk.{Files, Changes, ChangesFile}
 use Rattle.irl_journal.proofs.Lists.{one_list, whole_list, record_behind}
-use Rattle.irl_journal.specs.Records.{HasRecords, StandsFor, IsPayload, records_text, body_text, open_gate, placed_from}
+use Rattle.irl_journal.specs.Format.{HasRecords, StandsFor, IsPayload, records_text, body_text, open_gate, placed_from}
 use Rattle.irl_journal.specs.Visiting.{TakesAll, IsBrokenFor, IsRefusedAt, IsOpened}
 use Rattle.irl_journal.specs.declared.journal.JournalFault.{JournalFault}
 use Rattle.irl_journal.specs.declared.journal.JournalFault.TheVariants.{Failed as JournalFailed, Memory as JournalMemory, Damaged as JournalDamaged}

@@ -7,7 +7,7 @@ use Rattle.irl_offer.specs.declared.offer.Verdict.{Verdict}
 use Rattle.irl_model.specs.Judging.{after, judgements}
 use Rattle.irl_disk.specs.Disk.{Files, Changes, ChangesFile}
 use Rattle.irl_disk.specs.Images.{Follows, Leaves}
-use Rattle.irl_journal.specs.Records.{HasRecords}
+use Rattle.irl_journal.specs.Format.{HasRecords}
 use Rattle.irl_journal.specs.Appending.{IsOpen}
 use Rattle.irl_bay.specs.Lines.{line_file, line_tuple, HasLines, IsKeepable}
 use Rattle.irl_bay.specs.declared.kept.Kept.{Kept}

@@ -5,7 +5,7 @@ use Rattle.irl_offer.specs.declared.offer.Op.TheVariants.{Both}
 use Rattle.irl_key.specs.Key.{key_of}
 use Rattle.irl_offer.specs.Tuple.{Tuple}
 use Rattle.irl_disk.specs.Disk.{Files}
-use Rattle.irl_journal.specs.Records.{records_text, body_text, open_gate, IsPayload, StandsFor, IsBrokenAt}
+use Rattle.irl_journal.specs.Format.{records_text, body_text, open_gate, IsPayload, StandsFor, IsBrokenAt}
 
 -- the number of the lines' file
 abbrev pub line_file : ℕ

@@ -2,9 +2,9 @@
 use Rattle.std.proofs.Common.{◌≡◌, inl, ℕ, ◌+◌, ◌≤◌, List, [], ◌∷◌, ◌++◌, length, Option, None, Some, refl, sym, ◌∙◌, subst}
 use Rattle.std.specs.Option.{ForSome}
 use Rattle.irl_disk.specs.Disk.{Files, Changes, ChangesFile, Holds, Scribbled}
-use Rattle.irl_disk.specs.Images.{Follows, Leaves}
+use Rattle.irl_disk.specs.Images.{Snapshot, IsConsistent, Follows, Leaves, LeavesBy, LeavesSame}
 use Rattle.irl_disk.proofs.Stretches.{widens, joins, left_now}
-use Rattle.irl_journal.specs.Records.{body_text, open_gate, IsPayload}
+use Rattle.irl_journal.specs.Format.{body_text, open_gate, record_text, IsPayload}
 use Rattle.irl_journal.specs.Appending.{Ends, HasOrGains}
 use Rattle.irl_journal.proofs.Gates.{HasBehind, torn_behind, written_behind, torn_gate, written_gate}
 
@@ -40,74 +40,72 @@ gains f payloads payload None new stay has = stay
 gains f payloads payload (Some old) new stay has = (stay.0, stay.1, record { changed = has stay.0 (old f) stay.1; others = stay.2.others })
 
 -- What an append begins with: the laws of its store, the journal's file and end, its records, and the one to be appended.
-pub record Begun {S : Type 0} (contents : S → Option Files) (images : S → Files → Type 0) (moment : S → ℕ) (images_since : S → ℕ → Files → Type 0) : Type 0 where
-  pub told_is_image : (store : S) (files : Files) → contents store ≡ Some files → images store files
-  pub told_where_image : (store : S) (image : Files) → images store image → (files : Files) × (contents store ≡ Some files)
-  pub counts_now : (store : S) (t : ℕ) (image : Files) → t ≤ moment store → images store image → images_since store t image
+pub record Begun {S : Type 0} (snapshot : S → Snapshot) : Type 0 where
+  pub law : (store : S) → IsConsistent (snapshot store)
   pub file : ℕ
   pub end : ℕ
   pub payloads : List (List ℕ)
   pub payload : List ℕ
   pub old : S
-  pub is_open : (image : Files) → images old image → Ends end (image file) payloads
+  pub is_open : (image : Files) → (snapshot old).images image → Ends end (image file) payloads
 
 -- Since the append began, a stop leaves the records from before, with the new one or without.
-pub record Stretch {S : Type 0} {contents : S → Option Files} {images : S → Files → Type 0} {moment : S → ℕ} {images_since : S → ℕ → Files → Type 0} (b : Begun contents images moment images_since) (new : S) : Type 0 where
-  pub told : OthersStay b.file (contents b.old) (contents new)
-  pub stops : Leaves moment images_since b.old new (Follows (ChangesFile b.file (HasOrGains b.payloads b.payload)) (images b.old))
+pub record Stretch {S : Type 0} {snapshot : S → Snapshot} (b : Begun snapshot) (new : S) : Type 0 where
+  pub told : OthersStay b.file (snapshot b.old).files (snapshot new).files
+  pub stops : LeavesBy (ChangesFile b.file (HasOrGains b.payloads b.payload)) (snapshot b.old) (snapshot new)
 
-module _ {S : Type 0} {contents : S → Option Files} {images : S → Files → Type 0} {moment : S → ℕ} {images_since : S → ℕ → Files → Type 0} (b : Begun contents images moment images_since) where
+module _ {S : Type 0} {snapshot : S → Snapshot} (b : Begun snapshot) where
   -- a stop now leaves what one since the append began leaves
-  now : (new : S) → Stretch b new → (image : Files) → images new image → Follows (ChangesFile b.file (HasOrGains b.payloads b.payload)) (images b.old) image
-  now new before image left = left_now moment images_since images b.counts_now b.old new _ before.stops image left
+  now : (new : S) → Stretch b new → (image : Files) → (snapshot new).images image → Follows (ChangesFile b.file (HasOrGains b.payloads b.payload)) (snapshot b.old).images image
+  now new before image left = left_now (snapshot b.old) (snapshot new) _ (b.law new) before.stops image left
 
   -- the write behind the closed gate, whole or not
-  pub after_record : (n : ℕ) (step : List ℕ → List ℕ → Type 0) (new : S) → Changes b.file step (contents b.old) (contents new) → Leaves moment images_since b.old new (Follows (ChangesFile b.file (Scribbled (b.end + 1) n)) (images b.old)) → Stretch b new
+  pub after_record : (n : ℕ) (step : List ℕ → List ℕ → Type 0) (new : S) → Changes b.file step (snapshot b.old).files (snapshot new).files → LeavesBy (ChangesFile b.file (Scribbled (b.end + 1) n)) (snapshot b.old) (snapshot new) → Stretch b new
   after_record n step new told stops = record {
     told = others_stay b.file step _ _ told;
-    stops = widens moment images_since b.old new _ _ stops (λ image left.
+    stops = widens (snapshot b.old) (snapshot new) _ _ stops (λ image left.
         let kept = torn_behind b.payloads (left.0 b.file) (image b.file) b.end n (b.is_open left.0 left.1) left.2.changed in
         (left.0, left.1, record { changed = inl kept; others = left.2.others }));
   }
 
   -- a sync, done or not
-  pub after_sync : (mid new : S) → Stretch b mid → contents new ≡ contents mid → Leaves moment images_since mid new (images mid) → Stretch b new
+  pub after_sync : (mid new : S) → Stretch b mid → (snapshot new).files ≡ (snapshot mid).files → LeavesSame (snapshot mid) (snapshot new) → Stretch b new
   after_sync mid new before same stops = record {
-    told = subst (λ (told : Option Files). OthersStay b.file (contents b.old) told) (sym same) before.told;
-    stops = joins moment images_since b.old mid new _ before.stops (widens moment images_since mid new _ _ stops (now mid before));
+    told = subst (λ (told : Option Files). OthersStay b.file (snapshot b.old).files told) (sym same) before.told;
+    stops = joins (snapshot b.old) (snapshot mid) (snapshot new) _ before.stops (widens (snapshot mid) (snapshot new) _ _ stops (now mid before));
   }
 
   -- once the record is synced, each image has it behind the gate
-  pub is_behind : (bytes : List ℕ) (mid new : S) → bytes ≡ body_text b.payload ++ 0 ∷ [] → IsPayload b.payload → Changes b.file (Holds (b.end + 1) bytes) (contents b.old) (contents mid) → contents new ≡ contents mid
-      → ForSome (contents mid) (λ files. (image : Files) → images new image → image b.file ≡ files b.file) → (image : Files) → images new image → HasBehind b.end (image b.file) b.payloads b.payload
+  pub is_behind : (bytes : List ℕ) (mid new : S) → bytes ≡ body_text b.payload ++ 0 ∷ [] → IsPayload b.payload → Changes b.file (Holds (b.end + 1) bytes) (snapshot b.old).files (snapshot mid).files → (snapshot new).files ≡ (snapshot mid).files
+      → ForSome (snapshot mid).files (λ files. (image : Files) → (snapshot new).images image → image b.file ≡ files b.file) → (image : Files) → (snapshot new).images image → HasBehind b.end (image b.file) b.payloads b.payload
   is_behind bytes mid new are fits written same durable image left =
-      let told = b.told_where_image new image left in
-      let told_mid : contents mid ≡ Some told.0 = sym same ∙ told.1 in
-      let from = told_from b.file (Holds (b.end + 1) bytes) (contents b.old) (contents mid) told.0 written told_mid in
-      let has = written_behind b.payloads b.payload bytes (from.0 b.file) (told.0 b.file) b.end are fits (b.is_open from.0 (b.told_is_image b.old from.0 from.1)) from.2.changed in
+      let told = (b.law new).tells image left in
+      let told_mid : (snapshot mid).files ≡ Some told.0 = sym same ∙ told.1 in
+      let from = told_from b.file (Holds (b.end + 1) bytes) (snapshot b.old).files (snapshot mid).files told.0 written told_mid in
+      let has = written_behind b.payloads b.payload bytes (from.0 b.file) (told.0 b.file) b.end are fits (b.is_open from.0 ((b.law b.old).told from.0 from.1)) from.2.changed in
       subst (λ (bytes : List ℕ). HasBehind b.end bytes b.payloads b.payload) (sym (durable told.0 told_mid image left)) has
 
   -- the write of the open gate, whole or not
-  pub after_gate : (step : List ℕ → List ℕ → Type 0) (mid new : S) → Stretch b mid → ((image : Files) → images mid image → HasBehind b.end (image b.file) b.payloads b.payload)
-      → Changes b.file step (contents mid) (contents new) → Leaves moment images_since mid new (Follows (ChangesFile b.file (Scribbled b.end 1)) (images mid)) → Stretch b new
+  pub after_gate : (step : List ℕ → List ℕ → Type 0) (mid new : S) → Stretch b mid → ((image : Files) → (snapshot mid).images image → HasBehind b.end (image b.file) b.payloads b.payload)
+      → Changes b.file step (snapshot mid).files (snapshot new).files → LeavesBy (ChangesFile b.file (Scribbled b.end 1)) (snapshot mid) (snapshot new) → Stretch b new
   after_gate step mid new before behind told stops = record {
     told = stay_more b.file _ _ _ before.told (others_stay b.file step _ _ told);
-    stops = joins moment images_since b.old mid new _ before.stops (widens moment images_since mid new _ _ stops (λ image left.
+    stops = joins (snapshot b.old) (snapshot mid) (snapshot new) _ before.stops (widens (snapshot mid) (snapshot new) _ _ stops (λ image left.
         let from = now mid before left.0 left.1 in
         let torn = torn_gate b.payloads b.payload (left.0 b.file) (image b.file) b.end (behind left.0 left.1) left.2.changed in
         (from.0, from.1, record { changed = torn; others = λ g other. left.2.others g other ∙ from.2.others g other })));
   }
 
   -- once the gate is synced, each image has the record
-  pub is_gained : (mid new last : S) → ((image : Files) → images mid image → HasBehind b.end (image b.file) b.payloads b.payload) → Changes b.file (Holds b.end (open_gate ∷ [])) (contents mid) (contents new) → contents last ≡ contents new
-      → ForSome (contents new) (λ files. (image : Files) → images last image → image b.file ≡ files b.file) → (image : Files) → images last image → Ends (b.end + 5 + length b.payload) (image b.file) (b.payloads ++ b.payload ∷ [])
+  pub is_gained : (mid new last : S) → ((image : Files) → (snapshot mid).images image → HasBehind b.end (image b.file) b.payloads b.payload) → Changes b.file (Holds b.end (open_gate ∷ [])) (snapshot mid).files (snapshot new).files → (snapshot last).files ≡ (snapshot new).files
+      → ForSome (snapshot new).files (λ files. (image : Files) → (snapshot last).images image → image b.file ≡ files b.file) → (image : Files) → (snapshot last).images image → Ends (b.end + length (record_text b.payload)) (image b.file) (b.payloads ++ b.payload ∷ [])
   is_gained mid new last behind written same durable image left =
-      let told = b.told_where_image last image left in
-      let told_new : contents new ≡ Some told.0 = sym same ∙ told.1 in
-      let from = told_from b.file (Holds b.end (open_gate ∷ [])) (contents mid) (contents new) told.0 written told_new in
-      let has = written_gate b.payloads b.payload (from.0 b.file) (told.0 b.file) b.end (behind from.0 (b.told_is_image mid from.0 from.1)) from.2.changed in
-      subst (λ (bytes : List ℕ). Ends (b.end + 5 + length b.payload) bytes (b.payloads ++ b.payload ∷ [])) (sym (durable told.0 told_new image left)) has
+      let told = (b.law last).tells image left in
+      let told_new : (snapshot new).files ≡ Some told.0 = sym same ∙ told.1 in
+      let from = told_from b.file (Holds b.end (open_gate ∷ [])) (snapshot mid).files (snapshot new).files told.0 written told_new in
+      let has = written_gate b.payloads b.payload (from.0 b.file) (told.0 b.file) b.end (behind from.0 ((b.law mid).told from.0 from.1)) from.2.changed in
+      subst (λ (bytes : List ℕ). Ends (b.end + length (record_text b.payload)) bytes (b.payloads ++ b.payload ∷ [])) (sym (durable told.0 told_new image left)) has
 
   -- what is told changes as the images do
-  pub changes : (new : S) → Stretch b new → Changes b.file (HasOrGains b.payloads b.payload) (contents b.old) (contents new)
-  changes new before = gains b.file b.payloads b.payload _ _ before.told (λ files was told. (now new before files (b.told_is_image new files told)).2.changed)
+  pub changes : (new : S) → Stretch b new → Changes b.file (HasOrGains b.payloads b.payload) (snapshot b.old).files (snapshot new).files
+  changes new before = gains b.file b.payloads b.payload _ _ before.told (λ files was told. (now new before files ((b.law new).told files told)).2.changed)

@@ -5,7 +5,7 @@ use Rattle.std.proofs.lemmas.Bool.{cases_eq}
 use Rattle.std.proofs.lemmas.List.Concat.{flat_map-append}
 use Rattle.std.specs.List.{AllByRecursion}
 use Rattle.irl_disk.specs.Disk.{Holds, Scribbled}
-use Rattle.irl_journal.specs.Records.{HasRecords, records_text, body_text, open_gate, IsPayload}
+use Rattle.irl_journal.specs.Format.{HasRecords, records_text, body_text, open_gate, IsPayload, record_text}
 use Rattle.irl_journal.specs.Appending.{Ends, HasOrGains}
 
 -- behind these records stand a gate, here, then what stands behind a record's gate, and a closed gate
@@ -24,11 +24,11 @@ each-push (first ∷ payloads) payload each fits = (each.0, each-push payloads p
 text-push : (payloads : List (List ℕ)) (payload rest : List ℕ) → records_text (payloads ++ payload ∷ []) ++ rest ≡ records_text payloads ++ open_gate ∷ (body_text payload ++ rest)
 text-push payloads payload rest = simp (flat_map-append, append_assoc, append-nil)
 
-pub length-push : (payloads : List (List ℕ)) (payload : List ℕ) → length (records_text (payloads ++ payload ∷ [])) ≡ length (records_text payloads) + 5 + length payload
+pub length-push : (payloads : List (List ℕ)) (payload : List ℕ) → length (records_text (payloads ++ payload ∷ [])) ≡ length (records_text payloads) + length (record_text payload)
 length-push payloads payload = simp (flat_map-append, length-append, append-nil) (omega arith)
 
 -- how far a record moves the journal's end
-pub length-record : (payload bytes : List ℕ) → bytes ≡ body_text payload ++ 0 ∷ [] → length bytes ≡ 5 + length payload
+pub length-record : (payload bytes : List ℕ) → bytes ≡ body_text payload ++ 0 ∷ [] → length bytes ≡ length (record_text payload)
 length-record payload bytes are = rw are (simp length-append (omega arith))
 
 regroup : (payloads : List (List ℕ)) (payload rest : List ℕ) (gate : ℕ) → records_text payloads ++ gate ∷ [] ++ (body_text payload ++ 0 ∷ []) ++ rest ≡ records_text payloads ++ gate ∷ (body_text payload ++ 0 ∷ rest)
@@ -119,7 +119,7 @@ torn_gate payloads payload old new end has torn =
     by_gate payloads payload has.rest gate old new has.each has.fits bytes (cases_eq gate open_gate)
 
 -- the open gate, written whole
-pub written_gate : (payloads : List (List ℕ)) (payload old new : List ℕ) (end : ℕ) → HasBehind end old payloads payload → Holds end (open_gate ∷ []) old new → Ends (end + 5 + length payload) new (payloads ++ payload ∷ [])
+pub written_gate : (payloads : List (List ℕ)) (payload old new : List ℕ) (end : ℕ) → HasBehind end old payloads payload → Holds end (open_gate ∷ []) old new → Ends (end + length (record_text payload)) new (payloads ++ payload ∷ [])
 written_gate payloads payload old new end has holds =
     let tail = body_text payload ++ 0 ∷ has.rest in
     let is_front : take end old ≡ records_text payloads =

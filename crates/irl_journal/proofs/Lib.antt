@@ -1,7 +1,6 @@
 pub mod Appended
-pub mod Counting
 pub mod Gates
 pub mod Lists
-pub mod Opening
+pub mod Opened
 pub mod Reading
 pub mod Writing

@@ -1,10 +1,11 @@
 -- A file stands for at most one list of records, and one that stands for a list is broken nowhere.
-use Rattle.std.proofs.Common.{◌≡◌, ◌≢◌, ◌∙◌, ⊎_elim, ℕ, ◌+◌, ◌≤◌, List, [], ◌∷◌, ◌++◌, length, take, drop, append_assoc, sym, ap, refl, arith, length-append}
+use Rattle.std.proofs.Common.{◌≡◌, ◌≢◌, ◌∙◌, ◌⊎◌, ⊎_elim, inl, inr, subst, ℕ, ◌+◌, ◌≤◌, List, [], ◌∷◌, ◌++◌, length, take, drop, append_assoc, sym, ap, refl, arith, length-append}
 use Rattle.std.proofs.Math.Seq.{take-append_seam, drop-append_seam}
 use Rattle.std.proofs.lemmas.Nat.{from_le_bytes-to_le_bytes_4}
 use Rattle.std.specs.List.{AllByRecursion}
 use Rattle.std.specs.Int.{w32, to_le_bytes, from_le_bytes}
-use Rattle.irl_journal.specs.Records.{open_gate, body_text, records_text, IsPayload, HasRecords, StandsFor, HasNoRecord, IsBrokenAt}
+use Rattle.irl_journal.specs.Visiting.{IsBrokenFor, IsRefusedAt, RefusesOneOf}
+use Rattle.irl_journal.specs.Format.{open_gate, body_text, records_text, IsPayload, HasRecords, StandsFor, HasNoRecord, IsBrokenAt}
 
 -- two fronts of one length, and what stands behind each
 same_parts : (s t x y : List ℕ) → length s ≡ length t → s ++ x ≡ t ++ y → (s ≡ t) × (x ≡ y)
@@ -118,3 +119,14 @@ record_behind file xs ps p rest gate for_x each fits is = ⊎_elim
     absurd (omega (arith, few.0, long, length-append (body_text p) (gate ∷ rest))))
     (λ has. record_of xs ps p has.rest (gate ∷ rest) has.gate has.closed has.each each fits (sym has.bytes ∙ is))
     for_x
+
+-- where a file stands for a list, a visitor that refuses a record refuses one of the list
+pub refuses_one : {V : Type 0} (takes refuses : V → ℕ → List ℕ → V → Type 0) (visitor after : V) (file : List ℕ) (xs : List (List ℕ)) (at : ℕ) → StandsFor file xs → IsBrokenFor takes visitor after file at ⊎ IsRefusedAt takes refuses visitor after file at → RefusesOneOf takes refuses visitor after xs at
+refuses_one takes refuses visitor after file xs at for_x (inl broken) = absurd (whole_list file xs at for_x broken.broken)
+refuses_one takes refuses visitor after file xs at for_x (inr refused) =
+    let behind = record_behind file xs refused.payloads refused.payload refused.rest refused.gate for_x refused.each refused.fits (refused.bytes ∙ append_assoc (records_text refused.payloads) (open_gate ∷ body_text refused.payload) (refused.gate ∷ refused.rest)) in
+    record { first = refused.payloads; payload = refused.payload; more = behind.0; among = behind.1; place = refused.place; reached = refused.reached; took = refused.took; refused = refused.refused }
+
+-- what a visitor took of the list that was found, it took of any that the file stands for
+pub found_only : (P : List (List ℕ) → Type 0) (file : List ℕ) (found xs : List (List ℕ)) → StandsFor file found → StandsFor file xs → P found → P xs
+found_only P file found xs for_found for_x has = subst P (one_list file found xs for_found for_x) has

@@ -5,7 +5,7 @@ use Rattle.std.proofs.lemmas.Grind.{flat_map-append}
 use Rattle.std.proofs.Math.Seq.{take-add, take-append-add, take-append_seam, drop-append_seam}
 use Rattle.std.specs.List.{AllByRecursion}
 use Rattle.irl_disk.specs.Disk.{Reads}
-use Rattle.irl_journal.specs.Records.{open_gate, body_text, records_text, placed_from, IsPayload, HasNoRecord}
+use Rattle.irl_journal.specs.Format.{open_gate, body_text, records_text, placed_from, IsPayload, HasNoRecord, record_text}
 use Rattle.irl_journal.specs.Visiting.{TakesAll, HandsOver, RefusesAt, IsRefusedAt, IsBrokenFor}
 use Rattle.irl_journal.specs.Appending.{Ends}
 use Rattle.irl_journal.proofs.Lists.{length-body, records-cons}
@@ -44,8 +44,8 @@ module _ {V : Type 0} (takes : V → ℕ → List ℕ → V → Type 0) where
       let same : next ≡ at = omega arith in
       subst (λ (v : V). TakesAll takes v (placed_from at ys) new) front (subst (λ (n : ℕ). TakesAll takes mid (placed_from n ys) new) same behind)
   takes-append at next old mid new (x ∷ xs) ys front is behind =
-      let further : next ≡ at + 5 + length x + length (records_text xs) = omega (arith, length-cons x xs) in
-      (front.0, front.1, takes-append (at + 5 + length x) next front.0 mid new xs ys front.2 further behind)
+      let further : next ≡ at + length (record_text x) + length (records_text xs) = omega (arith, length-append (record_text x) (records_text xs)) in
+      (front.0, front.1, takes-append (at + length (record_text x)) next front.0 mid new xs ys front.2 further behind)
 
   -- the bytes are these records, which the visitor took, and then the rest
   pub record AreTaken (old now : V) (at : ℕ) (bytes rest : List ℕ) (payloads : List (List ℕ)) : Type 0 where

@@ -3,9 +3,9 @@ use Rattle.std.proofs.Common.{◌≡◌, ◌∙◌, ℕ, ◌+◌, ◌≤◌, ◌
 use Rattle.std.proofs.lemmas.List.{take-take, take-append-le, drop_at}
 use Rattle.std.specs.Option.{ForSome}
 use Rattle.irl_disk.specs.Disk.{Files, Changes, ChangesFile, Holds, Scribbled}
-use Rattle.irl_disk.specs.Images.{Follows, Leaves}
-use Rattle.irl_disk.proofs.Stretches.{widens, reads_on, goes_on}
-use Rattle.irl_journal.specs.Records.{body_text, open_gate}
+use Rattle.irl_disk.specs.Images.{Snapshot, IsConsistent, LeavesBy, LeavesSame}
+use Rattle.irl_disk.proofs.Stretches.{widens_by, reads_on, goes_on}
+use Rattle.irl_journal.specs.Format.{body_text, open_gate, record_text}
 use Rattle.irl_journal.proofs.Appended.{told_from}
 
 -- every other file of an image is as before
@@ -14,12 +14,12 @@ OthersStand f old new = ChangesFile f (λ before after. Unit {0}) old new
 
 -- the record's bytes behind a byte of the file, and then the open gate over that byte
 pub both_writes : (end : ℕ) (bytes payload old mid new : List ℕ) → bytes ≡ body_text payload ++ 0 ∷ [] → end < length old → Holds (end + 1) bytes old mid → Holds end (open_gate ∷ []) mid new
-    → new ≡ take end old ++ (open_gate ∷ (body_text payload ++ (0 ∷ drop (end + 6 + length payload) old)))
+    → new ≡ take end old ++ (record_text payload ++ (0 ∷ drop (end + length (record_text payload) + 1) old))
 both_writes end bytes payload old mid new are within first second =
-    let rest = drop (end + 6 + length payload) old in
+    let rest = drop (end + length (record_text payload) + 1) old in
     let tail = body_text payload ++ (0 ∷ rest) in
-    let size : length bytes ≡ 5 + length payload = rw are (simp length-append (omega arith)) in
-    let further : end + 1 + length bytes ≡ end + 6 + length payload = omega (arith, size) in
+    let size : length bytes ≡ length (record_text payload) = rw are (simp length-append (omega arith)) in
+    let further : end + 1 + length bytes ≡ end + length (record_text payload) + 1 = omega (arith, size) in
     let is_mid : mid ≡ take (end + 1) old ++ tail =
     first
     ∙ ap (λ (n : ℕ). take (end + 1) old ++ bytes ++ drop n old) further
@@ -37,7 +37,7 @@ both_writes end bytes payload old mid new are within first second =
 
 -- the same of what is told, with the syncs between
 pub told_bytes : (f end : ℕ) (bytes payload : List ℕ) (old mid synced new last : Option Files) → bytes ≡ body_text payload ++ 0 ∷ [] → ForSome old (λ files. end < length (files f)) → Changes f (Holds (end + 1) bytes) old mid → synced ≡ mid → Changes f (Holds end (open_gate ∷ [])) synced new → last ≡ new
-    → Changes f (λ before after. after ≡ take end before ++ (open_gate ∷ (body_text payload ++ (0 ∷ drop (end + 6 + length payload) before)))) old last
+    → Changes f (λ before after. after ≡ take end before ++ (record_text payload ++ (0 ∷ drop (end + length (record_text payload) + 1) before))) old last
 told_bytes f end bytes payload None mid synced new last are within first same second same_last =
     same_last ∙ subst (λ (told : Option Files). Changes f (Holds end (open_gate ∷ [])) told new) (same ∙ first) second
 told_bytes f end bytes payload (Some old) mid synced new last are within first same second same_last =
@@ -59,20 +59,19 @@ still_within f end bytes old mid synced within written same = λ files told.
     let rest = drop (end + 1 + length bytes) before in
     omega (arith, front, ap length from.2.changed, length-append (take (end + 1) before ++ bytes) rest, length-append (take (end + 1) before) bytes)
 
-module _ {S : Type 0} (moment : S → ℕ) (images_since : S → ℕ → Files → Type 0) (images : S → Files → Type 0) (counts_now : (store : S) (t : ℕ) (image : Files) → t ≤ moment store → images store image → images_since store t image) where
-  -- every stop from one state of a store to a later one leaves every other file as it was
-  abbrev pub OthersLeft : ℕ → S → S → Type 0
-  OthersLeft f old new = Leaves moment images_since old new (Follows (OthersStand f) (images old))
+-- every stop from one snapshot to a later one leaves every other file as it was
+abbrev pub OthersLeft : ℕ → Snapshot → Snapshot → Type 0
+OthersLeft f old new = LeavesBy (OthersStand f) old new
 
-  -- a write
-  pub others_wrote : (f at n : ℕ) (old new : S) → Leaves moment images_since old new (Follows (ChangesFile f (Scribbled at n)) (images old)) → OthersLeft f old new
-  others_wrote f at n old new call = widens moment images_since old new _ _ call (λ image left. (left.0, left.1, record { changed = tt; others = left.2.others }))
+-- a write
+pub others_wrote : (f at n : ℕ) (old new : Snapshot) → LeavesBy (ChangesFile f (Scribbled at n)) old new → OthersLeft f old new
+others_wrote f at n old new call = widens_by old new _ _ call (λ before image step. record { changed = tt; others = step.others })
 
-  -- and a sync
-  pub others_synced : (f : ℕ) (old mid new : S) → OthersLeft f old mid → Leaves moment images_since mid new (images mid) → OthersLeft f old new
-  others_synced f old mid new so_far call = reads_on moment images_since images counts_now old mid new _ so_far call
+-- and a sync
+pub others_synced : (f : ℕ) (old mid new : Snapshot) → IsConsistent mid → OthersLeft f old mid → LeavesSame mid new → OthersLeft f old new
+others_synced f old mid new law so_far call = reads_on old mid new _ law so_far call
 
-  -- and one more write
-  pub others_on : (f at n : ℕ) (old mid new : S) → OthersLeft f old mid → Leaves moment images_since mid new (Follows (ChangesFile f (Scribbled at n)) (images mid)) → OthersLeft f old new
-  others_on f at n old mid new so_far call = goes_on moment images_since images counts_now old mid new _ (ChangesFile f (Scribbled at n)) so_far call
-      (λ before image from step. (from.0, from.1, record { changed = tt; others = λ g other. step.others g other ∙ from.2.others g other }))
+-- and one more write
+pub others_on : (f at n : ℕ) (old mid new : Snapshot) → IsConsistent mid → OthersLeft f old mid → LeavesBy (ChangesFile f (Scribbled at n)) mid new → OthersLeft f old new
+others_on f at n old mid new law so_far call = goes_on old mid new _ (ChangesFile f (Scribbled at n)) law so_far call
+    (λ before image from step. (from.0, from.1, record { changed = tt; others = λ g other. step.others g other ∙ from.2.others g other }))

@@ -1,7 +1,7 @@
 -- A journal that is open, and what an append leaves.
 use Rattle.std.specs.Prelude.{◌≡◌, ◌⊎◌, ℕ, Bool, List, [], ◌∷◌, ◌++◌, length}
 use Rattle.irl_disk.specs.Disk.{Files}
-use Rattle.irl_journal.specs.Records.{HasRecords, records_text}
+use Rattle.irl_journal.specs.Format.{HasRecords, records_text}
 
 -- a journal as contracts see it: its file, the place of the closed gate, and whether no append failed
 pub record Tail : Type 0 where

@@ -1,3 +1,3 @@
 pub mod Appending
-pub mod Records
+pub mod Format
 pub mod Visiting

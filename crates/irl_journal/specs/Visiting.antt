@@ -1,7 +1,7 @@
 -- Handing a journal's records to a visitor, one after the other.
 use Rattle.std.specs.Prelude.{◌≡◌, ◌⊎◌, ◌≢◌, ℕ, ◌+◌, ◌<◌, ◌≤◌, List, [], ◌∷◌, ◌++◌, length, take, drop, Bool, true, false}
 use Rattle.std.specs.List.{AllByRecursion}
-use Rattle.irl_journal.specs.Records.{records_text, body_text, open_gate, placed_from, IsPayload, HasNoRecord, IsBrokenAt}
+use Rattle.irl_journal.specs.Format.{records_text, body_text, open_gate, placed_from, IsPayload, HasNoRecord, IsBrokenAt}
 
 -- the visitor took these records in order, each at its place
 abbrev pub TakesAll : {V : Type 0} → (V → ℕ → List ℕ → V → Type 0) → V → List (ℕ × List ℕ) → V → Type 0
@@ -26,6 +26,18 @@ pub record IsRefusedAt {V : Type 0} (takes refuses : V → ℕ → List ℕ → 
 pub record IsBrokenFor {V : Type 0} (takes : V → ℕ → List ℕ → V → Type 0) (visitor after : V) (file : List ℕ) (at : ℕ) : Type 0 where
   pub broken : IsBrokenAt file at
   pub took : TakesAll takes visitor (placed_from 0 broken.payloads) after
+
+-- the visitor took the first of these records and refuses the next one, which stands at this place; `after` is the visitor
+-- afterwards
+pub record RefusesOneOf {V : Type 0} (takes refuses : V → ℕ → List ℕ → V → Type 0) (visitor after : V) (payloads : List (List ℕ)) (at : ℕ) : Type 0 where
+  pub first : List (List ℕ)
+  pub payload : List ℕ
+  pub more : List (List ℕ)
+  pub among : payloads ≡ first ++ payload ∷ more
+  pub place : at ≡ length (records_text first)
+  pub reached : V
+  pub took : TakesAll takes visitor (placed_from 0 first) reached
+  pub refused : refuses reached at payload after
 
 -- The first n of the bytes are open records that the visitor took; behind them stands a closed gate, or no whole record.
 -- Of bytes that there are they leave at least the next gate.
@@ -54,6 +66,6 @@ pub record RefusesAt {V : Type 0} (takes refuses : V → ℕ → List ℕ → V 
   pub took : TakesAll takes visitor (placed_from at payloads) reached
   pub refused : refuses reached place payload after
 
--- what opening a journal may do to its file: where it has at most one byte, it has at most one afterwards
+-- what opening a journal may do to its file: one of at most one byte that is no closed gate has at most one byte afterwards
 abbrev pub IsOpened : List ℕ → List ℕ → Type 0
-IsOpened old new = (new ≡ old) ⊎ ((length old ≤ 1) × (length new ≤ 1))
+IsOpened old new = (new ≡ old) ⊎ ((length old ≤ 1) × (old ≢ 0 ∷ []) × (length new ≤ 1))

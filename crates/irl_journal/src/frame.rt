@@ -1,14 +1,9 @@
 ghost use Rattle.std.specs.Prelude.{◌≡◌, ◌++◌, ◌+◌, ◌≤◌, [], ◌∷◌, length, take, drop, vec_len, IfOk};
-ghost use Rattle.irl_journal.specs.Records.{body_text};
+ghost use Rattle.irl_journal.specs.Format.{body_text};
 
+use crate::format::{CLOSED, HEAD, MAX_PAYLOAD};
 use std::alloc::{AllocError, Global};
 use std::marker::Model;
-
-/// The greatest length of a payload, in bytes.
-pub const MAX_PAYLOAD: u32 = 16_777_216;
-
-/// How many bytes the length takes in front of a payload.
-pub const HEAD: usize = 4;
 
 /// A payload that is being put together, with room for what stands round it in the file. Contracts see it as a `Draft`.
 #[derive(Drop)]
@@ -21,7 +16,7 @@ pub struct Frame {
 impl Model for Frame {
     ghost use Rattle.std.specs.Prelude.{◌≡◌, ◌≤◌, ◌+◌, ◌-◌, ◌++◌, [], ◌∷◌, vec_len, take, drop};
     ghost use Rattle.irl_journal.specs.Appending.{Draft};
-    ghost use Rattle.irl_journal.specs.Records.{body_text};
+    ghost use Rattle.irl_journal.specs.Format.{body_text};
 
     ghost Value = { Draft };
 
@@ -78,5 +73,5 @@ fn close(buffer: &mut [u8], len: usize)
     ensures payload { take len (drop 4 buffer.new) ≡ take len (drop 4 buffer.old) }
 {
     buffer[..HEAD].copy_from_slice(&(len as u32).to_le_bytes());
-    buffer[HEAD + len] = 0;
+    buffer[HEAD + len] = CLOSED;
 }

@@ -1,6 +1,6 @@
 ghost use Rattle.std.specs.Prelude.{◌≡◌, ◌++◌, ◌∷◌, ℕ, List};
 ghost use Rattle.std.specs.List.{AllByRecursion};
-ghost use Rattle.irl_journal.specs.Records.{StandsFor, IsBrokenAt, IsPayload, records_text, body_text, open_gate};
+ghost use Rattle.irl_journal.specs.Format.{StandsFor, IsBrokenAt, IsPayload, records_text, body_text, open_gate};
 
 /// A file stands for at most one list of records, and one that stands for a list is broken nowhere. An open, whole record
 /// behind records of such a file is one of that list.

@@ -1,13 +1,17 @@
 //! A write-ahead journal: records behind a gate, each on the disk before it counts.
 #![tactic(auto)]
 
+mod fault;
+mod format;
 mod frame;
 mod journal;
 mod laws;
+mod opening;
 mod visit;
 
+pub use fault::JournalFault;
 pub use frame::Frame;
-pub use journal::{Journal, JournalFault};
+pub use journal::Journal;
 pub use laws::one_list;
 pub use visit::Visit;
 

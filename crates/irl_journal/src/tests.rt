@@ -1,5 +1,5 @@
 ghost use Rattle.std.specs.Prelude.{◌≡◌, ⊤, List, ℕ, true, IfOk};
-ghost use Rattle.irl_disk.specs.Memory.{images_of};
+ghost use Rattle.irl_disk.specs.Memory.{snapshot_of};
 ghost use Rattle.irl_journal.specs.Appending.{IsOpen};
 
 use super::*;
@@ -64,7 +64,7 @@ struct Kept {
 // A journal that was made in calls 0 and 1 of its store, with a record of `ab` that was appended in calls 2 to 5.
 fn append_first(alloc: Global, failing: Vec<u64>) -> Result<Kept, Fail>
     ensures sound { IfOk result (λ kept. kept.journal.is_sound ≡ true) }
-    ensures open { IfOk result (λ kept. (payloads : List (List ℕ)) × IsOpen (images_of kept.store) kept.journal payloads) }
+    ensures open { IfOk result (λ kept. (payloads : List (List ℕ)) × IsOpen (snapshot_of kept.store).images kept.journal payloads) }
     ensures room { IfOk result (λ kept. kept.frame.room ≡ 8) }
 {
     let mut store = MemStore::new(alloc, failing);
@@ -82,7 +82,7 @@ fn append_first(alloc: Global, failing: Vec<u64>) -> Result<Kept, Fail>
 // Appends a second record, of `cde`, in calls 6 to 9. Its gate stands at 7.
 fn append_second(kept: &mut Kept) -> Result<(), Failed>
     requires sound { kept.old.journal.is_sound ≡ true }
-    requires open { (payloads : List (List ℕ)) × IsOpen (images_of kept.old.store) kept.old.journal payloads }
+    requires open { (payloads : List (List ℕ)) × IsOpen (snapshot_of kept.old.store).images kept.old.journal payloads }
     requires room { kept.old.frame.room ≡ 8 }
 {
     kept.frame.clear();

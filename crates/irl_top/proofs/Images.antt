@@ -6,7 +6,7 @@ use Rattle.std.specs.List.{AllByRecursion}
 use Rattle.irl_disk.specs.Disk.{Files, ChangesFile}
 use Rattle.irl_disk.specs.Images.{Follows, Leaves}
 use Rattle.irl_disk.proofs.Stretches.{joins, widens}
-use Rattle.irl_journal.specs.Records.{HasRecords}
+use Rattle.irl_journal.specs.Format.{HasRecords}
 use Rattle.irl_journal.specs.Visiting.{IsOpened}
 use Rattle.irl_bay.specs.Lines.{line_file, other_file, HasLines, IsKeepable}
 use Rattle.irl_bay.specs.Kept.{Extends, HasSome}

@@ -11,7 +11,7 @@ use Rattle.irl_disk.specs.Disk.{Files, Changes, ChangesFile}
 use Rattle.irl_disk.specs.Images.{Follows}
 use Rattle.irl_disk.proofs.Stretches.{stays, widens}
 use Rattle.irl_io.specs.Steps.{Progress}
-use Rattle.irl_journal.specs.Records.{HasRecords}
+use Rattle.irl_journal.specs.Format.{HasRecords}
 use Rattle.irl_journal.specs.Visiting.{IsOpened}
 use Rattle.irl_bay.specs.declared.kept.Kept.{Kept}
 use Rattle.irl_bay.specs.Kept.{IsKept}

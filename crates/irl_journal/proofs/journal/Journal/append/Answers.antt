@@ -8,24 +8,12 @@ use Rattle.irl_journal.proofs.Writing.{still_within, told_bytes, others_wrote, o
 use Rattle.irl_journal.proofs.journal.Journal.append.Given.{Over}
 use Rattle.irl_journal.proofs.journal.Journal.append.Goals as goal
 
-abbrev begun : (g : Over) (file end : ℕ) (payloads : List (List ℕ)) (payload : List ℕ) (old : g.row.S.Denot) → ((image : Files) → g.S.Store.images old image → Ends end (image file) payloads) → Begun g.S.Store.contents g.S.Store.images g.S.Store.moment g.S.Store.images_since
-begun g file end payloads payload old is_open =
-    let met = g.met.S.Store in
-    record {
-      told_is_image = met.told_is_image;
-      told_where_image = met.told_where_image;
-      counts_now = met.counts_now;
-      file = file;
-      end = end;
-      payloads = payloads;
-      payload = payload;
-      old = old;
-      is_open = is_open;
-    }
+abbrev begun : (g : Over) (file end : ℕ) (payloads : List (List ℕ)) (payload : List ℕ) (old : g.row.S.Denot) → ((image : Files) → (g.S.Store.snapshot old).images image → Ends end (image file) payloads) → Begun g.S.Store.snapshot
+begun g file end payloads payload old is_open = record { law = g.met.S.Store.is_consistent; file = file; end = end; payloads = payloads; payload = payload; old = old; is_open = is_open }
 
 -- the closed gate's place is within what is told
-abbrev told_within : (g : Over) (tail : Tail) (view : Tail) (old : g.row.S.Denot) → view ≡ tail → ForSome (g.S.Store.contents old) (λ files. tail.end < length (files tail.file)) → ForSome (g.S.Store.contents old) (λ files. view.end < length (files view.file))
-told_within g tail view old is within = subst (λ (t : Tail). ForSome (g.S.Store.contents old) (λ files. t.end < length (files t.file))) (sym is) within
+abbrev told_within : (g : Over) (tail : Tail) (view : Tail) (old : g.row.S.Denot) → view ≡ tail → ForSome (g.S.Store.snapshot old).files (λ files. tail.end < length (files tail.file)) → ForSome (g.S.Store.snapshot old).files (λ files. view.end < length (files view.file))
+told_within g tail view old is within = subst (λ (t : Tail). ForSome (g.S.Store.snapshot old).files (λ files. t.end < length (files t.file))) (sym is) within
 
 pub write-requires-clause-place : goal.write-requires-clause-place
 write-requires-clause-place g c = λ files told. omega (arith, told_within g _ _ c.args.store.now c.self.view_is c.requires.place files told)
@@ -134,43 +122,43 @@ returns-clause-acknowledged g c = rw (← c.self.view_is) (λ payloads is_open i
 -- every other file stays, whatever this one has
 pub returns-in_err-sync-clause-others_stop : goal.returns-in_err-sync-clause-others_stop
 returns-in_err-sync-clause-others_stop g c = rw (← c.self.view_is) (
-    let store = g.S.Store in
-    let counts_now = g.met.S.Store.counts_now in
+    let tells = g.S.Store.snapshot in
+    let law = g.met.S.Store.is_consistent in
     let f = c.self.inside.file in
-    let wrote = others_wrote store.moment store.images_since store.images counts_now f _ _ c.args.store.now c.write.new.self c.write.ensures.stops in
-    let kept = others_synced store.moment store.images_since store.images counts_now f c.args.store.now c.write.new.self c.sync.new.self wrote c.sync.ensures.stops in
+    let wrote = others_wrote f _ _ (tells c.args.store.now) (tells c.write.new.self) c.write.ensures.stops in
+    let kept = others_synced f (tells c.args.store.now) (tells c.write.new.self) (tells c.sync.new.self) (law c.write.new.self) wrote c.sync.ensures.stops in
     kept)
 
 pub returns-in_err-write-2-clause-others_stop : goal.returns-in_err-write-2-clause-others_stop
 returns-in_err-write-2-clause-others_stop g c = rw (← c.self.view_is) (
-    let store = g.S.Store in
-    let counts_now = g.met.S.Store.counts_now in
+    let tells = g.S.Store.snapshot in
+    let law = g.met.S.Store.is_consistent in
     let f = c.self.inside.file in
-    let wrote = others_wrote store.moment store.images_since store.images counts_now f _ _ c.args.store.now c.write.new.self c.write.ensures.stops in
-    let kept = others_synced store.moment store.images_since store.images counts_now f c.args.store.now c.write.new.self c.sync.new.self wrote c.sync.ensures.stops in
-    let opened = others_on store.moment store.images_since store.images counts_now f _ _ c.args.store.now c.sync.new.self c.write-2.new.self kept c.write-2.ensures.stops in
+    let wrote = others_wrote f _ _ (tells c.args.store.now) (tells c.write.new.self) c.write.ensures.stops in
+    let kept = others_synced f (tells c.args.store.now) (tells c.write.new.self) (tells c.sync.new.self) (law c.write.new.self) wrote c.sync.ensures.stops in
+    let opened = others_on f _ _ (tells c.args.store.now) (tells c.sync.new.self) (tells c.write-2.new.self) (law c.sync.new.self) kept c.write-2.ensures.stops in
     opened)
 
 pub returns-in_err-sync-2-clause-others_stop : goal.returns-in_err-sync-2-clause-others_stop
 returns-in_err-sync-2-clause-others_stop g c = rw (← c.self.view_is) (
-    let store = g.S.Store in
-    let counts_now = g.met.S.Store.counts_now in
+    let tells = g.S.Store.snapshot in
+    let law = g.met.S.Store.is_consistent in
     let f = c.self.inside.file in
-    let wrote = others_wrote store.moment store.images_since store.images counts_now f _ _ c.args.store.now c.write.new.self c.write.ensures.stops in
-    let kept = others_synced store.moment store.images_since store.images counts_now f c.args.store.now c.write.new.self c.sync.new.self wrote c.sync.ensures.stops in
-    let opened = others_on store.moment store.images_since store.images counts_now f _ _ c.args.store.now c.sync.new.self c.write-2.new.self kept c.write-2.ensures.stops in
-    let ended = others_synced store.moment store.images_since store.images counts_now f c.args.store.now c.write-2.new.self c.sync-2.new.self opened c.sync-2.ensures.stops in
+    let wrote = others_wrote f _ _ (tells c.args.store.now) (tells c.write.new.self) c.write.ensures.stops in
+    let kept = others_synced f (tells c.args.store.now) (tells c.write.new.self) (tells c.sync.new.self) (law c.write.new.self) wrote c.sync.ensures.stops in
+    let opened = others_on f _ _ (tells c.args.store.now) (tells c.sync.new.self) (tells c.write-2.new.self) (law c.sync.new.self) kept c.write-2.ensures.stops in
+    let ended = others_synced f (tells c.args.store.now) (tells c.write-2.new.self) (tells c.sync-2.new.self) (law c.write-2.new.self) opened c.sync-2.ensures.stops in
     ended)
 
 pub returns-clause-others_stop : goal.returns-clause-others_stop
 returns-clause-others_stop g c = rw (← c.self.view_is) (
-    let store = g.S.Store in
-    let counts_now = g.met.S.Store.counts_now in
+    let tells = g.S.Store.snapshot in
+    let law = g.met.S.Store.is_consistent in
     let f = c.self.inside.file in
-    let wrote = others_wrote store.moment store.images_since store.images counts_now f _ _ c.args.store.now c.write.new.self c.write.ensures.stops in
-    let kept = others_synced store.moment store.images_since store.images counts_now f c.args.store.now c.write.new.self c.sync.new.self wrote c.sync.ensures.stops in
-    let opened = others_on store.moment store.images_since store.images counts_now f _ _ c.args.store.now c.sync.new.self c.write-2.new.self kept c.write-2.ensures.stops in
-    let ended = others_synced store.moment store.images_since store.images counts_now f c.args.store.now c.write-2.new.self c.sync-2.new.self opened c.sync-2.ensures.stops in
+    let wrote = others_wrote f _ _ (tells c.args.store.now) (tells c.write.new.self) c.write.ensures.stops in
+    let kept = others_synced f (tells c.args.store.now) (tells c.write.new.self) (tells c.sync.new.self) (law c.write.new.self) wrote c.sync.ensures.stops in
+    let opened = others_on f _ _ (tells c.args.store.now) (tells c.sync.new.self) (tells c.write-2.new.self) (law c.sync.new.self) kept c.write-2.ensures.stops in
+    let ended = others_synced f (tells c.args.store.now) (tells c.write-2.new.self) (tells c.sync-2.new.self) (law c.write-2.new.self) opened c.sync-2.ensures.stops in
     ended)
 
 -- the record's bytes with the next gate, behind the open gate

@@ -1,5 +1,6 @@
-use Rattle.std.proofs.Common.{◌≡◌, [], ◌∷◌, Some, sym, ◌∙◌}
+use Rattle.std.proofs.Common.{◌≡◌, [], ◌∷◌, Some, subst, sym, ◌∙◌}
 use Rattle.irl_disk.specs.Disk.{Holds}
+use Rattle.irl_journal.specs.Appending.{Ends, Tail}
 use Rattle.irl_journal.proofs.Gates.{made, made_empty}
 use Rattle.irl_journal.proofs.Appended.{as_step, told_from}
 use Rattle.irl_journal.proofs.journal.Journal.make.Goals as goal
@@ -11,7 +12,7 @@ returns-clause-ok g c =
 
 pub returns-clause-open : goal.returns-clause-open
 returns-clause-open g c = λ image left.
-    let told = g.met.S.Store.told_where_image c.sync.new.self image left in
-    let told_before : g.S.Store.contents c.write.new.self ≡ Some told.0 = sym c.sync.ensures.same ∙ told.1 in
-    let from = told_from c.args.f (Holds 0 (0 ∷ [])) (g.S.Store.contents c.args.store.now) (g.S.Store.contents c.write.new.self) told.0 c.in_ok-write.ensures.ok told_before in
-    made_empty (image c.args.f) (c.in_ok-sync.ensures.durable told.0 told_before image left ∙ made (from.0 c.args.f) (told.0 c.args.f) (c.requires.short from.0 from.1) from.2.changed)
+    let told = (g.met.S.Store.is_consistent c.sync.new.self).tells image left in
+    let told_before : (g.S.Store.snapshot c.write.new.self).files ≡ Some told.0 = sym c.sync.ensures.same ∙ told.1 in
+    let from = told_from c.args.f (Holds 0 (0 ∷ [])) (g.S.Store.snapshot c.args.store.now).files (g.S.Store.snapshot c.write.new.self).files told.0 c.in_ok-write.ensures.ok told_before in
+    subst (λ (tail : Tail). Ends tail.end (image tail.file) []) (sym c.behind.ensures) (made_empty (image c.args.f) (c.in_ok-sync.ensures.durable told.0 told_before image left ∙ made (from.0 c.args.f) (told.0 c.args.f) (c.requires.short from.0 from.1) from.2.changed))

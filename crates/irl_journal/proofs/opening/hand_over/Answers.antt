@@ -1,6 +1,6 @@
 use Rattle.std.proofs.Common.{◌∷◌, [], ◌++◌, refl, rules}
 use Rattle.irl_journal.proofs.Reading.{takes-record, hands-over}
-use Rattle.irl_journal.proofs.journal.hand_over.Goals as goal
+use Rattle.irl_journal.proofs.opening.hand_over.Goals as goal
 
 pub loop-payload-preserved : goal.loop-payload-preserved
 loop-payload-preserved g c =

@@ -13,13 +13,21 @@ open_gate = 165
 abbrev pub body_text : List ℕ → List ℕ
 body_text payload = to_le_bytes w32 (length payload) ++ payload
 
+-- an open record of a payload
+abbrev pub record_text : List ℕ → List ℕ
+record_text payload = open_gate ∷ body_text payload
+
 -- open records of these payloads
 abbrev pub records_text : List (List ℕ) → List ℕ
-records_text payloads = flat_map (λ payload. open_gate ∷ body_text payload) payloads
+records_text payloads = flat_map record_text payloads
+
+-- the most bytes of a payload
+abbrev pub max_payload : ℕ
+max_payload = 16777216
 
 -- a payload that a record may have
 abbrev pub IsPayload : List ℕ → Type 0
-IsPayload payload = length payload ≤ 16777216
+IsPayload payload = length payload ≤ max_payload
 
 -- the file has these records: they stand open, and behind them stands a closed gate
 pub record HasRecords (file : List ℕ) (payloads : List (List ℕ)) : Type 0 where
@@ -50,4 +58,4 @@ pub record IsBrokenAt (file : List ℕ) (at : ℕ) : Type 0 where
 -- payloads with the places of their gates, the first of which is here
 abbrev pub placed_from : ℕ → List (List ℕ) → List (ℕ × List ℕ)
 placed_from at [] = []
-placed_from at (payload ∷ payloads) = (at, payload) ∷ placed_from (at + 5 + length payload) payloads
+placed_from at (payload ∷ payloads) = (at, payload) ∷ placed_from (at + length (record_text payload)) payloads

@@ -1,11 +1,11 @@
 -- What a turn read is a part of the file, and the records that it took stand there.
-use Rattle.std.proofs.Common.{◌≡◌, ◌∙◌, ℕ, ◌<◌, ◌++◌, length, min, subst, arith, rules, inl, inr}
+use Rattle.std.proofs.Common.{◌≡◌, ◌∙◌, ℕ, ◌<◌, ◌++◌, length, min, subst, arith, rules, inl, inr, refl}
 use Rattle.irl_disk.specs.Disk.{Reads}
-use Rattle.irl_disk.proofs.Stretches.{joins, widens, left_now}
+use Rattle.irl_disk.proofs.Stretches.{reads_on}
+use Rattle.irl_disk.proofs.Frames.{takes_both, takes_one}
 use Rattle.irl_journal.specs.Visiting.{IsBrokenFor}
 use Rattle.irl_journal.proofs.Reading.{piece_read, reads-on, ends-there, breaks-there, refuses-there}
-use Rattle.irl_journal.proofs.Counting.{takes_more}
-use Rattle.irl_journal.proofs.journal.read_records.Goals as goal
+use Rattle.irl_journal.proofs.opening.read_records.Goals as goal
 
 pub returns-in_err-taken-clause-damaged : goal.returns-in_err-taken-clause-damaged
 returns-in_err-taken-clause-damaged g c = λ at e files tells.
@@ -47,10 +47,8 @@ loop-at-preserved g c =
     let reads = c.in_ok-count.ensures.stops in
     record {
       same = c.in_ok-count.ensures.same ∙ before.same;
-      stops = joins store.moment store.images_since c.args.store.now c.loop-at.store c.read.new.self (store.images c.args.store.now) before.stops
-          (widens store.moment store.images_since c.loop-at.store c.read.new.self (store.images c.loop-at.store) (store.images c.args.store.now) reads
-          (left_now store.moment store.images_since store.images g.met.S.Store.counts_now c.args.store.now c.loop-at.store (store.images c.args.store.now) before.stops));
-      taken = takes_more c.args.f _ _ _ _ before.taken c.in_ok-count.ensures.taken;
+      stops = reads_on (store.snapshot c.args.store.now) (store.snapshot c.loop-at.store) (store.snapshot c.read.new.self) _ (g.met.S.Store.is_consistent c.loop-at.store) before.stops reads;
+      taken = takes_both (λ (n : ℕ). n ≡ c.args.f) _ _ _ before.taken (takes_one (λ (n : ℕ). n ≡ c.args.f) c.args.f _ _ _ refl c.in_ok-count.ensures.taken);
       later = omega (arith, before.later, c.in_ok-count.ensures.cause.later);
       piece = before.piece;
       told = λ files tells.

@@ -1,6 +1,6 @@
 use Rattle.std.proofs.Common.{ℕ, List, length}
 use Rattle.irl_journal.proofs.Reading.{AreTaken}
-use Rattle.irl_journal.proofs.journal.hand_over.Given as goal
+use Rattle.irl_journal.proofs.opening.hand_over.Given as goal
 
 -- the records in front of the rest were taken
 abbrev pub invariant-loop-payload : goal.invariant-loop-payload
