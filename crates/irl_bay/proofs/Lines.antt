@@ -9,10 +9,10 @@ use Rattle.irl_model.proofs.JudgingLaws.{after-append, judgements-drop}
 use Rattle.irl_offer.specs.Tuple.{Tuple}
 use Rattle.irl_disk.specs.Disk.{Files, Changes, ChangesFile}
 use Rattle.irl_journal.proofs.Lists.{one_list, whole_list, record_behind}
-use Rattle.irl_journal.specs.Format.{HasRecords, StandsFor, IsPayload, records_text, body_text, open_gate, placed_from}
+use Rattle.irl_journal.specs.Format.{HasRecords, StandsFor, IsPayload, records_text, body_text, open_gate, record_text, placed_from}
 use Rattle.irl_journal.specs.Visiting.{TakesAll, IsBrokenFor, IsRefusedAt, IsOpened}
-use Rattle.irl_journal.specs.declared.journal.JournalFault.{JournalFault}
-use Rattle.irl_journal.specs.declared.journal.JournalFault.TheVariants.{Failed as JournalFailed, Memory as JournalMemory, Damaged as JournalDamaged}
+use Rattle.irl_journal.specs.declared.fault.JournalFault.{JournalFault}
+use Rattle.irl_journal.specs.declared.fault.JournalFault.TheVariants.{Failed as JournalFailed, Memory as JournalMemory, Damaged as JournalDamaged}
 use Rattle.irl_bay.specs.declared.kept.OpenFault.TheVariants.{Damaged as OpenDamaged}
 use Rattle.irl_bay.specs.Faults.{open_fault_of}
 use Rattle.irl_bay.specs.declared.opening.Entering.{Entering}
@@ -33,7 +33,7 @@ EntersLine old at payload new = IsKeepable payload × (new.seen ≡ entered Keep
 pub took_lines : (old new : Entering) (at : ℕ) (lines : List (List ℕ)) → TakesAll EntersLine old (placed_from at lines) new → (new.seen ≡ after Keep old.seen (map line_tuple lines)) × AllByRecursion IsKeepable lines
 took_lines old new at [] is = (ap (λ (e : Entering). e.seen) is, tt)
 took_lines old new at (line ∷ lines) took =
-    let rest = took_lines took.0 new (at + 5 + length line) lines took.2 in
+    let rest = took_lines took.0 new (at + length (record_text line)) lines took.2 in
     (rest.0 ∙ ap (λ m. after Keep m (map line_tuple lines)) took.1.1, (took.1.0, rest.1))
 
 -- a record that was refused is no line
@@ -74,7 +74,7 @@ short_stands old new lines short still (inr has) = inl (still, no_records old li
 -- opening leaves the lines
 pub opened_stands : (old new : List ℕ) (lines : List (List ℕ)) → IsOpened old new → StandsFor old lines → StandsFor new lines
 opened_stands old new lines (inl same) stands = subst (λ (file : List ℕ). StandsFor file lines) (sym same) stands
-opened_stands old new lines (inr short) stands = short_stands old new lines short.0 short.1 stands
+opened_stands old new lines (inr short) stands = short_stands old new lines short.0 short.2 stands
 
 -- a store that tells after a change told before it
 pub told_before : (f : ℕ) (step : List ℕ → List ℕ → Type 0) (told now : Option Files) (new : Files) → Changes f step told now → now ≡ Some new → (old : Files) × (told ≡ Some old) × ChangesFile f step old new
@@ -103,9 +103,9 @@ opened_twice a b c h k = record {
   where
     both : IsOpened (a line_file) (b line_file) → IsOpened (b line_file) (c line_file) → IsOpened (a line_file) (c line_file)
     both (inl e) (inl d) = inl (d ∙ e)
-    both (inl e) (inr s) = inr (rw (← e) s.0, s.1)
-    both (inr s) (inl d) = inr (s.0, rw d s.1)
-    both (inr s) (inr t) = inr (s.0, t.1)
+    both (inl e) (inr s) = inr (rw (← e) s.0, λ is. s.1 (e ∙ is), s.2)
+    both (inr s) (inl d) = inr (s.0, s.1, rw d s.2)
+    both (inr s) (inr t) = inr (s.0, s.1, t.2)
 
 -- the keys of the new lines are known too
 pub knows_more : (seen next : KeyMap) (lines news : List (List ℕ)) (offers : List Tuple) → seen ≡ after Keep empty (map line_tuple lines) → next ≡ after Keep seen offers → offers ≡ map line_tuple news → next ≡ after Keep empty (map line_tuple (lines ++ news))

@@ -4,9 +4,10 @@ use Rattle.std.specs.List.{AllByRecursion}
 use Rattle.std.specs.FinMap.{empty}
 use Rattle.irl_offer.specs.declared.offer.Rule.TheVariants.{Keep}
 use Rattle.irl_offer.specs.declared.offer.Verdict.{Verdict}
+use Rattle.irl_offer.specs.Limits.{max_text}
 use Rattle.irl_model.specs.Judging.{after, judgements}
 use Rattle.irl_disk.specs.Disk.{Files, Changes, ChangesFile}
-use Rattle.irl_disk.specs.Images.{Follows, Leaves}
+use Rattle.irl_disk.specs.Images.{Snapshot, LeavesBy}
 use Rattle.irl_journal.specs.Format.{HasRecords}
 use Rattle.irl_journal.specs.Appending.{IsOpen}
 use Rattle.irl_bay.specs.Lines.{line_file, line_tuple, HasLines, IsKeepable}
@@ -16,7 +17,7 @@ use Rattle.irl_bay.specs.declared.kept.Kept.{Kept}
 pub record IsReady (kept : Kept) : Type 0 where
   pub file : kept.journal.file ≡ line_file
   pub sound : kept.journal.is_sound ≡ true
-  pub room : kept.frame.room ≡ 2048
+  pub room : kept.frame.room ≡ max_text
 
 -- these are the lines whose keys are known, and the records of each joint image that a stop now may leave
 pub record IsKept (images : Files → Type 0) (kept : Kept) (lines : List (List ℕ)) : Type 0 where
@@ -39,13 +40,13 @@ HasSome lines news most old file = (n : ℕ) × (n ≤ most) × HasRecords file 
 
 -- What an append of new lines leaves of a store whose journal had these. Of the new ones `kept` are acknowledged, `told`
 -- stand in the file, and a stop leaves at most `most`; every other file is as it was.
-pub record Extends {ℓ} {S : Type ℓ} (contents : S → Option Files) (images : S → Files → Type 0) (moment : S → ℕ) (images_since : S → ℕ → Files → Type 0) (old new : S) (lines news : List (List ℕ)) (kept told most : ℕ) : Type 0 where
+pub record Extends (old new : Snapshot) (lines news : List (List ℕ)) (kept told most : ℕ) : Type 0 where
   pub acknowledged : kept ≤ told
   pub no_more : told ≤ most
   pub all : most ≤ length news
   pub one : most ≤ kept + 1
-  pub tells : Changes line_file (λ before file. HasRecords file (lines ++ take told news)) (contents old) (contents new)
+  pub tells : Changes line_file (λ before file. HasRecords file (lines ++ take told news)) old.files new.files
   -- a stop from now on leaves what is acknowledged
-  pub now : (image : Files) → images new image → (n : ℕ) × (kept ≤ n) × (n ≤ most) × HasRecords (image line_file) (lines ++ take n news)
+  pub now : (image : Files) → new.images image → (n : ℕ) × (kept ≤ n) × (n ≤ most) × HasRecords (image line_file) (lines ++ take n news)
   -- and a stop at any moment since
-  pub stops : Leaves moment images_since old new (Follows (ChangesFile line_file (HasSome lines news most)) (images old))
+  pub stops : LeavesBy (ChangesFile line_file (HasSome lines news most)) old new

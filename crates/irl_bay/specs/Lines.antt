@@ -3,6 +3,7 @@ use Rattle.std.specs.Prelude.{◌≡◌, ◌⊎◌, ℕ, ◌<◌, ◌≤◌, Lis
 use Rattle.std.specs.List.{AllByRecursion}
 use Rattle.irl_offer.specs.declared.offer.Op.TheVariants.{Both}
 use Rattle.irl_key.specs.Key.{key_of}
+use Rattle.irl_offer.specs.Limits.{max_text}
 use Rattle.irl_offer.specs.Tuple.{Tuple}
 use Rattle.irl_disk.specs.Disk.{Files}
 use Rattle.irl_journal.specs.Format.{records_text, body_text, open_gate, IsPayload, StandsFor, IsBrokenAt}
@@ -18,7 +19,7 @@ other_file = 998
 -- a line that a store keeps: 1 to 2,048 bytes
 pub record IsKeepable (line : List ℕ) : Type 0 where
   pub some : 0 < length line
-  pub few : length line ≤ 2048
+  pub few : length line ≤ max_text
 
 -- the store has these lines
 pub record HasLines (files : Files) (lines : List (List ℕ)) : Type 0 where

@@ -1,8 +1,8 @@
 ghost use Rattle.std.specs.Prelude.{◌≡◌, ◌≢◌, ◌++◌, ◌∷◌, [], ◌<◌, ◌≤◌, List, ℕ, Some, length, map, IfOk, OnOk, OnErr, IsErrOf, ⊤, true, IsErr};
 ghost use Rattle.std.specs.Option.{ForSome};
-ghost use Rattle.irl_offer.specs.Faults.{Rose, HasCause};
+ghost use Rattle.irl_offer.specs.Faults.{HasCause};
 ghost use Rattle.irl_disk.specs.Disk.{Files, Changes, ChangesFile};
-ghost use Rattle.irl_disk.specs.Images.{Follows, Leaves};
+ghost use Rattle.irl_disk.specs.Images.{LeavesBy};
 ghost use Rattle.irl_journal.specs.Appending.{IsOpen, HasOrGains};
 ghost use Rattle.irl_journal.specs.Visiting.{IsOpened};
 ghost use Rattle.irl_bay.specs.declared.kept.OpenFault.TheVariants.{Failed as OpenFailed, Memory as OpenMemory};
@@ -10,12 +10,11 @@ ghost use Rattle.irl_bay.specs.declared.kept.Fault.TheVariants.{Failed as Append
 ghost use Rattle.irl_bay.specs.Faults.{open_fault_of};
 ghost use Rattle.irl_bay.specs.Lines.{line_file, other_file, AreLines, HasLines, IsDamagedAt, IsKeepable};
 
-use crate::line::MAX_LINE;
 use crate::opening::Entering;
 use irl_disk::{Failed, Store};
 use irl_journal::{Frame, Journal, JournalFault};
 use irl_model::KeySet;
-use irl_offer::{Offer, Rule, Verdict};
+use irl_offer::{MAX_TEXT, Offer, Rule, Verdict};
 use std::alloc::{AllocError, AllocFailed, Global};
 
 /// The journal of the lines that were offered so far.
@@ -104,22 +103,21 @@ impl Kept {
     /// Reads the lines of a store. It writes only where the journal's file has at most one byte: its closed gate.
     pub fn open<S: Store>(alloc: Global, store: &mut S) -> Result<Kept, OpenFault>
         ensures ready { IfOk result (λ kept. IsReady kept) }
-        ensures lines { IfOk result (λ kept. ForSome (S.contents store.old) (λ files. (lines : List (List ℕ)) × HasLines files lines × IsKept (S.images store.new) kept lines)) }
-        ensures known { IfOk result (λ kept. IsKnown (S.contents store.new) (S.images store.new) kept) }
-        ensures not_ours { (n : ℕ) → IsErrOf result (OpenFault.NotOurs n) → (n ≡ 0) × ForSome (S.contents store.old) (λ files. 1 < length (files other_file)) }
-        ensures damaged { (at : ℕ) → IsErrOf result (OpenFault.Damaged at) → ForSome (S.contents store.old) (λ files. (length (files other_file) ≤ 1) × IsDamagedAt (files line_file) at) }
-        ensures not_ours_same { (n : ℕ) → IsErrOf result (OpenFault.NotOurs n) → S.contents store.new ≡ S.contents store.old }
-        ensures damaged_same { (at : ℕ) → IsErrOf result (OpenFault.Damaged at) → S.contents store.new ≡ S.contents store.old }
-        ensures changes { Changes line_file IsOpened (S.contents store.old) (S.contents store.new) }
+        ensures lines { IfOk result (λ kept. ForSome (S.snapshot store.old).files (λ files. (lines : List (List ℕ)) × HasLines files lines × IsKept (S.snapshot store.new).images kept lines)) }
+        ensures known { IfOk result (λ kept. IsKnown (S.snapshot store.new).files (S.snapshot store.new).images kept) }
+        ensures not_ours { (n : ℕ) → IsErrOf result (OpenFault.NotOurs n) → (n ≡ 0) × ForSome (S.snapshot store.old).files (λ files. 1 < length (files other_file)) }
+        ensures damaged { (at : ℕ) → IsErrOf result (OpenFault.Damaged at) → ForSome (S.snapshot store.old).files (λ files. (length (files other_file) ≤ 1) × IsDamagedAt (files line_file) at) }
+        ensures not_ours_same { (n : ℕ) → IsErrOf result (OpenFault.NotOurs n) → (S.snapshot store.new).files ≡ (S.snapshot store.old).files }
+        ensures damaged_same { (at : ℕ) → IsErrOf result (OpenFault.Damaged at) → (S.snapshot store.new).files ≡ (S.snapshot store.old).files }
+        ensures changes { Changes line_file IsOpened (S.snapshot store.old).files (S.snapshot store.new).files }
         // A stop at any moment leaves each file as it was, but that a line file of at most one byte has at most one.
-        ensures stops { Leaves S.moment S.images_since store.old store.new (Follows (ChangesFile line_file IsOpened) (S.images store.old)) }
-        ensures later { S.faults store.old ≤ S.faults store.new }
-        ensures failed { IsErrOf result OpenFault.Failed → Rose (S.faults store.old) (S.faults store.new) }
+        ensures stops { LeavesBy (ChangesFile line_file IsOpened) (S.snapshot store.old) (S.snapshot store.new) }
+        ensures cause { HasCause (IsErrOf result OpenFault.Failed) (S.faults store.old) (S.faults store.new) }
     {
         if store.length(OTHER_FILE)? > 1 {
             return Err(OpenFault::NotOurs(0));
         }
-        let frame = Frame::with_room(alloc, MAX_LINE)?;
+        let frame = Frame::with_room(alloc, MAX_TEXT as u32)?;
         let mut entering = Entering {
             seen: KeySet::new(alloc),
         };
@@ -143,19 +141,18 @@ impl Kept {
     ) -> Result<Vec<Option<Verdict>>, Fault>
         requires lines { AreLines offers.now }
         requires ready { IsReady self.old }
-        requires known { IsKnown (S.contents store.old) (S.images store.old) self.old }
+        requires known { IsKnown (S.snapshot store.old).files (S.snapshot store.old).images self.old }
         ensures ready { OnOk result (IsReady self.new) }
-        ensures known { OnOk result (IsKnown (S.contents store.new) (S.images store.new) self.new) }
-        ensures kept { OnOk result ((lines : List (List ℕ)) → IsKept (S.images store.old) self.old lines → IsKept (S.images store.new) self.new (lines ++ map (λ offer. offer.aux) offers.now)) }
+        ensures known { OnOk result (IsKnown (S.snapshot store.new).files (S.snapshot store.new).images self.new) }
+        ensures kept { OnOk result ((lines : List (List ℕ)) → IsKept (S.snapshot store.old).images self.old lines → IsKept (S.snapshot store.new).images self.new (lines ++ map (λ offer. offer.aux) offers.now)) }
         ensures verdicts { IfOk result (λ verdicts. AreVerdicts self.old (map (λ offer. offer.aux) offers.now) verdicts.items) }
         ensures count { IfOk result (λ verdicts. length verdicts.items ≡ length offers.now) }
-        ensures whole { OnOk result ((lines : List (List ℕ)) → IsKept (S.images store.old) self.old lines →
-            Extends S.contents S.images S.moment S.images_since store.old store.new lines (map (λ offer. offer.aux) offers.now) (length offers.now) (length offers.now) (length offers.now)) }
-        ensures part { IsErrOf result Fault.Failed → (lines : List (List ℕ)) → IsKept (S.images store.old) self.old lines → (kept told most : ℕ) ×
-            Extends S.contents S.images S.moment S.images_since store.old store.new lines (map (λ offer. offer.aux) offers.now) kept told most }
+        ensures whole { OnOk result ((lines : List (List ℕ)) → IsKept (S.snapshot store.old).images self.old lines →
+            Extends (S.snapshot store.old) (S.snapshot store.new) lines (map (λ offer. offer.aux) offers.now) (length offers.now) (length offers.now) (length offers.now)) }
+        ensures part { IsErrOf result Fault.Failed → (lines : List (List ℕ)) → IsKept (S.snapshot store.old).images self.old lines → (kept told most : ℕ) ×
+            Extends (S.snapshot store.old) (S.snapshot store.new) lines (map (λ offer. offer.aux) offers.now) kept told most }
         ensures memory { IsErrOf result Fault.Memory → store.new ≡ store.old }
-        ensures later { S.faults store.old ≤ S.faults store.new }
-        ensures failed { IsErrOf result Fault.Failed → Rose (S.faults store.old) (S.faults store.new) }
+        ensures cause { HasCause (IsErrOf result Fault.Failed) (S.faults store.old) (S.faults store.new) }
     {
         let verdicts = self.seen.ask_all(alloc, Rule::Keep, offers)?;
         for offer in offers {
@@ -174,15 +171,15 @@ fn append_line<S: Store>(
 ) -> Result<(), Failed>
     requires few { length line.now ≤ frame.old.room }
     requires sound { journal.old.is_sound ≡ true }
-    requires open_ { (files : Files) → S.contents store.old ≡ Some files → (lines : List (List ℕ)) × IsOpen (S.images store.old) journal.old lines }
+    requires open_ { (files : Files) → (S.snapshot store.old).files ≡ Some files → (lines : List (List ℕ)) × IsOpen (S.snapshot store.old).images journal.old lines }
     ensures file { journal.new.file ≡ journal.old.file }
     ensures sound { OnOk result (journal.new.is_sound ≡ true) }
     ensures room { frame.new.room ≡ frame.old.room }
-    ensures acknowledged { OnOk result ((lines : List (List ℕ)) → IsOpen (S.images store.old) journal.old lines → IsOpen (S.images store.new) journal.new (lines ++ line.now ∷ [])) }
-    ensures changes { (lines : List (List ℕ)) → IsOpen (S.images store.old) journal.old lines →
-        Changes journal.old.file (HasOrGains lines line.now) (S.contents store.old) (S.contents store.new) }
-    ensures stops { (lines : List (List ℕ)) → IsOpen (S.images store.old) journal.old lines →
-        Leaves S.moment S.images_since store.old store.new (Follows (ChangesFile journal.old.file (HasOrGains lines line.now)) (S.images store.old)) }
+    ensures acknowledged { OnOk result ((lines : List (List ℕ)) → IsOpen (S.snapshot store.old).images journal.old lines → IsOpen (S.snapshot store.new).images journal.new (lines ++ line.now ∷ [])) }
+    ensures changes { (lines : List (List ℕ)) → IsOpen (S.snapshot store.old).images journal.old lines →
+        Changes journal.old.file (HasOrGains lines line.now) (S.snapshot store.old).files (S.snapshot store.new).files }
+    ensures stops { (lines : List (List ℕ)) → IsOpen (S.snapshot store.old).images journal.old lines →
+        LeavesBy (ChangesFile journal.old.file (HasOrGains lines line.now)) (S.snapshot store.old) (S.snapshot store.new) }
     ensures cause { HasCause (IsErr result) (S.faults store.old) (S.faults store.new) }
 {
     frame.clear();

@@ -3,11 +3,10 @@ ghost use Rattle.irl_offer.specs.declared.offer.Rule.TheVariants.{Keep};
 ghost use Rattle.irl_model.specs.Judging.{entered};
 ghost use Rattle.irl_bay.specs.Lines.{line_tuple, IsKeepable};
 
-use crate::line::MAX_LINE;
 use irl_journal::Visit;
 use irl_key::key_of;
 use irl_model::KeySet;
-use irl_offer::Rule;
+use irl_offer::{MAX_TEXT, Rule};
 use std::alloc::AllocError;
 
 /// Enters the keys of a journal's lines.
@@ -22,7 +21,7 @@ impl Visit for Entering {
     ghost refuses = { λ _ _ payload _. IsKeepable payload → ⊥ };
 
     fn take(&mut self, _at: u64, payload: &[u8]) -> Result<bool, AllocError> {
-        if payload.is_empty() || payload.len() > MAX_LINE as usize {
+        if payload.is_empty() || payload.len() > MAX_TEXT {
             return Ok(false);
         }
         self.seen.enter(Rule::Keep, key_of(payload), 0)?;

@@ -6,7 +6,7 @@ use Rattle.irl_bay.proofs.kept.append_line.Goals as goal
 pub append-requires-clause-place : goal.append-requires-clause-place
 append-requires-clause-place g c = λ files tells.
     let known = c.requires.open_ files tells in
-    let fits = within known.0 (files c.args.journal.now.file) c.args.journal.now.end (known.1 files (g.met.S.Store.told_is_image c.args.store.now files tells)) in
+    let fits = within known.0 (files c.args.journal.now.file) c.args.journal.now.end (known.1 files ((g.met.S.Store.is_consistent c.args.store.now).told files tells)) in
     omega (arith, fits)
 
 pub returns-clause-acknowledged : goal.returns-clause-acknowledged

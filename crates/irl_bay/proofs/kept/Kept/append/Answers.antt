@@ -19,14 +19,14 @@ loop-offer-init g c =
       sound = c.requires.ready.sound;
       room = c.requires.ready.room;
       later = omega arith;
-      open_ = λ lines open_. subst (IsOpen (s.images c.args.store.now) c.args.self.now.journal) (sym (append-nil lines)) open_;
-      extends = λ lines open_. none_yet s.contents s.images s.moment s.images_since g.met.S.Store.told_is_image g.met.S.Store.counts_now g.met.S.Store.only_now c.args.store.now c.args.self.now.journal lines _ c.requires.ready.file open_;
+      open_ = λ lines open_. subst (IsOpen (s.snapshot c.args.store.now).images c.args.self.now.journal) (sym (append-nil lines)) open_;
+      extends = λ lines open_. none_yet (s.snapshot c.args.store.now) c.args.self.now.journal lines _ (g.met.S.Store.is_consistent c.args.store.now) c.requires.ready.file open_;
     }
 
 pub append_line-requires-clause-open_ : goal.append_line-requires-clause-open_
 append_line-requires-clause-open_ g c = λ files tells.
     let s = g.S.Store in
-    let start = open_where_told (s.contents c.args.store.now) (s.images c.args.store.now) c.args.self.now.journal (g.met.S.Store.told_where_image c.args.store.now) (λ told is. let k = c.requires.known told is in (k.0, k.2.open_)) in
+    let start = open_where_told (s.snapshot c.args.store.now).files (s.snapshot c.args.store.now).images c.args.self.now.journal ((g.met.S.Store.is_consistent c.args.store.now).tells) (λ told is. let k = c.requires.known told is in (k.0, k.2.open_)) in
     (start.0 ++ take c.loop-offer.offer-index (map (λ (o : Tuple). o.aux) c.args.offers.now), c.loop-offer.invariant.open_ start.0 start.1)
 
 pub returns-in_err-append_line-clause-part : goal.returns-in_err-append_line-clause-part
@@ -38,7 +38,7 @@ returns-in_err-append_line-clause-part g c = λ failed lines kept.
     let more : lines ++ take (i + 1) news ≡ (lines ++ take i news) ++ c.bytes.result.now ∷ [] =
     ap (λ (l : List (List ℕ)). lines ++ l) (next_line c.args.offers.now i c.offer-item.result c.loop-offer-test.true c.offer-item.is ∙ ap (λ (l : List ℕ). take i news ++ l ∷ []) (sym line)) ∙ sym (append_assoc lines (take i news) (c.bytes.result.now ∷ [])) in
     let open_ = c.loop-offer.invariant.open_ lines kept.open_ in
-    may_be_more s.contents s.images s.moment s.images_since g.met.S.Store.told_is_image g.met.S.Store.counts_now g.met.S.Store.only_now c.args.store.now c.loop-offer.store c.append_line.new.store lines news c.bytes.result.now i
+    may_be_more (s.snapshot c.args.store.now) (s.snapshot c.loop-offer.store) (s.snapshot c.append_line.new.store) lines news c.bytes.result.now i (g.met.S.Store.is_consistent c.loop-offer.store) (g.met.S.Store.is_consistent c.append_line.new.store)
     (rw length-map c.loop-offer-test.true, more, c.loop-offer.invariant.extends lines kept.open_, rw c.loop-offer.invariant.file at (c.in_err-append_line.ensures.changes _ open_), rw c.loop-offer.invariant.file at (c.in_err-append_line.ensures.stops _ open_))
 
 pub loop-offer-preserved : goal.loop-offer-preserved
@@ -50,7 +50,7 @@ loop-offer-preserved g c =
     let more : (lines : List (List ℕ)) → lines ++ take (i + 1) news ≡ (lines ++ take i news) ++ c.bytes.result.now ∷ [] = λ lines.
     ap (λ (l : List (List ℕ)). lines ++ l) (next_line c.args.offers.now i c.offer-item.result c.loop-offer-test.true c.offer-item.is ∙ ap (λ (l : List ℕ). take i news ++ l ∷ []) (sym line)) ∙ sym (append_assoc lines (take i news) (c.bytes.result.now ∷ [])) in
     let file = c.in_ok-append_line.ensures.file ∙ c.loop-offer.invariant.file in
-    let next : (lines : List (List ℕ)) → IsOpen (s.images c.args.store.now) c.args.self.now.journal lines → IsOpen (s.images c.append_line.new.store) c.append_line.new.journal ((lines ++ take i news) ++ c.bytes.result.now ∷ []) = λ lines open_.
+    let next : (lines : List (List ℕ)) → IsOpen (s.snapshot c.args.store.now).images c.args.self.now.journal lines → IsOpen (s.snapshot c.append_line.new.store).images c.append_line.new.journal ((lines ++ take i news) ++ c.bytes.result.now ∷ []) = λ lines open_.
     c.in_ok-append_line.ensures.acknowledged _ (c.loop-offer.invariant.open_ lines open_) in
     record {
       seen = c.loop-offer.invariant.seen;
@@ -58,10 +58,10 @@ loop-offer-preserved g c =
       sound = c.in_ok-append_line.ensures.sound;
       room = c.in_ok-append_line.ensures.room ∙ c.loop-offer.invariant.room;
       later = omega (arith, c.loop-offer.invariant.later, c.in_ok-append_line.ensures.cause.later);
-      open_ = λ lines open_. subst (IsOpen (s.images c.append_line.new.store) c.append_line.new.journal) (sym (more lines)) (next lines open_);
+      open_ = λ lines open_. subst (IsOpen (s.snapshot c.append_line.new.store).images c.append_line.new.journal) (sym (more lines)) (next lines open_);
       extends = λ lines open_.
           let now = c.loop-offer.invariant.open_ lines open_ in
-          one_more s.contents s.images s.moment s.images_since g.met.S.Store.told_is_image g.met.S.Store.counts_now g.met.S.Store.only_now c.args.store.now c.loop-offer.store c.append_line.new.store c.append_line.new.journal lines news c.bytes.result.now i
+          one_more (s.snapshot c.args.store.now) (s.snapshot c.loop-offer.store) (s.snapshot c.append_line.new.store) c.append_line.new.journal lines news c.bytes.result.now i (g.met.S.Store.is_consistent c.loop-offer.store) (g.met.S.Store.is_consistent c.append_line.new.store)
           (rw length-map c.loop-offer-test.true, more lines, c.loop-offer.invariant.extends lines open_, rw c.loop-offer.invariant.file at (c.in_ok-append_line.ensures.changes _ now), rw c.loop-offer.invariant.file at (c.in_ok-append_line.ensures.stops _ now))
           file (next lines open_);
     }
@@ -74,7 +74,7 @@ returns-clause-kept g c = λ lines kept.
     record {
       seen = knows_more c.args.self.now.seen c.loop-offer.self.seen lines news c.args.offers.now kept.seen c.loop-offer.invariant.seen c.requires.lines.lines;
       each = each-append lines news kept.each c.requires.lines.each;
-      open_ = subst (λ (l : List (List ℕ)). IsOpen (s.images c.loop-offer.store) c.loop-offer.self.journal (lines ++ l)) all (c.loop-offer.invariant.open_ lines kept.open_);
+      open_ = subst (λ (l : List (List ℕ)). IsOpen (s.snapshot c.loop-offer.store).images c.loop-offer.self.journal (lines ++ l)) all (c.loop-offer.invariant.open_ lines kept.open_);
     }
 
 pub returns-clause-verdicts : goal.returns-clause-verdicts
@@ -85,14 +85,14 @@ pub returns-clause-whole : goal.returns-clause-whole
 returns-clause-whole g c = λ lines kept.
     let s = g.S.Store in
     let all : c.loop-offer.offer-index ≡ length c.args.offers.now = omega (arith, c.loop-offer-test.false, c.loop-offer.auto.offer-index-end) in
-    subst (λ (n : ℕ). Extends s.contents s.images s.moment s.images_since c.args.store.now c.loop-offer.store lines (map (λ (o : Tuple). o.aux) c.args.offers.now) n n n) all (c.loop-offer.invariant.extends lines kept.open_)
+    subst (λ (n : ℕ). Extends (s.snapshot c.args.store.now) (s.snapshot c.loop-offer.store) lines (map (λ (o : Tuple). o.aux) c.args.offers.now) n n n) all (c.loop-offer.invariant.extends lines kept.open_)
 
 pub returns-clause-known : goal.returns-clause-known
 returns-clause-known g c = λ files tells.
     let s = g.S.Store in
     let news : List (List ℕ) = map (λ (o : Tuple). o.aux) c.args.offers.now in
     let all : take c.loop-offer.offer-index news ≡ news = take_all _ _ (rw length-map (omega (arith, c.loop-offer-test.false))) in
-    let start = open_where_told (s.contents c.args.store.now) (s.images c.args.store.now) c.args.self.now.journal (g.met.S.Store.told_where_image c.args.store.now) (λ told is. let k = c.requires.known told is in (k.0, k.2.open_)) in
+    let start = open_where_told (s.snapshot c.args.store.now).files (s.snapshot c.args.store.now).images c.args.self.now.journal ((g.met.S.Store.is_consistent c.args.store.now).tells) (λ told is. let k = c.requires.known told is in (k.0, k.2.open_)) in
     let was = told_before _ _ _ _ files (c.loop-offer.invariant.extends start.0 start.1).tells tells in
     let had = c.requires.known was.0 was.1 in
     let each : AllByRecursion IsKeepable (take c.loop-offer.offer-index news) = subst (AllByRecursion IsKeepable) (sym all) c.requires.lines.each in

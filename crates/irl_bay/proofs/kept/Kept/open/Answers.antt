@@ -5,8 +5,8 @@ use Rattle.std.specs.FinMap.{empty}
 use Rattle.irl_offer.specs.declared.offer.Rule.TheVariants.{Keep}
 use Rattle.irl_model.specs.Judging.{after}
 use Rattle.irl_disk.specs.Disk.{Files, ChangesFile}
-use Rattle.irl_disk.specs.Images.{Follows, Leaves}
-use Rattle.irl_disk.proofs.Stretches.{widens, goes_on}
+use Rattle.irl_disk.specs.Images.{LeavesBy}
+use Rattle.irl_disk.proofs.Stretches.{same_by, joins_by}
 use Rattle.irl_journal.specs.Visiting.{IsOpened}
 use Rattle.irl_bay.specs.declared.kept.OpenFault.TheVariants.{Damaged}
 use Rattle.irl_bay.specs.Faults.{open_fault_of}
@@ -25,12 +25,14 @@ returns-in_err-journal-clause-damaged g c = λ at e files tells.
 
 pub returns-clause-lines : goal.returns-clause-lines
 returns-clause-lines g c = λ files tells.
-    let found = c.in_ok-journal.ensures.records files (c.in_ok-length.ensures.same ∙ tells) in
-    let took = took_lines _ c.visit.new.visitor 0 found.0 found.3 in
+    let told = c.in_ok-length.ensures.same ∙ tells in
+    let found = c.in_ok-journal.ensures.found files told in
+    let opened = c.in_ok-journal.ensures.records files told found.0 found.1 in
+    let took = took_lines _ c.visit.new.visitor 0 found.0 opened.1 in
     let value = rw tells at c.in_ok-length.ensures.value in
     let short : length (files other_file) ≤ 1 = rw (← value) (omega (arith, c.if-branch-gt1.false)) in
     let seen : c.visit.new.visitor.seen ≡ after Keep empty (map line_tuple found.0) = rw c.new.ensures at took.0 in
-    (found.0, record { ours = short; records = found.1; each = took.1 }, record { seen = seen; each = took.1; open_ = found.4 })
+    (found.0, record { ours = short; records = found.1; each = took.1 }, record { seen = seen; each = took.1; open_ = opened.2 })
 
 pub returns-clause-known : goal.returns-clause-known
 returns-clause-known g c = λ files tells.
@@ -41,13 +43,13 @@ returns-clause-known g c = λ files tells.
 pub returns-in_err-journal-clause-stops : goal.returns-in_err-journal-clause-stops
 returns-in_err-journal-clause-stops g c =
     let store = g.S.Store in
-    let P : Files → Type 0 = Follows (ChangesFile line_file IsOpened) (store.images c.args.store.now) in
-    let first : Leaves store.moment store.images_since c.args.store.now c.length.new.self P = widens _ _ _ _ _ _ c.in_ok-length.ensures.stops (λ image was. (image, was, same_file image)) in
-    goes_on _ _ store.images g.met.S.Store.counts_now _ _ _ P _ first c.in_err-journal.ensures.stops (λ before image from step. (from.0, from.1, opened_twice from.0 before image from.2 step))
+    let law = g.met.S.Store.is_consistent in
+    let first : LeavesBy (ChangesFile line_file IsOpened) (store.snapshot c.args.store.now) (store.snapshot c.length.new.self) = same_by _ _ _ same_file c.in_ok-length.ensures.stops in
+    joins_by _ _ _ _ (law c.length.new.self) opened_twice first c.in_err-journal.ensures.stops
 
 pub returns-clause-stops : goal.returns-clause-stops
 returns-clause-stops g c =
     let store = g.S.Store in
-    let P : Files → Type 0 = Follows (ChangesFile line_file IsOpened) (store.images c.args.store.now) in
-    let first : Leaves store.moment store.images_since c.args.store.now c.length.new.self P = widens _ _ _ _ _ _ c.in_ok-length.ensures.stops (λ image was. (image, was, same_file image)) in
-    goes_on _ _ store.images g.met.S.Store.counts_now _ _ _ P _ first c.in_ok-journal.ensures.stops (λ before image from step. (from.0, from.1, opened_twice from.0 before image from.2 step))
+    let law = g.met.S.Store.is_consistent in
+    let first : LeavesBy (ChangesFile line_file IsOpened) (store.snapshot c.args.store.now) (store.snapshot c.length.new.self) = same_by _ _ _ same_file c.in_ok-length.ensures.stops in
+    joins_by _ _ _ _ (law c.length.new.self) opened_twice first c.in_ok-journal.ensures.stops
