@@ -11,7 +11,7 @@ use Rattle.irl_offer.specs.declared.offer.Verdict.{Verdict}
 use Rattle.irl_offer.specs.Tuple.{Tuple}
 use Rattle.irl_model.specs.Judging.{after}
 use Rattle.irl_model.proofs.JudgingLaws.{zip-judgements}
-use Rattle.irl_disk.specs.Disk.{Files}
+use Rattle.irl_disk.specs.Images.{Snapshot}
 use Rattle.irl_io.specs.Written.{AppendsFront}
 use Rattle.irl_bay.specs.declared.kept.Kept.{Kept}
 use Rattle.irl_bay.specs.declared.kept.Fault.{Fault}
@@ -38,61 +38,60 @@ pub was_memory : (fault : Fault) (r : Result (Unit {0}) CommitFault) → r ≡ E
 was_memory Failed r is not = absurd (not is)
 was_memory Memory r is not = refl
 
-module _ {S : Type 0} (contents : S → Option Files) (images : S → Files → Type 0) (moment : S → ℕ) (images_since : S → ℕ → Files → Type 0) where
-  -- all was done
-  pub all_done : (old new : S) (before kept : Kept) (w w' : Option (List ℕ)) (lines : List (List ℕ)) (offers : List Tuple) (verdicts : List (Option Verdict)) (text : List ℕ) → AreLines offers → AreVerdicts before (texts offers) verdicts → before.seen ≡ after Keep empty (map line_tuple lines) → text ≡ printed (zip offers verdicts)
-      → IsKept (images new) kept (lines ++ texts offers) → Extends contents images moment images_since old new lines (texts offers) (length offers) (length offers) (length offers) → Appends w w' text → Commits contents images moment images_since old new kept w w' lines (texts offers)
-  all_done old new before kept w w' lines offers verdicts text are judged seen is known extends wrote = record {
-    known = known;
-    extends = subst (λ (n : ℕ). Extends contents images moment images_since old new lines (texts offers) n n n) (sym (length-map offers (λ (o : Tuple). o.aux))) extends;
-    printed = subst (Appends w w') (is ∙ printed_added before lines offers verdicts are judged seen) wrote;
-  }
+-- all was done
+pub all_done : (old new : Snapshot) (before kept : Kept) (w w' : Option (List ℕ)) (lines : List (List ℕ)) (offers : List Tuple) (verdicts : List (Option Verdict)) (text : List ℕ) → AreLines offers → AreVerdicts before (texts offers) verdicts → before.seen ≡ after Keep empty (map line_tuple lines) → text ≡ printed (zip offers verdicts)
+    → IsKept new.images kept (lines ++ texts offers) → Extends old new lines (texts offers) (length offers) (length offers) (length offers) → Appends w w' text → Commits old new kept w w' lines (texts offers)
+all_done old new before kept w w' lines offers verdicts text are judged seen is known extends wrote = record {
+  known = known;
+  extends = subst (λ (n : ℕ). Extends old new lines (texts offers) n n n) (sym (length-map offers (λ (o : Tuple). o.aux))) extends;
+  printed = subst (Appends w w') (is ∙ printed_added before lines offers verdicts are judged seen) wrote;
+}
 
-  -- all lines were appended, and a front of their text was written
-  pub part_printed : (old new : S) (before : Kept) (w w' : Option (List ℕ)) (lines : List (List ℕ)) (offers : List Tuple) (verdicts : List (Option Verdict)) (text : List ℕ) (IsSettled : Type 0) → AreLines offers → AreVerdicts before (texts offers) verdicts → before.seen ≡ after Keep empty (map line_tuple lines) → text ≡ printed (zip offers verdicts)
-      → Extends contents images moment images_since old new lines (texts offers) (length offers) (length offers) (length offers) → AppendsFront w w' text → CommitsPart contents images moment images_since old new w w' lines (texts offers) IsSettled
-  part_printed old new before w w' lines offers verdicts text IsSettled are judged seen is extends front =
-      let n = length offers in
-      let all : take n (texts offers) ≡ texts offers = take_all _ _ (rw length-map (omega arith)) in
-      let whole : text ≡ added lines (take n (texts offers)) = is ∙ printed_added before lines offers verdicts are judged seen ∙ ap (added lines) (sym all) in
-      record {
-        kept = n;
-        told = n;
-        most = n;
-        text = take front.0 text;
-        extends = extends;
-        written_is = front.1;
-        printed = (drop front.0 text, sym whole ∙ sym (take-append-drop front.0 text));
-        settled = λ s. refl;
-      }
+-- all lines were appended, and a front of their text was written
+pub part_printed : (old new : Snapshot) (before : Kept) (w w' : Option (List ℕ)) (lines : List (List ℕ)) (offers : List Tuple) (verdicts : List (Option Verdict)) (text : List ℕ) (IsSettled : Type 0) → AreLines offers → AreVerdicts before (texts offers) verdicts → before.seen ≡ after Keep empty (map line_tuple lines) → text ≡ printed (zip offers verdicts)
+    → Extends old new lines (texts offers) (length offers) (length offers) (length offers) → AppendsFront w w' text → CommitsPart old new w w' lines (texts offers) IsSettled
+part_printed old new before w w' lines offers verdicts text IsSettled are judged seen is extends front =
+    let n = length offers in
+    let all : take n (texts offers) ≡ texts offers = take_all _ _ (rw length-map (omega arith)) in
+    let whole : text ≡ added lines (take n (texts offers)) = is ∙ printed_added before lines offers verdicts are judged seen ∙ ap (added lines) (sym all) in
+    record {
+      kept = n;
+      told = n;
+      most = n;
+      text = take front.0 text;
+      extends = extends;
+      written_is = front.1;
+      printed = (drop front.0 text, sym whole ∙ sym (take-append-drop front.0 text));
+      settled = λ s. refl;
+    }
 
-  -- some lines were appended, and nothing was written
-  pub none_printed : (old new : S) (w : Option (List ℕ)) (lines news : List (List ℕ)) (kept told most : ℕ) (IsSettled : Type 0) → Extends contents images moment images_since old new lines news kept told most → (IsSettled → kept ≡ most) → CommitsPart contents images moment images_since old new w w lines news IsSettled
-  none_printed old new w lines news kept told most IsSettled extends settled = record {
-    kept = kept;
-    told = told;
-    most = most;
-    text = [];
-    extends = extends;
-    written_is = Appends-nil w;
-    printed = (added lines (take kept news), refl);
-    settled = settled;
-  }
+-- some lines were appended, and nothing was written
+pub none_printed : (old new : Snapshot) (w : Option (List ℕ)) (lines news : List (List ℕ)) (kept told most : ℕ) (IsSettled : Type 0) → Extends old new lines news kept told most → (IsSettled → kept ≡ most) → CommitsPart old new w w lines news IsSettled
+none_printed old new w lines news kept told most IsSettled extends settled = record {
+  kept = kept;
+  told = told;
+  most = most;
+  text = [];
+  extends = extends;
+  written_is = Appends-nil w;
+  printed = (added lines (take kept news), refl);
+  settled = settled;
+}
 
-  -- an append was refused
-  pub append_failed : (fault : Fault) (r : Result (Unit {0}) CommitFault) (old new : S) (w : Option (List ℕ)) (lines news : List (List ℕ)) → r ≡ Err (commit_fault_of fault)
-      → (fault ≡ Failed → (kept told most : ℕ) × Extends contents images moment images_since old new lines news kept told most) → (fault ≡ Memory → Extends contents images moment images_since old new lines news 0 0 0)
-      → CommitsPart contents images moment images_since old new w w lines news (r ≢ Err Disk)
-  append_failed Failed r old new w lines news is part none =
-      let p = part refl in
-      none_printed old new w lines news p.0 p.1 p.2 _ p.3 (λ not. absurd (not is))
-  append_failed Memory r old new w lines news is part none = none_printed old new w lines news 0 0 0 _ (none refl) (λ not. refl)
+-- an append was refused
+pub append_failed : (fault : Fault) (r : Result (Unit {0}) CommitFault) (old new : Snapshot) (w : Option (List ℕ)) (lines news : List (List ℕ)) → r ≡ Err (commit_fault_of fault)
+    → (fault ≡ Failed → (kept told most : ℕ) × Extends old new lines news kept told most) → (fault ≡ Memory → Extends old new lines news 0 0 0)
+    → CommitsPart old new w w lines news (r ≢ Err Disk)
+append_failed Failed r old new w lines news is part none =
+    let p = part refl in
+    none_printed old new w lines news p.0 p.1 p.2 _ p.3 (λ not. absurd (not is))
+append_failed Memory r old new w lines news is part none = none_printed old new w lines news 0 0 0 _ (none refl) (λ not. refl)
 
-  -- there was nothing to do
-  pub none_to_do : (store : S) (kept : Kept) (w : Option (List ℕ)) (lines : List (List ℕ)) (offers : List Tuple) → length offers ≡ 0 → IsKept (images store) kept lines → Extends contents images moment images_since store store lines [] 0 0 0 → Commits contents images moment images_since store store kept w w lines (texts offers)
-  none_to_do store kept w lines [] none known extends = record {
-    known = subst (IsKept (images store) kept) (sym (append-nil lines)) known;
-    extends = extends;
-    printed = subst (Appends w w) (sym (added-nil lines)) (Appends-nil w);
-  }
-  none_to_do store kept w lines (o ∷ offers) none known extends = absurd (omega arith)
+-- there was nothing to do
+pub none_to_do : (store : Snapshot) (kept : Kept) (w : Option (List ℕ)) (lines : List (List ℕ)) (offers : List Tuple) → length offers ≡ 0 → IsKept store.images kept lines → Extends store store lines [] 0 0 0 → Commits store store kept w w lines (texts offers)
+none_to_do store kept w lines [] none known extends = record {
+  known = subst (IsKept store.images kept) (sym (append-nil lines)) known;
+  extends = extends;
+  printed = subst (Appends w w) (sym (added-nil lines)) (Appends-nil w);
+}
+none_to_do store kept w lines (o ∷ offers) none known extends = absurd (omega arith)

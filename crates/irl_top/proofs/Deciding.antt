@@ -1,6 +1,6 @@
 -- What a run is, by what its parts answered.
 use Rattle.std.proofs.Common.{◌≡◌, ◌≢◌, ℕ, List, Option, Some, None, refl, inl, inr, arith}
-use Rattle.std.specs.Prelude.{Result, Ok, Err, OnOk, OnErr, unwrap_or, is_some}
+use Rattle.std.specs.Prelude.{Result, Ok, Err, OnOk, OnErr, IsErr, unwrap_or, is_some}
 use Rattle.std.specs.Option.{option_map}
 use Rattle.std.proofs.Common.{true}
 use Rattle.std.specs.Io.KnownBytes.{Appends}
@@ -11,13 +11,14 @@ use Rattle.irl_bay.specs.Lines.{HasLines}
 use Rattle.irl_bay.proofs.Lines.{not_damaged}
 use Rattle.irl_top.specs.Input.{refused}
 use Rattle.irl_top.specs.Message.{Says}
-use Rattle.irl_top.specs.Run.{Outside, Ran, EndsWell}
+use Rattle.irl_top.specs.Stream.{Stream}
+use Rattle.irl_top.specs.Run.{Lent, Ran, EndsWell}
 use Rattle.irl_top.specs.declared.ending.Ending.{Ending}
 use Rattle.irl_top.specs.declared.ending.Ending.TheVariants.{Done, WordsRefused, LineRefused, NotOurs, Damaged, DiskFault, InputFault, OutputFault, NoMemory}
 
-pub says_of : {T E : Type 0} (r : Result T E) (text : List ℕ) (old new : Option (List ℕ)) (before now : ℕ) → OnOk r (Appends old new text) → OnErr r (AppendsFront old new text) → HasCause before now r → Says text old new before now
-says_of (Ok x) text old new before now ok err cause = record { later = cause.later; written = inl ok }
-says_of (Err e) text old new before now ok err cause = record { later = cause.later; written = inr (err, cause.failed) }
+pub says_of : {T E : Type 0} (r : Result T E) (text : List ℕ) (old new : Stream) → OnOk r (Appends old.bytes new.bytes text) → OnErr r (AppendsFront old.bytes new.bytes text) → HasCause (IsErr r) old.faults new.faults → Says text old new
+says_of (Ok x) text old new ok err cause = record { later = cause.later; written = inl ok }
+says_of (Err e) text old new ok err cause = record { later = cause.later; written = inr (err, cause.rose refl) }
 
 pub is_some-map : {A B : Type 0} (f : A → B) (o : Option A) → is_some (option_map f o) ≡ is_some o
 is_some-map f None = refl
@@ -28,8 +29,8 @@ unwrap_or-map f None d = refl
 unwrap_or-map f (Some x) d = refl
 
 -- nothing failed, so the ending is that of the input
-pub ends_well : (before after : Outside) (ending : Ending) (files : Files) (old : List (List ℕ)) (input : List ℕ) → Ran before after ending → ending ≢ WordsRefused → before.files ≡ Some files → HasLines files old → before.input ≡ Some input →
-    ¬ Rose before.disk_faults after.disk_faults → ¬ Rose before.input_faults after.input_faults → ¬ Rose before.output_faults after.output_faults → EndsWell ending (refused input)
+pub ends_well : (before after : Lent) (ending : Ending) (files : Files) (old : List (List ℕ)) (input : List ℕ) → Ran before after ending → ending ≢ WordsRefused → before.store.files ≡ Some files → HasLines files old → before.input.bytes ≡ Some input →
+    ¬ Rose before.disk_faults after.disk_faults → ¬ Rose before.input.faults after.input.faults → ¬ Rose before.output.faults after.output.faults → EndsWell ending (refused input)
 ends_well before after Done files old input ran words told has known disk source output = inr (inl (refl, (ran.read refl input known).1))
 ends_well before after WordsRefused files old input ran words told has known disk source output = absurd (words refl)
 ends_well before after (LineRefused n) files old input ran words told has known disk source output = inr (inr (n, refl, ran.line n refl input known))

@@ -11,54 +11,15 @@ use Rattle.irl_journal.specs.Visiting.{IsOpened}
 use Rattle.irl_bay.specs.Lines.{line_file, other_file, HasLines, IsKeepable}
 use Rattle.irl_bay.specs.Kept.{Extends, HasSome}
 use Rattle.irl_bay.proofs.Lines.{opened_stands, each-append}
-use Rattle.irl_top.specs.Run.{Outside, LeavesOnly, HasFront}
-
--- what an append of new lines leaves, by what is told before it and after it
-abbrev pub ExtendsOutside : Outside → Outside → List (List ℕ) → List (List ℕ) → ℕ → ℕ → ℕ → Type 0
-ExtendsOutside before after lines news kept told most = Extends (λ (o : Outside). o.files) (λ (o : Outside). o.images) (λ (o : Outside). o.moment) (λ (o : Outside). o.images_since) before after lines news kept told most
-
--- what a store tells, beside what the other objects do
-abbrev pub beside : {S : Type 0} (contents : S → Option Files) (images : S → Files → Type 0) (moment : S → ℕ) (images_since : S → ℕ → Files → Type 0) → S → ℕ → Option (List ℕ) → ℕ → Option (List ℕ) → ℕ → Outside
-beside contents images moment images_since store disk_faults input input_faults output output_faults = record {
-  files = contents store;
-  images = images store;
-  moment = moment store;
-  images_since = images_since store;
-  disk_faults = disk_faults;
-  input = input;
-  input_faults = input_faults;
-  output = output;
-  output_faults = output_faults;
-}
-
-module _ {S : Type 0} (contents : S → Option Files) (images : S → Files → Type 0) (moment : S → ℕ) (images_since : S → ℕ → Files → Type 0) (old new : S) (d e i j o p : ℕ) (input input' output output' : Option (List ℕ)) where
-  abbrev was : Outside
-  was = beside contents images moment images_since old d input i output o
-
-  abbrev is : Outside
-  is = beside contents images moment images_since new e input' j output' p
-
-  pub leaves_beside : (P : Files → Type 0) → Leaves moment images_since old new P → LeavesOnly was is P
-  leaves_beside P leaves = record { later = leaves.later; each = leaves.each; before = leaves.before }
-
-  pub extends_beside : (lines news : List (List ℕ)) (kept told most : ℕ) → Extends contents images moment images_since old new lines news kept told most → ExtendsOutside was is lines news kept told most
-  extends_beside lines news kept told most extends = record {
-    acknowledged = extends.acknowledged;
-    no_more = extends.no_more;
-    all = extends.all;
-    one = extends.one;
-    tells = extends.tells;
-    now = extends.now;
-    stops = leaves_beside _ extends.stops;
-  }
+use Rattle.irl_top.specs.Run.{Lent, LeavesOnly, HasFront}
 
 -- the old lines' file was opened, or has them and some of the new ones
 abbrev pub HasBecome : List (List ℕ) → List (List ℕ) → ℕ → List ℕ → List ℕ → Type 0
 HasBecome old news most before file = IsOpened before file ⊎ HasSome old news most before file
 
 -- each image since the run began follows from one at its begin
-abbrev pub StopsAt : Outside → Outside → List (List ℕ) → List (List ℕ) → Type 0
-StopsAt before now old news = LeavesOnly before now (Follows (ChangesFile line_file (HasBecome old news (length news))) before.images)
+abbrev pub StopsAt : Lent → Lent → List (List ℕ) → List (List ℕ) → Type 0
+StopsAt before now old news = LeavesOnly before now (Follows (ChangesFile line_file (HasBecome old news (length news))) before.store.images)
 
 pub take_each : (n : ℕ) (xs : List (List ℕ)) → AllByRecursion IsKeepable xs → AllByRecursion IsKeepable (take n xs)
 take_each zero xs each = tt
@@ -94,16 +55,16 @@ pub length_both : (news more : List (List ℕ)) (most : ℕ) → most ≤ length
 length_both news more most le = length-append news (take most more) ∙ ap (λ (n : ℕ). length news + n) (length-take-le most more le)
 
 -- a stretch more, in which some of a batch were appended
-pub stops_on : (before now after : Outside) (old news more : List (List ℕ)) (most : ℕ) → most ≤ length more → ((t : ℕ) (image : Files) → t ≤ now.moment → now.images image → now.images_since t image)
-    → StopsAt before now old news → LeavesOnly now after (Follows (ChangesFile line_file (HasSome (old ++ news) more most)) now.images) → StopsAt before after old (news ++ take most more)
+pub stops_on : (before now after : Lent) (old news more : List (List ℕ)) (most : ℕ) → most ≤ length more → ((t : ℕ) (image : Files) → t ≤ now.store.moment → now.store.images image → now.store.since t image)
+    → StopsAt before now old news → LeavesOnly now after (Follows (ChangesFile line_file (HasSome (old ++ news) more most)) now.store.images) → StopsAt before after old (news ++ take most more)
 stops_on before now after old news more most le counts so_far further =
     let all = length_both news more most le in
-    let P : Files → Type 0 = Follows (ChangesFile line_file (HasBecome old (news ++ take most more) (length (news ++ take most more)))) before.images in
-    let wide : LeavesOnly before now P = widens (λ (o : Outside). o.moment) (λ (o : Outside). o.images_since) before now _ P so_far (λ image from. (from.0, from.1, record { changed = wider (image line_file) (from.0 line_file) from.2.changed; others = from.2.others })) in
-    let next : LeavesOnly now after P = widens (λ (o : Outside). o.moment) (λ (o : Outside). o.images_since) now after _ P further (λ image from.
-    let was = wide.each from.0 (counts before.moment from.0 so_far.later from.1) in
+    let P : Files → Type 0 = Follows (ChangesFile line_file (HasBecome old (news ++ take most more) (length (news ++ take most more)))) before.store.images in
+    let wide : LeavesOnly before now P = widens before.store now.store _ P so_far (λ image from. (from.0, from.1, record { changed = wider (image line_file) (from.0 line_file) from.2.changed; others = from.2.others })) in
+    let next : LeavesOnly now after P = widens now.store after.store _ P further (λ image from.
+    let was = wide.each from.0 (counts before.store.moment from.0 so_far.later from.1) in
     (was.0, was.1, record { changed = inr (gained (image line_file) from.2.changed); others = λ g not. from.2.others g not ∙ was.2.others g not })) in
-    joins (λ (o : Outside). o.moment) (λ (o : Outside). o.images_since) before now after P wide next
+    joins before.store now.store after.store P wide next
   where
     wider : (file was : List ℕ) → HasBecome old news (length news) was file → HasBecome old (news ++ take most more) (length (news ++ take most more)) was file
     wider file was (inl opened) = inl opened

@@ -8,23 +8,23 @@ use Rattle.std.specs.Option.{ForSome}
 use Rattle.std.specs.Io.KnownBytes.{Appends, prepend_known}
 use Rattle.irl_offer.specs.Faults.{Rose}
 use Rattle.irl_disk.specs.Disk.{Files, Changes, ChangesFile}
-use Rattle.irl_disk.specs.Images.{Follows}
+use Rattle.irl_disk.specs.Images.{IsConsistent, Follows}
 use Rattle.irl_disk.proofs.Stretches.{stays, widens}
 use Rattle.irl_io.specs.Steps.{Progress}
 use Rattle.irl_journal.specs.Format.{HasRecords}
 use Rattle.irl_journal.specs.Visiting.{IsOpened}
 use Rattle.irl_bay.specs.declared.kept.Kept.{Kept}
-use Rattle.irl_bay.specs.Kept.{IsKept}
+use Rattle.irl_bay.specs.Kept.{Extends, IsKept}
 use Rattle.irl_bay.specs.Lines.{HasLines, IsDamagedAt, IsKeepable, line_file, other_file}
 use Rattle.irl_bay.proofs.Lines.{lines_after, opened_lines, same_file, each-append}
 use Rattle.irl_top.proofs.AddedLines.{added-append, added-nil}
-use Rattle.irl_top.proofs.Images.{ExtendsOutside, has_front, stops_on, take_each, front_behind, length_both}
+use Rattle.irl_top.proofs.Images.{has_front, stops_on, take_each, front_behind, length_both}
 use Rattle.irl_top.proofs.Running.{KeepsOthers, Running, others_same, others_step, others_both, start}
 use Rattle.irl_top.proofs.Sinks.{appends_both}
 use Rattle.irl_top.specs.Batch.{ReadsOn, ReadsOnTold}
 use Rattle.irl_top.specs.Input.{IsFrontOf, offered, offered_from, refused}
 use Rattle.irl_top.specs.Printed.{added}
-use Rattle.irl_top.specs.Run.{Outside, Ran, Gains, Spares, Continues, LeavesOnly, HasFront, IsEarly, is_late, prints_all}
+use Rattle.irl_top.specs.Run.{Lent, Ran, Gains, Spares, Continues, LeavesOnly, HasFront, IsEarly, is_late, prints_all}
 use Rattle.irl_bay.specs.declared.kept.OpenFault.{OpenFault}
 use Rattle.irl_bay.specs.declared.kept.OpenFault.TheVariants.{NotOurs as OpenNotOurs, Damaged as OpenDamaged, Failed as OpenFailed, Memory as OpenMemory}
 use Rattle.irl_top.specs.Message.{ending_of_open, ending_of_read, ending_of_commit}
@@ -36,37 +36,37 @@ use Rattle.irl_top.specs.declared.ending.Ending.{Ending}
 use Rattle.irl_top.specs.declared.ending.Ending.TheVariants.{Done, WordsRefused, LineRefused, NotOurs, Damaged, DiskFault, InputFault, OutputFault, NoMemory}
 
 -- over each store with lines
-abbrev pub GainsAll : Outside → Outside → Ending → Type 0
-GainsAll before after ending = (files : Files) (old : List (List ℕ)) → before.files ≡ Some files → HasLines files old → Gains before after ending old
+abbrev pub GainsAll : Lent → Lent → Ending → Type 0
+GainsAll before after ending = (files : Files) (old : List (List ℕ)) → before.store.files ≡ Some files → HasLines files old → Gains before after ending old
 
 -- over each store without
-abbrev pub SparesAll : Outside → Outside → Type 0
-SparesAll before after = ForSome before.files (λ files. ((old : List (List ℕ)) → HasLines files old → ⊥) → Spares before after)
+abbrev pub SparesAll : Lent → Lent → Type 0
+SparesAll before after = ForSome before.store.files (λ files. ((old : List (List ℕ)) → HasLines files old → ⊥) → Spares before after)
 
-abbrev pub OpenedBefore : Outside → Type 0
-OpenedBefore before = ForSome before.files (λ files. (old : List (List ℕ)) × HasLines files old)
+abbrev pub OpenedBefore : Lent → Type 0
+OpenedBefore before = ForSome before.store.files (λ files. (old : List (List ℕ)) × HasLines files old)
 
 -- a store that was opened has a list
-pub lists_spare : (before after : Outside) → OpenedBefore before → SparesAll before after
+pub lists_spare : (before after : Lent) → OpenedBefore before → SparesAll before after
 lists_spare before after opened = λ files tells none. let had = opened files tells in absurd (none had.0 had.1)
 
 -- the causes of an ending within a run
-pub record HasReason (before after : Outside) (ending : Ending) : Type 0 where
+pub record HasReason (before after : Lent) (ending : Ending) : Type 0 where
   pub not_done : ending ≢ Done
   pub not_early : IsEarly ending → ⊥
   pub opened : IsTrue (is_late ending) → OpenedBefore before
-  pub line : (n : ℕ) → ending ≡ LineRefused n → ForSome before.input (λ input. refused input ≡ Some n)
+  pub line : (n : ℕ) → ending ≡ LineRefused n → ForSome before.input.bytes (λ input. refused input ≡ Some n)
   pub disk : ending ≡ DiskFault → Rose before.disk_faults after.disk_faults
-  pub input : ending ≡ InputFault → Rose before.input_faults after.input_faults
-  pub output : ending ≡ OutputFault → Rose before.output_faults after.output_faults
+  pub input : ending ≡ InputFault → Rose before.input.faults after.input.faults
+  pub output : ending ≡ OutputFault → Rose before.output.faults after.output.faults
 
-pub record NeverFalls (before after : Outside) : Type 0 where
+pub record NeverFalls (before after : Lent) : Type 0 where
   pub disk : before.disk_faults ≤ after.disk_faults
-  pub input : before.input_faults ≤ after.input_faults
-  pub output : before.output_faults ≤ after.output_faults
+  pub input : before.input.faults ≤ after.input.faults
+  pub output : before.output.faults ≤ after.output.faults
 
 -- an ending in the middle of a run
-pub stops : (before after : Outside) (ending : Ending) → GainsAll before after ending → SparesAll before after → KeepsOthers before.files after.files → HasReason before after ending → NeverFalls before after → Ran before after ending
+pub stops : (before after : Lent) (ending : Ending) → GainsAll before after ending → SparesAll before after → KeepsOthers before.store.files after.store.files → HasReason before after ending → NeverFalls before after → Ran before after ending
 stops before after ending gains spares others reason later = record {
   gains = gains;
   spares = spares;
@@ -87,17 +87,17 @@ stops before after ending gains spares others reason later = record {
 }
 
 -- the store was opened at most
-pub not_begun : (before after : Outside) (ending : Ending) → ending ≢ Done → Changes line_file IsOpened before.files after.files → LeavesOnly before after (Follows (ChangesFile line_file IsOpened) before.images)
-    → ((t : ℕ) (image : Files) → t ≤ after.moment → after.images image → after.images_since t image) → after.output ≡ before.output → GainsAll before after ending
+pub not_begun : (before after : Lent) (ending : Ending) → ending ≢ Done → Changes line_file IsOpened before.store.files after.store.files → LeavesOnly before after (Follows (ChangesFile line_file IsOpened) before.store.images)
+    → ((t : ℕ) (image : Files) → t ≤ after.store.moment → after.store.images image → after.store.since t image) → after.output.bytes ≡ before.output.bytes → GainsAll before after ending
 not_begun before after ending not changes leaves counts output = λ files old tells has.
-    let told = others_step before.files after.files IsOpened changes files tells in
+    let told = others_step before.store.files after.store.files IsOpened changes files tells in
     let change : ChangesFile line_file IsOpened files told.0 =
     let step = rw tells at changes in
     let same : step.0 ≡ told.0 = let e = sym step.1 ∙ told.1 in cc in
     subst (λ (f : Files). ChangesFile line_file IsOpened files f) same step.2 in
     let front : (a b : Files) → HasLines a old → ChangesFile line_file IsOpened a b → HasFront old [] 0 b = λ a b had step. subst (HasLines b) (sym (append-nil old)) (opened_lines a b old step had) in
     let stopped : LeavesOnly before after (Continues before old [] 0) =
-    widens (λ (o : Outside). o.moment) (λ (o : Outside). o.images_since) before after _ _ leaves (λ image from. record { was = from.0; left = from.1; others = from.2.others; lines = λ had. (0, omega arith, omega arith, front from.0 image had from.2) }) in
+    widens before.store after.store _ _ leaves (λ image from. record { was = from.0; left = from.1; others = from.2.others; lines = λ had. (0, omega arith, omega arith, front from.0 image had from.2) }) in
     record {
       news = [];
       kept = 0;
@@ -111,22 +111,22 @@ not_begun before after ending not changes leaves counts output = λ files old te
       tells = told.1;
       lines = front files told.0 has change;
       offers = λ input known. ((offered input, refl), λ is. absurd (not is));
-      written = subst (λ (w : Option (List ℕ)). Appends before.output w []) (sym output) (Appends-nil before.output);
+      written = subst (λ (w : Option (List ℕ)). Appends before.output.bytes w []) (sym output) (Appends-nil before.output.bytes);
       printed = (added old [], refl);
       whole = λ is. sym (added-nil old);
       stops = stopped;
-      now = λ image left. stopped.each image (counts before.moment image stopped.later left);
+      now = λ image left. stopped.each image (counts before.store.moment image stopped.later left);
     }
 
 -- what stands between two batches
-pub between : (before now after : Outside) (ending : Ending) (kept : Kept) (progress : Progress) (news : List (List ℕ)) → ending ≢ Done → Running before now kept progress news → after.files ≡ now.files → after.output ≡ now.output
-    → ((P : Files → Type 0) → LeavesOnly before now P → LeavesOnly before after P) → ((image : Files) → after.images image → now.images image) → GainsAll before after ending
+pub between : (before now after : Lent) (ending : Ending) (kept : Kept) (progress : Progress) (news : List (List ℕ)) → ending ≢ Done → Running before now kept progress news → after.store.files ≡ now.store.files → after.output.bytes ≡ now.output.bytes
+    → ((P : Files → Type 0) → LeavesOnly before now P → LeavesOnly before after P) → ((image : Files) → after.store.images image → now.store.images image) → GainsAll before after ending
 between before now after ending kept progress news not so_far files output moved same = λ told old tells has.
     let r = so_far.grown told old tells has in
     let all : take (length news) news ≡ news = take_all _ _ (omega arith) in
     let whole : (f : Files) → HasLines f (old ++ news) → HasFront old news (length news) f = λ f had. subst (λ (l : List (List ℕ)). HasLines f (old ++ l)) (sym all) had in
     let stopped : LeavesOnly before now (Continues before old news 0) =
-    widens (λ (o : Outside). o.moment) (λ (o : Outside). o.images_since) before now _ _ r.stops (λ image from. record { was = from.0; left = from.1; others = from.2.others; lines = λ had. let f = has_front from.0 image old news had r.known.each from.2 in (f.0, omega arith, f.1, f.2) }) in
+    widens before.store now.store _ _ r.stops (λ image from. record { was = from.0; left = from.1; others = from.2.others; lines = λ had. let f = has_front from.0 image old news had r.known.each from.2 in (f.0, omega arith, f.1, f.2) }) in
     record {
       news = news;
       kept = length news;
@@ -140,12 +140,12 @@ between before now after ending kept progress news not so_far files output moved
       tells = files ∙ r.tells;
       lines = whole r.new r.lines;
       offers = λ input known. let s = so_far.reads input known in ((offered_from (progress.number + 1) s.0, s.2.offers), λ is. absurd (not is));
-      written = subst (λ (w : Option (List ℕ)). Appends before.output w (added old news)) (sym output) r.written;
+      written = subst (λ (w : Option (List ℕ)). Appends before.output.bytes w (added old news)) (sym output) r.written;
       printed = ([], ap (added old) all ∙ sym (append-nil (added old news)));
       whole = λ is. refl;
       stops = moved _ stopped;
       now = λ image left.
-          let found = stopped.each image (so_far.counts before.moment image stopped.later (same image left)) in
+          let found = stopped.each image (so_far.counts before.store.moment image stopped.later (same image left)) in
           let records : HasRecords (image line_file) (old ++ news) = rw so_far.ready.file at (r.known.open_ image (same image left)).records in
           record {
             was = found.was;
@@ -156,29 +156,29 @@ between before now after ending kept progress news not so_far files output moved
     }
 
 -- what was appended and written of a batch that was not done whole
-pub record CommitsPartOutside (now after : Outside) (lines more : List (List ℕ)) (IsSettled : Type 0) : Type 0 where
+pub record CommitsPartLent (now after : Lent) (lines more : List (List ℕ)) (IsSettled : Type 0) : Type 0 where
   pub kept : ℕ
   pub told : ℕ
   pub most : ℕ
   pub text : List ℕ
-  pub extends : ExtendsOutside now after lines more kept told most
-  pub written_is : Appends now.output after.output text
+  pub extends : Extends now.store after.store lines more kept told most
+  pub written_is : Appends now.output.bytes after.output.bytes text
   pub printed : IsFrontOf text (added lines (take kept more))
   pub settled : IsSettled → kept ≡ most
 
-pub within : (before now after : Outside) (ending : Ending) (kept : Kept) (progress progress' : Progress) (news more : List (List ℕ)) → ending ≢ Done → (IsTrue (prints_all ending) → ⊥) → Running before now kept progress news → AllByRecursion IsKeepable more → ReadsOnTold progress progress' now.input after.input more
-    → ((lines : List (List ℕ)) → IsKept now.images kept lines → CommitsPartOutside now after lines more (ending ≢ DiskFault)) → ((t : ℕ) (image : Files) → t ≤ after.moment → after.images image → after.images_since t image) → GainsAll before after ending
+pub within : (before now after : Lent) (ending : Ending) (kept : Kept) (progress progress' : Progress) (news more : List (List ℕ)) → ending ≢ Done → (IsTrue (prints_all ending) → ⊥) → Running before now kept progress news → AllByRecursion IsKeepable more → ReadsOnTold progress progress' now.input.bytes after.input.bytes more
+    → ((lines : List (List ℕ)) → IsKept now.store.images kept lines → CommitsPartLent now after lines more (ending ≢ DiskFault)) → ((t : ℕ) (image : Files) → t ≤ after.store.moment → after.store.images image → after.store.since t image) → GainsAll before after ending
 within before now after ending kept progress progress' news more not part so_far keepable reads commits counts = λ told old tells has.
     let r = so_far.grown told old tells has in
     let p = commits (old ++ news) r.known in
     let all = length_both news more p.most p.extends.all in
-    let now_told = others_step now.files after.files _ p.extends.tells r.new r.tells in
+    let now_told = others_step now.store.files after.store.files _ p.extends.tells r.new r.tells in
     let each : AllByRecursion IsKeepable (old ++ (news ++ take p.most more)) =
     subst (AllByRecursion IsKeepable) (append_assoc old news (take p.most more)) (each-append (old ++ news) (take p.most more) r.known.each (take_each p.most more keepable)) in
     let front : (n : ℕ) → n ≤ p.most → (old ++ news) ++ take n more ≡ old ++ take (length news + n) (news ++ take p.most more) = λ n le.
     append_assoc old news (take n more) ∙ ap (λ (l : List (List ℕ)). old ++ l) (sym (front_behind news more p.most n le)) in
     let stopped : LeavesOnly before after (Continues before old (news ++ take p.most more) 0) =
-    widens (λ (o : Outside). o.moment) (λ (o : Outside). o.images_since) before after _ _ (stops_on before now after old news more p.most p.extends.all so_far.counts r.stops p.extends.stops)
+    widens before.store after.store _ _ (stops_on before now after old news more p.most p.extends.all so_far.counts r.stops p.extends.stops)
     (λ image from. record { was = from.0; left = from.1; others = from.2.others; lines = λ had. let f = has_front from.0 image old (news ++ take p.most more) had each from.2 in (f.0, omega arith, f.1, f.2) }) in
     record {
       news = news ++ take p.most more;
@@ -191,7 +191,7 @@ within before now after ending kept progress progress' news more not part so_far
       one = rw all (omega (arith, p.extends.one));
       settled = λ fine. rw all (ap (λ (n : ℕ). length news + n) (p.settled fine));
       tells = now_told.1;
-      lines = subst (HasLines now_told.0) (front p.told p.extends.no_more) (lines_after now.files after.files r.new now_told.0 (old ++ news) more p.told r.tells now_told.1 p.extends.tells r.lines (take_each p.told more keepable));
+      lines = subst (HasLines now_told.0) (front p.told p.extends.no_more) (lines_after now.store.files after.store.files r.new now_told.0 (old ++ news) more p.told r.tells now_told.1 p.extends.tells r.lines (take_each p.told more keepable));
       offers = λ input known.
           let s = so_far.reads input known in
           let b = reads s.0 s.1 in
@@ -199,7 +199,7 @@ within before now after ending kept progress progress' news more not part so_far
           let split : more ≡ take p.most more ++ drop p.most more = sym (take-append-drop p.most more) in
           let offers : offered input ≡ news ++ (more ++ rest) = s.2.offers ∙ ap (λ (l : List (List ℕ)). news ++ l) b.2.offers in
           ((drop p.most more ++ rest, offers ∙ ap (λ (l : List (List ℕ)). news ++ (l ++ rest)) split ∙ simp append_assoc), λ is. absurd (not is));
-      written = appends_both before.output now.output after.output (added old news) p.text r.written p.written_is;
+      written = appends_both before.output.bytes now.output.bytes after.output.bytes (added old news) p.text r.written p.written_is;
       printed =
           let le : p.kept ≤ p.most = omega (arith, p.extends.acknowledged, p.extends.no_more) in
           let text : added (old ++ news) (take p.kept more) ≡ p.text ++ p.printed.0 = p.printed.1 in
@@ -207,7 +207,7 @@ within before now after ending kept progress progress' news more not part so_far
       whole = λ is. absurd (part is);
       stops = stopped;
       now = λ image left.
-          let found = stopped.each image (counts before.moment image stopped.later left) in
+          let found = stopped.each image (counts before.store.moment image stopped.later left) in
           let n = p.extends.now image left in
           record {
             was = found.was;
@@ -229,7 +229,7 @@ at_end [] (Some bytes) is = is
 at_end (b ∷ ahead) (Some bytes) is = absurd (let e : b ∷ (ahead ++ bytes) ≡ [] = cc in cc)
 
 -- the input was read to its end
-pub done : (before now : Outside) (kept : Kept) (progress : Progress) (news : List (List ℕ)) → Running before now kept progress news → ((input : List ℕ) → before.input ≡ Some input → prepend_known progress.ahead now.input ≡ Some []) → Ran before now Done
+pub done : (before now : Lent) (kept : Kept) (progress : Progress) (news : List (List ℕ)) → Running before now kept progress news → ((input : List ℕ) → before.input.bytes ≡ Some input → prepend_known progress.ahead now.input.bytes ≡ Some []) → Ran before now Done
 unfolding between
 done before now kept progress news so_far ended = record {
   gains = λ files old tells has.
@@ -258,7 +258,7 @@ done before now kept progress news so_far ended = record {
   early = elim [ inl e ↦ absurd (cc) | inr (inl e) ↦ absurd (let f = e.1 in cc) | inr (inr e) ↦ absurd (let f = e.1 in cc) ];
   untouched = λ is. absurd (cc);
   opened = λ is. so_far.opened;
-  read = λ is input known. (at_end progress.ahead now.input (ended input known), (whole input known).1);
+  read = λ is input known. (at_end progress.ahead now.input.bytes (ended input known), (whole input known).1);
   line = λ n is. absurd (cc);
   not_ours = λ n is. absurd (cc);
   damaged = λ n is. absurd (cc);
@@ -270,7 +270,7 @@ done before now kept progress news so_far ended = record {
   output_later = so_far.output_later;
 }
   where
-    whole : (input : List ℕ) → before.input ≡ Some input → (offered input ≡ news) × (refused input ≡ None)
+    whole : (input : List ℕ) → before.input.bytes ≡ Some input → (offered input ≡ news) × (refused input ≡ None)
     whole input known =
         let s = so_far.reads input known in
         let none : s.0 ≡ [] = let e = sym s.1 ∙ ended input known in cc in
@@ -278,7 +278,7 @@ done before now kept progress news so_far ended = record {
         (reads.offers ∙ append-nil news, reads.refuses)
 
 -- want of memory
-pub no_memory : (before after : Outside) → GainsAll before after NoMemory → SparesAll before after → KeepsOthers before.files after.files → NeverFalls before after → Ran before after NoMemory
+pub no_memory : (before after : Lent) → GainsAll before after NoMemory → SparesAll before after → KeepsOthers before.store.files after.store.files → NeverFalls before after → Ran before after NoMemory
 no_memory before after gains spares others later = stops before after NoMemory gains spares others (record {
   not_done = λ e. absurd (cc);
   not_early = elim [ inl e ↦ absurd (cc) | inr (inl e) ↦ absurd (let f = e.1 in cc) | inr (inr e) ↦ absurd (let f = e.1 in cc) ];
@@ -289,7 +289,7 @@ no_memory before after gains spares others later = stops before after NoMemory g
   output = λ e. absurd (cc);
 }) later
 
-pub disk_fault : (before after : Outside) → GainsAll before after DiskFault → SparesAll before after → KeepsOthers before.files after.files → Rose before.disk_faults after.disk_faults → NeverFalls before after → Ran before after DiskFault
+pub disk_fault : (before after : Lent) → GainsAll before after DiskFault → SparesAll before after → KeepsOthers before.store.files after.store.files → Rose before.disk_faults after.disk_faults → NeverFalls before after → Ran before after DiskFault
 disk_fault before after gains spares others rose later = stops before after DiskFault gains spares others (record {
   not_done = λ e. absurd (cc);
   not_early = elim [ inl e ↦ absurd (cc) | inr (inl e) ↦ absurd (let f = e.1 in cc) | inr (inr e) ↦ absurd (let f = e.1 in cc) ];
@@ -300,7 +300,7 @@ disk_fault before after gains spares others rose later = stops before after Disk
   output = λ e. absurd (cc);
 }) later
 
-pub input_fault : (before after : Outside) → GainsAll before after InputFault → SparesAll before after → OpenedBefore before → KeepsOthers before.files after.files → Rose before.input_faults after.input_faults → NeverFalls before after → Ran before after InputFault
+pub input_fault : (before after : Lent) → GainsAll before after InputFault → SparesAll before after → OpenedBefore before → KeepsOthers before.store.files after.store.files → Rose before.input.faults after.input.faults → NeverFalls before after → Ran before after InputFault
 input_fault before after gains spares opened others rose later = stops before after InputFault gains spares others (record {
   not_done = λ e. absurd (cc);
   not_early = elim [ inl e ↦ absurd (cc) | inr (inl e) ↦ absurd (let f = e.1 in cc) | inr (inr e) ↦ absurd (let f = e.1 in cc) ];
@@ -311,7 +311,7 @@ input_fault before after gains spares opened others rose later = stops before af
   output = λ e. absurd (cc);
 }) later
 
-pub output_fault : (before after : Outside) → GainsAll before after OutputFault → SparesAll before after → OpenedBefore before → KeepsOthers before.files after.files → Rose before.output_faults after.output_faults → NeverFalls before after → Ran before after OutputFault
+pub output_fault : (before after : Lent) → GainsAll before after OutputFault → SparesAll before after → OpenedBefore before → KeepsOthers before.store.files after.store.files → Rose before.output.faults after.output.faults → NeverFalls before after → Ran before after OutputFault
 output_fault before after gains spares opened others rose later = stops before after OutputFault gains spares others (record {
   not_done = λ e. absurd (cc);
   not_early = elim [ inl e ↦ absurd (cc) | inr (inl e) ↦ absurd (let f = e.1 in cc) | inr (inr e) ↦ absurd (let f = e.1 in cc) ];
@@ -322,19 +322,19 @@ output_fault before after gains spares opened others rose later = stops before a
   output = λ e. rose;
 }) later
 
-pub line_refused : (before after : Outside) (n : ℕ) → GainsAll before after (LineRefused n) → SparesAll before after → OpenedBefore before → KeepsOthers before.files after.files → ForSome before.input (λ input. refused input ≡ Some n) → NeverFalls before after → Ran before after (LineRefused n)
+pub line_refused : (before after : Lent) (n : ℕ) → GainsAll before after (LineRefused n) → SparesAll before after → OpenedBefore before → KeepsOthers before.store.files after.store.files → ForSome before.input.bytes (λ input. refused input ≡ Some n) → NeverFalls before after → Ran before after (LineRefused n)
 line_refused before after n gains spares opened others refuses later = stops before after (LineRefused n) gains spares others (record {
   not_done = λ e. absurd (cc);
   not_early = elim [ inl e ↦ absurd (cc) | inr (inl e) ↦ absurd (let f = e.1 in cc) | inr (inr e) ↦ absurd (let f = e.1 in cc) ];
   opened = λ e. opened;
-  line = λ m e. let same : n ≡ m = cc in subst (λ (k : ℕ). ForSome before.input (λ input. refused input ≡ Some k)) same refuses;
+  line = λ m e. let same : n ≡ m = cc in subst (λ (k : ℕ). ForSome before.input.bytes (λ input. refused input ≡ Some k)) same refuses;
   disk = λ e. absurd (cc);
   input = λ e. absurd (cc);
   output = λ e. absurd (cc);
 }) later
 
 -- a store of another make
-pub not_ours : (before after : Outside) (n : ℕ) → GainsAll before after (NotOurs n) → SparesAll before after → KeepsOthers before.files after.files → after.files ≡ before.files → after.input ≡ before.input → after.output ≡ before.output → (n ≡ 0) × ForSome before.files (λ files. 1 < length (files other_file)) → NeverFalls before after → Ran before after (NotOurs n)
+pub not_ours : (before after : Lent) (n : ℕ) → GainsAll before after (NotOurs n) → SparesAll before after → KeepsOthers before.store.files after.store.files → after.store.files ≡ before.store.files → after.input.bytes ≡ before.input.bytes → after.output.bytes ≡ before.output.bytes → (n ≡ 0) × ForSome before.store.files (λ files. 1 < length (files other_file)) → NeverFalls before after → Ran before after (NotOurs n)
 not_ours before after n gains spares others files input output cause later = record {
   gains = gains;
   spares = spares;
@@ -344,7 +344,7 @@ not_ours before after n gains spares others files input output cause later = rec
   opened = λ is. absurd (cc);
   read = λ is. absurd (cc);
   line = λ m is. absurd (cc);
-  not_ours = λ m is. let same : n ≡ m = cc in subst (λ (k : ℕ). (k ≡ 0) × ForSome before.files (λ told. 1 < length (told other_file))) same cause;
+  not_ours = λ m is. let same : n ≡ m = cc in subst (λ (k : ℕ). (k ≡ 0) × ForSome before.store.files (λ told. 1 < length (told other_file))) same cause;
   damaged = λ m is. absurd (cc);
   disk = λ is. absurd (cc);
   input = λ is. absurd (cc);
@@ -355,7 +355,7 @@ not_ours before after n gains spares others files input output cause later = rec
 }
 
 -- a damaged store
-pub damaged : (before after : Outside) (n : ℕ) → GainsAll before after (Damaged n) → SparesAll before after → KeepsOthers before.files after.files → after.files ≡ before.files → after.input ≡ before.input → after.output ≡ before.output → ForSome before.files (λ files. (length (files other_file) ≤ 1) × IsDamagedAt (files line_file) n) → NeverFalls before after → Ran before after (Damaged n)
+pub damaged : (before after : Lent) (n : ℕ) → GainsAll before after (Damaged n) → SparesAll before after → KeepsOthers before.store.files after.store.files → after.store.files ≡ before.store.files → after.input.bytes ≡ before.input.bytes → after.output.bytes ≡ before.output.bytes → ForSome before.store.files (λ files. (length (files other_file) ≤ 1) × IsDamagedAt (files line_file) n) → NeverFalls before after → Ran before after (Damaged n)
 damaged before after n gains spares others files input output cause later = record {
   gains = gains;
   spares = spares;
@@ -366,7 +366,7 @@ damaged before after n gains spares others files input output cause later = reco
   read = λ is. absurd (cc);
   line = λ m is. absurd (cc);
   not_ours = λ m is. absurd (cc);
-  damaged = λ m is. let same : n ≡ m = cc in subst (λ (k : ℕ). ForSome before.files (λ told. (length (told other_file) ≤ 1) × IsDamagedAt (told line_file) k)) same cause;
+  damaged = λ m is. let same : n ≡ m = cc in subst (λ (k : ℕ). ForSome before.store.files (λ told. (length (told other_file) ≤ 1) × IsDamagedAt (told line_file) k)) same cause;
   disk = λ is. absurd (cc);
   input = λ is. absurd (cc);
   output = λ is. absurd (cc);
@@ -376,15 +376,15 @@ damaged before after n gains spares others files input output cause later = reco
 }
 
 -- nothing was called
-pub words_refused : (before : Outside) → ((image : Files) → before.images_since before.moment image → before.images image) → ((t : ℕ) (image : Files) → t ≤ before.moment → before.images image → before.images_since t image) → Ran before before WordsRefused
-words_refused before only counts =
-    let leaves : LeavesOnly before before (Follows (ChangesFile line_file IsOpened) before.images) = stays (λ (o : Outside). o.moment) (λ (o : Outside). o.images_since) before _ (λ image since. (image, only image since, same_file image)) in
+pub words_refused : (before : Lent) → IsConsistent before.store → Ran before before WordsRefused
+words_refused before law =
+    let leaves : LeavesOnly before before (Follows (ChangesFile line_file IsOpened) before.store.images) = stays before.store _ law (λ image now. (image, now, same_file image)) in
     record {
-      gains = not_begun before before WordsRefused (λ e. absurd (cc)) (changes_none before.files) leaves counts refl;
-      spares = λ files tells none. record { files = changes_none before.files; stops = leaves; input = refl; output = refl };
-      others = others_same before.files before.files refl;
+      gains = not_begun before before WordsRefused (λ e. absurd (cc)) (changes_none before.store.files) leaves law.counts refl;
+      spares = λ files tells none. record { files = changes_none before.store.files; stops = leaves; input = refl; output = refl };
+      others = others_same before.store.files before.store.files refl;
       early = λ is. (refl, refl, refl);
-      untouched = λ is. record { files = refl; moment = refl; disk_faults = refl; input = refl; input_faults = refl; output = refl; output_faults = refl };
+      untouched = λ is. record { files = refl; moment = refl; disk_faults = refl; input = refl; output = refl };
       opened = λ is. absurd (cc);
       read = λ is. absurd (cc);
       line = λ n is. absurd (cc);
@@ -403,8 +403,8 @@ words_refused before only counts =
     changes_none (Some files) = (files, refl, same_file files)
 
 -- a refused opening
-pub not_opened : (before after : Outside) (fault : OpenFault) → GainsAll before after (ending_of_open fault) → SparesAll before after → KeepsOthers before.files after.files → ((n : ℕ) → fault ≡ OpenNotOurs n → after.files ≡ before.files) → ((n : ℕ) → fault ≡ OpenDamaged n → after.files ≡ before.files) → after.input ≡ before.input → after.output ≡ before.output
-    → ((n : ℕ) → fault ≡ OpenNotOurs n → (n ≡ 0) × ForSome before.files (λ files. 1 < length (files other_file))) → ((n : ℕ) → fault ≡ OpenDamaged n → ForSome before.files (λ files. (length (files other_file) ≤ 1) × IsDamagedAt (files line_file) n)) → (fault ≡ OpenFailed → Rose before.disk_faults after.disk_faults) → NeverFalls before after → Ran before after (ending_of_open fault)
+pub not_opened : (before after : Lent) (fault : OpenFault) → GainsAll before after (ending_of_open fault) → SparesAll before after → KeepsOthers before.store.files after.store.files → ((n : ℕ) → fault ≡ OpenNotOurs n → after.store.files ≡ before.store.files) → ((n : ℕ) → fault ≡ OpenDamaged n → after.store.files ≡ before.store.files) → after.input.bytes ≡ before.input.bytes → after.output.bytes ≡ before.output.bytes
+    → ((n : ℕ) → fault ≡ OpenNotOurs n → (n ≡ 0) × ForSome before.store.files (λ files. 1 < length (files other_file))) → ((n : ℕ) → fault ≡ OpenDamaged n → ForSome before.store.files (λ files. (length (files other_file) ≤ 1) × IsDamagedAt (files line_file) n)) → (fault ≡ OpenFailed → Rose before.disk_faults after.disk_faults) → NeverFalls before after → Ran before after (ending_of_open fault)
 not_opened before after (OpenNotOurs n) gains spares others same same' input output ours broken failed later = not_ours before after n gains spares others (same n refl) input output (ours n refl) later
 not_opened before after (OpenDamaged n) gains spares others same same' input output ours broken failed later = damaged before after n gains spares others (same' n refl) input output (broken n refl) later
 not_opened before after OpenFailed gains spares others same same' input output ours broken failed later = disk_fault before after gains spares others (failed refl) later
@@ -417,7 +417,7 @@ open_not_done OpenFailed = λ e. absurd (cc)
 open_not_done OpenMemory = λ e. absurd (cc)
 
 -- a refused batch
-pub not_read : (before after : Outside) (fault : ReadFault) → GainsAll before after (ending_of_read fault) → SparesAll before after → OpenedBefore before → KeepsOthers before.files after.files → ((n : ℕ) → fault ≡ ReadRefused n → ForSome before.input (λ input. refused input ≡ Some n)) → (fault ≡ ReadFailed → Rose before.input_faults after.input_faults) → NeverFalls before after → Ran before after (ending_of_read fault)
+pub not_read : (before after : Lent) (fault : ReadFault) → GainsAll before after (ending_of_read fault) → SparesAll before after → OpenedBefore before → KeepsOthers before.store.files after.store.files → ((n : ℕ) → fault ≡ ReadRefused n → ForSome before.input.bytes (λ input. refused input ≡ Some n)) → (fault ≡ ReadFailed → Rose before.input.faults after.input.faults) → NeverFalls before after → Ran before after (ending_of_read fault)
 not_read before after (ReadRefused n) gains spares opened others refuses failed later = line_refused before after n gains spares opened others (refuses n refl) later
 not_read before after ReadFailed gains spares opened others refuses failed later = input_fault before after gains spares opened others (failed refl) later
 not_read before after ReadMemory gains spares opened others refuses failed later = no_memory before after gains spares others later
@@ -428,7 +428,7 @@ read_not_done ReadFailed = λ e. absurd (cc)
 read_not_done ReadMemory = λ e. absurd (cc)
 
 -- a batch that was not done whole
-pub not_committed : (before after : Outside) (fault : CommitFault) → GainsAll before after (ending_of_commit fault) → SparesAll before after → OpenedBefore before → KeepsOthers before.files after.files → (fault ≡ Disk → Rose before.disk_faults after.disk_faults) → (fault ≡ Output → Rose before.output_faults after.output_faults) → NeverFalls before after → Ran before after (ending_of_commit fault)
+pub not_committed : (before after : Lent) (fault : CommitFault) → GainsAll before after (ending_of_commit fault) → SparesAll before after → OpenedBefore before → KeepsOthers before.store.files after.store.files → (fault ≡ Disk → Rose before.disk_faults after.disk_faults) → (fault ≡ Output → Rose before.output.faults after.output.faults) → NeverFalls before after → Ran before after (ending_of_commit fault)
 not_committed before after Disk gains spares opened others disk output later = disk_fault before after gains spares others (disk refl) later
 not_committed before after Output gains spares opened others disk output later = output_fault before after gains spares opened others (output refl) later
 not_committed before after Memory gains spares opened others disk output later = no_memory before after gains spares others later
@@ -448,9 +448,9 @@ pub not_disk : (fault : CommitFault) → ending_of_commit fault ≢ DiskFault �
 not_disk fault not is = not (ap ending_of_commit is)
 
 -- what a batch in which some was appended does to other files
-pub others_part : (before now after : Outside) (kept : Kept) (progress : Progress) (news more : List (List ℕ)) (IsSettled : Type 0) → Running before now kept progress news → ((lines : List (List ℕ)) → IsKept now.images kept lines → CommitsPartOutside now after lines more IsSettled) → KeepsOthers before.files after.files
+pub others_part : (before now after : Lent) (kept : Kept) (progress : Progress) (news more : List (List ℕ)) (IsSettled : Type 0) → Running before now kept progress news → ((lines : List (List ℕ)) → IsKept now.store.images kept lines → CommitsPartLent now after lines more IsSettled) → KeepsOthers before.store.files after.store.files
 others_part before now after kept progress news more IsSettled so_far commits = λ files tells.
     let had = so_far.opened files tells in
     let r = so_far.grown files had.0 tells had.1 in
     let p = commits (had.0 ++ news) r.known in
-    others_both before.files now.files after.files so_far.others (others_step now.files after.files _ p.extends.tells) files tells
+    others_both before.store.files now.store.files after.store.files so_far.others (others_step now.store.files after.store.files _ p.extends.tells) files tells

@@ -2,7 +2,7 @@
 use Rattle.std.specs.Prelude.{◌≡◌, ℕ, ◌+◌, List, [], ◌++◌, length, map, take, Option, Some}
 use Rattle.std.specs.Io.KnownBytes.{Appends, prepend_known}
 use Rattle.irl_offer.specs.Tuple.{Tuple}
-use Rattle.irl_disk.specs.Disk.{Files}
+use Rattle.irl_disk.specs.Images.{Snapshot}
 use Rattle.irl_io.specs.Lines.{lines}
 use Rattle.irl_io.specs.Steps.{Progress}
 use Rattle.irl_bay.specs.Kept.{IsKept, Extends}
@@ -33,19 +33,19 @@ abbrev pub RefusesTold : Progress → Option (List ℕ) → ℕ → Type 0
 RefusesTold old left_before n = (before : List ℕ) → prepend_known old.ahead left_before ≡ Some before → refused_from (old.number + 1) (lines before) ≡ Some n
 
 -- the lines were appended and acknowledged, they are known, and those of them that are Unique were written
-pub record Commits {S : Type 0} (contents : S → Option Files) (images : S → Files → Type 0) (moment : S → ℕ) (images_since : S → ℕ → Files → Type 0) (old new : S) (kept : Kept) (written_before written : Option (List ℕ)) (lines news : List (List ℕ)) : Type 0 where
-  pub known : IsKept (images new) kept (lines ++ news)
-  pub extends : Extends contents images moment images_since old new lines news (length news) (length news) (length news)
+pub record Commits (old new : Snapshot) (kept : Kept) (written_before written : Option (List ℕ)) (lines news : List (List ℕ)) : Type 0 where
+  pub known : IsKept new.images kept (lines ++ news)
+  pub extends : Extends old new lines news (length news) (length news) (length news)
   pub printed : Appends written_before written (added lines news)
 
 -- some of the lines were appended, and a front of the text of those that are acknowledged was written; where it is
 -- settled, none is in doubt
-pub record CommitsPart {S : Type 0} (contents : S → Option Files) (images : S → Files → Type 0) (moment : S → ℕ) (images_since : S → ℕ → Files → Type 0) (old new : S) (written_before written : Option (List ℕ)) (lines news : List (List ℕ)) (IsSettled : Type 0) : Type 0 where
+pub record CommitsPart (old new : Snapshot) (written_before written : Option (List ℕ)) (lines news : List (List ℕ)) (IsSettled : Type 0) : Type 0 where
   pub kept : ℕ
   pub told : ℕ
   pub most : ℕ
   pub text : List ℕ
-  pub extends : Extends contents images moment images_since old new lines news kept told most
+  pub extends : Extends old new lines news kept told most
   pub written_is : Appends written_before written text
   pub printed : IsFrontOf text (added lines (take kept news))
   pub settled : IsSettled → kept ≡ most

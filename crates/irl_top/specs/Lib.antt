@@ -3,3 +3,4 @@ pub mod Input
 pub mod Message
 pub mod Printed
 pub mod Run
+pub mod Stream

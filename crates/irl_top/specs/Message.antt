@@ -9,6 +9,7 @@ use Rattle.irl_bay.specs.declared.kept.Fault.{Fault}
 use Rattle.irl_bay.specs.declared.kept.Fault.TheVariants.{Failed as AppendFailed, Memory as AppendMemory}
 use Rattle.irl_bay.specs.declared.kept.OpenFault.{OpenFault}
 use Rattle.irl_bay.specs.declared.kept.OpenFault.TheVariants.{NotOurs as OpenNotOurs, Damaged as OpenDamaged, Failed as OpenFailed, Memory as OpenMemory}
+use Rattle.irl_top.specs.Stream.{Stream}
 use Rattle.irl_top.specs.declared.batch.ReadFault.{ReadFault}
 use Rattle.irl_top.specs.declared.batch.ReadFault.TheVariants.{LineRefused as ReadRefused, Failed as ReadFailed, Memory as ReadMemory}
 use Rattle.irl_top.specs.declared.commit.CommitFault.{CommitFault}
@@ -46,10 +47,10 @@ message word InputFault = codes "input fault" ++ 10 ∷ []
 message word OutputFault = codes "output fault" ++ 10 ∷ []
 message word NoMemory = codes "no memory" ++ 10 ∷ []
 
--- a text was written, or a front of it where the sink failed
-pub record Says (text : List ℕ) (old new : Option (List ℕ)) (before now : ℕ) : Type 0 where
-  pub later : before ≤ now
-  pub written : Appends old new text ⊎ (AppendsFront old new text × Rose before now)
+-- a text was written, or a prefix of it where the sink failed
+pub record Says (text : List ℕ) (before after : Stream) : Type 0 where
+  pub later : before.faults ≤ after.faults
+  pub written : Appends before.bytes after.bytes text ⊎ (AppendsFront before.bytes after.bytes text × Rose before.faults after.faults)
 
 -- what a refused append is answered with
 abbrev pub commit_fault_of : Fault → CommitFault

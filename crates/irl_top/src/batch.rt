@@ -1,6 +1,6 @@
 ghost use Rattle.std.specs.Prelude.{◌≡◌, ◌≤◌, ◌<◌, ◌+◌, ℕ, [], length, IsTrue, OnOk, OnErr, IfOk, IsErrOf, true, false};
 ghost use Rattle.std.specs.Io.KnownBytes.{prepend_known};
-ghost use Rattle.irl_offer.specs.Faults.{Rose};
+ghost use Rattle.irl_offer.specs.Faults.{HasCause};
 ghost use Rattle.irl_io.specs.Lines.{most_lines};
 ghost use Rattle.irl_bay.specs.Lines.{AreLines};
 ghost use Rattle.irl_top.specs.Batch.{texts, ReadsOnTold, EndsTold, RefusesTold};
@@ -57,12 +57,15 @@ pub fn read_batch<I: Source>(
     input: &mut I,
 ) -> Result<Batch, ReadFault>
     ensures offers { IfOk result (λ batch. AreLines batch.offers.items) }
-    ensures bytes { IfOk result (λ batch. ReadsOnTold lines.old lines.new (I.left input.old) (I.left input.new) (texts batch.offers.items)) }
-    ensures last { IfOk result (λ batch. IsTrue batch.is_last → EndsTold lines.old lines.new (I.left input.old) (I.left input.new)) }
-    ensures more { IfOk result (λ batch. batch.is_last ≡ false → (lines.old.number < lines.new.number) × (lines.new.number ≤ most_lines)) }
-    ensures refused { (n : ℕ) → IsErrOf result (ReadFault.LineRefused n) → RefusesTold lines.old (I.left input.old) n }
-    ensures later { I.faults input.old ≤ I.faults input.new }
-    ensures failed { IsErrOf result ReadFault.Failed → Rose (I.faults input.old) (I.faults input.new) }
+    ensures bytes { IfOk result (λ batch. ReadsOnTold lines.old lines.new (I.left input.old) (I.left input.new)
+        (texts batch.offers.items)) }
+    ensures last { IfOk result (λ batch. IsTrue batch.is_last →
+        EndsTold lines.old lines.new (I.left input.old) (I.left input.new)) }
+    ensures more { IfOk result (λ batch. batch.is_last ≡ false →
+        (lines.old.number < lines.new.number) × (lines.new.number ≤ most_lines)) }
+    ensures refused { (n : ℕ) → IsErrOf result (ReadFault.LineRefused n) →
+        RefusesTold lines.old (I.left input.old) n }
+    ensures cause { HasCause (IsErrOf result ReadFault.Failed) (I.faults input.old) (I.faults input.new) }
 {
     let mut offers = Vec::new(alloc);
     'gathering: while offers.len() < BATCH {

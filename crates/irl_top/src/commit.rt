@@ -1,5 +1,5 @@
 ghost use Rattle.std.specs.Prelude.{◌≡◌, ◌≢◌, ◌≤◌, ℕ, List, OnOk, OnErr, IsErrOf, IsErr};
-ghost use Rattle.irl_offer.specs.Faults.{Rose, HasCause};
+ghost use Rattle.irl_offer.specs.Faults.{HasCause};
 ghost use Rattle.std.specs.Io.KnownBytes.{Appends};
 ghost use Rattle.irl_io.specs.Written.{AppendsFront};
 ghost use Rattle.irl_bay.specs.Lines.{AreLines};
@@ -63,17 +63,17 @@ pub fn commit<O: Sink, S: Store>(
 ) -> Result<(), CommitFault>
     requires lines { AreLines offers.now }
     requires ready { IsReady kept.old }
-    requires known { IsKnown (S.contents store.old) (S.images store.old) kept.old }
+    requires known { IsKnown (S.snapshot store.old).files (S.snapshot store.old).images kept.old }
     ensures ready { OnOk result (IsReady kept.new) }
-    ensures known { OnOk result (IsKnown (S.contents store.new) (S.images store.new) kept.new) }
-    ensures whole { OnOk result ((lines : List (List ℕ)) → IsKept (S.images store.old) kept.old lines →
-        Commits S.contents S.images S.moment S.images_since store.old store.new kept.new (O.written output.old) (O.written output.new) lines (texts offers.now)) }
-    ensures part { OnErr result ((lines : List (List ℕ)) → IsKept (S.images store.old) kept.old lines →
-        CommitsPart S.contents S.images S.moment S.images_since store.old store.new (O.written output.old) (O.written output.new) lines (texts offers.now) (result ≢ Err CommitFault.Disk)) }
-    ensures disk_later { S.faults store.old ≤ S.faults store.new }
-    ensures output_later { O.faults output.old ≤ O.faults output.new }
-    ensures disk { IsErrOf result CommitFault.Disk → Rose (S.faults store.old) (S.faults store.new) }
-    ensures output { IsErrOf result CommitFault.Output → Rose (O.faults output.old) (O.faults output.new) }
+    ensures known { OnOk result (IsKnown (S.snapshot store.new).files (S.snapshot store.new).images kept.new) }
+    ensures whole { OnOk result ((lines : List (List ℕ)) → IsKept (S.snapshot store.old).images kept.old lines →
+        Commits (S.snapshot store.old) (S.snapshot store.new) kept.new (O.written output.old) (O.written output.new)
+        lines (texts offers.now)) }
+    ensures part { OnErr result ((lines : List (List ℕ)) → IsKept (S.snapshot store.old).images kept.old lines →
+        CommitsPart (S.snapshot store.old) (S.snapshot store.new) (O.written output.old) (O.written output.new)
+        lines (texts offers.now) (result ≢ Err CommitFault.Disk)) }
+    ensures disk { HasCause (IsErrOf result CommitFault.Disk) (S.faults store.old) (S.faults store.new) }
+    ensures output { HasCause (IsErrOf result CommitFault.Output) (O.faults output.old) (O.faults output.new) }
 {
     if offers.is_empty() {
         return Ok(());

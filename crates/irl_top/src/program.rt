@@ -1,5 +1,5 @@
 ghost use Rattle.std.specs.Prelude.{◌≡◌, ◌↔◌, IsTrue, map};
-ghost use Rattle.irl_top.specs.Run.{Ran, Runs};
+ghost use Rattle.irl_top.specs.Run.{Ran, Runs, lent, outside};
 ghost use Rattle.irl_top.specs.declared.ending.Ending.TheVariants.{WordsRefused};
 
 use crate::Ending;
@@ -31,10 +31,9 @@ where
     O: Sink,
     E: Sink,
     S: Store,
-    ensures { Runs (map (λ word. word.now) words.now)
-        (record { files = S.contents store; images = S.images store; moment = S.moment store; images_since = S.images_since store; disk_faults = S.faults store; input = I.left input.old; input_faults = I.faults input.old; output = O.written output.old; output_faults = O.faults output.old })
-        (record { files = S.contents result.1; images = S.images result.1; moment = S.moment result.1; images_since = S.images_since result.1; disk_faults = S.faults result.1; input = I.left input.new; input_faults = I.faults input.new; output = O.written output.new; output_faults = O.faults output.new })
-        (E.written errors.old) (E.written errors.new) (E.faults errors.old) (E.faults errors.new) result.0 }
+    ensures { let tells = outside S.snapshot S.faults I.left I.faults O.written O.faults E.written E.faults in
+        Runs (map (λ word. word.now) words.now)
+        (tells store input.old output.old errors.old) (tells result.1 input.new output.new errors.new) result.0 }
 {
     let mut store = store;
     let refused = refused_word(words);
@@ -52,10 +51,8 @@ fn carry_out<I: Source, O: Sink, S: Store>(
     store: &mut S,
 ) -> Ending
     ensures words { (result ≡ WordsRefused) ↔ IsTrue is_refused }
-    ensures ran { Ran
-        (record { files = S.contents store.old; images = S.images store.old; moment = S.moment store.old; images_since = S.images_since store.old; disk_faults = S.faults store.old; input = I.left input.old; input_faults = I.faults input.old; output = O.written output.old; output_faults = O.faults output.old })
-        (record { files = S.contents store.new; images = S.images store.new; moment = S.moment store.new; images_since = S.images_since store.new; disk_faults = S.faults store.new; input = I.left input.new; input_faults = I.faults input.new; output = O.written output.new; output_faults = O.faults output.new })
-        result }
+    ensures ran { let tells = lent S.snapshot S.faults I.left I.faults O.written O.faults in
+        Ran (tells store.old input.old output.old) (tells store.new input.new output.new) result }
 {
     if is_refused {
         return Ending::WordsRefused;

@@ -1,6 +1,6 @@
 ghost use Rattle.std.specs.Prelude.{◌≡◌, ◌≢◌};
 ghost use Rattle.irl_top.specs.Message.{ending_of, ending_of_open, ending_of_read, ending_of_commit};
-ghost use Rattle.irl_top.specs.Run.{Ran};
+ghost use Rattle.irl_top.specs.Run.{Ran, lent};
 ghost use Rattle.irl_top.specs.declared.ending.Ending.TheVariants.{NoMemory, WordsRefused};
 
 use crate::Ending;
@@ -64,10 +64,8 @@ pub fn seen<I: Source, O: Sink, S: Store>(
     store: &mut S,
 ) -> Result<(), Ending>
     ensures accepted { ending_of result ≢ WordsRefused }
-    ensures ran { Ran
-        (record { files = S.contents store.old; images = S.images store.old; moment = S.moment store.old; images_since = S.images_since store.old; disk_faults = S.faults store.old; input = I.left input.old; input_faults = I.faults input.old; output = O.written output.old; output_faults = O.faults output.old })
-        (record { files = S.contents store.new; images = S.images store.new; moment = S.moment store.new; images_since = S.images_since store.new; disk_faults = S.faults store.new; input = I.left input.new; input_faults = I.faults input.new; output = O.written output.new; output_faults = O.faults output.new })
-        (ending_of result) }
+    ensures ran { let tells = lent S.snapshot S.faults I.left I.faults O.written O.faults in
+        Ran (tells store.old input.old output.old) (tells store.new input.new output.new) (ending_of result) }
 {
     let mut kept = Kept::open(alloc, store)?;
     let mut lines = Lines::new(alloc)?;

@@ -11,7 +11,8 @@ use itoa::Buffer;
 /// Writes the line of an ending: nothing at `Done`. It takes no memory.
 pub fn tell<E: Sink>(errors: &mut E, refused: &str, ending: Ending) -> Result<(), Failed>
     ensures ok { OnOk result (Appends (E.written errors.old) (E.written errors.new) (message refused.now ending)) }
-    ensures err { OnErr result (AppendsFront (E.written errors.old) (E.written errors.new) (message refused.now ending)) }
+    ensures err { OnErr result (AppendsFront (E.written errors.old) (E.written errors.new)
+        (message refused.now ending)) }
     ensures cause { HasCause (IsErr result) (E.faults errors.old) (E.faults errors.new) }
 {
     let mut buffer = Buffer::new();
@@ -40,8 +41,10 @@ pub fn tell<E: Sink>(errors: &mut E, refused: &str, ending: Ending) -> Result<()
 
 /// Writes three pieces, up to the first that fails.
 fn say<E: Sink>(errors: &mut E, front: &[u8], middle: &[u8], back: &[u8]) -> Result<(), Failed>
-    ensures ok { OnOk result (Appends (E.written errors.old) (E.written errors.new) (front.now ++ middle.now ++ back.now)) }
-    ensures err { OnErr result (AppendsFront (E.written errors.old) (E.written errors.new) (front.now ++ middle.now ++ back.now)) }
+    ensures ok { OnOk result (Appends (E.written errors.old) (E.written errors.new)
+        (front.now ++ middle.now ++ back.now)) }
+    ensures err { OnErr result (AppendsFront (E.written errors.old) (E.written errors.new)
+        (front.now ++ middle.now ++ back.now)) }
     ensures cause { HasCause (IsErr result) (E.faults errors.old) (E.faults errors.new) }
 {
     errors.write(front)?;

@@ -19,7 +19,7 @@ returns g c =
       status_is = c.status.ensures;
       words_refused = (λ e. sym some ∙ words.0 e, λ e. words.1 (some ∙ e));
       ran = ran;
-      says = rw (← word) (says_of c.tell.result _ _ _ _ _ c.tell.ensures.ok c.tell.ensures.err c.tell.ensures.cause);
+      says = rw (← word) (says_of c.tell.result _ _ _ c.tell.ensures.ok c.tell.ensures.err c.tell.ensures.cause);
       completes = λ files old input taken tells has known disk source output.
           ends_well _ _ c.carry_out-ending.result files old input ran (λ e. not_some refusal taken (sym some ∙ words.0 e)) tells has known disk source output;
     }
