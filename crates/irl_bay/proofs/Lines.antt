@@ -9,6 +9,7 @@ use Rattle.irl_model.proofs.JudgingLaws.{after-append, judgements-drop}
 use Rattle.irl_offer.specs.Tuple.{Tuple}
 use Rattle.irl_disk.specs.Disk.{Files, Changes, ChangesFile}
 use Rattle.irl_journal.proofs.Lists.{one_list, whole_list, record_behind}
+use Rattle.irl_journal.proofs.Opened.{opened_stands}
 use Rattle.irl_journal.specs.Format.{HasRecords, StandsFor, IsPayload, records_text, body_text, open_gate, record_text, placed_from}
 use Rattle.irl_journal.specs.Visiting.{TakesAll, IsBrokenFor, IsRefusedAt, IsOpened}
 use Rattle.irl_journal.specs.declared.fault.JournalFault.{JournalFault}
@@ -59,53 +60,12 @@ damaged_line visitor after file (JournalDamaged place) at is found =
     let same : place ≡ at = cc in
     subst (λ (p : ℕ). IsDamagedAt file p) same (⊎_elim (λ broken. inl (broken.broken, (took_lines visitor after 0 broken.broken.payloads broken.took).1)) (λ refused. inr (refused_line visitor after file place refused)) (found place refl))
 
--- a file of at most one byte has no record
-pub no_records : (file : List ℕ) (lines : List (List ℕ)) → HasRecords file lines → length file ≤ 1 → lines ≡ []
-no_records file [] has short = refl
-no_records file (line ∷ lines) has short =
-    let front = body_text line ++ records_text lines in
-    let long : length file ≡ length (open_gate ∷ front) + length (has.gate ∷ has.rest) = ap length has.bytes ∙ length-append (open_gate ∷ front) (has.gate ∷ has.rest) in
-    absurd (omega arith)
-
-pub short_stands : (old new : List ℕ) (lines : List (List ℕ)) → length old ≤ 1 → length new ≤ 1 → StandsFor old lines → StandsFor new lines
-short_stands old new lines short still (inl has) = inl (still, has.1)
-short_stands old new lines short still (inr has) = inl (still, no_records old lines has short)
-
--- opening leaves the lines
-pub opened_stands : (old new : List ℕ) (lines : List (List ℕ)) → IsOpened old new → StandsFor old lines → StandsFor new lines
-opened_stands old new lines (inl same) stands = subst (λ (file : List ℕ). StandsFor file lines) (sym same) stands
-opened_stands old new lines (inr short) stands = short_stands old new lines short.0 short.2 stands
-
--- a store that tells after a change told before it
-pub told_before : (f : ℕ) (step : List ℕ → List ℕ → Type 0) (told now : Option Files) (new : Files) → Changes f step told now → now ≡ Some new → (old : Files) × (told ≡ Some old) × ChangesFile f step old new
-told_before f step None now new changes tells = absurd (let e = sym changes ∙ tells in cc)
-told_before f step (Some old) now new changes tells =
-    let same : changes.0 ≡ new = let e = sym changes.1 ∙ tells in cc in
-    (old, refl, subst (λ (files : Files). ChangesFile f step old files) same changes.2)
-
 pub opened_lines : (old new : Files) (lines : List (List ℕ)) → ChangesFile line_file IsOpened old new → HasLines old lines → HasLines new lines
 opened_lines old new lines change has = record {
   ours = rw (change.others other_file (λ e. absurd (let f : 998 ≡ 999 = e in omega arith))) has.ours;
   records = opened_stands (old line_file) (new line_file) lines change.changed has.records;
   each = has.each;
 }
-
--- a file that nothing was done to
-pub same_file : (files : Files) → ChangesFile line_file IsOpened files files
-same_file files = record { changed = inl refl; others = λ g not. refl }
-
--- opening twice is opening
-pub opened_twice : (a b c : Files) → ChangesFile line_file IsOpened a b → ChangesFile line_file IsOpened b c → ChangesFile line_file IsOpened a c
-opened_twice a b c h k = record {
-  changed = both h.changed k.changed;
-  others = λ g not. k.others g not ∙ h.others g not;
-}
-  where
-    both : IsOpened (a line_file) (b line_file) → IsOpened (b line_file) (c line_file) → IsOpened (a line_file) (c line_file)
-    both (inl e) (inl d) = inl (d ∙ e)
-    both (inl e) (inr s) = inr (rw (← e) s.0, λ is. s.1 (e ∙ is), s.2)
-    both (inr s) (inl d) = inr (s.0, s.1, rw d s.2)
-    both (inr s) (inr t) = inr (s.0, s.1, t.2)
 
 -- the keys of the new lines are known too
 pub knows_more : (seen next : KeyMap) (lines news : List (List ℕ)) (offers : List Tuple) → seen ≡ after Keep empty (map line_tuple lines) → next ≡ after Keep seen offers → offers ≡ map line_tuple news → next ≡ after Keep empty (map line_tuple (lines ++ news))

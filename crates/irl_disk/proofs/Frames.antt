@@ -1,7 +1,14 @@
 -- Which files a call changes, and which it reads: what holds of one file holds among several, and two stretches join.
 use Rattle.std.proofs.Common.{◌≡◌, ◌⊎◌, ℕ, List, Option, None, Some, refl, sym, subst, ◌∙◌, inl, inr, ⊎_elim, arith}
-use Rattle.irl_disk.specs.Disk.{Files, ChangesFile, ChangesAmong}
+use Rattle.irl_disk.specs.Disk.{Files, Changes, ChangesFile, ChangesAmong}
 use Rattle.irl_disk.specs.Taken.{Takes, TakesAmong, TakesOnly}
+
+-- a store that tells after a change of one file told before it
+pub told_from : (f : ℕ) (step : List ℕ → List ℕ → Type 0) (old new : Option Files) (files : Files) → Changes f step old new → new ≡ Some files → (before : Files) × (old ≡ Some before) × ChangesFile f step before files
+told_from f step None new files changes told = cc
+told_from f step (Some old) new files changes told =
+    let same : changes.0 ≡ files = cc in
+    (old, refl, subst (λ (after : Files). ChangesFile f step old after) same changes.2)
 
 same_number : (f g : ℕ) → (g ≡ f) ⊎ (g ≡ f → ⊥)
 same_number f g = grind arith

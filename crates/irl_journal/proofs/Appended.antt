@@ -3,6 +3,7 @@ use Rattle.std.proofs.Common.{◌≡◌, inl, ℕ, ◌+◌, ◌≤◌, List, [],
 use Rattle.std.specs.Option.{ForSome}
 use Rattle.irl_disk.specs.Disk.{Files, Changes, ChangesFile, Holds, Scribbled}
 use Rattle.irl_disk.specs.Images.{Snapshot, IsConsistent, Follows, Leaves, LeavesBy, LeavesSame}
+use Rattle.irl_disk.proofs.Frames.{told_from}
 use Rattle.irl_disk.proofs.Stretches.{widens, joins, left_now}
 use Rattle.irl_journal.specs.Format.{body_text, open_gate, record_text, IsPayload}
 use Rattle.irl_journal.specs.Appending.{Ends, HasOrGains}
@@ -21,13 +22,6 @@ stay_more f None mid new first second = subst (λ (told : Option Files). OthersS
 stay_more f (Some old) mid new first second =
     let then_ = subst (λ (told : Option Files). OthersStay f told new) first.1 second in
     (then_.0, then_.1, record { changed = tt; others = λ g other. then_.2.others g other ∙ first.2.others g other })
-
--- what is told after a call was told before it
-pub told_from : (f : ℕ) (step : List ℕ → List ℕ → Type 0) (old new : Option Files) (files : Files) → Changes f step old new → new ≡ Some files → (before : Files) × (old ≡ Some before) × ChangesFile f step before files
-told_from f step None new files changes told = cc
-told_from f step (Some old) new files changes told =
-    let same : changes.0 ≡ files = cc in
-    (old, refl, subst (λ (after : Files). ChangesFile f step old after) same changes.2)
 
 -- a step that is also another one
 pub as_step : (f : ℕ) (step other : List ℕ → List ℕ → Type 0) (old new : Option Files) → ((before : Files) (after : List ℕ) → old ≡ Some before → step (before f) after → other (before f) after) → Changes f step old new → Changes f other old new

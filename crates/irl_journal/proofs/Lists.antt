@@ -68,7 +68,7 @@ not_broken (x ∷ xs) (y ∷ ys) a r s no_a each_x each_y none same =
     not_broken xs ys a r s no_a each_x.1 each_y.1 none parts.1
 
 -- a file of at most one byte has no record
-few_bytes : (file : List ℕ) (xs : List (List ℕ)) → length file ≤ 1 → HasRecords file xs → xs ≡ []
+pub few_bytes : (file : List ℕ) (xs : List (List ℕ)) → length file ≤ 1 → HasRecords file xs → xs ≡ []
 few_bytes file [] few has = refl
 few_bytes file (x ∷ xs) few has =
     let is : file ≡ open_gate ∷ body_text x ++ (records_text xs ++ has.gate ∷ has.rest) = has.bytes ∙ records-cons x xs (has.gate ∷ has.rest) in

@@ -1,10 +1,12 @@
 -- What stops leave while a journal is opened.
-use Rattle.std.proofs.Common.{◌≡◌, ◌≢◌, ◌∙◌, ℕ, ◌≤◌, [], ◌∷◌, length, Some, inl, inr, sym, refl, arith}
+use Rattle.std.proofs.Common.{◌≡◌, ◌≢◌, ◌∙◌, ℕ, ◌≤◌, List, [], ◌∷◌, length, Some, inl, inr, sym, subst, refl, arith}
 use Rattle.std.specs.Option.{ForSome}
 use Rattle.irl_disk.specs.Disk.{Files, ChangesFile, Scribbled}
 use Rattle.irl_disk.specs.Images.{Snapshot, IsConsistent, Follows, LeavesBy, LeavesSame}
 use Rattle.irl_disk.proofs.Stretches.{joins, widens, left_now, reads_on, same_by}
+use Rattle.irl_journal.specs.Format.{StandsFor}
 use Rattle.irl_journal.specs.Visiting.{IsOpened}
+use Rattle.irl_journal.proofs.Lists.{few_bytes}
 
 -- two stretches that change nothing
 pub stays_so : (old mid new : Snapshot) → IsConsistent mid → LeavesSame old mid → LeavesSame mid new → LeavesSame old new
@@ -38,3 +40,28 @@ as_synced f old synced new law law_new same durable leaves image left =
     let was = left_now synced new synced.images law_new leaves image left in
     let told = law.tells image was in
     (told.0, told.1, durable told.0 (sym same ∙ told.1) image was)
+
+-- ---- what opening does to a file
+-- the records stay
+pub opened_stands : (old new : List ℕ) (payloads : List (List ℕ)) → IsOpened old new → StandsFor old payloads → StandsFor new payloads
+opened_stands old new payloads (inl same) stands = subst (λ (file : List ℕ). StandsFor file payloads) (sym same) stands
+opened_stands old new payloads (inr short) (inl has) = inl (short.2, has.1)
+opened_stands old new payloads (inr short) (inr has) = inl (short.2, few_bytes old payloads short.0 has)
+
+module _ (f : ℕ) where
+  -- a file may stay as it is
+  pub opens_same : (files : Files) → ChangesFile f IsOpened files files
+  opens_same files = record { changed = inl refl; others = λ g not. refl }
+
+  -- and opening it twice is opening it
+  pub opens_twice : (a b c : Files) → ChangesFile f IsOpened a b → ChangesFile f IsOpened b c → ChangesFile f IsOpened a c
+  opens_twice a b c h k = record {
+    changed = both h.changed k.changed;
+    others = λ g not. k.others g not ∙ h.others g not;
+  }
+    where
+      both : IsOpened (a f) (b f) → IsOpened (b f) (c f) → IsOpened (a f) (c f)
+      both (inl e) (inl d) = inl (d ∙ e)
+      both (inl e) (inr s) = inr (rw (← e) s.0, λ is. s.1 (e ∙ is), s.2)
+      both (inr s) (inl d) = inr (s.0, s.1, rw d s.2)
+      both (inr s) (inr t) = inr (s.0, s.1, t.2)

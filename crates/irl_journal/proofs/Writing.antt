@@ -4,9 +4,9 @@ use Rattle.std.proofs.lemmas.List.{take-take, take-append-le, drop_at}
 use Rattle.std.specs.Option.{ForSome}
 use Rattle.irl_disk.specs.Disk.{Files, Changes, ChangesFile, Holds, Scribbled}
 use Rattle.irl_disk.specs.Images.{Snapshot, IsConsistent, LeavesBy, LeavesSame}
+use Rattle.irl_disk.proofs.Frames.{told_from}
 use Rattle.irl_disk.proofs.Stretches.{widens_by, reads_on, goes_on}
 use Rattle.irl_journal.specs.Format.{body_text, open_gate, record_text}
-use Rattle.irl_journal.proofs.Appended.{told_from}
 
 -- every other file of an image is as before
 abbrev pub OthersStand : ℕ → Files → Files → Type 0

@@ -10,7 +10,8 @@ use Rattle.irl_journal.specs.Format.{HasRecords}
 use Rattle.irl_journal.specs.Visiting.{IsOpened}
 use Rattle.irl_bay.specs.Lines.{line_file, other_file, HasLines, IsKeepable}
 use Rattle.irl_bay.specs.Kept.{Extends, HasSome}
-use Rattle.irl_bay.proofs.Lines.{opened_stands, each-append}
+use Rattle.irl_bay.proofs.Lines.{each-append}
+use Rattle.irl_journal.proofs.Opened.{opened_stands}
 use Rattle.irl_top.specs.Run.{Lent, LeavesOnly, HasFront}
 
 -- the old lines' file was opened, or has them and some of the new ones

@@ -16,7 +16,8 @@ use Rattle.irl_journal.specs.Visiting.{IsOpened}
 use Rattle.irl_bay.specs.declared.kept.Kept.{Kept}
 use Rattle.irl_bay.specs.Kept.{Extends, IsKept}
 use Rattle.irl_bay.specs.Lines.{HasLines, IsDamagedAt, IsKeepable, line_file, other_file}
-use Rattle.irl_bay.proofs.Lines.{lines_after, opened_lines, same_file, each-append}
+use Rattle.irl_bay.proofs.Lines.{lines_after, opened_lines, each-append}
+use Rattle.irl_journal.proofs.Opened.{opens_same}
 use Rattle.irl_top.proofs.AddedLines.{added-append, added-nil}
 use Rattle.irl_top.proofs.Images.{has_front, stops_on, take_each, front_behind, length_both}
 use Rattle.irl_top.proofs.Running.{KeepsOthers, Running, others_same, others_step, others_both, start}
@@ -378,7 +379,7 @@ damaged before after n gains spares others files input output cause later = reco
 -- nothing was called
 pub words_refused : (before : Lent) → IsConsistent before.store → Ran before before WordsRefused
 words_refused before law =
-    let leaves : LeavesOnly before before (Follows (ChangesFile line_file IsOpened) before.store.images) = stays before.store _ law (λ image now. (image, now, same_file image)) in
+    let leaves : LeavesOnly before before (Follows (ChangesFile line_file IsOpened) before.store.images) = stays before.store _ law (λ image now. (image, now, opens_same line_file image)) in
     record {
       gains = not_begun before before WordsRefused (λ e. absurd (cc)) (changes_none before.store.files) leaves law.counts refl;
       spares = λ files tells none. record { files = changes_none before.store.files; stops = leaves; input = refl; output = refl };
@@ -400,7 +401,7 @@ words_refused before law =
   where
     changes_none : (told : Option Files) → Changes line_file IsOpened told told
     changes_none None = refl
-    changes_none (Some files) = (files, refl, same_file files)
+    changes_none (Some files) = (files, refl, opens_same line_file files)
 
 -- a refused opening
 pub not_opened : (before after : Lent) (fault : OpenFault) → GainsAll before after (ending_of_open fault) → SparesAll before after → KeepsOthers before.store.files after.store.files → ((n : ℕ) → fault ≡ OpenNotOurs n → after.store.files ≡ before.store.files) → ((n : ℕ) → fault ≡ OpenDamaged n → after.store.files ≡ before.store.files) → after.input.bytes ≡ before.input.bytes → after.output.bytes ≡ before.output.bytes

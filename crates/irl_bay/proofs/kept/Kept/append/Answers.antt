@@ -7,7 +7,8 @@ use Rattle.std.specs.List.{AllByRecursion}
 use Rattle.irl_bay.specs.Lines.{HasLines, IsKeepable}
 use Rattle.irl_bay.specs.Kept.{Extends}
 use Rattle.irl_bay.proofs.Extending.{open_where_told, none_yet, one_more, may_be_more}
-use Rattle.irl_bay.proofs.Lines.{next_line, knows_more, verdicts_more, each-append, told_before, lines_after}
+use Rattle.irl_bay.proofs.Lines.{next_line, knows_more, verdicts_more, each-append, lines_after}
+use Rattle.irl_disk.proofs.Frames.{told_from}
 use Rattle.irl_bay.proofs.kept.Kept.append.Goals as goal
 
 pub loop-offer-init : goal.loop-offer-init
@@ -93,7 +94,7 @@ returns-clause-known g c = λ files tells.
     let news : List (List ℕ) = map (λ (o : Tuple). o.aux) c.args.offers.now in
     let all : take c.loop-offer.offer-index news ≡ news = take_all _ _ (rw length-map (omega (arith, c.loop-offer-test.false))) in
     let start = open_where_told (s.snapshot c.args.store.now).files (s.snapshot c.args.store.now).images c.args.self.now.journal ((g.met.S.Store.is_consistent c.args.store.now).tells) (λ told is. let k = c.requires.known told is in (k.0, k.2.open_)) in
-    let was = told_before _ _ _ _ files (c.loop-offer.invariant.extends start.0 start.1).tells tells in
+    let was = told_from _ _ _ _ files (c.loop-offer.invariant.extends start.0 start.1).tells tells in
     let had = c.requires.known was.0 was.1 in
     let each : AllByRecursion IsKeepable (take c.loop-offer.offer-index news) = subst (AllByRecursion IsKeepable) (sym all) c.requires.lines.each in
     let has : HasLines files (had.0 ++ take c.loop-offer.offer-index news) = lines_after _ _ was.0 files had.0 news c.loop-offer.offer-index was.1 tells (c.loop-offer.invariant.extends had.0 had.2.open_).tells had.1 each in

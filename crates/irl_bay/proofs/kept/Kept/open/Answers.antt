@@ -11,7 +11,9 @@ use Rattle.irl_journal.specs.Visiting.{IsOpened}
 use Rattle.irl_bay.specs.declared.kept.OpenFault.TheVariants.{Damaged}
 use Rattle.irl_bay.specs.Faults.{open_fault_of}
 use Rattle.irl_bay.specs.Lines.{line_file, other_file, line_tuple}
-use Rattle.irl_bay.proofs.Lines.{took_lines, damaged_line, told_before, opened_lines, same_file, opened_twice}
+use Rattle.irl_bay.proofs.Lines.{took_lines, damaged_line, opened_lines}
+use Rattle.irl_disk.proofs.Frames.{told_from}
+use Rattle.irl_journal.proofs.Opened.{opens_same, opens_twice}
 use Rattle.irl_bay.proofs.kept.Kept.open.Goals as goal
 
 pub returns-in_err-journal-clause-damaged : goal.returns-in_err-journal-clause-damaged
@@ -36,7 +38,7 @@ returns-clause-lines g c = λ files tells.
 
 pub returns-clause-known : goal.returns-clause-known
 returns-clause-known g c = λ files tells.
-    let was = told_before line_file IsOpened _ _ files c.in_ok-journal.ensures.changes tells in
+    let was = told_from line_file IsOpened _ _ files c.in_ok-journal.ensures.changes tells in
     let had = returns-clause-lines g c was.0 (sym c.in_ok-length.ensures.same ∙ was.1) in
     (had.0, opened_lines was.0 files had.0 was.2 had.1, had.2)
 
@@ -44,12 +46,12 @@ pub returns-in_err-journal-clause-stops : goal.returns-in_err-journal-clause-sto
 returns-in_err-journal-clause-stops g c =
     let store = g.S.Store in
     let law = g.met.S.Store.is_consistent in
-    let first : LeavesBy (ChangesFile line_file IsOpened) (store.snapshot c.args.store.now) (store.snapshot c.length.new.self) = same_by _ _ _ same_file c.in_ok-length.ensures.stops in
-    joins_by _ _ _ _ (law c.length.new.self) opened_twice first c.in_err-journal.ensures.stops
+    let first : LeavesBy (ChangesFile line_file IsOpened) (store.snapshot c.args.store.now) (store.snapshot c.length.new.self) = same_by _ _ _ (opens_same line_file) c.in_ok-length.ensures.stops in
+    joins_by _ _ _ _ (law c.length.new.self) (opens_twice line_file) first c.in_err-journal.ensures.stops
 
 pub returns-clause-stops : goal.returns-clause-stops
 returns-clause-stops g c =
     let store = g.S.Store in
     let law = g.met.S.Store.is_consistent in
-    let first : LeavesBy (ChangesFile line_file IsOpened) (store.snapshot c.args.store.now) (store.snapshot c.length.new.self) = same_by _ _ _ same_file c.in_ok-length.ensures.stops in
-    joins_by _ _ _ _ (law c.length.new.self) opened_twice first c.in_ok-journal.ensures.stops
+    let first : LeavesBy (ChangesFile line_file IsOpened) (store.snapshot c.args.store.now) (store.snapshot c.length.new.self) = same_by _ _ _ (opens_same line_file) c.in_ok-length.ensures.stops in
+    joins_by _ _ _ _ (law c.length.new.self) (opens_twice line_file) first c.in_ok-journal.ensures.stops

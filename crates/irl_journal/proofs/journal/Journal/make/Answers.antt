@@ -2,7 +2,8 @@ use Rattle.std.proofs.Common.{◌≡◌, [], ◌∷◌, Some, subst, sym, ◌∙
 use Rattle.irl_disk.specs.Disk.{Holds}
 use Rattle.irl_journal.specs.Appending.{Ends, Tail}
 use Rattle.irl_journal.proofs.Gates.{made, made_empty}
-use Rattle.irl_journal.proofs.Appended.{as_step, told_from}
+use Rattle.irl_disk.proofs.Frames.{told_from}
+use Rattle.irl_journal.proofs.Appended.{as_step}
 use Rattle.irl_journal.proofs.journal.Journal.make.Goals as goal
 
 -- what is told has the closed gate alone
