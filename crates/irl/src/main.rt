@@ -12,12 +12,12 @@ use irl_files::FileStore;
 use irl_io::{ReadSource, Sink, Source, WriteSink};
 use irl_top::run;
 use std::alloc::AllocError;
-use std::env;
-use std::io::ErrorKind;
+use std::io::{self, ErrorKind};
 use std::process::ExitCode;
 use std::rt::{Env, Files};
 use std::sync::Wait;
 use std::thread::Threads;
+use std::{env, fs};
 use words::{Request, folder_and_command};
 
 const HELP: &str = "\
@@ -48,6 +48,12 @@ Exit status: 0 done, 1 words refused, 2 a line refused, 3 not a store or damaged
 ";
 
 const VERSION: &str = "irl 0.1.0\n";
+
+/// A device that has no bytes.
+const NULL_DEVICE: &str = "/dev/null";
+
+/// The exit status where the system refused a file.
+const DISK_FAULT: u8 = 4;
 
 /// The exit status where the output failed.
 const OUTPUT_FAULT: u8 = 6;
@@ -153,10 +159,25 @@ where
     obey(rt, request, &words, input, output, errors)
 }
 
+/// Opens the null device so often that each closed standard stream gets it, and no file that is opened later takes the
+/// place of one. It is opened to be read: a closed input is empty, and what is written to a closed output is refused.
+fn fill_closed_streams<R: Files>(rt: &R) -> io::Result<[R::File; 3]> {
+    Ok([
+        fs::open(rt, NULL_DEVICE)?,
+        fs::open(rt, NULL_DEVICE)?,
+        fs::open(rt, NULL_DEVICE)?,
+    ])
+}
+
 fn main(rt: HostRuntime) -> ExitCode {
+    let filled = fill_closed_streams(&rt);
     let mut input = ReadSource::new(rt.stdin());
     let mut output = WriteSink::new(rt.stdout());
     let mut errors = WriteSink::new(rt.stderr());
+    if filled.is_err() {
+        let _ = errors.write(b"disk fault\n");
+        return ExitCode::from(DISK_FAULT);
+    }
     match answer(&rt, &mut input, &mut output, &mut errors) {
         Ok(status) => ExitCode::from(status),
         Err(_) => {
