@@ -1,10 +1,13 @@
 -- What the program does for what its words ask.
-use Rattle.std.specs.Prelude.{◌≡◌, ◌≢◌, ℕ, List, Option, None}
+use Rattle.std.specs.Prelude.{◌≡◌, ◌≢◌, ℕ, List, map, drop, Option, None}
 use Rattle.std.specs.Io.KnownBytes.{Appends}
 use Rattle.irl_offer.specs.Faults.{Rose}
+use Rattle.irl_top.specs.Message.{Says, message}
 use Rattle.irl_top.specs.Run.{Outside, Runs}
+use Rattle.irl_top.specs.declared.ending.Ending.TheVariants.{WordsRefused}
+use Rattle.irl.specs.Words.{refusing_word}
 use Rattle.irl.specs.declared.words.Request.{Request}
-use Rattle.irl.specs.declared.words.Request.TheVariants.{Help, Version, SeenHelp, Run}
+use Rattle.irl.specs.declared.words.Request.TheVariants.{Help, Version, SeenHelp, Refused, Run}
 
 -- what the streams of a process tell at one moment, and how often each has failed
 pub record Streams : Type 0 where
@@ -33,16 +36,28 @@ outside_of streams faults =
 -- the words of a command were run over the files of a folder, which tell nothing and had not failed before
 abbrev pub RunsOverFiles : List (List ℕ) → Streams → Streams → ℕ → Type 0
 RunsOverFiles words before after status =
-    (faults : ℕ) × Runs words (outside_of before 0) (outside_of after faults) before.errors after.errors before.error_faults after.error_faults status
+    (faults : ℕ) × Runs words (outside_of before 0) (outside_of after faults)
+    before.errors after.errors before.error_faults after.error_faults status
 
 -- a text was written whole at status 0; any other status is that of an output fault, and the output failed
 pub record Shows (text : List ℕ) (before after : Streams) (status : ℕ) : Type 0 where
   pub done : status ≡ 0 → Appends before.output after.output text
   pub fault : status ≢ 0 → (status ≡ 6) × Rose before.output_faults after.output_faults
 
--- what was done for a request: one of the three texts was written, or the words of the command were run
+-- the words were refused by this one: the error stream was given the line that a run gives it, and no other was called
+pub record Refuses (word : List ℕ) (before after : Streams) (status : ℕ) : Type 0 where
+  pub status_is : status ≡ 1
+  pub says : Says (message word WordsRefused) before.errors after.errors before.error_faults after.error_faults
+  pub input : after.input ≡ before.input
+  pub input_faults : after.input_faults ≡ before.input_faults
+  pub output : after.output ≡ before.output
+  pub output_faults : after.output_faults ≡ before.output_faults
+
+-- what was done for a request: one of the three texts was written, all words were refused, or those behind the folder were
+-- run
 abbrev pub Obeys : Request → List ℕ → List ℕ → List ℕ → List (List ℕ) → Streams → Streams → ℕ → Type 0
 Obeys Help help seen_help version words before after status = Shows help before after status
 Obeys SeenHelp help seen_help version words before after status = Shows seen_help before after status
 Obeys Version help seen_help version words before after status = Shows version before after status
-Obeys Run help seen_help version words before after status = RunsOverFiles words before after status
+Obeys Refused help seen_help version words before after status = Refuses (refusing_word words) before after status
+Obeys Run help seen_help version words before after status = RunsOverFiles (drop 1 words) before after status

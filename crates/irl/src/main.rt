@@ -1,29 +1,36 @@
 //! The program `irl`: a web crawler over a store in a folder.
 #![tactic(auto)]
 
-ghost use Rattle.std.specs.Prelude.{◌≡◌, ◌≢◌, map, drop, IfOk};
+ghost use Rattle.std.specs.Prelude.{◌≡◌, ◌≢◌, map, drop, IfOk, OnOk, OnErr, IsErr};
 ghost use Rattle.std.specs.Io.KnownBytes.{Appends};
-ghost use Rattle.irl_offer.specs.Faults.{Rose};
+ghost use Rattle.irl_offer.specs.Faults.{Rose, HasCause};
+ghost use Rattle.irl_io.specs.Written.{AppendsFront};
+ghost use Rattle.irl_files.specs.FileStore.{fault_count, folder_path};
+ghost use Rattle.irl_files.specs.Folder.{named_folder};
+ghost use Rattle.irl_top.specs.Message.{Says, message};
+ghost use Rattle.irl_top.specs.declared.ending.Ending.TheVariants.{WordsRefused};
+ghost use Rattle.irl.specs.Words.{asked, folder_in};
 ghost use Rattle.irl.specs.Obeying.{RunsOverFiles, Obeys};
 
 mod words;
 
 use irl_files::FileStore;
-use irl_io::{ReadSource, Sink, Source, WriteSink};
+use irl_io::{Failed, ReadSource, Sink, Source, WriteSink};
 use irl_top::run;
 use std::alloc::AllocError;
-use std::env;
-use std::io::ErrorKind;
+use std::io::{self, ErrorKind};
 use std::process::ExitCode;
 use std::rt::{Env, Files};
 use std::sync::Wait;
 use std::thread::Threads;
-use words::{Request, folder_and_command};
+use std::{env, fs};
+use words::{Request, folder_and_command, refusing_word};
 
 const HELP: &str = "\
 Usage: irl DIR COMMAND
 
 Keeps what it is given in the folder DIR, which is made at the first write.
+A name that begins with - is written with its place, as ./-DIR.
 
 Commands:
   seen  prints each line of standard input that was not given before
@@ -41,13 +48,22 @@ new, in order. A line has at most 2,048 bytes, and empty lines are passed over.
 Each line is synced to the disk before it is printed.
 
 Options:
-  --help  prints this text
+  -h, --help  prints this text
 
 Exit status: 0 done, 1 words refused, 2 a line refused, 3 not a store or damaged,
 4 disk fault, 5 input fault, 6 output fault, 7 no memory.
 ";
 
 const VERSION: &str = "irl 0.1.0\n";
+
+/// A device that has no bytes.
+const NULL_DEVICE: &str = "/dev/null";
+
+/// The exit status where the words are refused.
+const WORDS_REFUSED: u8 = 1;
+
+/// The exit status where the system refused a file.
+const DISK_FAULT: u8 = 4;
 
 /// The exit status where the output failed.
 const OUTPUT_FAULT: u8 = 6;
@@ -69,6 +85,30 @@ fn show<O: Sink, E: Sink>(output: &mut O, errors: &mut E, text: &str) -> u8
     }
 }
 
+/// Refuses the words by one of them, and gives the exit status.
+fn refuse<E: Sink>(errors: &mut E, word: &str) -> u8
+    ensures status { result ≡ WORDS_REFUSED }
+    ensures says { Says (message word.now WordsRefused)
+        (E.written errors.old) (E.written errors.new) (E.faults errors.old) (E.faults errors.new) }
+{
+    let _ = write_refusal(errors, word);
+    WORDS_REFUSED
+}
+
+/// Writes the line of refused words, up to the first piece that fails.
+fn write_refusal<E: Sink>(errors: &mut E, word: &str) -> Result<(), Failed>
+    ensures ok { OnOk result
+        (Appends (E.written errors.old) (E.written errors.new) (message word.now WordsRefused)) }
+    ensures err { OnErr result
+        (AppendsFront (E.written errors.old) (E.written errors.new) (message word.now WordsRefused)) }
+    ensures cause { HasCause (IsErr result) (E.faults errors.old) (E.faults errors.new) }
+{
+    errors.write(b"words refused: ")?;
+    errors.write(word.as_bytes())?;
+    errors.write(b"\n")?;
+    Ok(())
+}
+
 /// The words of the command line behind the program's name. Where one of them is no text, there are none.
 fn arguments<R: Env + AllocGlobal>(rt: &R) -> Result<Vec<String>, AllocError> {
     match env::args(rt) {
@@ -76,6 +116,19 @@ fn arguments<R: Env + AllocGlobal>(rt: &R) -> Result<Vec<String>, AllocError> {
         Err(error) if error.kind() == ErrorKind::OutOfMemory => Err(AllocError),
         Err(_) => Ok(Vec::new(rt.alloc())),
     }
+}
+
+/// The store over the folder that the first word names. Nothing is opened or made yet.
+fn store_in_folder<'a, R: Files + AllocGlobal>(
+    rt: &'a R,
+    words: &[&str],
+) -> Result<FileStore<&'a R>, AllocError>
+    ensures folder { IfOk result (λ store.
+        folder_path store ≡ named_folder (folder_in (map (λ word. word.now) words.now))) }
+    ensures faults { IfOk result (λ store. fault_count store ≡ 0) }
+{
+    let (folder, _) = folder_and_command(words);
+    FileStore::new(rt, rt.alloc(), folder)
 }
 
 /// Runs the command over the folder that the first word names, and gives the exit status.
@@ -92,14 +145,27 @@ where
     O: Sink,
     E: Sink,
     ensures { IfOk result (λ status. RunsOverFiles (map (λ word. word.now) (drop 1 words.now))
-        (record { input = I.left input.old; input_faults = I.faults input.old; output = O.written output.old; output_faults = O.faults output.old; errors = E.written errors.old; error_faults = E.faults errors.old })
-        (record { input = I.left input.new; input_faults = I.faults input.new; output = O.written output.new; output_faults = O.faults output.new; errors = E.written errors.new; error_faults = E.faults errors.new })
+        (record {
+          input = I.left input.old;
+          input_faults = I.faults input.old;
+          output = O.written output.old;
+          output_faults = O.faults output.old;
+          errors = E.written errors.old;
+          error_faults = E.faults errors.old;
+        })
+        (record {
+          input = I.left input.new;
+          input_faults = I.faults input.new;
+          output = O.written output.new;
+          output_faults = O.faults output.new;
+          errors = E.written errors.new;
+          error_faults = E.faults errors.new;
+        })
         status) }
 {
-    let alloc = rt.alloc();
-    let (folder, command) = folder_and_command(words);
-    let store = FileStore::new(rt, alloc, folder)?;
-    let (status, store) = run(rt, alloc, command, input, output, errors, store);
+    let (_, command) = folder_and_command(words);
+    let store = store_in_folder(rt, words)?;
+    let (status, store) = run(rt, rt.alloc(), command, input, output, errors, store);
     drop(store);
     Ok(status)
 }
@@ -107,7 +173,6 @@ where
 /// Does what the words ask for, and gives the exit status.
 fn obey<R, I, O, E>(
     rt: &R,
-    request: Request,
     words: &[&str],
     input: &mut I,
     output: &mut O,
@@ -118,15 +183,31 @@ where
     I: Source,
     O: Sink,
     E: Sink,
-    ensures { IfOk result (λ status. Obeys request HELP.now SEEN_HELP.now VERSION.now (map (λ word. word.now) (drop 1 words.now))
-        (record { input = I.left input.old; input_faults = I.faults input.old; output = O.written output.old; output_faults = O.faults output.old; errors = E.written errors.old; error_faults = E.faults errors.old })
-        (record { input = I.left input.new; input_faults = I.faults input.new; output = O.written output.new; output_faults = O.faults output.new; errors = E.written errors.new; error_faults = E.faults errors.new })
+    ensures { IfOk result (λ status. Obeys (asked (map (λ word. word.now) words.now))
+        HELP.now SEEN_HELP.now VERSION.now (map (λ word. word.now) words.now)
+        (record {
+          input = I.left input.old;
+          input_faults = I.faults input.old;
+          output = O.written output.old;
+          output_faults = O.faults output.old;
+          errors = E.written errors.old;
+          error_faults = E.faults errors.old;
+        })
+        (record {
+          input = I.left input.new;
+          input_faults = I.faults input.new;
+          output = O.written output.new;
+          output_faults = O.faults output.new;
+          errors = E.written errors.new;
+          error_faults = E.faults errors.new;
+        })
         status) }
 {
-    match request {
+    match Request::from_words(words) {
         Request::Help => Ok(show(output, errors, HELP)),
         Request::SeenHelp => Ok(show(output, errors, SEEN_HELP)),
         Request::Version => Ok(show(output, errors, VERSION)),
+        Request::Refused => Ok(refuse(errors, refusing_word(words))),
         Request::Run => run_in_folder(rt, words, input, output, errors),
     }
 }
@@ -149,14 +230,28 @@ where
         .iter()
         .map(|word| word.as_str())
         .collect(rt.alloc())?;
-    let request = Request::from_words(&words);
-    obey(rt, request, &words, input, output, errors)
+    obey(rt, &words, input, output, errors)
+}
+
+/// Opens the null device so often that each closed standard stream gets it, and no file that is opened later takes the
+/// place of one. It is opened to be read: a closed input is empty, and what is written to a closed output is refused.
+fn fill_closed_streams<R: Files>(rt: &R) -> io::Result<[R::File; 3]> {
+    Ok([
+        fs::open(rt, NULL_DEVICE)?,
+        fs::open(rt, NULL_DEVICE)?,
+        fs::open(rt, NULL_DEVICE)?,
+    ])
 }
 
 fn main(rt: HostRuntime) -> ExitCode {
+    let filled = fill_closed_streams(&rt);
     let mut input = ReadSource::new(rt.stdin());
     let mut output = WriteSink::new(rt.stdout());
     let mut errors = WriteSink::new(rt.stderr());
+    if filled.is_err() {
+        let _ = errors.write(b"disk fault\n");
+        return ExitCode::from(DISK_FAULT);
+    }
     match answer(&rt, &mut input, &mut output, &mut errors) {
         Ok(status) => ExitCode::from(status),
         Err(_) => {

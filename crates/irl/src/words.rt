@@ -1,5 +1,6 @@
 ghost use Rattle.std.specs.Prelude.{◌≡◌, map, drop};
-ghost use Rattle.irl.specs.Words.{asked, asked_behind_folder, folder_in};
+ghost use Rattle.irl.specs.Words.{is_help_word, names_no_folder, asked, asked_behind_folder};
+ghost use Rattle.irl.specs.Words.{folder_in, refusing_word as refusing_word_of};
 
 /// What the words of the command line ask for.
 #[derive(Clone, Copy, Debug, PartialEq, Eq)]
@@ -10,6 +11,8 @@ pub enum Request {
     Version,
     /// The usage of the command `seen`.
     SeenHelp,
+    /// Nothing that is known, and the first word names no folder: the words are refused.
+    Refused,
     /// A run over a folder.
     Run,
 }
@@ -20,9 +23,10 @@ impl Request {
         ensures { result ≡ asked (map (λ word. word.now) words.now) }
     {
         match words {
-            [] => Request::Run,
-            [first, ..] if *first == "--help" || *first == "-h" => Request::Help,
+            [] => Request::Refused,
+            [first, ..] if is_help(first) => Request::Help,
             [first, ..] if *first == "--version" => Request::Version,
+            [first, ..] if is_no_folder(first) => Request::Refused,
             [_, command @ ..] => Request::from_command(command),
         }
     }
@@ -32,11 +36,37 @@ impl Request {
         ensures { result ≡ asked_behind_folder (map (λ word. word.now) words.now) }
     {
         match words {
-            [command, option, ..] if *command == "seen" && *option == "--help" => {
-                Request::SeenHelp
-            }
+            [command, option, ..] if *command == "seen" && is_help(option) => Request::SeenHelp,
             _ => Request::Run,
         }
+    }
+}
+
+/// Whether a word asks for help.
+fn is_help(word: &str) -> bool
+    ensures { result ≡ is_help_word word.now }
+{
+    word == "--help" || word == "-h"
+}
+
+/// Whether a word names no folder, as an empty one and one that begins with `-`.
+fn is_no_folder(word: &str) -> bool
+    ensures { result ≡ names_no_folder word.now }
+{
+    match word.as_bytes() {
+        [] => true,
+        [first, ..] => *first == b'-',
+    }
+}
+
+/// The word that the words are refused with where the first names no folder: that one, or `-` where it is empty or there
+/// is none.
+pub fn refusing_word<'a>(words: &[&'a str]) -> &'a str
+    ensures { result.now ≡ refusing_word_of (map (λ word. word.now) words.now) }
+{
+    match words {
+        [first, ..] if !first.is_empty() => first,
+        _ => "-",
     }
 }
 
