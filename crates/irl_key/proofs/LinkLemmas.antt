@@ -10,12 +10,13 @@ use Rattle.url.specs.Input.{is_empty}
 use Rattle.url.specs.Parts.{Parts, has_credentials, serialize}
 use Rattle.irl_key.specs.declared.canon.Canon.{Canon}
 use Rattle.irl_key.specs.declared.canon.Canon.TheVariants.{Web, NotHttp, Bad, TooLong}
-use Rattle.irl_key.specs.Web.{url_against, url_of, IsWebText}
-use Rattle.irl_key.specs.Links.{link_of, canonical_text, canon_of_link, canon_of, IsOpen, IsCause}
+use Rattle.irl_offer.specs.Limits.{max_text}
+use Rattle.irl_key.specs.Web.{url_against, url_of, IsWeb, IsWebText}
+use Rattle.irl_key.specs.Links.{link_of, canonical_text, canon_of_link, canon_of, own_canon, IsPlainHttp, IsCause, IsCanonicalText}
 use Rattle.irl_key.proofs.WebLemmas.{url_against-serialize}
 
 -- the cause, by what the three tests say of the URL
-cause_by : (url : Parts) (http named long : Bool) → bytes_eq url.scheme (codes "http") ≡ http → has_credentials url ≡ named → nat_lt 2048 (length (canonical_text url)) ≡ long → IsCause (Some url) (cond (not http) NotHttp (cond named Bad (cond long TooLong (Web (canonical_text url)))))
+cause_by : (url : Parts) (http named long : Bool) → bytes_eq url.scheme (codes "http") ≡ http → has_credentials url ≡ named → nat_lt max_text (length (canonical_text url)) ≡ long → IsCause (Some url) (cond (not http) NotHttp (cond named Bad (cond long TooLong (Web (canonical_text url)))))
 cause_by url false named long e n l = (url, refl, λ same. false≢true (sym e ∙ (bytes_eq-Decides _ _).1 same))
 cause_by url true true long e n l = inr (url, refl, (bytes_eq-Decides _ _).0 e, n)
 cause_by url true false true e n l = (url, refl, ((bytes_eq-Decides _ _).0 e, n), grind (arith, nat_tests))
@@ -34,9 +35,9 @@ one_cause None Bad h = refl
 one_cause None TooLong h = let e = h.1 in cc
 one_cause (Some url) (Web web) h =
     let e : h.0 ≡ url = let r = h.1 in cc in
-    let anonymous : IsOpen url = subst IsOpen e h.2 in
+    let anonymous : IsPlainHttp url = subst IsPlainHttp e h.2 in
     let text : canonical_text url ≡ web = ap canonical_text (sym e) ∙ sym h.3 in
-    let short : nat_lt 2048 (length (canonical_text url)) ≡ false = rw text (let s = h.4 in grind (arith, nat_tests)) in
+    let short : nat_lt max_text (length (canonical_text url)) ≡ false = rw text (let s = h.4 in grind (arith, nat_tests)) in
     cond-false _ _ _ (ap not ((bytes_eq-Decides _ _).1 anonymous.0)) ∙ cond-false _ _ _ anonymous.1 ∙ cond-false _ _ _ short ∙ ap Web text
 one_cause (Some url) NotHttp h =
     let e : h.0 ≡ url = let r = h.1 in cc in
@@ -49,8 +50,8 @@ one_cause (Some url) Bad (inr h) =
     cond-false _ _ _ (ap not ((bytes_eq-Decides _ _).1 (ap (λ (u : Parts). u.scheme) (sym e) ∙ h.2))) ∙ cond-true _ _ _ (ap has_credentials (sym e) ∙ h.3)
 one_cause (Some url) TooLong h =
     let e : h.0 ≡ url = let r = h.1 in cc in
-    let anonymous : IsOpen url = subst IsOpen e h.2 in
-    let long : nat_lt 2048 (length (canonical_text url)) ≡ true = rw (sym e) (let s = h.3 in grind (arith, nat_tests)) in
+    let anonymous : IsPlainHttp url = subst IsPlainHttp e h.2 in
+    let long : nat_lt max_text (length (canonical_text url)) ≡ true = rw (sym e) (let s = h.3 in grind (arith, nat_tests)) in
     cond-false _ _ _ (ap not ((bytes_eq-Decides _ _).1 anonymous.0)) ∙ cond-false _ _ _ anonymous.1 ∙ cond-true _ _ _ long
 
 -- each answer comes exactly where its cause holds
@@ -58,15 +59,31 @@ pub exact_cause : (link : Option Parts) (canon : Canon) → canon ≡ canon_of_l
 exact_cause link canon is answer =
     (λ same. subst (IsCause link) (sym is ∙ same) (has_cause link), λ cause. is ∙ one_cause link answer cause)
 
--- a canonical text counts as itself
-pub counts_as_itself : (base : Option (List ℕ)) (text : List ℕ) → IsWebText text → length text ≤ 2048 → canon_of_link (link_of base text) ≡ Web text
-counts_as_itself base text own short =
+-- against any base the text of a web page counts as itself, or is too long
+counts_as_own : (base : Option (List ℕ)) (text : List ℕ) → IsWebText text → canon_of_link (link_of base text) ≡ own_canon text
+counts_as_own base text own =
     let url = own.url in
     let web = own.web in
     let named : has_credentials url ≡ false = rw (web.username, web.password) refl in
     let cut : text ≡ canonical_text url = own.written ∙ (λ i. serialize (record url { fragment = web.fragment i })) in
     let reads : link_of base text ≡ Some url = ap (url_against (option_and_then url_of base)) own.written ∙ url_against-serialize url _ web in
-    ap canon_of_link reads ∙ one_cause (Some url) (Web text) (url, refl, (web.http, named), cut, short)
+    ap canon_of_link reads ∙ cond-false _ _ _ (ap not ((bytes_eq-Decides _ _).1 web.http)) ∙ cond-false _ _ _ named ∙ ap own_canon (sym cut)
+
+pub canon_of-own : (base : Option (List ℕ)) (text : List ℕ) → IsWebText text → canon_of base text ≡ own_canon text
+unfolding canon_of
+canon_of-own base text own = counts_as_own base text own
+
+-- a canonical text counts as itself
+counts_as_itself : (base : Option (List ℕ)) (text : List ℕ) → IsCanonicalText text → canon_of_link (link_of base text) ≡ Web text
+counts_as_itself base text own =
+    let short : nat_lt max_text (length text) ≡ false = let fits = own.short in grind (arith, nat_tests) in
+    counts_as_own base text own.web_text ∙ cond-false _ _ _ short
+
+-- what is sorted as a web page of its text has a canonical text
+pub canonical_from_same : (url : Parts) (text : List ℕ) → IsWeb url → length (serialize url) ≤ max_text → Web (serialize url) ≡ Web text → IsCanonicalText text
+canonical_from_same url text web short same =
+    let is : serialize url ≡ text = cc in
+    record { web_text = record { url = url; web = web; written = sym is }; short = subst (λ t. length t ≤ max_text) is short }
 
 -- ---- the same of a result
 
@@ -79,9 +96,13 @@ pub cause_of_result : {E : Type 0} (result : Result Canon E) (base : Option (Lis
 cause_of_result (Ok canon) base text link is counted = exact_cause (link_of base text) canon (counted ∙ ap canon_of_link is)
 cause_of_result (Err e) base text link is counted = tt
 
-pub own_text_of_result : {E : Type 0} (result : Result Canon E) (base : Option (List ℕ)) (text : List ℕ) (link : Option Parts) → link ≡ link_of base text → IfOk result (λ canon. canon ≡ canon_of_link link) → IsWebText text → length text ≤ 2048 → IfOk result (λ canon. canon ≡ Web text)
-own_text_of_result (Ok canon) base text link is counted own short = counted ∙ ap canon_of_link is ∙ counts_as_itself base text own short
-own_text_of_result (Err e) base text link is counted own short = tt
+pub own_of_result : {E : Type 0} (result : Result Canon E) (base : Option (List ℕ)) (text : List ℕ) (link : Option Parts) → link ≡ link_of base text → IfOk result (λ canon. canon ≡ canon_of_link link) → IsWebText text → IfOk result (λ canon. canon ≡ own_canon text)
+own_of_result (Ok canon) base text link is counted own = counted ∙ ap canon_of_link is ∙ counts_as_own base text own
+own_of_result (Err e) base text link is counted own = tt
+
+pub again_of_result : {E : Type 0} (result : Result Canon E) (base : Option (List ℕ)) (text : List ℕ) (link : Option Parts) → link ≡ link_of base text → IfOk result (λ canon. canon ≡ canon_of_link link) → IfOk result (λ canon. (web : List ℕ) → canon ≡ Web web → IsCanonicalText web) → IfOk result (λ canon. (canon ≡ Web text) ↔ IsCanonicalText text)
+again_of_result (Ok canon) base text link is counted found = (found text, λ own. counted ∙ ap canon_of_link is ∙ counts_as_itself base text own)
+again_of_result (Err e) base text link is counted found = tt
 
 -- ---- what the tests say
 

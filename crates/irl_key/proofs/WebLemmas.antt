@@ -1,30 +1,36 @@
 -- The texts of web URLs.
-use Rattle.std.proofs.Common.{◌≡◌, ℕ, ◌<◌, ◌≤◌, false, List, [], ◌∷◌, ◌++◌, length, Some, None, refl, sym, ap, ◌∙◌, subst, inl, ⊎_elim, arith, lit<, append_assoc, append-nil, length-append}
-use Rattle.std.specs.Prelude.{Option, Result, Ok, Err, IfOk, OnOk, ◌⊎◌, is_some, unwrap_or, option_map, decimal, codes}
+use Rattle.std.proofs.Common.{◌≡◌, ℕ, ◌+◌, ◌<◌, ◌≤◌, Bool, true, false, ◌&&◌, leb, All, get_or, List, [], ◌∷◌, ◌++◌, length, Some, None, refl, sym, ap, ◌∙◌, subst, inl, ⊎_elim, arith, lit<, lit≤, append_assoc, append-nil, length-append}
+use Rattle.std.specs.Prelude.{Option, Result, Ok, Err, IfOk, IfSome, OnOk, ◌⊎◌, is_some, unwrap_or, option_map, decimal, codes}
 use Rattle.std.specs.Str.{is_utf8, IsUtf8}
 use Rattle.std.specs.Result.{result_ok}
+use Rattle.std.specs.Int.{IsInRange}
 use Rattle.std.proofs.lemmas.Bool.{cond-true, cond-false, cases_Bool}
+use Rattle.std.proofs.lemmas.Bool.Decides.{nat_tests}
 use Rattle.std.proofs.lemmas.Str.{IsUtf8-from_ascii, is_utf8-from_IsUtf8, IsUtf8-from_is_utf8}
-use Rattle.std.proofs.lemmas.List.Elements.{All-from_recursion}
+use Rattle.std.proofs.lemmas.List.Elements.{All-from_recursion, All-nil, All-cons, All-append, All-weaker}
 use Rattle.url.specs.declared.host.Host.{Host}
 use Rattle.url.specs.declared.scheme.SchemeType.{SchemeType}
 use Rattle.url.specs.declared.scheme.SchemeType.TheVariants.{SpecialNotFile}
-use Rattle.url.specs.declared.sets.TheConstants.{PATH}
+use Rattle.url.specs.declared.sets.TheConstants.{PATH, SPECIAL_QUERY}
 use Rattle.url.specs.declared.slicing.Position.TheVariants.{BeforeHost, AfterPort, BeforePath, AfterQuery}
 use Rattle.url.specs.Percent.{IsKept}
 use Rattle.url.specs.Input.{when}
 use Rattle.url.specs.Scheme.{default_port, scheme_type, is_special, is_slash}
-use Rattle.url.specs.Host.{host_text}
-use Rattle.url.specs.Path.{IsSegment, IsSegmentList}
-use Rattle.url.specs.Parts.{Parts, kind_of, host_or_empty, serialize, text_between, IsValid}
+use Rattle.url.specs.Host.{host_text, IsHostOf}
+use Rattle.url.specs.Path.{IsSegment, IsSegmentList, join_segments}
+use Rattle.url.specs.Parts.{Parts, kind_of, host_or_empty, query_set, serialize, text_between, IsPortOf, IsHierarchicalPath, IsValid}
 use Rattle.url.specs.Parser.{parse_url, with_tail, IsOutOfRoom}
 use Rattle.url.specs.declared.error.ParseError.{ParseError}
 use Rattle.url.proofs.OnLiterals.{url_on_literals}
 use Rattle.url.proofs.LayoutLemmas.{IsValidHead_same}
-use Rattle.url.proofs.SetterLemmas.{host_is_some}
-use Rattle.url.proofs.ValidLemmas.{IsAscii-serialize, special_has_authority, base_from_authority, hierarchical, option_unchanged}
+use Rattle.url.proofs.SetterLemmas.{host_is_some, own_host}
+use Rattle.url.proofs.SetLemmas.{passes_from_kept}
+use Rattle.url.proofs.HostRoundTrip.{All-decimal, IsHostByte, host_text_plain}
+use Rattle.url.proofs.RoundTrip.{host_nonempty}
+use Rattle.url.proofs.ValidLemmas.{IsAscii-serialize, segment_list_kept, special_has_authority, base_from_authority, hierarchical, option_unchanged}
 use Rattle.url.proofs.Theorems.{parse_url-serialize_special}
-use Rattle.irl_key.specs.Web.{url_against, marked, host_part, target_part, host_of, target_of, robots_text, IsWeb, IsHost}
+use Rattle.irl_offer.specs.Limits.{max_text}
+use Rattle.irl_key.specs.Web.{IsVisible, url_against, marked, host_part, target_part, host_of, target_of, robots_text, IsWeb, IsHost}
 use Rattle.irl_key.specs.Links.{without_fragment}
 
 pub kind-http : (url : Parts) → url.scheme ≡ codes "http" → kind_of url ≡ SpecialNotFile
@@ -88,8 +94,8 @@ text_between-host url = ap (λ t. host_text (host_or_empty url) ++ t) (port_piec
 pub text_between-target : (url : Parts) → text_between url BeforePath AfterQuery ≡ target_part url
 text_between-target url = ap (λ t. url.path ++ t) (query_pieces url.query)
 
--- a text of 2,048 bytes has no longer host
-pub short_host : (url : Parts) → IsValid url → url.scheme ≡ codes "http" → url.username ≡ [] → url.password ≡ [] → url.fragment ≡ None → length (serialize url) ≤ 2048 → length (host_part url) ≤ 2040
+-- a text that is not too long has room for its host
+pub short_host : (url : Parts) → IsValid url → url.scheme ≡ codes "http" → url.username ≡ [] → url.password ≡ [] → url.fragment ≡ None → length (serialize url) ≤ max_text → length (host_part url) + 8 ≤ max_text
 short_host url valid http username password fragment short =
     let kind = ap is_special (kind-http url http) in
     let authority = special_has_authority url valid.head kind in
@@ -98,6 +104,86 @@ short_host url valid http username password fragment short =
     let parts = length-append (host_part url) (target_part url) in
     let target = length-append url.path (marked (codes "?") url.query) in
     omega arith
+
+-- ---- the bytes
+
+abbrev is_visible : ℕ → Bool
+is_visible b = leb 33 b && leb b 126
+
+visible_by_test : (b : ℕ) → is_visible b ≡ true → IsVisible b
+visible_by_test b test = grind (arith, nat_tests)
+
+visible_path : (xs : List ℕ) → All (IsKept PATH) xs → All IsVisible xs
+visible_path = All-weaker (IsKept PATH) IsVisible (λ b kept. visible_by_test b (passes_from_kept PATH is_visible refl b kept))
+
+visible_marked : (mark : ℕ) (part : Option (List ℕ)) → IsVisible mark → IfSome part (All IsVisible) → All IsVisible (marked (mark ∷ []) part)
+visible_marked mark None here all = All-nil IsVisible
+visible_marked mark (Some part) here all = All-cons IsVisible mark part here all
+
+visible_port : (scheme : List ℕ) (port : Option ℕ) → IsPortOf scheme port → IfSome (option_map decimal port) (All IsVisible)
+visible_port scheme None valid = tt
+visible_port scheme (Some n) valid =
+    All-weaker (IsInRange 48 57) IsVisible (λ b digit. (omega arith, omega arith)) (decimal n) (All-decimal n (omega (arith, valid.0)))
+
+visible_query : (query : Option (List ℕ)) → IfSome query (All (IsKept SPECIAL_QUERY)) → IfSome query (All IsVisible)
+visible_query None kept = tt
+visible_query (Some q) kept =
+    All-weaker (IsKept SPECIAL_QUERY) IsVisible (λ b k. visible_by_test b (passes_from_kept SPECIAL_QUERY is_visible refl b k)) q kept
+
+-- the host of a web URL, as one of its kind
+web_host : (url : Parts) → IsWeb url → IsHostOf SpecialNotFile (host_or_empty url)
+web_host url web =
+    let kind = kind-http url web.http in
+    let authority = special_has_authority url web.valid.head (ap is_special kind) in
+    subst (λ k. IsHostOf k (host_or_empty url)) kind (own_host url web.valid.head authority)
+
+pub visible_host : (url : Parts) → IsWeb url → All IsVisible (host_part url)
+visible_host url web =
+    let text = host_text (host_or_empty url) in
+    let plain = host_text_plain SpecialNotFile (host_or_empty url) (web_host url web) in
+    All-append IsVisible text (marked (codes ":") (option_map decimal url.port))
+    (All-weaker IsHostByte IsVisible (λ b h. (omega (arith, h.above), omega (arith, h.below))) text plain)
+    (visible_marked 58 (option_map decimal url.port) (lit≤ tt, lit≤ tt) (visible_port url.scheme url.port web.valid.head.port))
+
+pub nonempty_host : (url : Parts) → IsWeb url → 0 < length (host_part url)
+nonempty_host url web =
+    let more = host_nonempty (host_or_empty url) (web_host url web) in
+    let parts = length-append (host_text (host_or_empty url)) (marked (codes ":") (option_map decimal url.port)) in
+    omega arith
+
+web_path : (url : Parts) → IsWeb url → IsHierarchicalPath (kind_of url) url.path
+web_path url web =
+    let authority = special_has_authority url web.valid.head (ap is_special (kind-http url web.http)) in
+    hierarchical url web.valid.path (base_from_authority url authority)
+
+rooted : (segments : List (List ℕ)) (path : List ℕ) → path ≡ join_segments segments → 0 < length path → (rest : List ℕ) × (path ≡ 47 ∷ rest)
+rooted [] path joined more = absurd (let none = ap length joined in omega arith)
+rooted (s ∷ segments) path joined more = (s ++ join_segments segments, joined)
+
+pub rooted_target : (url : Parts) → IsWeb url → get_or (target_part url) 0 0 ≡ 47
+rooted_target url web =
+    let path = web_path url web in
+    let r = rooted path.0.segments url.path path.0.joined (path.1 (ap is_special (kind-http url web.http))) in
+    ap (λ p. get_or (p ++ marked (codes "?") url.query) 0 0) r.1
+
+pub visible_target : (url : Parts) → IsWeb url → All IsVisible (target_part url)
+visible_target url web =
+    let path = web_path url web in
+    let query = subst (λ k. IfSome url.query (All (IsKept (query_set k)))) (kind-http url web.http) web.valid.query in
+    All-append IsVisible url.path (marked (codes "?") url.query)
+    (visible_path url.path (segment_list_kept _ url.path path.0))
+    (visible_marked 63 url.query (lit≤ tt, lit≤ tt) (visible_query url.query query))
+
+visible_front : All IsVisible (codes "http://")
+visible_front =
+    let seen = λ (b : ℕ) (test : is_visible b ≡ true). visible_by_test b test in
+    All-from_recursion IsVisible (codes "http://") (seen 104 refl, (seen 116 refl, (seen 116 refl, (seen 112 refl, (seen 58 refl, (seen 47 refl, (seen 47 refl, tt)))))))
+
+pub visible_text : (url : Parts) → IsWeb url → All IsVisible (serialize url)
+visible_text url web =
+    let written = web_text url web.valid web.http web.username web.password web.fragment in
+    let rest = All-append IsVisible (host_part url) (target_part url) (visible_host url web) (visible_target url web) in
+    subst (All IsVisible) (sym written) (All-append IsVisible (codes "http://") (host_part url ++ target_part url) visible_front rest)
 
 -- ---- reading
 
@@ -136,7 +222,7 @@ pub with_tail-none : (url : Parts) → IsValid url → with_tail url url.query N
 with_tail-none url valid = λ i. record url { query = option_unchanged _ url.query valid.query i; fragment = None }
 
 -- what passes the tests is a web URL
-pub tested_web : (url web : Parts) → web ≡ without_fragment url → url.scheme ≡ codes "http" → url.username ≡ [] → url.password ≡ [] → IsValid web → length (serialize web) ≤ 2048 → IsWeb web
+pub tested_web : (url web : Parts) → web ≡ without_fragment url → url.scheme ≡ codes "http" → url.username ≡ [] → url.password ≡ [] → IsValid web → length (serialize web) ≤ max_text → IsWeb web
 tested_web url web is http username password valid short =
     let same_http : web.scheme ≡ codes "http" = ap (λ (u : Parts). u.scheme) is ∙ http in
     let same_username : web.username ≡ [] = ap (λ (u : Parts). u.username) is ∙ username in
@@ -213,8 +299,8 @@ robots_reads host h =
       target_is = append-nil (codes "/robots.txt");
     }
 
-pub length-robots : (host : List ℕ) → RobotsReads host → length (robots_text host) ≤ 2058
+pub length-robots : (host : List ℕ) → RobotsReads host → length (robots_text host) ≤ max_text + 10
 length-robots host r =
-    let short : length host ≤ 2040 = subst (λ t. length t ≤ 2040) r.host_is r.web.host in
+    let short : length host + 8 ≤ max_text = subst (λ t. length t + 8 ≤ max_text) r.host_is r.web.host in
     let parts = length-append host (codes "/robots.txt") in
     omega arith

@@ -1,4 +1,4 @@
--- The keys that stand for URLs and lines.
+-- Keys: what a crawler knows a URL, a line, a domain or a host by, in place of its text. Texts of one key count as one.
 use Rattle.std.specs.Prelude.{ℕ, List, take}
 use Rattle.std.specs.Int.{w64, from_be_bytes}
 use Rattle.sha1.specs.Sha1.{sha1}

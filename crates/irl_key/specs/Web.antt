@@ -1,10 +1,15 @@
 -- The canonical texts of web pages, by the URL Standard: the URL record (section 4.1) and its text (section 4.5).
-use Rattle.std.specs.Prelude.{◌≡◌, ℕ, ◌≤◌, List, [], ◌++◌, length, codes, decimal, Option, Some, None, unwrap_or, option_map, if◌then◌else◌}
+use Rattle.std.specs.Prelude.{◌≡◌, ℕ, ◌+◌, ◌≤◌, List, [], ◌++◌, length, codes, decimal, Option, Some, None, unwrap_or, option_map, if◌then◌else◌}
 use Rattle.std.specs.Str.{is_utf8}
 use Rattle.std.specs.Result.{result_ok}
 use Rattle.url.specs.Host.{host_text}
 use Rattle.url.specs.Parts.{Parts, host_or_empty, serialize, IsValid}
 use Rattle.url.specs.Parser.{parse_url}
+use Rattle.irl_offer.specs.Limits.{max_text}
+
+-- a visible byte of ASCII: no space and no control, so no line break
+abbrev pub IsVisible : ℕ → Type 0
+IsVisible b = (33 ≤ b) × (b ≤ 126)
 
 -- the URL that the bytes read as against this base (sections 4.3 and 4.4), if they are UTF-8 that reads as one
 unfoldable pub url_against : Option Parts → List ℕ → Option Parts
@@ -28,17 +33,16 @@ abbrev pub target_part : Parts → List ℕ
 target_part url = url.path ++ marked (codes "?") url.query
 
 -- A link that a crawler follows: a valid URL of scheme http, with no user name, password or fragment.
--- A text of 2,048 bytes has no host over 2,040 bytes.
+-- A text of the greatest length has `http://` before its host and `/` behind it.
 pub record IsWeb (url : Parts) : Type 0 where
   pub valid : IsValid url
   pub http : url.scheme ≡ codes "http"
   pub username : url.username ≡ []
   pub password : url.password ≡ []
   pub fragment : url.fragment ≡ None
-  pub host : length (host_part url) ≤ 2040
+  pub host : length (host_part url) + 8 ≤ max_text
 
--- The text of a web URL, which reads as that URL again. Its length is no part of this: that it has 2,048 bytes
--- at most is asked where a link is read.
+-- The text of a web URL, which reads as that URL again. Its length is no part of this: it is asked where a link is read.
 pub record IsWebText (text : List ℕ) : Type 0 where
   pub url : Parts
   pub web : IsWeb url

@@ -1,27 +1,26 @@
-ghost use Rattle.std.specs.Prelude.{◌≡◌, ◌≤◌, ◌↔◌, length, codes, option_copied, IfOk, OnOk, Some, None};
+ghost use Rattle.std.specs.Prelude.{◌≡◌, ◌+◌, ◌≤◌, ◌↔◌, ℕ, List, length, codes, Option, option_copied, IfOk, OnOk, Some, None};
 ghost use Rattle.url.specs.Parser.{parse_url, Gives, IsOutOfRoom};
+ghost use Rattle.irl_offer.specs.Limits.{max_text};
 ghost use Rattle.irl_key.specs.declared.canon.Canon.{Canon as Answer};
 ghost use Rattle.irl_key.specs.Web.{IsWebText, IsHost, host_of, target_of, url_against, robots_text as robots};
-ghost use Rattle.irl_key.specs.Links.{IsCause, canon_of, canon_of_link, link_of, without_fragment as cut};
+ghost use Rattle.irl_key.specs.Links.{IsCause, IsCanonicalText, canon_of, canon_of_link, link_of, own_canon, without_fragment as cut};
 
 use crate::web::Web;
+use irl_offer::MAX_TEXT;
 use std::alloc::{AllocError, Global};
 use std::str;
 use url::{ParseError, ParseResult, Url};
 
-/// The most bytes that the canonical text of a link may have.
-const MOST: usize = 2048;
-
 /// What a link counts as.
 #[derive(Drop)]
 pub enum Canon {
-    /// A web page, by its canonical text of at most 2,048 bytes.
+    /// A web page, by its canonical text of at most `MAX_TEXT` bytes.
     Web(Web),
     /// A URL of another scheme than http.
     NotHttp,
     /// No URL, or one of scheme http with a user name or a password.
     Bad,
-    /// A web page whose canonical text is longer than 2,048 bytes.
+    /// A web page whose canonical text is longer.
     TooLong,
 }
 
@@ -32,9 +31,12 @@ pub fn canonical(alloc: Global, base: Option<&Web>, text: &[u8]) -> Result<Canon
     // Each answer comes exactly where its cause holds, unless memory runs out.
     ensures cause { IfOk result (λ canon. (answer : Answer)
         → (canon ≡ answer) ↔ IsCause (link_of (option_copied base.entry) text.now) answer) }
-    // A canonical text counts as itself, against any base.
-    ensures again { IsWebText text.now → length text.now ≤ 2048
-        → IfOk result (λ canon. canon ≡ Canon.Web text.now) }
+    // Exactly a canonical text counts as itself, against any base.
+    ensures again { IfOk result (λ canon. (canon ≡ Canon.Web text.now) ↔ IsCanonicalText text.now) }
+    // The text of a web page, of a robots file too, counts as itself or is too long.
+    ensures own { IsWebText text.now → IfOk result (λ canon. canon ≡ own_canon text.now) }
+    // What counts as a web page has a canonical text.
+    ensures found { IfOk result (λ canon. (web : List ℕ) → canon ≡ Canon.Web web → IsCanonicalText web) }
 {
     let link = read_link(alloc, base, text)?;
     sort(link)
@@ -85,7 +87,8 @@ fn refused(error: ParseError) -> Result<Option<Url>, AllocError>
 
 // What a link counts as that reads so.
 fn sort(link: Option<Url>) -> Result<Canon, AllocError>
-    ensures { IfOk result (λ canon. canon ≡ canon_of_link link) }
+    ensures value { IfOk result (λ canon. canon ≡ canon_of_link link) }
+    ensures found { IfOk result (λ canon. (web : List ℕ) → canon ≡ Canon.Web web → IsCanonicalText web) }
 {
     let Some(url) = link else {
         return Ok(Canon::Bad);
@@ -97,7 +100,7 @@ fn sort(link: Option<Url>) -> Result<Canon, AllocError>
         return Ok(Canon::Bad);
     }
     let url = without_fragment(url)?;
-    if url.as_str().len() > MOST {
+    if url.as_str().len() > MAX_TEXT {
         return Ok(Canon::TooLong);
     }
     Ok(Canon::Web(Web { url }))
@@ -116,13 +119,15 @@ fn without_fragment(mut url: Url) -> Result<Url, AllocError>
     }
 }
 
-/// The robots file of a host that a link gave: `http://HOST/robots.txt`, of at most 2,058 bytes.
+/// The robots file of a host that a link gave: `http://HOST/robots.txt`, at most ten bytes longer than `MAX_TEXT`.
 pub fn robots_of(alloc: Global, host: &[u8]) -> Result<Web, AllocError>
     requires { IsHost host.now }
     ensures text { IfOk result (λ web. web ≡ robots host.now) }
-    ensures short { IfOk result (λ web. length web ≤ 2058) }
+    ensures short { IfOk result (λ web. length web ≤ max_text + 10) }
     ensures host { IfOk result (λ web. host_of web ≡ host.now) }
     ensures target { IfOk result (λ web. target_of web ≡ codes "/robots.txt") }
+    // Against any base it counts as itself, or is too long.
+    ensures own { IfOk result (λ web. (base : Option (List ℕ)) → canon_of base web ≡ own_canon web) }
 {
     let text = robots_text(alloc, host)?;
     match read(alloc, None, &text)? {

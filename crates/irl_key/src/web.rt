@@ -1,5 +1,6 @@
-ghost use Rattle.std.specs.Prelude.{◌≡◌, ◌≤◌, length, IfOk, Some};
-ghost use Rattle.irl_key.specs.Web.{IsWebText, IsHost, host_of, target_of, url_of};
+ghost use Rattle.std.specs.Prelude.{◌≡◌, ◌+◌, ◌<◌, ◌≤◌, length, slice_index, All, IfOk, Some};
+ghost use Rattle.irl_offer.specs.Limits.{max_text};
+ghost use Rattle.irl_key.specs.Web.{IsWebText, IsHost, IsVisible, host_of, target_of, url_of};
 
 use std::alloc::{AllocError, Global};
 use std::marker::Model;
@@ -25,28 +26,33 @@ impl Model for Web {
 }
 
 impl Web {
-    /// The canonical text, as `http://a.test/p?q=1`.
+    /// The canonical text, as `http://a.test/p?q=1`: visible ASCII alone.
     pub fn text(&self) -> &[u8]
         ensures value { result.now ≡ self.now }
         ensures canonical { IsWebText result.now }
+        ensures visible { All IsVisible result.now }
     {
         self.url.as_str().as_bytes()
     }
 
-    /// The host, with `:` and the port where the text has one, as `a.test:8080`.
+    /// The host, with `:` and the port where the text has one, as `a.test:8080`. It is never empty.
     pub fn host(&self) -> &[u8]
         ensures value { result.now ≡ host_of self.now }
         ensures given { IsHost result.now }
-        ensures short { length result.now ≤ 2040 }
+        ensures short { length result.now + 8 ≤ max_text }
+        ensures nonempty { 0 < length result.now }
+        ensures visible { All IsVisible result.now }
     {
         self.url
             .slice(Position::BeforeHost, Position::AfterPort)
             .as_bytes()
     }
 
-    /// What a request asks the host for: the path, with `?` and the query where there is one.
+    /// What a request asks the host for: the path, with `?` and the query where there is one. It begins with `/`.
     pub fn target(&self) -> &[u8]
-        ensures { result.now ≡ target_of self.now }
+        ensures value { result.now ≡ target_of self.now }
+        ensures rooted { slice_index result.now 0 ≡ 47 }
+        ensures visible { All IsVisible result.now }
     {
         self.url
             .slice(Position::BeforePath, Position::AfterQuery)

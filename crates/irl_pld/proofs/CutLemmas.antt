@@ -77,6 +77,15 @@ unfolding cut
 cut-whole s [] none = refl
 cut-whole s (b ∷ bytes) none = whole_by s b bytes (b == s) (cut-whole s bytes) none
 
+front_by : (s b : ℕ) (bytes : List ℕ) (test : Bool) → length (cut s bytes).0 ≤ length bytes → length (cond {A = List ℕ × Option (List ℕ)} test ([], Some bytes) (b ∷ (cut s bytes).0, (cut s bytes).1)).0 ≤ length (b ∷ bytes)
+front_by s b bytes true later = omega arith
+front_by s b bytes false later = omega arith
+
+pub length-cut_front : (s : ℕ) (bytes : List ℕ) → length (cut s bytes).0 ≤ length bytes
+unfolding cut
+length-cut_front s [] = omega arith
+length-cut_front s (b ∷ bytes) = front_by s b bytes (b == s) (length-cut_front s bytes)
+
 -- a host with an opening bracket and no closing one has no port
 pub without_port-open : (host : List ℕ) (rest : Option (Bor (List ℕ))) → (slice_index host 0 == 91) ≡ true → option_copied rest ≡ (cut 93 host).1 → false ≡ is_some rest → host ≡ without_port host
 without_port-open host None bracket is none =

@@ -1,13 +1,15 @@
 -- The domain of a host has one label more than the longest listed name that the host ends in.
-use Rattle.std.proofs.Common.{◌≡◌, ℕ, ◌<◌, ◌≤◌, Bool, true, false, cond, ◌==◌, ◌||◌, ◌⊎◌, List, [], ◌∷◌, ◌++◌, length, Option, Some, None, sym, refl, ap, ◌∙◌, subst, inl, inr, ⊎_elim, arith, append_assoc, length-append}
+use Rattle.std.proofs.Common.{◌≡◌, ℕ, ◌+◌, ◌-◌, ◌<◌, ◌≤◌, take, Bool, true, false, cond, ◌==◌, ◌||◌, ◌⊎◌, List, [], ◌∷◌, ◌++◌, length, Option, Some, None, sym, refl, ap, ◌∙◌, subst, inl, inr, ⊎_elim, arith, append_assoc, length-append}
+use Rattle.std.specs.Prelude.{slice_index}
 use Rattle.std.specs.List.{find}
+use Rattle.std.proofs.lemmas.List.{length-take}
 use Rattle.std.proofs.lemmas.Bool.{cond-true, cond-false, cases_Bool, true≢false, false≢true}
 use Rattle.std.proofs.lemmas.Bool.Decides.{nat_tests}
 use Rattle.irl_pld.specs.Cut.{cut}
 use Rattle.irl_pld.specs.Names.{is_listed}
-use Rattle.irl_pld.specs.Domains.{tails, tails_left, is_address, one_more, domain_of}
+use Rattle.irl_pld.specs.Domains.{tails, tails_left, is_address, one_more, domain_of, without_port, without_last_dot, bare}
 use Rattle.irl_pld.specs.Longest.{HasNoDot, EndsIn, IsSuffix, IsLongestSuffix, IsOneMore, IsOwn, IsDomain}
-use Rattle.irl_pld.proofs.CutLemmas.{tails-cut}
+use Rattle.irl_pld.proofs.CutLemmas.{tails-cut, length-cut_front}
 
 -- ---- the first tail
 
@@ -212,3 +214,70 @@ domain_is text host = record {
       let two = last_two (is_listed text) host (tails host) refl (λ single. other (inr (inr single))) found in
       (two.0, two.1, subst (IsOneMore host two.0) (sym (other_goes text host other)) two.2);
 }
+
+-- ---- the host ends in its domain
+
+one_more_ends : (listed : List ℕ → Bool) (host : List ℕ) (ts : List (List ℕ)) → ts ≡ tails host → EndsIn host (one_more listed host ts)
+one_more_ends listed host [] is = inl refl
+one_more_ends listed host (t ∷ []) is = inl refl
+one_more_ends listed host (t ∷ u ∷ ts) is =
+    let b = begins host t (u ∷ ts) is in
+    let domain = one_more listed t (u ∷ ts) in
+    let later : EndsIn host domain = subst (λ h. EndsIn h domain) (sym b.spelled) (further_back b.label t domain (one_more_ends listed t (u ∷ ts) b.further)) in
+    ⊎_elim (λ hit. subst (EndsIn host) (sym (cond-true _ host domain hit)) (inl refl)) (λ miss. subst (EndsIn host) (sym (cond-false _ host domain miss)) later) (cases_Bool (listed t))
+
+one_more_nonempty : (listed : List ℕ → Bool) (host : List ℕ) (ts : List (List ℕ)) → ts ≡ tails host → 0 < length host → 0 < length (one_more listed host ts)
+one_more_nonempty listed host [] is more = more
+one_more_nonempty listed host (t ∷ []) is more = more
+one_more_nonempty listed host (t ∷ u ∷ ts) is more =
+    let b = begins host t (u ∷ ts) is in
+    let inner = begins t u ts b.further in
+    let long = ap length inner.spelled ∙ length-append inner.label (46 ∷ u) in
+    let domain = one_more listed t (u ∷ ts) in
+    let later : 0 < length domain = one_more_nonempty listed t (u ∷ ts) b.further (omega arith) in
+    ⊎_elim (λ hit. subst (λ d. 0 < length d) (sym (cond-true _ host domain hit)) more) (λ miss. subst (λ d. 0 < length d) (sym (cond-false _ host domain miss)) later) (cases_Bool (listed t))
+
+pub domain_ends : (listed : List ℕ → Bool) (host : List ℕ) → EndsIn host (domain_of listed host)
+domain_ends listed host =
+    ⊎_elim
+    (λ own. subst (EndsIn host) (sym (cond-true _ host _ own)) (inl refl))
+    (λ other. subst (EndsIn host) (sym (cond-false _ host _ other)) (one_more_ends listed host (tails host) refl))
+    (cases_Bool (is_address host || listed host))
+
+-- the domain of what is not empty is not empty
+domain_nonempty : (listed : List ℕ → Bool) (host : List ℕ) → 0 < length host → 0 < length (domain_of listed host)
+domain_nonempty listed host more =
+    ⊎_elim
+    (λ own. subst (λ d. 0 < length d) (sym (cond-true _ host _ own)) more)
+    (λ other. subst (λ d. 0 < length d) (sym (cond-false _ host _ other)) (one_more_nonempty listed host (tails host) refl more))
+    (cases_Bool (is_address host || listed host))
+
+pub empty_from_domain : (listed : List ℕ → Bool) (host : List ℕ) → domain_of listed host ≡ [] → host ≡ []
+empty_from_domain listed [] none = refl
+empty_from_domain listed (b ∷ bytes) none = absurd (let more = domain_nonempty listed (b ∷ bytes) (omega arith) in let no = ap length none in omega arith)
+
+pub within_from_ends : (host labels : List ℕ) → EndsIn host labels → length labels ≤ length host
+within_from_ends host labels (inl same) = let e = ap length same in omega arith
+within_from_ends host labels (inr ends) = let e = ap length ends.1 ∙ length-append ends.0 (46 ∷ labels) in omega arith
+
+-- ---- the host without its port and one last dot
+
+without_last_dot_within : (host : List ℕ) → length (without_last_dot host) ≤ length host
+without_last_dot_within host =
+    let shorter = length-take (length host - 1) host in
+    ⊎_elim
+    (λ dot. subst (λ h. length h ≤ length host) (sym (cond-true _ (take (length host - 1) host) host dot)) (omega arith))
+    (λ none. subst (λ h. length h ≤ length host) (sym (cond-false _ (take (length host - 1) host) host none)) (omega arith))
+    (cases_Bool (slice_index host (length host - 1) == 46))
+
+without_port_within : (host : List ℕ) → length (without_port host) ≤ length host
+without_port_within host =
+    let address = take (length (cut 93 host).0 + 1) host in
+    let shorter = length-take (length (cut 93 host).0 + 1) host in
+    ⊎_elim
+    (λ bracket. subst (λ h. length h ≤ length host) (sym (cond-true _ address _ bracket)) (omega arith))
+    (λ name. subst (λ h. length h ≤ length host) (sym (cond-false _ address _ name)) (length-cut_front 58 host))
+    (cases_Bool (slice_index host 0 == 91))
+
+pub bare_within : (host : List ℕ) → length (bare host) ≤ length host
+bare_within host = let port = without_port_within host in let dot = without_last_dot_within (without_port host) in omega arith

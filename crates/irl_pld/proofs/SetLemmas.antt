@@ -1,16 +1,16 @@
 -- What a set of names has after one more.
-use Rattle.std.proofs.Common.{◌≡◌, ℕ, Bool, true, false, ◌||◌, List, [], ◌∷◌, sym, refl, ap, ◌∙◌}
-use Rattle.std.specs.Prelude.{Vec, bytes_eq}
+use Rattle.std.proofs.Common.{◌≡◌, ℕ, Bool, true, false, ◌||◌, List, [], ◌∷◌, sym, refl, ap, ◌∙◌, subst}
+use Rattle.std.specs.Prelude.{Vec, vec_len, bytes_eq}
 use Rattle.std.specs.declared.cmp.Ordering.{Ordering}
 use Rattle.std.specs.declared.cmp.Ordering.TheVariants.{Less, Equal, Greater}
 use Rattle.std.specs.Ordering.{nat_cmp, is_eq, match_ordering}
 use Rattle.std.specs.Cmp.Lexicographic.{slice_cmp}
-use Rattle.std.specs.List.{list_any}
+use Rattle.std.specs.List.{list_any, AllZip, each_same}
 use Rattle.std.specs.BTreeMap.{is_at}
 use Rattle.std.specs.BTreeSet.{BTreeSet, insert_key}
 use Rattle.std.proofs.lemmas.Map.Text.{is_eq-slice_cmp}
 use Rattle.std.proofs.lemmas.Slice.Eq.{bytes_eq-Decides}
-use Rattle.irl_pld.specs.Sets.{has_name}
+use Rattle.irl_pld.specs.Sets.{has_name, AreNamesOf}
 
 abbrev pub vec_cmp : {A : Type 0} → Vec ℕ A → Vec ℕ A → Ordering
 vec_cmp a b = slice_cmp nat_cmp a.items b.items
@@ -43,3 +43,20 @@ module _ {A : Type 0} (name : List ℕ) (k : Vec ℕ A) where
 
   pub has_name-insert : (old new : BTreeSet (Vec ℕ A)) → new.keys ≡ insert_key vec_cmp old.keys k → has_name new name ≡ (bytes_eq name k.items || has_name old name)
   has_name-insert old new is = ap (list_any (is_of name)) is ∙ any-insert_key old.keys ∙ ap (λ t. t || has_name old name) (is_eq-slice_cmp name k.items)
+
+-- a clone of a name
+abbrev pub IsCloneOf : {A : Type 0} → Vec ℕ A → Vec ℕ A → Type 0
+IsCloneOf v w = AllZip (λ x y. y ≡ x) v.items w.items × (vec_len w ≡ vec_len v)
+
+any-clone : {A : Type 0} (name : List ℕ) (xs ys : List (Vec ℕ A)) → AllZip IsCloneOf xs ys → list_any (is_of name) ys ≡ list_any (is_of name) xs
+any-clone name [] [] same = refl
+any-clone name [] (y ∷ ys) same = absurd same
+any-clone name (x ∷ xs) [] same = absurd same
+any-clone name (x ∷ xs) (y ∷ ys) same =
+    let first = ap (λ t. is_eq (slice_cmp nat_cmp name t)) (each_same x.items y.items same.0.0) in
+    ap (λ b. b || list_any (is_of name) ys) first ∙ ap (λ b. is_of name x || b) (any-clone name xs ys same.1)
+
+-- the clones of the names of a text are its names too
+pub names_from_clone : {A : Type 0} (old new : BTreeSet (Vec ℕ A)) (text copy : List ℕ) → AreNamesOf old text → AllZip IsCloneOf old.keys new.keys → copy ≡ text → AreNamesOf new copy
+names_from_clone old new text copy names same is =
+    subst (AreNamesOf new) (sym is) (record { good = names.good; listed = λ name. any-clone name old.keys new.keys same ∙ names.listed name })

@@ -1,6 +1,6 @@
-ghost use Rattle.std.specs.Prelude.{◌≡◌, None, Err, ℕ, List, IfOk, MatchResult};
+ghost use Rattle.std.specs.Prelude.{◌≡◌, ◌≤◌, [], None, Err, ℕ, List, length, IfOk, MatchResult};
 ghost use Rattle.irl_pld.specs.Domains.{pld_of, domain_of, one_more, tails, bare as without_port_and_dot};
-ghost use Rattle.irl_pld.specs.Longest.{IsDomain};
+ghost use Rattle.irl_pld.specs.Longest.{EndsIn, IsDomain};
 ghost use Rattle.irl_pld.specs.Names.{bad_line, is_listed};
 ghost use Rattle.irl_pld.specs.Sets.{AreNamesOf};
 ghost use Rattle.irl_pld.specs.Faults.{IsCause};
@@ -86,19 +86,21 @@ impl Suffixes {
     pub fn copy(&self, alloc: Global) -> Result<Suffixes, AllocError>
         ensures { IfOk result (λ suffixes. suffixes ≡ self.now) }
     {
-        match Suffixes::read(alloc, self.text()) {
-            Ok(suffixes) => Ok(suffixes),
-            Err(SuffixFault::Memory) => Err(AllocError),
-            Err(SuffixFault::BadLine(_)) => unreachable!(),
-        }
+        let names = self.names.clone()?;
+        let text = self.text.copy(alloc)?;
+        Ok(Suffixes { text, names })
     }
 
     /// The pay-level domain of a host, which may have a port: the longest suffix and one label more, or two labels
-    /// where no suffix fits. An address, a suffix and a single label are their own domain. It takes no memory.
+    /// where no suffix fits. An address, a suffix and a single label are their own domain. The host ends in its domain,
+    /// but for a port and one dot at its end. It takes no memory.
     #[tactic(auto, unfolding(crate::specs::Domains::pld_of))]
     pub fn pld<'a>(&self, host: &'a [u8]) -> &'a [u8]
         ensures value { result.now ≡ pld_of self.now host.now }
         ensures domain { IsDomain self.now (without_port_and_dot host.now) result.now }
+        ensures ends { EndsIn (without_port_and_dot host.now) result.now }
+        ensures within { length result.now ≤ length host.now }
+        ensures empty { result.now ≡ [] → without_port_and_dot host.now ≡ [] }
     {
         self.domain(bare(host))
     }

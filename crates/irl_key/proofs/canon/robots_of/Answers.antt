@@ -1,6 +1,8 @@
-use Rattle.std.proofs.Common.{◌≡◌, ℕ, ◌≤◌, List, length, Some, None, sym, ap, ◌∙◌, subst}
+use Rattle.std.proofs.Common.{◌≡◌, ℕ, ◌+◌, ◌≤◌, List, length, Some, None, sym, ap, ◌∙◌, subst}
 use Rattle.url.specs.Parts.{Parts, serialize}
 use Rattle.irl_key.specs.Web.{url_against, host_of, target_of, robots_text, IsWeb, IsHost}
+use Rattle.irl_offer.specs.Limits.{max_text}
+use Rattle.irl_key.proofs.LinkLemmas.{canon_of-own}
 use Rattle.irl_key.proofs.WebLemmas.{robots_reads, length-robots, host_of-serialize, target_of-serialize}
 use Rattle.irl_key.proofs.canon.robots_of.Goals as goal
 
@@ -32,7 +34,7 @@ pub returns-clause-short : goal.returns-clause-short
 returns-clause-short c =
     let host = c.args.host.now in
     let is = is_robots host _ c.in-Some.url c.requires (c.deref.ensures.value ∙ c.in_ok-text.ensures) (sym c.in-Some.is ∙ c.in_ok-url.ensures) in
-    subst (λ t. length t ≤ 2058) (sym (ap serialize is ∙ (robots_reads host c.requires).written)) (length-robots host (robots_reads host c.requires))
+    subst (λ t. length t ≤ max_text + 10) (sym (ap serialize is ∙ (robots_reads host c.requires).written)) (length-robots host (robots_reads host c.requires))
 
 pub returns-clause-host : goal.returns-clause-host
 returns-clause-host c =
@@ -47,3 +49,10 @@ returns-clause-target c =
     let is = is_robots host _ c.in-Some.url c.requires (c.deref.ensures.value ∙ c.in_ok-text.ensures) (sym c.in-Some.is ∙ c.in_ok-url.ensures) in
     let reads = robots_reads host c.requires in
     ap (λ (u : Parts). target_of (serialize u)) is ∙ target_of-serialize reads.url reads.web ∙ reads.target_is
+
+pub returns-clause-own : goal.returns-clause-own
+returns-clause-own c =
+    let host = c.args.host.now in
+    let is = is_robots host _ c.in-Some.url c.requires (c.deref.ensures.value ∙ c.in_ok-text.ensures) (sym c.in-Some.is ∙ c.in_ok-url.ensures) in
+    let reads = robots_reads host c.requires in
+    λ base. canon_of-own base _ (record { url = reads.url; web = reads.web; written = ap serialize is })
