@@ -1,6 +1,7 @@
 -- A reference read at a place is as the grammar says, and is the only one; so a value has one text.
-use Rattle.std.proofs.Common.{◌≡◌, ℕ, ◌+◌, ◌*◌, ◌<◌, ◌≤◌, Bool, true, false, cond, not, ◌&&◌, ◌||◌, eqb, nat_eq, nat_lt, List, [], ◌∷◌, ◌++◌, length, drop, Option, Some, None, IfSome, slice_get, append_assoc, unwrap_or, ◌⊎◌, inl, inr, refl, ap, sym, ◌∙◌, subst, arith}
+use Rattle.std.proofs.Common.{◌≡◌, ℕ, zero, suc, ◌+◌, ◌*◌, ◌<◌, ◌≤◌, Bool, true, false, cond, not, ◌&&◌, ◌||◌, eqb, nat_eq, nat_lt, List, [], ◌∷◌, ◌++◌, length, drop, Option, Some, None, IfSome, slice_get, append_assoc, unwrap_or, ◌⊎◌, inl, inr, refl, ap, sym, ◌∙◌, subst, arith}
 use Rattle.std.proofs.lemmas.Bool.{eqb-false, ne_eqb, lt-ltb, le-ltb, ltb-true, ltb-false, and_parts, or_cases, or_parts, not-false}
+use Rattle.std.proofs.lemmas.List.{length-append}
 use Rattle.std.specs.List.{starts_with}
 use Rattle.std.specs.Char.{digit_value}
 use Rattle.std.specs.Str.Parse.{AllDigits, digits_value, digits_value_after}
@@ -308,6 +309,39 @@ texts_same (i ∷ is) (j ∷ js) h k e =
 
 pub one_text : (value : List ℕ) (is js : List Item) → Reads value is → Reads value js → text_of is ≡ text_of js
 one_text value is js h k = texts_same is js h.each k.each (sym h.whole ∙ k.whole)
+
+-- ## Any value has a text
+
+-- a reference takes at least a byte
+reference_longer : (r : Reference) (rest : List ℕ) → length rest < length (reference_onto r rest)
+reference_longer Amp rest = omega arith
+reference_longer Lt rest = omega arith
+reference_longer Gt rest = omega arith
+reference_longer Quot rest = omega arith
+reference_longer Apos rest = omega arith
+reference_longer (Decimal ds) rest = let all = length-append ds (59 ∷ rest) in omega arith
+reference_longer (Hexadecimal sign ds) rest = let all = length-append ds (59 ∷ rest) in omega arith
+
+pub record SomeText (value : List ℕ) : Type 0 where
+  pub text : List ℕ
+  pub has : HasText value text
+
+-- with the text of less, one more byte or reference is read
+text_by : (b : ℕ) (bs : List ℕ) (found : Option (ℕ × List ℕ)) → reference_at (b ∷ bs) ≡ found → ((behind : List ℕ) → length behind ≤ length bs → SomeText behind) → SomeText (b ∷ bs)
+text_by b bs None h next =
+    let more = next bs (omega arith) in
+    record { text = b ∷ more.text; has = text_keeps (b ∷ bs) b bs more.text h refl more.has }
+text_by b bs (Some (v, behind)) h next =
+    let r = reference_takes (b ∷ bs) v behind h in
+    let all = ap length r.spelled in
+    let less = reference_longer r.reference behind in
+    let more = next behind (omega arith) in
+    record { text = v ∷ more.text; has = text_replaces (b ∷ bs) behind v more.text h more.has }
+
+pub some_text : (n : ℕ) (value : List ℕ) → length value ≤ n → SomeText value
+some_text n [] short = record { text = []; has = text_ends [] refl }
+some_text zero (b ∷ bs) short = absurd (omega arith)
+some_text (suc n) (b ∷ bs) short = text_by b bs (reference_at (b ∷ bs)) refl (λ behind less. some_text n behind (omega arith))
 
 -- ## What the code knows of a list
 

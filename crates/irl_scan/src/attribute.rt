@@ -1,4 +1,5 @@
 ghost use Rattle.std.specs.Prelude.{◌≡◌, ◌-◌, ◌<◌, ◌≤◌, length, drop, IfSome, Some, None, if◌then◌else◌};
+ghost use Rattle.irl_offer.specs.Limits.{max_page};
 ghost use Rattle.irl_scan.specs.Bytes.{wants};
 ghost use Rattle.irl_scan.specs.Links.{IsWithin, value_span, found_in};
 ghost use Rattle.irl_scan.specs.Reading.{first_is, quote_at, name_of, behind_name, value_at, or_first, ReadsInside};
@@ -55,7 +56,7 @@ fn quote_at(rest: &[u8]) -> Option<u8>
 /// Reads the value behind an attribute's name, where the page has `size` bytes.
 fn read_value(size: usize, rest: &[u8]) -> Value<'_>
     requires fits { length rest.now ≤ size }
-    requires small { size ≤ 1048576 }
+    requires small { size ≤ max_page }
     ensures span { result.span ≡ value_span (size - length rest.now) (value_at rest.now).0 }
     ensures rest { result.rest.now ≡ (value_at rest.now).1 }
     ensures shorter { length result.rest.now ≤ length rest.now }
@@ -116,7 +117,7 @@ fn or_wanted(first: Option<Span>, kind: Kind, name: &[u8], span: Span) -> Option
 /// Reads a tag from behind its name to its end.
 pub fn read_inside(size: usize, inside: &[u8], kind: Kind) -> Inside<'_>
     requires fits { length inside.now ≤ size }
-    requires small { size ≤ 1048576 }
+    requires small { size ≤ max_page }
     ensures inside { ReadsInside kind (size - length inside.now) inside.now result.first result.ending result.rest.now }
     ensures shorter { length result.rest.now ≤ length inside.now }
     ensures within { IfSome result.first (IsWithin size) }

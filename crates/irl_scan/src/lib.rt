@@ -9,7 +9,7 @@ mod scan;
 mod span;
 mod stop;
 
-pub use reference::text;
+pub use reference::{one_text, text};
 pub use scan::{base, links, one_cut};
 pub use span::Span;
 

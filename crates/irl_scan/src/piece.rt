@@ -1,4 +1,5 @@
 ghost use Rattle.std.specs.Prelude.{◌≡◌, ◌-◌, ◌<◌, ◌≤◌, length};
+ghost use Rattle.irl_offer.specs.Limits.{max_page};
 ghost use Rattle.irl_scan.specs.Links.{found_in};
 ghost use Rattle.irl_scan.specs.Page.{opening, has_letter_at};
 ghost use Rattle.irl_scan.specs.Reading.{Takes, found_within};
@@ -83,7 +84,7 @@ fn found_in(ending: Ending, kind: Kind, first: Option<Span>) -> Found
 fn read_tag(size: usize, rest: &[u8]) -> Taken<'_>
     requires opens { opening rest.now ≡ Opening.Tag }
     requires fits { length rest.now ≤ size }
-    requires small { size ≤ 1048576 }
+    requires small { size ≤ max_page }
     ensures takes { Takes (size - length rest.now) rest.now result.found result.rest.now }
     ensures shorter { length result.rest.now < length rest.now }
     ensures within { found_within size result.found }
@@ -102,7 +103,7 @@ fn read_tag(size: usize, rest: &[u8]) -> Taken<'_>
 pub fn read_piece(size: usize, rest: &[u8]) -> Taken<'_>
     requires some { 0 < length rest.now }
     requires fits { length rest.now ≤ size }
-    requires small { size ≤ 1048576 }
+    requires small { size ≤ max_page }
     ensures takes { Takes (size - length rest.now) rest.now result.found result.rest.now }
     ensures shorter { length result.rest.now < length rest.now }
     ensures within { found_within size result.found }

@@ -1,4 +1,4 @@
-ghost use Rattle.std.specs.Prelude.{◌≡◌, ◌<◌, ◌≤◌, List, Some, None, if◌then◌else◌, nat_lt, IfOk, IfSome, length, option_map, slice_range};
+ghost use Rattle.std.specs.Prelude.{ℕ, ◌≡◌, ◌<◌, ◌≤◌, List, Some, None, if◌then◌else◌, nat_lt, IfOk, IfSome, length, option_map, slice_range};
 ghost use Rattle.std.specs.Char.{digit_value};
 ghost use Rattle.irl_scan.specs.Text.{Item, Reads, text_of};
 ghost use Rattle.irl_scan.specs.Reading.{radix_of, most_digits, number_from, number_at, reference_at, HasText};
@@ -142,3 +142,9 @@ pub fn text(alloc: Global, page: &[u8], span: &Span) -> Result<Text, AllocError>
     let value = &page[span.start as usize..span.end as usize];
     read_text(alloc, value)
 }
+
+/// Any bytes read as bytes and references, and have one text.
+pub fn one_text()
+    ensures some { (value : List ℕ) → (items : List Item) × Reads value items }
+    ensures one { (value : List ℕ) (a b : List Item) → Reads value a → Reads value b → text_of a ≡ text_of b }
+{}

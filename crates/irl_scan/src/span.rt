@@ -1,4 +1,5 @@
 ghost use Rattle.std.specs.Prelude.{◌≡◌, ◌≤◌};
+ghost use Rattle.irl_offer.specs.Limits.{max_page};
 
 /// Bytes of a page, from the place `start` up to the place `end`, which isn't among them. Places are counted from 0.
 #[derive(Clone, Copy, Debug, PartialEq, Eq)]
@@ -12,8 +13,8 @@ pub struct Span {
 impl Span {
     /// The span between two places of a page of at most a mebibyte.
     pub fn between(start: usize, end: usize) -> Span
-        requires start_fits { start ≤ 1048576 }
-        requires end_fits { end ≤ 1048576 }
+        requires start_fits { start ≤ max_page }
+        requires end_fits { end ≤ max_page }
         ensures { result ≡ record { start = start; end = end } }
     {
         Span {
