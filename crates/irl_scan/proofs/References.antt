@@ -8,10 +8,9 @@ use Rattle.std.specs.Str.Parse.{AllDigits, digits_value, digits_value_after}
 use Rattle.std.specs.Prelude.{codes}
 use Rattle.irl_scan.specs.declared.reference.Radix.{Radix}
 use Rattle.irl_scan.specs.declared.reference.Radix.TheVariants.{Ten, Sixteen}
-use Rattle.irl_scan.specs.declared.stop.Stop.TheVariants.{NotDigit}
 use Rattle.irl_scan.specs.Bytes.{UpTo}
 use Rattle.irl_scan.specs.Text.{Reference, Amp, Lt, Gt, Quot, Apos, Decimal, Hexadecimal, reference_onto, reference_value, IsNumber, IsReference, Item, Plain, Replaced, item_onto, items_joined, IsItem, AreItems, Reads, text_of}
-use Rattle.irl_scan.specs.Reading.{from, before, stops, radix_of, most_digits, first_is, number_from, closed, number_at, reference_at, HasText}
+use Rattle.irl_scan.specs.Reading.{from, before, radix_of, most_digits, first_is, number_from, closed, number_at, reference_at, HasText, not_digit}
 use Rattle.irl_scan.proofs.Runs.{before-from, from-UpTo, before-UpTo}
 use Rattle.irl_scan.proofs.Values.{first_is-cons}
 use Rattle.irl_scan.proofs.Pieces.{starts}
@@ -50,7 +49,7 @@ number_again radix n (c ∷ cs) all small =
     let fits : nat_lt (n * radix_of radix + digit_value c) 128 ≡ true = lt-ltb (n * radix_of radix + digit_value c) 128 (omega arith) in
     rw (digit, fits) (number_again radix (n * radix_of radix + digit_value c) cs all.1 small)
 
-digits_run : (radix : Radix) (ds rest : List ℕ) → AllDigits (radix_of radix) ds → UpTo (stops (NotDigit radix)) ds (59 ∷ rest)
+digits_run : (radix : Radix) (ds rest : List ℕ) → AllDigits (radix_of radix) ds → UpTo (not_digit radix) ds (59 ∷ rest)
 digits_run Ten [] rest all = refl
 digits_run Sixteen [] rest all = refl
 digits_run radix (c ∷ cs) rest all = (ap not (lt-ltb (digit_value c) (radix_of radix) all.0), digits_run radix cs rest all.1)
@@ -71,8 +70,8 @@ closed_takes digits behind (Some n) v rest h =
 pub number_at_takes : (radix : Radix) (xs : List ℕ) (v : ℕ) (rest : List ℕ) → number_at radix xs ≡ Some (v, rest) → IsNumberAt radix xs v rest
 unfolding number_at
 number_at_takes radix xs v rest h =
-    let digits = before (stops (NotDigit radix)) xs in
-    let behind = from (stops (NotDigit radix)) xs in
+    let digits = before (not_digit radix) xs in
+    let behind = from (not_digit radix) xs in
     elim (chosen ((eqb (length digits) 0 || nat_lt (most_digits radix) (length digits)) || not (first_is 59 behind)) None (closed digits behind (number_from (radix_of radix) 0 digits)) (Some (v, rest)) h) [
       | inl w ↦ let no : ◌≡◌ {A = Option (ℕ × List ℕ)} None (Some (v, rest)) = w.1 in cc
       | inr w ↦
@@ -85,7 +84,7 @@ number_at_takes radix xs v rest h =
           record {
             digits = digits;
             number = record { all = number.0; some = omega arith; few = ltb-false (most_digits radix) (length digits) lengths.1; small = rw number.1 number.2 };
-            spelled = sym (before-from (stops (NotDigit radix)) xs) ∙ ap (λ ys. digits ++ ys) mark;
+            spelled = sym (before-from (not_digit radix) xs) ∙ ap (λ ys. digits ++ ys) mark;
             value = sym number.1;
           }
     ]
@@ -94,8 +93,8 @@ pub number_at_again : (radix : Radix) (ds rest : List ℕ) → IsNumber (radix_o
 unfolding number_at
 number_at_again radix ds rest n =
     let run = digits_run radix ds rest n.all in
-    let front : before (stops (NotDigit radix)) (ds ++ 59 ∷ rest) ≡ ds = before-UpTo (stops (NotDigit radix)) ds (59 ∷ rest) run in
-    let back : from (stops (NotDigit radix)) (ds ++ 59 ∷ rest) ≡ 59 ∷ rest = from-UpTo (stops (NotDigit radix)) ds (59 ∷ rest) run in
+    let front : before (not_digit radix) (ds ++ 59 ∷ rest) ≡ ds = before-UpTo (not_digit radix) ds (59 ∷ rest) run in
+    let back : from (not_digit radix) (ds ++ 59 ∷ rest) ≡ 59 ∷ rest = from-UpTo (not_digit radix) ds (59 ∷ rest) run in
     let some : (eqb (length ds) 0) ≡ false = ne_eqb (length ds) 0 (λ e. absurd (omega (arith, n.some))) in
     let few : nat_lt (most_digits radix) (length ds) ≡ false = le-ltb (most_digits radix) (length ds) n.few in
     let value = number_again radix 0 ds n.all n.small in

@@ -3,7 +3,8 @@ ghost use Rattle.irl_offer.specs.Limits.{max_page};
 ghost use Rattle.irl_scan.specs.Page.{Piece, Cut};
 ghost use Rattle.irl_scan.specs.Links.{IsWithin, link_of, links_of, base_of};
 
-use crate::piece::{Found, read_piece};
+use crate::cursor::Cursor;
+use crate::piece::Found;
 use crate::span::Span;
 use std::alloc::{AllocError, Global};
 
@@ -33,11 +34,10 @@ pub fn links(alloc: Global, page: &[u8]) -> Result<Vec<Span>, AllocError>
     ensures within { IfOk result (λ spans. All (IsWithin (length page.now)) spans.items) }
 {
     let mut spans = Vec::new(alloc);
-    let mut rest = page;
-    while !rest.is_empty() {
-        let taken = read_piece(page.len(), rest);
-        push_link(&mut spans, taken.found)?;
-        rest = taken.rest;
+    let mut cursor = Cursor::new(page);
+    while !cursor.rest.is_empty() {
+        let found = cursor.read_piece();
+        push_link(&mut spans, found)?;
     }
     Ok(spans)
 }
@@ -52,13 +52,12 @@ pub fn base(page: &[u8]) -> Option<Span>
     ensures only { (pieces : List Piece) → Cut page.now pieces → result ≡ base_of pieces }
     ensures within { IfSome result (IsWithin (length page.now)) }
 {
-    let mut rest = page;
-    while !rest.is_empty() {
-        let taken = read_piece(page.len(), rest);
-        if let Found::Base(span) = taken.found {
+    let mut cursor = Cursor::new(page);
+    while !cursor.rest.is_empty() {
+        let found = cursor.read_piece();
+        if let Found::Base(span) = found {
             return Some(span);
         }
-        rest = taken.rest;
     }
     None
 }

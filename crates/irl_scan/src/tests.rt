@@ -25,16 +25,21 @@ fn text_of(rt: &impl Abort, alloc: Global, page: &[u8], span: &Span) -> Result<T
     text(alloc, page, span)
 }
 
-/// How many links a page without a base has, and the text of all its bytes.
-fn read_whole(rt: &impl Abort, alloc: Global, page: &[u8]) -> Result<(usize, Text), AllocError> {
-    assert!(rt; page.len() <= MAX_PAGE);
-    let spans = links(alloc, page)?;
-    assert_eq!(rt; base(page), None);
+/// The text of all bytes.
+fn whole_text(rt: &impl Abort, alloc: Global, bytes: &[u8]) -> Result<Text, AllocError> {
+    assert!(rt; bytes.len() <= MAX_PAGE);
     let all = Span {
         start: 0,
-        end: page.len() as u32,
+        end: bytes.len() as u32,
     };
-    Ok((spans.len(), text_of(rt, alloc, page, &all)?))
+    text(alloc, bytes, &all)
+}
+
+/// How many links a page has that has no base.
+fn link_count(rt: &impl Abort, alloc: Global, page: &[u8]) -> Result<usize, AllocError> {
+    assert!(rt; page.len() <= MAX_PAGE);
+    assert_eq!(rt; base(page), None);
+    Ok(links(alloc, page)?.len())
 }
 
 /// The same bytes again and again.
@@ -254,11 +259,7 @@ fn pages_give_their_links_and_base(rt: HostRuntime) -> Result<(), Fail> {
 #[test]
 fn values_have_their_texts(rt: HostRuntime) -> Result<(), Fail> {
     for (value, wanted) in &TEXTS {
-        let span = Span {
-            start: 0,
-            end: value.len() as u32,
-        };
-        let text = text_of(&rt, rt.alloc(), value, &span)?;
+        let text = whole_text(&rt, rt.alloc(), value)?;
         assert_eq!(rt; text.bytes(), *wanted, "{value:?}");
     }
     Ok(())
@@ -269,8 +270,9 @@ fn the_largest_pages_are_read_to_their_end(rt: HostRuntime) -> Result<(), Fail> 
     for (bytes, is_link, text) in &LARGEST {
         let count = MAX_PAGE / bytes.len().max(1);
         let page = repeated(rt.alloc(), bytes, count)?;
-        let (links, read) = read_whole(&rt, rt.alloc(), &page)?;
+        let links = link_count(&rt, rt.alloc(), &page)?;
         assert_eq!(rt; links, if *is_link { count } else { 0 }, "{bytes:?}");
+        let read = whole_text(&rt, rt.alloc(), &page)?;
         let wanted = repeated(rt.alloc(), text, count)?;
         assert_eq!(rt; read.bytes(), wanted.as_slice(), "{bytes:?}");
     }
