@@ -9,11 +9,10 @@ use Rattle.irl_scan.specs.declared.piece.Found.TheVariants as found
 use Rattle.irl_scan.specs.declared.piece.Opening.{Opening}
 use Rattle.irl_scan.specs.declared.piece.Opening.TheVariants as opens
 use Rattle.irl_scan.specs.declared.span.Span.{Span}
-use Rattle.irl_scan.specs.declared.stop.Stop.TheVariants.{NotGap, TagName, RawEnd}
-use Rattle.irl_scan.specs.Bytes.{wants, kind_of}
-use Rattle.irl_scan.specs.Page.{opening, ends_comment, ends_markup}
+use Rattle.irl_scan.specs.Bytes.{wants, kind_of, at_byte, ends_tag_name}
+use Rattle.irl_scan.specs.Page.{opening, ends_comment, ends_markup, ends_raw}
 use Rattle.irl_scan.specs.Links.{value_span, found_in, link_of, base_or}
-use Rattle.irl_scan.specs.Reading.{from, before, stops, first_is, name_of, behind_name, value_at, ReadsInside, Takes, Gives}
+use Rattle.irl_scan.specs.Reading.{from, before, first_is, name_of, behind_name, value_at, ReadsInside, Takes, Gives, not_gap}
 use Rattle.irl_scan.proofs.Runs.{length-run}
 use Rattle.irl_scan.proofs.Names.{name-joined}
 use Rattle.irl_scan.proofs.Values.{value_takes}
@@ -34,47 +33,47 @@ name_some [] some = some
 name_some (b ∷ bs) some = omega arith
 
 -- an attribute takes at least a byte
-attribute_shorter : (left : List ℕ) → 0 < length (from (stops NotGap) left) → suc (length (behind_attribute left)) ≤ length left
+attribute_shorter : (left : List ℕ) → 0 < length (from not_gap left) → suc (length (behind_attribute left)) ≤ length left
 attribute_shorter left some =
-    let rest = from (stops NotGap) left in
-    let run = length-run (stops NotGap) left in
+    let rest = from not_gap left in
+    let run = length-run not_gap left in
     let name = name_some rest some in
     let joined = sym (length-append (name_of rest) (behind_name rest)) ∙ ap length (name-joined rest) in
     let value = value_longer (value_at (behind_name rest)).0 (behind_attribute left) in
     let spelled = ap length (value_takes (behind_name rest)).spelled in
     omega arith
 
-closes_inside : (kind : Kind) (size : ℕ) (left : List ℕ) → first_is 62 (from (stops NotGap) left) ≡ true → SomeInside kind size left
+closes_inside : (kind : Kind) (size : ℕ) (left : List ℕ) → first_is 62 (from not_gap left) ≡ true → SomeInside kind size left
 closes_inside kind size left h =
-    let run = length-run (stops NotGap) left in
-    let dropped = length-drop 1 (from (stops NotGap) left) in
-    record { first = None; ending = Marked; rest = drop 1 (from (stops NotGap) left); reads = inside_closes kind (size - length left) left h; shorter = omega arith }
+    let run = length-run not_gap left in
+    let dropped = length-drop 1 (from not_gap left) in
+    record { first = None; ending = Marked; rest = drop 1 (from not_gap left); reads = inside_closes kind (size - length left) left h; shorter = omega arith }
 
-more_inside : (kind : Kind) (size : ℕ) (left : List ℕ) → length left ≤ size → (some : 0 < length (from (stops NotGap) left)) → first_is 62 (from (stops NotGap) left) ≡ false → SomeInside kind size (behind_attribute left) → SomeInside kind size left
+more_inside : (kind : Kind) (size : ℕ) (left : List ℕ) → length left ≤ size → (some : 0 < length (from not_gap left)) → first_is 62 (from not_gap left) ≡ false → SomeInside kind size (behind_attribute left) → SomeInside kind size left
 more_inside kind size left fits some h next =
     let short = attribute_shorter left some in
     record {
-      first = cond (wants kind (name_of (from (stops NotGap) left))) (Some (value_span (size - length (behind_name (from (stops NotGap) left))) (value_at (behind_name (from (stops NotGap) left))).0)) next.first;
+      first = cond (wants kind (name_of (from not_gap left))) (Some (value_span (size - length (behind_name (from not_gap left))) (value_at (behind_name (from not_gap left))).0)) next.first;
       ending = next.ending;
       rest = next.rest;
       reads = inside_more left some h size fits kind next.first next.ending next.rest next.reads;
       shorter = let s = next.shorter in omega arith;
     }
 
-inside_by : (kind : Kind) (size : ℕ) (left : List ℕ) → length left ≤ size → (rest : List ℕ) → rest ≡ from (stops NotGap) left → (t : Bool) → first_is 62 (from (stops NotGap) left) ≡ t →
-    (0 < length (from (stops NotGap) left) → SomeInside kind size (behind_attribute left)) → SomeInside kind size left
+inside_by : (kind : Kind) (size : ℕ) (left : List ℕ) → length left ≤ size → (rest : List ℕ) → rest ≡ from not_gap left → (t : Bool) → first_is 62 (from not_gap left) ≡ t →
+    (0 < length (from not_gap left) → SomeInside kind size (behind_attribute left)) → SomeInside kind size left
 inside_by kind size left fits [] e t h next = record { first = None; ending = PageEnd; rest = []; reads = inside_ends kind (size - length left) left [] e refl; shorter = omega arith }
 inside_by kind size left fits (b ∷ bs) e true h next = closes_inside kind size left h
 inside_by kind size left fits (b ∷ bs) e false h next =
-    let some : 0 < length (from (stops NotGap) left) = subst (λ ys. 0 < length ys) e (omega arith) in
+    let some : 0 < length (from not_gap left) = subst (λ ys. 0 < length ys) e (omega arith) in
     more_inside kind size left fits some h (next some)
 
 some_inside : (n : ℕ) (kind : Kind) (size : ℕ) (left : List ℕ) → length left ≤ n → length left ≤ size → SomeInside kind size left
 some_inside zero kind size left short fits =
-    inside_by kind size left fits (from (stops NotGap) left) refl (first_is 62 (from (stops NotGap) left)) refl
-    (λ some. let run = length-run (stops NotGap) left in absurd (omega arith))
+    inside_by kind size left fits (from not_gap left) refl (first_is 62 (from not_gap left)) refl
+    (λ some. let run = length-run not_gap left in absurd (omega arith))
 some_inside (suc n) kind size left short fits =
-    inside_by kind size left fits (from (stops NotGap) left) refl (first_is 62 (from (stops NotGap) left)) refl
+    inside_by kind size left fits (from not_gap left) refl (first_is 62 (from not_gap left)) refl
     (λ some. let less = attribute_shorter left some in some_inside n kind size (behind_attribute left) (omega arith) (omega arith))
 
 -- what a piece gives, with less left than there was
@@ -85,17 +84,17 @@ pub record SomePiece (size : ℕ) (xs : List ℕ) : Type 0 where
   pub shorter : suc (length rest) ≤ length xs
 
 tag_by : (size : ℕ) (xs name inside : List ℕ) (kind : Kind) → 0 < length xs → length xs ≤ size → opening xs ≡ opens.Tag →
-    name ≡ before (stops TagName) (drop 1 xs) → inside ≡ from (stops TagName) (drop 1 xs) → kind ≡ kind_of name → SomeInside kind size inside → SomePiece size xs
+    name ≡ before (at_byte ends_tag_name) (drop 1 xs) → inside ≡ from (at_byte ends_tag_name) (drop 1 xs) → kind ≡ kind_of name → SomeInside kind size inside → SomePiece size xs
 tag_by size xs name inside kind some fits h is_name is_inside is_kind read =
-    let run = length-run (stops TagName) (drop 1 xs) in
+    let run = length-run (at_byte ends_tag_name) (drop 1 xs) in
     let all = length-drop 1 xs in
     let same = ap length is_inside in
-    let raw = length-run (stops (RawEnd kind)) read.rest in
+    let raw = length-run (ends_raw kind) read.rest in
     let short = read.shorter in
     record {
       given = found_in read.ending kind read.first;
-      rest = from (stops (RawEnd kind)) read.rest;
-      takes = takes_tag size xs name inside read.rest (from (stops (RawEnd kind)) read.rest) kind read.first read.ending (found_in read.ending kind read.first) h is_name is_inside is_kind fits read.reads refl refl;
+      rest = from (ends_raw kind) read.rest;
+      takes = takes_tag size xs name inside read.rest (from (ends_raw kind) read.rest) kind read.first read.ending (found_in read.ending kind read.first) h is_name is_inside is_kind fits read.reads refl refl;
       shorter = omega arith;
     }
 
@@ -114,11 +113,11 @@ piece_by size xs some fits opens.Skipped h =
     let end = length-drop 1 (from ends_markup (drop 2 xs)) in
     record { given = found.Nothing; rest = drop 1 (from ends_markup (drop 2 xs)); takes = takes_skipped (size - length xs) xs h; shorter = omega arith }
 piece_by size xs some fits opens.Tag h =
-    let inside = from (stops TagName) (drop 1 xs) in
-    let run = length-run (stops TagName) (drop 1 xs) in
+    let inside = from (at_byte ends_tag_name) (drop 1 xs) in
+    let run = length-run (at_byte ends_tag_name) (drop 1 xs) in
     let all = length-drop 1 xs in
-    tag_by size xs (before (stops TagName) (drop 1 xs)) inside (kind_of (before (stops TagName) (drop 1 xs))) some fits h refl refl refl
-    (some_inside (length inside) (kind_of (before (stops TagName) (drop 1 xs))) size inside (omega arith) (omega arith))
+    tag_by size xs (before (at_byte ends_tag_name) (drop 1 xs)) inside (kind_of (before (at_byte ends_tag_name) (drop 1 xs))) some fits h refl refl refl
+    (some_inside (length inside) (kind_of (before (at_byte ends_tag_name) (drop 1 xs))) size inside (omega arith) (omega arith))
 
 -- what the pieces up to the page's end give
 pub record SomeCut (size : ℕ) (xs : List ℕ) : Type 0 where

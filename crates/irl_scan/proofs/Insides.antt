@@ -5,11 +5,10 @@ use Rattle.irl_scan.specs.declared.attribute.Ending.{Ending}
 use Rattle.irl_scan.specs.declared.attribute.Ending.TheVariants.{Marked, PageEnd}
 use Rattle.irl_scan.specs.declared.kind.Kind.{Kind}
 use Rattle.irl_scan.specs.declared.span.Span.{Span}
-use Rattle.irl_scan.specs.declared.stop.Stop.TheVariants.{NotGap, AttributeName}
-use Rattle.irl_scan.specs.Bytes.{wants, UpTo}
+use Rattle.irl_scan.specs.Bytes.{wants, UpTo, at_byte, ends_attribute_name}
 use Rattle.irl_scan.specs.Page.{Value, Attribute, end_onto, value_onto, attribute_onto, attributes_onto, tag_end_onto, EndsBy, IsAttributeName, IsGap, IsAttribute, AreAttributes}
 use Rattle.irl_scan.specs.Links.{value_span, first_span}
-use Rattle.irl_scan.specs.Reading.{from, before, stops, first_is, name_of, behind_name, value_at, or_first, ReadsInside}
+use Rattle.irl_scan.specs.Reading.{from, before, first_is, name_of, behind_name, value_at, or_first, ReadsInside, not_gap}
 use Rattle.irl_scan.proofs.Runs.{before-from, UpTo-read, one_run, length-run}
 use Rattle.irl_scan.proofs.Names.{name-joined}
 use Rattle.irl_scan.proofs.Values.{first_is-cons, value_takes, one_value}
@@ -20,30 +19,30 @@ use Rattle.irl_scan.proofs.Lengths.{attribute_length}
 
 -- the attribute that begins behind the gap
 abbrev attribute_of : List ℕ → Attribute
-attribute_of left = record { gap = before (stops NotGap) left; name = name_of (from (stops NotGap) left); value = (value_at (behind_name (from (stops NotGap) left))).0 }
+attribute_of left = record { gap = before not_gap left; name = name_of (from not_gap left); value = (value_at (behind_name (from not_gap left))).0 }
 
 abbrev pub behind_attribute : List ℕ → List ℕ
-behind_attribute left = (value_at (behind_name (from (stops NotGap) left))).1
+behind_attribute left = (value_at (behind_name (from not_gap left))).1
 
 name_formed : (rest : List ℕ) → 0 < length rest → first_is 62 rest ≡ false → IsAttributeName (name_of rest) (behind_name rest)
 name_formed [] some h = absurd (omega arith)
-name_formed (b ∷ bs) some h = (h, UpTo-read (stops AttributeName) refl bs)
+name_formed (b ∷ bs) some h = (h, UpTo-read (at_byte ends_attribute_name) refl bs)
 
-module _ (left : List ℕ) (some : 0 < length (from (stops NotGap) left)) (h : first_is 62 (from (stops NotGap) left) ≡ false) where
-  behind_spelled : value_onto (value_at (behind_name (from (stops NotGap) left))).0 (behind_attribute left) ≡ behind_name (from (stops NotGap) left)
-  behind_spelled = (value_takes (behind_name (from (stops NotGap) left))).spelled
+module _ (left : List ℕ) (some : 0 < length (from not_gap left)) (h : first_is 62 (from not_gap left) ≡ false) where
+  behind_spelled : value_onto (value_at (behind_name (from not_gap left))).0 (behind_attribute left) ≡ behind_name (from not_gap left)
+  behind_spelled = (value_takes (behind_name (from not_gap left))).spelled
 
-  name_spelled : name_of (from (stops NotGap) left) ++ value_onto (value_at (behind_name (from (stops NotGap) left))).0 (behind_attribute left) ≡ from (stops NotGap) left
-  name_spelled = ap (λ ys. name_of (from (stops NotGap) left) ++ ys) behind_spelled ∙ name-joined (from (stops NotGap) left)
+  name_spelled : name_of (from not_gap left) ++ value_onto (value_at (behind_name (from not_gap left))).0 (behind_attribute left) ≡ from not_gap left
+  name_spelled = ap (λ ys. name_of (from not_gap left) ++ ys) behind_spelled ∙ name-joined (from not_gap left)
 
   attribute_spelled : attribute_onto (attribute_of left) (behind_attribute left) ≡ left
-  attribute_spelled = ap (λ ys. before (stops NotGap) left ++ ys) name_spelled ∙ before-from (stops NotGap) left
+  attribute_spelled = ap (λ ys. before not_gap left ++ ys) name_spelled ∙ before-from not_gap left
 
   attribute_formed : IsAttribute (attribute_of left) (behind_attribute left)
   attribute_formed = record {
-    gap = subst (UpTo (stops NotGap) (before (stops NotGap) left)) (sym name_spelled) (UpTo-read (stops NotGap) refl left);
-    name = subst (IsAttributeName (name_of (from (stops NotGap) left))) (sym behind_spelled) (name_formed (from (stops NotGap) left) some h);
-    value = (value_takes (behind_name (from (stops NotGap) left))).formed;
+    gap = subst (UpTo not_gap (before not_gap left)) (sym name_spelled) (UpTo-read not_gap refl left);
+    name = subst (IsAttributeName (name_of (from not_gap left))) (sym behind_spelled) (name_formed (from not_gap left) some h);
+    value = (value_takes (behind_name (from not_gap left))).formed;
   }
 
 -- ## The inside of a tag, from its end to its front
@@ -58,35 +57,35 @@ or_first-wanted None false here later = refl
 or_first-wanted (Some first) wanted here later = refl
 
 -- the page ends
-pub inside_ends : (kind : Kind) (place : ℕ) (left rest : List ℕ) → rest ≡ from (stops NotGap) left → rest ≡ [] → ReadsInside kind place left None PageEnd rest
+pub inside_ends : (kind : Kind) (place : ℕ) (left rest : List ℕ) → rest ≡ from not_gap left → rest ≡ [] → ReadsInside kind place left None PageEnd rest
 inside_ends kind place left rest e none = record {
   attributes = [];
-  gap = before (stops NotGap) left;
-  spelled = sym (before-from (stops NotGap) left) ∙ ap (λ ys. before (stops NotGap) left ++ ys) (sym e);
+  gap = before not_gap left;
+  spelled = sym (before-from not_gap left) ∙ ap (λ ys. before not_gap left ++ ys) (sym e);
   each = tt;
-  gap_ends = subst (UpTo (stops NotGap) (before (stops NotGap) left)) (sym e) (UpTo-read (stops NotGap) refl left);
+  gap_ends = subst (UpTo not_gap (before not_gap left)) (sym e) (UpTo-read not_gap refl left);
   ends = none;
   first_is = refl;
 }
 
 -- `>` comes
-pub inside_closes : (kind : Kind) (place : ℕ) (left : List ℕ) → first_is 62 (from (stops NotGap) left) ≡ true → ReadsInside kind place left None Marked (drop 1 (from (stops NotGap) left))
+pub inside_closes : (kind : Kind) (place : ℕ) (left : List ℕ) → first_is 62 (from not_gap left) ≡ true → ReadsInside kind place left None Marked (drop 1 (from not_gap left))
 inside_closes kind place left h = record {
   attributes = [];
-  gap = before (stops NotGap) left;
-  spelled = sym (before-from (stops NotGap) left) ∙ ap (λ ys. before (stops NotGap) left ++ ys) (first_is-cons 62 (from (stops NotGap) left) h);
+  gap = before not_gap left;
+  spelled = sym (before-from not_gap left) ∙ ap (λ ys. before not_gap left ++ ys) (first_is-cons 62 (from not_gap left) h);
   each = tt;
-  gap_ends = subst (UpTo (stops NotGap) (before (stops NotGap) left)) (first_is-cons 62 (from (stops NotGap) left) h) (UpTo-read (stops NotGap) refl left);
+  gap_ends = subst (UpTo not_gap (before not_gap left)) (first_is-cons 62 (from not_gap left) h) (UpTo-read not_gap refl left);
   ends = tt;
   first_is = refl;
 }
 
 -- one more attribute in front
-module _ (left : List ℕ) (some : 0 < length (from (stops NotGap) left)) (h : first_is 62 (from (stops NotGap) left) ≡ false) (size : ℕ) (fits : length left ≤ size) where
-  name_place : size - length (behind_name (from (stops NotGap) left)) ≡ size - length left + length (before (stops NotGap) left) + length (name_of (from (stops NotGap) left))
+module _ (left : List ℕ) (some : 0 < length (from not_gap left)) (h : first_is 62 (from not_gap left) ≡ false) (size : ℕ) (fits : length left ≤ size) where
+  name_place : size - length (behind_name (from not_gap left)) ≡ size - length left + length (before not_gap left) + length (name_of (from not_gap left))
   name_place =
-      let gap = length-run (stops NotGap) left in
-      let name = sym (length-append (name_of (from (stops NotGap) left)) (behind_name (from (stops NotGap) left))) ∙ ap length (name-joined (from (stops NotGap) left)) in
+      let gap = length-run not_gap left in
+      let name = sym (length-append (name_of (from not_gap left)) (behind_name (from not_gap left))) ∙ ap length (name-joined (from not_gap left)) in
       omega arith
 
   next_place : size - length (behind_attribute left) ≡ size - length left + length (attribute_onto (attribute_of left) [])
@@ -95,11 +94,11 @@ module _ (left : List ℕ) (some : 0 < length (from (stops NotGap) left)) (h : f
       omega arith
 
   pub inside_more : (kind : Kind) (first : Option Span) (ending : Ending) (rest : List ℕ) → ReadsInside kind (size - length (behind_attribute left)) (behind_attribute left) first ending rest →
-      ReadsInside kind (size - length left) left (cond (wants kind (name_of (from (stops NotGap) left))) (Some (value_span (size - length (behind_name (from (stops NotGap) left))) (value_at (behind_name (from (stops NotGap) left))).0)) first) ending rest
+      ReadsInside kind (size - length left) left (cond (wants kind (name_of (from not_gap left))) (Some (value_span (size - length (behind_name (from not_gap left))) (value_at (behind_name (from not_gap left))).0)) first) ending rest
   inside_more kind first ending rest r =
-      let wanted = wants kind (name_of (from (stops NotGap) left)) in
-      let value = (value_at (behind_name (from (stops NotGap) left))).0 in
-      let here : Option Span = Some (value_span (size - length left + length (before (stops NotGap) left) + length (name_of (from (stops NotGap) left))) value) in
+      let wanted = wants kind (name_of (from not_gap left)) in
+      let value = (value_at (behind_name (from not_gap left))).0 in
+      let here : Option Span = Some (value_span (size - length left + length (before not_gap left) + length (name_of (from not_gap left))) value) in
       record {
         attributes = attribute_of left ∷ r.attributes;
         gap = r.gap;
@@ -114,21 +113,21 @@ module _ (left : List ℕ) (some : 0 < length (from (stops NotGap) left)) (h : f
 
 -- one turn of the loop over the attributes
 pub turn : (kind : Kind) (size place : ℕ) (inside left rest name behind next : List ℕ) (first new : Option Span) (span : Span) →
-    rest ≡ from (stops NotGap) left → 0 < length rest → first_is 62 rest ≡ false → name ≡ name_of rest → behind ≡ behind_name rest →
+    rest ≡ from not_gap left → 0 < length rest → first_is 62 rest ≡ false → name ≡ name_of rest → behind ≡ behind_name rest →
     span ≡ value_span (size - length behind) (value_at behind).0 → next ≡ (value_at behind).1 → new ≡ or_first first (cond (wants kind name) (Some span) None) → length left ≤ size →
     ((f : Option Span) (e : Ending) (r : List ℕ) → ReadsInside kind (size - length left) left f e r → ReadsInside kind place inside (or_first first f) e r) →
     (f : Option Span) (e : Ending) (r : List ℕ) → ReadsInside kind (size - length next) next f e r → ReadsInside kind place inside (or_first new f) e r
 turn kind size place inside left rest name behind next first new span is_rest some h is_name is_behind is_span is_next is_new fits goes_on f e r reads =
-    let name0 = name_of (from (stops NotGap) left) in
-    let behind0 = behind_name (from (stops NotGap) left) in
+    let name0 = name_of (from not_gap left) in
+    let behind0 = behind_name (from not_gap left) in
     let span0 = value_span (size - length behind0) (value_at behind0).0 in
     let behind_is : behind ≡ behind0 = is_behind ∙ ap behind_name is_rest in
     let next_is : next ≡ behind_attribute left = is_next ∙ ap (λ ys. (value_at ys).1) behind_is in
     let name_is : name ≡ name0 = is_name ∙ ap name_of is_rest in
     let span_is : span ≡ span0 = is_span ∙ ap (λ ys. value_span (size - length ys) (value_at ys).0) behind_is in
     let back : ReadsInside kind (size - length (behind_attribute left)) (behind_attribute left) f e r = subst (λ ys. ReadsInside kind (size - length ys) ys f e r) next_is reads in
-    let some0 : 0 < length (from (stops NotGap) left) = subst (λ ys. 0 < length ys) is_rest some in
-    let h0 : first_is 62 (from (stops NotGap) left) ≡ false = ap (first_is 62) (sym is_rest) ∙ h in
+    let some0 : 0 < length (from not_gap left) = subst (λ ys. 0 < length ys) is_rest some in
+    let h0 : first_is 62 (from not_gap left) ≡ false = ap (first_is 62) (sym is_rest) ∙ h in
     let on = goes_on _ e r (inside_more left some0 h0 size fits kind f e r back) in
     let same : or_first new f ≡ or_first first (cond (wants kind name0) (Some span0) f) =
     ap (λ x. or_first x f) is_new ∙ or_first-wanted first (wants kind name) span f
@@ -152,12 +151,12 @@ one_name (x ∷ a) [] r s h k e = absurd k
 one_name (x ∷ a) (y ∷ b) r s h k e =
     let same : x ≡ y = cc in
     let more : a ++ r ≡ b ++ s = cc in
-    let run = one_run (stops AttributeName) a b r s h.1 k.1 more in
+    let run = one_run (at_byte ends_attribute_name) a b r s h.1 k.1 more in
     (ap (λ z. z ∷ a) same ∙ ap (λ z. y ∷ z) run.0, run.1)
 
 pub one_attribute : (a b : Attribute) (r s : List ℕ) → IsAttribute a r → IsAttribute b s → attribute_onto a r ≡ attribute_onto b s → (a ≡ b) × (r ≡ s)
 one_attribute a b r s h k e =
-    let gap = one_run (stops NotGap) a.gap b.gap _ _ h.gap k.gap e in
+    let gap = one_run not_gap a.gap b.gap _ _ h.gap k.gap e in
     let name = one_name a.name b.name _ _ h.name k.name gap.1 in
     let value = one_value a.value b.value r s h.value k.value name.1 in
     let make : List ℕ → List ℕ → Value → Attribute = λ g n v. record { gap = g; name = n; value = v } in
@@ -186,14 +185,14 @@ pub record IsInside (inside : List ℕ) (attributes : List Attribute) (gap : Lis
 
 pub one_inside : (inside : List ℕ) (as_ bs : List Attribute) (g h : List ℕ) (e f : Ending) (r s : List ℕ) → IsInside inside as_ g e r → IsInside inside bs h f s → (as_ ≡ bs) × (g ≡ h) × (e ≡ f) × (r ≡ s)
 one_inside inside [] [] g h e f r s i j =
-    let gap = one_run (stops NotGap) g h _ _ i.gap_ends j.gap_ends (sym i.spelled ∙ j.spelled) in
+    let gap = one_run not_gap g h _ _ i.gap_ends j.gap_ends (sym i.spelled ∙ j.spelled) in
     let mark = one_end 62 [] e f r s i.ends j.ends gap.1 in
     (refl, gap.0, mark.0, mark.1)
 one_inside inside [] (b ∷ bs) g h e f r s i j =
-    let gap = one_run (stops NotGap) g b.gap _ _ i.gap_ends j.each.0.gap (sym i.spelled ∙ j.spelled) in
+    let gap = one_run not_gap g b.gap _ _ i.gap_ends j.each.0.gap (sym i.spelled ∙ j.spelled) in
     absurd (no_name e r b.name _ i.ends j.each.0.name gap.1)
 one_inside inside (a ∷ as_) [] g h e f r s i j =
-    let gap = one_run (stops NotGap) h a.gap _ _ j.gap_ends i.each.0.gap (sym j.spelled ∙ i.spelled) in
+    let gap = one_run not_gap h a.gap _ _ j.gap_ends i.each.0.gap (sym j.spelled ∙ i.spelled) in
     absurd (no_name f s a.name _ j.ends i.each.0.name gap.1)
 one_inside inside (a ∷ as_) (b ∷ bs) g h e f r s i j =
     let first = one_attribute a b _ _ i.each.0 j.each.0 (sym i.spelled ∙ j.spelled) in

@@ -7,3 +7,4 @@ pub mod Pieces
 pub mod References
 pub mod Exists
 pub mod Scans
+pub mod Searches

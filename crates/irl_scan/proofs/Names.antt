@@ -1,24 +1,27 @@
 -- An attribute's name is what stands before what is left behind it.
-use Rattle.std.proofs.Common.{◌≡◌, ℕ, ◌-◌, List, [], ◌∷◌, ◌++◌, length, take, drop, refl, ap, sym, ◌∙◌, arith}
-use Rattle.std.proofs.lemmas.List.{take_at, drop_at}
-use Rattle.irl_scan.specs.declared.stop.Stop.TheVariants.{AttributeName}
-use Rattle.irl_scan.specs.Reading.{stops, name_of, behind_name}
-use Rattle.irl_scan.proofs.Runs.{before-from, length-run}
+use Rattle.std.proofs.Common.{◌≡◌, ℕ, suc, ◌+◌, ◌<◌, List, [], ◌∷◌, ◌++◌, length, take, drop, Option, Some, None, unwrap_or, option_map, refl, ap, ◌∙◌, arith}
+use Rattle.std.proofs.lemmas.List.{length-drop}
+use Rattle.irl_scan.specs.Bytes.{at_byte, ends_attribute_name}
+use Rattle.irl_scan.specs.Reading.{IsRun, name_of, behind_name}
+use Rattle.irl_scan.proofs.Runs.{before-from}
 
 pub name-joined : (rest : List ℕ) → name_of rest ++ behind_name rest ≡ rest
 name-joined [] = refl
-name-joined (b ∷ bs) = ap (λ ys. b ∷ ys) (before-from (stops AttributeName) bs)
+name-joined (b ∷ bs) = ap (λ ys. b ∷ ys) (before-from (at_byte ends_attribute_name) bs)
 
-name_length : (rest : List ℕ) → length (name_of rest) ≡ length rest - length (behind_name rest)
-name_length [] = refl
-name_length (b ∷ bs) = let run = length-run (stops AttributeName) bs in omega arith
+-- a name is its first byte and a run
+name_end : (found : Option ℕ) (rest : List ℕ) → 0 < length rest → unwrap_or (option_map (λ n. 1 + n) found) (length rest) ≡ suc (unwrap_or found (length (drop 1 rest)))
+name_end None rest some = let less = length-drop 1 rest in omega arith
+name_end (Some n) rest some = omega arith
 
-pub take-name : (rest : List ℕ) → take (length rest - length (behind_name rest)) rest ≡ name_of rest
-take-name rest =
-    ap (take (length rest - length (behind_name rest))) (sym (name-joined rest))
-    ∙ take_at (name_of rest) (behind_name rest) (length rest - length (behind_name rest)) (name_length rest)
+module _ (rest : List ℕ) (found : Option ℕ) (some : 0 < length rest) (h : IsRun (at_byte ends_attribute_name) (drop 1 rest) (unwrap_or found (length (drop 1 rest)))) where
+  taken : (ys : List ℕ) → 0 < length ys → IsRun (at_byte ends_attribute_name) (drop 1 ys) (unwrap_or found (length (drop 1 ys))) →
+      (take (suc (unwrap_or found (length (drop 1 ys)))) ys ≡ name_of ys) × (drop (suc (unwrap_or found (length (drop 1 ys)))) ys ≡ behind_name ys)
+  taken [] s r = absurd (omega arith)
+  taken (b ∷ bs) s r = (ap (λ zs. b ∷ zs) r.front, r.back)
 
-pub drop-name : (rest : List ℕ) → drop (length rest - length (behind_name rest)) rest ≡ behind_name rest
-drop-name rest =
-    ap (drop (length rest - length (behind_name rest))) (sym (name-joined rest))
-    ∙ drop_at (name_of rest) (behind_name rest) (length rest - length (behind_name rest)) (name_length rest)
+  pub name_taken : take (unwrap_or (option_map (λ n. 1 + n) found) (length rest)) rest ≡ name_of rest
+  name_taken = ap (λ n. take n rest) (name_end found rest some) ∙ (taken rest some h).0
+
+  pub name_passed : drop (unwrap_or (option_map (λ n. 1 + n) found) (length rest)) rest ≡ behind_name rest
+  name_passed = ap (λ n. drop n rest) (name_end found rest some) ∙ (taken rest some h).1

@@ -13,11 +13,10 @@ use Rattle.irl_scan.specs.declared.piece.Found.TheVariants as found
 use Rattle.irl_scan.specs.declared.piece.Opening.{Opening}
 use Rattle.irl_scan.specs.declared.piece.Opening.TheVariants as opens
 use Rattle.irl_scan.specs.declared.span.Span.{Span}
-use Rattle.irl_scan.specs.declared.stop.Stop.TheVariants.{TagName, RawEnd}
-use Rattle.irl_scan.specs.Bytes.{kind_of, UpTo}
+use Rattle.irl_scan.specs.Bytes.{kind_of, UpTo, at_byte, ends_tag_name}
 use Rattle.irl_scan.specs.Page.{Attribute, Tag, Piece, Letter, Comment, Skipped, Markup, end_onto, attributes_onto, tag_end_onto, tag_onto, piece_onto, joined, opening, has_letter_at, EndsBy, AreAttributes, IsGap, ends_raw, IsTag, ends_comment, ends_markup, IsPiece, ArePieces, Cut}
 use Rattle.irl_scan.specs.Links.{found_in, found_at, first_span, link_of, base_or, links_from, base_from}
-use Rattle.irl_scan.specs.Reading.{from, before, stops, ending_of, ReadsInside, Takes, Gives}
+use Rattle.irl_scan.specs.Reading.{from, before, ending_of, ReadsInside, Takes, Gives}
 use Rattle.irl_scan.proofs.Runs.{before-from, UpTo-read, stops_there, one_run}
 use Rattle.irl_scan.proofs.Values.{end_is, ends_by}
 use Rattle.irl_scan.proofs.Lengths.{piece_length}
@@ -124,19 +123,19 @@ raw_ends_there Style = refl
 raw_ends_there Other = refl
 
 pub takes_tag : (size : ℕ) (xs name inside left rest : List ℕ) (kind : Kind) (first : Option Span) (ending : Ending) (given : Found) →
-    opening xs ≡ opens.Tag → name ≡ before (stops TagName) (drop 1 xs) → inside ≡ from (stops TagName) (drop 1 xs) → kind ≡ kind_of name → length xs ≤ size →
-    ReadsInside kind (size - length inside) inside first ending left → rest ≡ from (stops (RawEnd kind)) left → given ≡ found_in ending kind first → Takes (size - length xs) xs given rest
+    opening xs ≡ opens.Tag → name ≡ before (at_byte ends_tag_name) (drop 1 xs) → inside ≡ from (at_byte ends_tag_name) (drop 1 xs) → kind ≡ kind_of name → length xs ≤ size →
+    ReadsInside kind (size - length inside) inside first ending left → rest ≡ from (ends_raw kind) left → given ≡ found_in ending kind first → Takes (size - length xs) xs given rest
 takes_tag size xs name inside left rest kind first ending given h is_name is_inside is_kind fits reads is_rest is_given =
     let raw = before (ends_raw kind) left in
     let left_is : raw ++ rest ≡ left = ap (λ ys. raw ++ ys) is_rest ∙ before-from (ends_raw kind) left in
     let inside_is : inside ≡ attributes_onto reads.attributes (tag_end_onto reads.gap ending (raw ++ rest)) =
     reads.spelled ∙ ap (λ l. attributes_onto reads.attributes (tag_end_onto reads.gap ending l)) (sym left_is) in
     let named : name ++ inside ≡ drop 1 xs =
-    ap (λ ys. ys ++ inside) is_name ∙ ap (λ ys. before (stops TagName) (drop 1 xs) ++ ys) is_inside ∙ before-from (stops TagName) (drop 1 xs) in
+    ap (λ ys. ys ++ inside) is_name ∙ ap (λ ys. before (at_byte ends_tag_name) (drop 1 xs) ++ ys) is_inside ∙ before-from (at_byte ends_tag_name) (drop 1 xs) in
     let t : Tag = record { name = name; attributes = reads.attributes; gap = reads.gap; ending = ending; raw = raw } in
     let spelled : xs ≡ tag_onto t rest = tag_begins xs h ∙ ap (λ ys. 60 ∷ ys) (sym named ∙ ap (λ ys. name ++ ys) inside_is) in
-    let run : UpTo (stops TagName) name inside =
-    subst (λ n. UpTo (stops TagName) n inside) (sym is_name) (subst (UpTo (stops TagName) (before (stops TagName) (drop 1 xs))) (sym is_inside) (UpTo-read (stops TagName) refl (drop 1 xs))) in
+    let run : UpTo (at_byte ends_tag_name) name inside =
+    subst (λ n. UpTo (at_byte ends_tag_name) n inside) (sym is_name) (subst (UpTo (at_byte ends_tag_name) (before (at_byte ends_tag_name) (drop 1 xs))) (sym is_inside) (UpTo-read (at_byte ends_tag_name) refl (drop 1 xs))) in
     let raw_run : UpTo (ends_raw kind) raw rest = subst (UpTo (ends_raw kind) raw) (sym is_rest) (UpTo-read (ends_raw kind) (raw_ends_there kind) left) in
     let first_length : length xs ≡ suc (length (drop 1 xs)) = ap length (tag_begins xs h) in
     let name_length : length name + length inside ≡ length (drop 1 xs) = sym (length-append name inside) ∙ ap length named in
@@ -146,7 +145,7 @@ takes_tag size xs name inside left rest kind first ending given h is_name is_ins
       spelled = spelled;
       formed = record {
         opens = ap opening (sym spelled) ∙ h;
-        name = subst (UpTo (stops TagName) name) inside_is run;
+        name = subst (UpTo (at_byte ends_tag_name) name) inside_is run;
         attributes = subst (λ l. AreAttributes reads.attributes (tag_end_onto reads.gap ending l)) (sym left_is) reads.each;
         gap = subst (λ l. IsGap reads.gap (end_onto (codes ">") ending l)) (sym left_is) reads.gap_ends;
         ending = subst (EndsBy ending) (sym left_is) reads.ends;
@@ -173,7 +172,7 @@ opened (Markup t) rest h = h.opens
 one_tag : (t u : Tag) (r s : List ℕ) → IsTag t r → IsTag u s → tag_onto t r ≡ tag_onto u s → (t ≡ u) × (r ≡ s)
 one_tag t u r s h k e =
     let behind : t.name ++ attributes_onto t.attributes (tag_end_onto t.gap t.ending (t.raw ++ r)) ≡ u.name ++ attributes_onto u.attributes (tag_end_onto u.gap u.ending (u.raw ++ s)) = append_cancel_left (60 ∷ []) _ _ e in
-    let name = one_run (stops TagName) t.name u.name _ _ h.name k.name behind in
+    let name = one_run (at_byte ends_tag_name) t.name u.name _ _ h.name k.name behind in
     let inside = attributes_onto t.attributes (tag_end_onto t.gap t.ending (t.raw ++ r)) in
     let first : IsInside inside t.attributes t.gap t.ending (t.raw ++ r) = record { spelled = refl; each = h.attributes; gap_ends = h.gap; ends = h.ending } in
     let second : IsInside inside u.attributes u.gap u.ending (u.raw ++ s) = record { spelled = name.1; each = k.attributes; gap_ends = k.gap; ends = k.ending } in

@@ -1,16 +1,16 @@
 -- A reference read at a place is as the grammar says, and is the only one; so a value has one text.
-use Rattle.std.proofs.Common.{◌≡◌, ℕ, ◌+◌, ◌*◌, ◌<◌, ◌≤◌, Bool, true, false, cond, not, ◌&&◌, ◌||◌, eqb, nat_eq, nat_lt, List, [], ◌∷◌, ◌++◌, length, drop, Option, Some, None, IfSome, slice_get, append_assoc, unwrap_or, ◌⊎◌, inl, inr, refl, ap, sym, ◌∙◌, subst, arith}
+use Rattle.std.proofs.Common.{◌≡◌, ℕ, zero, suc, ◌+◌, ◌*◌, ◌<◌, ◌≤◌, Bool, true, false, cond, not, ◌&&◌, ◌||◌, eqb, nat_eq, nat_lt, List, [], ◌∷◌, ◌++◌, length, drop, Option, Some, None, IfSome, slice_get, append_assoc, unwrap_or, ◌⊎◌, inl, inr, refl, ap, sym, ◌∙◌, subst, arith}
 use Rattle.std.proofs.lemmas.Bool.{eqb-false, ne_eqb, lt-ltb, le-ltb, ltb-true, ltb-false, and_parts, or_cases, or_parts, not-false}
+use Rattle.std.proofs.lemmas.List.{length-append}
 use Rattle.std.specs.List.{starts_with}
 use Rattle.std.specs.Char.{digit_value}
 use Rattle.std.specs.Str.Parse.{AllDigits, digits_value, digits_value_after}
 use Rattle.std.specs.Prelude.{codes}
 use Rattle.irl_scan.specs.declared.reference.Radix.{Radix}
 use Rattle.irl_scan.specs.declared.reference.Radix.TheVariants.{Ten, Sixteen}
-use Rattle.irl_scan.specs.declared.stop.Stop.TheVariants.{NotDigit}
 use Rattle.irl_scan.specs.Bytes.{UpTo}
 use Rattle.irl_scan.specs.Text.{Reference, Amp, Lt, Gt, Quot, Apos, Decimal, Hexadecimal, reference_onto, reference_value, IsNumber, IsReference, Item, Plain, Replaced, item_onto, items_joined, IsItem, AreItems, Reads, text_of}
-use Rattle.irl_scan.specs.Reading.{from, before, stops, radix_of, most_digits, first_is, number_from, closed, number_at, reference_at, HasText}
+use Rattle.irl_scan.specs.Reading.{from, before, radix_of, most_digits, first_is, number_from, closed, number_at, reference_at, HasText, not_digit}
 use Rattle.irl_scan.proofs.Runs.{before-from, from-UpTo, before-UpTo}
 use Rattle.irl_scan.proofs.Values.{first_is-cons}
 use Rattle.irl_scan.proofs.Pieces.{starts}
@@ -49,7 +49,7 @@ number_again radix n (c ∷ cs) all small =
     let fits : nat_lt (n * radix_of radix + digit_value c) 128 ≡ true = lt-ltb (n * radix_of radix + digit_value c) 128 (omega arith) in
     rw (digit, fits) (number_again radix (n * radix_of radix + digit_value c) cs all.1 small)
 
-digits_run : (radix : Radix) (ds rest : List ℕ) → AllDigits (radix_of radix) ds → UpTo (stops (NotDigit radix)) ds (59 ∷ rest)
+digits_run : (radix : Radix) (ds rest : List ℕ) → AllDigits (radix_of radix) ds → UpTo (not_digit radix) ds (59 ∷ rest)
 digits_run Ten [] rest all = refl
 digits_run Sixteen [] rest all = refl
 digits_run radix (c ∷ cs) rest all = (ap not (lt-ltb (digit_value c) (radix_of radix) all.0), digits_run radix cs rest all.1)
@@ -70,8 +70,8 @@ closed_takes digits behind (Some n) v rest h =
 pub number_at_takes : (radix : Radix) (xs : List ℕ) (v : ℕ) (rest : List ℕ) → number_at radix xs ≡ Some (v, rest) → IsNumberAt radix xs v rest
 unfolding number_at
 number_at_takes radix xs v rest h =
-    let digits = before (stops (NotDigit radix)) xs in
-    let behind = from (stops (NotDigit radix)) xs in
+    let digits = before (not_digit radix) xs in
+    let behind = from (not_digit radix) xs in
     elim (chosen ((eqb (length digits) 0 || nat_lt (most_digits radix) (length digits)) || not (first_is 59 behind)) None (closed digits behind (number_from (radix_of radix) 0 digits)) (Some (v, rest)) h) [
       | inl w ↦ let no : ◌≡◌ {A = Option (ℕ × List ℕ)} None (Some (v, rest)) = w.1 in cc
       | inr w ↦
@@ -84,7 +84,7 @@ number_at_takes radix xs v rest h =
           record {
             digits = digits;
             number = record { all = number.0; some = omega arith; few = ltb-false (most_digits radix) (length digits) lengths.1; small = rw number.1 number.2 };
-            spelled = sym (before-from (stops (NotDigit radix)) xs) ∙ ap (λ ys. digits ++ ys) mark;
+            spelled = sym (before-from (not_digit radix) xs) ∙ ap (λ ys. digits ++ ys) mark;
             value = sym number.1;
           }
     ]
@@ -93,8 +93,8 @@ pub number_at_again : (radix : Radix) (ds rest : List ℕ) → IsNumber (radix_o
 unfolding number_at
 number_at_again radix ds rest n =
     let run = digits_run radix ds rest n.all in
-    let front : before (stops (NotDigit radix)) (ds ++ 59 ∷ rest) ≡ ds = before-UpTo (stops (NotDigit radix)) ds (59 ∷ rest) run in
-    let back : from (stops (NotDigit radix)) (ds ++ 59 ∷ rest) ≡ 59 ∷ rest = from-UpTo (stops (NotDigit radix)) ds (59 ∷ rest) run in
+    let front : before (not_digit radix) (ds ++ 59 ∷ rest) ≡ ds = before-UpTo (not_digit radix) ds (59 ∷ rest) run in
+    let back : from (not_digit radix) (ds ++ 59 ∷ rest) ≡ 59 ∷ rest = from-UpTo (not_digit radix) ds (59 ∷ rest) run in
     let some : (eqb (length ds) 0) ≡ false = ne_eqb (length ds) 0 (λ e. absurd (omega (arith, n.some))) in
     let few : nat_lt (most_digits radix) (length ds) ≡ false = le-ltb (most_digits radix) (length ds) n.few in
     let value = number_again radix 0 ds n.all n.small in
@@ -308,6 +308,39 @@ texts_same (i ∷ is) (j ∷ js) h k e =
 
 pub one_text : (value : List ℕ) (is js : List Item) → Reads value is → Reads value js → text_of is ≡ text_of js
 one_text value is js h k = texts_same is js h.each k.each (sym h.whole ∙ k.whole)
+
+-- ## Any value has a text
+
+-- a reference takes at least a byte
+reference_longer : (r : Reference) (rest : List ℕ) → length rest < length (reference_onto r rest)
+reference_longer Amp rest = omega arith
+reference_longer Lt rest = omega arith
+reference_longer Gt rest = omega arith
+reference_longer Quot rest = omega arith
+reference_longer Apos rest = omega arith
+reference_longer (Decimal ds) rest = let all = length-append ds (59 ∷ rest) in omega arith
+reference_longer (Hexadecimal sign ds) rest = let all = length-append ds (59 ∷ rest) in omega arith
+
+pub record SomeText (value : List ℕ) : Type 0 where
+  pub text : List ℕ
+  pub has : HasText value text
+
+-- with the text of less, one more byte or reference is read
+text_by : (b : ℕ) (bs : List ℕ) (found : Option (ℕ × List ℕ)) → reference_at (b ∷ bs) ≡ found → ((behind : List ℕ) → length behind ≤ length bs → SomeText behind) → SomeText (b ∷ bs)
+text_by b bs None h next =
+    let more = next bs (omega arith) in
+    record { text = b ∷ more.text; has = text_keeps (b ∷ bs) b bs more.text h refl more.has }
+text_by b bs (Some (v, behind)) h next =
+    let r = reference_takes (b ∷ bs) v behind h in
+    let all = ap length r.spelled in
+    let less = reference_longer r.reference behind in
+    let more = next behind (omega arith) in
+    record { text = v ∷ more.text; has = text_replaces (b ∷ bs) behind v more.text h more.has }
+
+pub some_text : (n : ℕ) (value : List ℕ) → length value ≤ n → SomeText value
+some_text n [] short = record { text = []; has = text_ends [] refl }
+some_text zero (b ∷ bs) short = absurd (omega arith)
+some_text (suc n) (b ∷ bs) short = text_by b bs (reference_at (b ∷ bs)) refl (λ behind less. some_text n behind (omega arith))
 
 -- ## What the code knows of a list
 

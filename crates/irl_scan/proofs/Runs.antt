@@ -1,8 +1,8 @@
 -- A run of bytes up to the first place where something stands.
-use Rattle.std.proofs.Common.{◌≡◌, ℕ, ◌+◌, ◌<◌, Bool, true, false, cond, List, [], ◌∷◌, ◌++◌, length, take, drop, get_or, refl, ap, sym, ◌∙◌, append_assoc}
-use Rattle.std.proofs.lemmas.List.{drop_more, take_more, length-append}
+use Rattle.std.proofs.Common.{◌≡◌, ℕ, zero, suc, ◌+◌, ◌<◌, ◌≤◌, Bool, true, false, cond, List, [], ◌∷◌, ◌++◌, length, drop, refl, ap, sym, ◌∙◌, arith}
+use Rattle.std.proofs.lemmas.List.{length-append}
 use Rattle.irl_scan.specs.Bytes.{UpTo}
-use Rattle.irl_scan.specs.Reading.{from, before}
+use Rattle.irl_scan.specs.Reading.{from, before, IsRun}
 
 -- the two parts of a list joined are the list
 joined_cases : (t : Bool) (b : ℕ) (bs front back : List ℕ) → front ++ back ≡ bs → cond t [] (b ∷ front) ++ cond t (b ∷ bs) back ≡ b ∷ bs
@@ -12,26 +12,6 @@ joined_cases false b bs front back e = ap (λ ys. b ∷ ys) e
 pub before-from : (stops : List ℕ → Bool) (xs : List ℕ) → before stops xs ++ from stops xs ≡ xs
 before-from stops [] = refl
 before-from stops (b ∷ bs) = joined_cases (stops (b ∷ bs)) b bs (before stops bs) (from stops bs) (before-from stops bs)
-
--- one place on, where nothing stops
-from_on : (stops : List ℕ → Bool) (ys : List ℕ) (b : ℕ) (bs : List ℕ) → ys ≡ b ∷ bs → stops ys ≡ false → from stops bs ≡ from stops ys
-from_on stops ys b bs e s =
-    let s' : stops (b ∷ bs) ≡ false = ap stops (sym e) ∙ s in
-    sym (ap (from stops) e ∙ ap (λ t. cond t (b ∷ bs) (from stops bs)) s')
-
-before_on : (stops : List ℕ → Bool) (ys : List ℕ) (b : ℕ) (bs : List ℕ) → ys ≡ b ∷ bs → stops ys ≡ false → before stops ys ≡ b ∷ before stops bs
-before_on stops ys b bs e s =
-    let s' : stops (b ∷ bs) ≡ false = ap stops (sym e) ∙ s in
-    ap (before stops) e ∙ ap (λ t. cond t [] (b ∷ before stops bs)) s'
-
-pub from_more : (stops : List ℕ → Bool) (xs : List ℕ) (i : ℕ) → i < length xs → stops (drop i xs) ≡ false → from stops (drop (i + 1) xs) ≡ from stops (drop i xs)
-from_more stops xs i h s = from_on stops (drop i xs) (get_or xs i 0) (drop (i + 1) xs) (drop_more xs i 0 h) s
-
-pub before_more : (stops : List ℕ → Bool) (xs : List ℕ) (i : ℕ) → i < length xs → stops (drop i xs) ≡ false → take (i + 1) xs ++ before stops (drop (i + 1) xs) ≡ take i xs ++ before stops (drop i xs)
-before_more stops xs i h s =
-    ap (λ ys. ys ++ before stops (drop (i + 1) xs)) (take_more xs i 0 h)
-    ∙ append_assoc (take i xs) (get_or xs i 0 ∷ []) (before stops (drop (i + 1) xs))
-    ∙ ap (λ ys. take i xs ++ ys) (sym (before_on stops (drop i xs) (get_or xs i 0) (drop (i + 1) xs) (drop_more xs i 0 h) s))
 
 -- ## A run read from a list is as the grammar says, and is the only one
 
@@ -79,3 +59,21 @@ one_run stops a b r s h k e = (
 
 pub length-run : (stops : List ℕ → Bool) (xs : List ℕ) → length (before stops xs) + length (from stops xs) ≡ length xs
 length-run stops xs = sym (length-append (before stops xs) (from stops xs)) ∙ ap length (before-from stops xs)
+
+-- ## How long a run is
+
+-- a run ends where the test holds first
+pub first_run : (stops : List ℕ → Bool) (xs : List ℕ) (n : ℕ) → n ≤ length xs → ((k : ℕ) → k < n → stops (drop k xs) ≡ false) → (n < length xs → stops (drop n xs) ≡ true) → IsRun stops xs n
+first_run stops [] zero fits none here = record { within = fits; front = refl; back = refl }
+first_run stops [] (suc n) fits none here = absurd (omega arith)
+first_run stops (b ∷ bs) zero fits none here =
+    let stands = here (omega arith) in
+    record { within = fits; front = sym (ap (λ t. cond t [] (b ∷ before stops bs)) stands); back = sym (ap (λ t. cond t (b ∷ bs) (from stops bs)) stands) }
+first_run stops (b ∷ bs) (suc n) fits none here =
+    let passes = none 0 (omega arith) in
+    let more = first_run stops bs n (omega arith) (λ k l. none (suc k) (omega arith)) (λ l. here (omega arith)) in
+    record {
+      within = fits;
+      front = ap (λ ys. b ∷ ys) more.front ∙ sym (ap (λ t. cond t [] (b ∷ before stops bs)) passes);
+      back = more.back ∙ sym (ap (λ t. cond t (b ∷ bs) (from stops bs)) passes);
+    }

@@ -17,10 +17,11 @@ abbrev HasLinks : List ℕ → List Span → Type 0
 HasLinks page spans = (base : Option Span) × Gives 0 page spans base
 
 -- nothing is found before the first byte
-pub links_start : (page : List ℕ) (spans : List Span) → spans ≡ [] → (more : List Span) (base : Option Span) → Gives (length page - length page) page more base → HasLinks page (spans ++ more)
-links_start page spans e more base gives =
+pub links_start : (page rest : List ℕ) (spans : List Span) → rest ≡ page → spans ≡ [] → (more : List Span) (base : Option Span) → Gives (length page - length rest) rest more base → HasLinks page (spans ++ more)
+links_start page rest spans all e more base gives =
     let start : length page - length page ≡ 0 = omega arith in
-    (base, subst (λ ys. Gives 0 page (ys ++ more) base) (sym e) (subst (λ n. Gives n page more base) start gives))
+    let whole : Gives (length page - length page) page more base = subst (λ ys. Gives (length page - length ys) ys more base) all gives in
+    (base, subst (λ ys. Gives 0 page (ys ++ more) base) (sym e) (subst (λ n. Gives n page more base) start whole))
 
 pub none_within : (size : ℕ) (spans : List Span) → spans ≡ [] → All (IsWithin size) spans
 none_within size spans e = subst (All (IsWithin size)) (sym e) (λ k d l. absurd (omega arith))
@@ -58,10 +59,11 @@ links_only page spans (base, gives) pieces cut = gives.spans_are ∙ ap links_of
 abbrev HasBase : List ℕ → Option Span → Type 0
 HasBase page base = (spans : List Span) × Gives 0 page spans base
 
-pub base_start : (page : List ℕ) (spans : List Span) (base : Option Span) → Gives (length page - length page) page spans base → HasBase page base
-base_start page spans base gives =
+pub base_start : (page rest : List ℕ) → rest ≡ page → (spans : List Span) (base : Option Span) → Gives (length page - length rest) rest spans base → HasBase page base
+base_start page rest all spans base gives =
     let start : length page - length page ≡ 0 = omega arith in
-    (spans, subst (λ n. Gives n page spans base) start gives)
+    let whole : Gives (length page - length page) page spans base = subst (λ ys. Gives (length page - length ys) ys spans base) all gives in
+    (spans, subst (λ n. Gives n page spans base) start whole)
 
 past : (given : Found) (base : Option Span) → ((span : Span) → given ≡ found.Base span → ⊥) → base_or given base ≡ base
 past found.Nothing base h = refl

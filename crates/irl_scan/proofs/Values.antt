@@ -4,11 +4,10 @@ use Rattle.std.proofs.lemmas.Bool.{eqb-true, false≢true}
 use Rattle.irl_scan.specs.declared.attribute.Ending.{Ending}
 use Rattle.irl_scan.specs.declared.attribute.Ending.TheVariants.{Marked, PageEnd}
 use Rattle.irl_scan.specs.declared.span.Span.{Span}
-use Rattle.irl_scan.specs.declared.stop.Stop.TheVariants.{BareValue, Byte}
-use Rattle.irl_scan.specs.Bytes.{is_space, is_quote, at_byte, UpTo}
+use Rattle.irl_scan.specs.Bytes.{is_space, is_quote, at_byte, UpTo, ends_bare_value}
 use Rattle.irl_scan.specs.Page.{Value, Absent, Bare, Quoted, end_onto, value_onto, EndsBy, sign_follows, quote_follows, not_space, IsValue}
 use Rattle.irl_scan.specs.Links.{value_span}
-use Rattle.irl_scan.specs.Reading.{from, before, stops, ending_of, first_is, quote_at, content_at, value_at}
+use Rattle.irl_scan.specs.Reading.{from, before, ending_of, first_is, quote_at, content_at, value_at, is_at}
 use Rattle.irl_scan.proofs.Runs.{before-from, UpTo-read, from-UpTo, before-UpTo, stops_there, length-run}
 
 -- ## What a test of the first byte says
@@ -57,12 +56,12 @@ unfolding value_at
 absent_read rest h = rw h refl
 
 pub bare_read : (rest after value : List ℕ) → first_is 61 (from not_space rest) ≡ true → after ≡ drop 1 (from not_space rest) → value ≡ from not_space after → quote_at value ≡ None →
-    value_at rest ≡ (Bare (before not_space rest) (before not_space after) (before (stops BareValue) value), from (stops BareValue) value)
+    value_at rest ≡ (Bare (before not_space rest) (before not_space after) (before (at_byte ends_bare_value) value), from (at_byte ends_bare_value) value)
 unfolding value_at content_at
 bare_read rest after value h a v q = rw (h, ← a, ← v, q) refl
 
 pub quoted_read : (rest after value : List ℕ) (quote : ℕ) → first_is 61 (from not_space rest) ≡ true → after ≡ drop 1 (from not_space rest) → value ≡ from not_space after → quote_at value ≡ Some quote →
-    value_at rest ≡ (Quoted (before not_space rest) (before not_space after) quote (before (stops (Byte quote)) (drop 1 value)) (ending_of (from (stops (Byte quote)) (drop 1 value))), drop 1 (from (stops (Byte quote)) (drop 1 value)))
+    value_at rest ≡ (Quoted (before not_space rest) (before not_space after) quote (before (is_at quote) (drop 1 value)) (ending_of (from (is_at quote) (drop 1 value))), drop 1 (from (is_at quote) (drop 1 value)))
 unfolding value_at content_at
 quoted_read rest after value quote h a v q = rw (h, ← a, ← v, q) refl
 
@@ -72,7 +71,7 @@ quoted_read rest after value quote h a v q = rw (h, ← a, ← v, q) refl
 abbrev run_of : ℕ → ℕ → Span
 run_of n start = record { start = start; end = start + n }
 
-pub absent_span : (size : ℕ) (rest : List ℕ) → value_span (size - length rest) Absent ≡ record { start = size - length rest; end = size - length rest }
+absent_span : (size : ℕ) (rest : List ℕ) → value_span (size - length rest) Absent ≡ record { start = size - length rest; end = size - length rest }
 absent_span size rest =
     let pair : ℕ → ℕ → Span = λ s e. record { start = s; end = e } in
     let s : size - length rest + 0 ≡ size - length rest = omega arith in
@@ -89,20 +88,53 @@ module _ (size : ℕ) (rest after value : List ℕ) (fits : length rest ≤ size
   behind_space : length (before not_space after) + length value ≡ length after
   behind_space = ap (λ ys. length (before not_space after) + length ys) v ∙ length-run not_space after
 
-  pub bare_span : (bytes : List ℕ) → value_span (size - length rest) (Bare (before not_space rest) (before not_space after) bytes) ≡ record { start = size - length value; end = size - length value + length bytes }
+  bare_span : (bytes : List ℕ) → value_span (size - length rest) (Bare (before not_space rest) (before not_space after) bytes) ≡ record { start = size - length value; end = size - length value + length bytes }
   bare_span bytes =
       let first = behind_sign in
       let second = behind_space in
       let start : size - length rest + (length (before not_space rest) + 1 + length (before not_space after)) ≡ size - length value = omega arith in
       ap (run_of (length bytes)) start
 
-  pub quoted_span : (quote : ℕ) (bytes : List ℕ) (ending : Ending) → quote_at value ≡ Some quote → value_span (size - length rest) (Quoted (before not_space rest) (before not_space after) quote bytes ending) ≡ record { start = size - length (drop 1 value); end = size - length (drop 1 value) + length bytes }
+  quoted_span : (quote : ℕ) (bytes : List ℕ) (ending : Ending) → quote_at value ≡ Some quote → value_span (size - length rest) (Quoted (before not_space rest) (before not_space after) quote bytes ending) ≡ record { start = size - length (drop 1 value); end = size - length (drop 1 value) + length bytes }
   quoted_span quote bytes ending q =
       let first = behind_sign in
       let second = behind_space in
       let third : length value ≡ suc (length (drop 1 value)) = ap length (quote_at-some quote value q).0 in
       let start : size - length rest + (length (before not_space rest) + 1 + length (before not_space after) + 1) ≡ size - length (drop 1 value) = omega arith in
       ap (run_of (length bytes)) start
+
+-- what the places round it show
+pub absent_stands : (size : ℕ) (rest : List ℕ) (place : ℕ) → first_is 61 (from not_space rest) ≡ false → place ≡ size - length rest →
+    ◌≡◌ {A = Span} (record { start = place; end = place }) (value_span (size - length rest) (value_at rest).0)
+absent_stands size rest place h is_place =
+    let at : ℕ → Span = λ n. record { start = n; end = n } in
+    ap at is_place ∙ sym (ap (λ r. value_span (size - length rest) r.0) (absent_read rest h) ∙ absent_span size rest)
+
+module _ (size : ℕ) (rest after value : List ℕ) (start end : ℕ) (fits : length rest ≤ size) (h : first_is 61 (from not_space rest) ≡ true) (a : after ≡ drop 1 (from not_space rest)) (v : value ≡ from not_space after) where
+  pub bare_stands : quote_at value ≡ None → start ≡ size - length value → end ≡ size - length (from (at_byte ends_bare_value) value) →
+      ◌≡◌ {A = Span} (record { start = start; end = end }) (value_span (size - length rest) (value_at rest).0)
+  bare_stands q is_start is_end =
+      let bytes = before (at_byte ends_bare_value) value in
+      let first = behind_sign size rest after value fits h a v in
+      let second = behind_space size rest after value fits h a v in
+      let run = length-run (at_byte ends_bare_value) value in
+      let e : end ≡ size - length value + length bytes = omega arith in
+      let span : ℕ → ℕ → Span = λ s e. record { start = s; end = e } in
+      ap (λ s. span s end) is_start ∙ ap (span (size - length value)) e
+      ∙ sym (ap (λ r. value_span (size - length rest) r.0) (bare_read rest after value h a v q) ∙ bare_span size rest after value fits h a v bytes)
+
+  pub quoted_stands : (quote : ℕ) → quote_at value ≡ Some quote → start ≡ size - length (drop 1 value) → end ≡ size - length (from (is_at quote) (drop 1 value)) →
+      ◌≡◌ {A = Span} (record { start = start; end = end }) (value_span (size - length rest) (value_at rest).0)
+  quoted_stands quote q is_start is_end =
+      let bytes = before (is_at quote) (drop 1 value) in
+      let first = behind_sign size rest after value fits h a v in
+      let second = behind_space size rest after value fits h a v in
+      let third : length value ≡ suc (length (drop 1 value)) = ap length (quote_at-some quote value q).0 in
+      let run = length-run (is_at quote) (drop 1 value) in
+      let e : end ≡ size - length (drop 1 value) + length bytes = omega arith in
+      let span : ℕ → ℕ → Span = λ s e. record { start = s; end = e } in
+      ap (λ s. span s end) is_start ∙ ap (span (size - length (drop 1 value))) e
+      ∙ sym (ap (λ r. value_span (size - length rest) r.0) (quoted_read rest after value quote h a v q) ∙ quoted_span size rest after value fits h a v quote bytes (ending_of (from (is_at quote) (drop 1 value))) q)
 
 -- ## What is read is as the grammar says
 
@@ -126,16 +158,16 @@ bare_takes rest h q =
     let after = drop 1 (from not_space rest) in
     let more = before not_space after in
     let value = from not_space after in
-    let bytes = before (stops BareValue) value in
-    let left = from (stops BareValue) value in
-    let e1 : bytes ++ left ≡ value = before-from (stops BareValue) value in
+    let bytes = before (at_byte ends_bare_value) value in
+    let left = from (at_byte ends_bare_value) value in
+    let e1 : bytes ++ left ≡ value = before-from (at_byte ends_bare_value) value in
     let e2 : more ++ (bytes ++ left) ≡ after = ap (λ ys. more ++ ys) e1 ∙ before-from not_space after in
     let e3 : 61 ∷ (more ++ (bytes ++ left)) ≡ from not_space rest = ap (λ ys. 61 ∷ ys) e2 ∙ sym (first_is-cons 61 (from not_space rest) h) in
     let formed : IsValue (Bare space more bytes) left = (
       subst (UpTo not_space space) (sym e3) (UpTo-read not_space refl rest),
       subst (UpTo not_space more) (sym e1) (UpTo-read not_space refl after),
       ap quote_follows e1 ∙ quote_at-none value q,
-      UpTo-read (stops BareValue) refl value,
+      UpTo-read (at_byte ends_bare_value) refl value,
     ) in
     let spelled : value_onto (Bare space more bytes) left ≡ rest = ap (λ ys. space ++ ys) e3 ∙ before-from not_space rest in
     let read : IsReadOf rest (Bare space more bytes, left) = record { formed = formed; spelled = spelled } in
@@ -147,19 +179,19 @@ quoted_takes rest quote h q =
     let after = drop 1 (from not_space rest) in
     let more = before not_space after in
     let value = from not_space after in
-    let bytes = before (stops (Byte quote)) (drop 1 value) in
-    let left = from (stops (Byte quote)) (drop 1 value) in
+    let bytes = before (is_at quote) (drop 1 value) in
+    let left = from (is_at quote) (drop 1 value) in
     let ends = end_onto (quote ∷ []) (ending_of left) (drop 1 left) in
-    let e0 : ends ≡ left = end_is quote left (stops_there (stops (Byte quote)) refl (drop 1 value)) in
+    let e0 : ends ≡ left = end_is quote left (stops_there (is_at quote) refl (drop 1 value)) in
     let e1 : quote ∷ (bytes ++ ends) ≡ value =
-    ap (λ ys. quote ∷ (bytes ++ ys)) e0 ∙ ap (λ ys. quote ∷ ys) (before-from (stops (Byte quote)) (drop 1 value)) ∙ sym (quote_at-some quote value q).0 in
+    ap (λ ys. quote ∷ (bytes ++ ys)) e0 ∙ ap (λ ys. quote ∷ ys) (before-from (is_at quote) (drop 1 value)) ∙ sym (quote_at-some quote value q).0 in
     let e2 : more ++ quote ∷ (bytes ++ ends) ≡ after = ap (λ ys. more ++ ys) e1 ∙ before-from not_space after in
     let e3 : 61 ∷ (more ++ quote ∷ (bytes ++ ends)) ≡ from not_space rest = ap (λ ys. 61 ∷ ys) e2 ∙ sym (first_is-cons 61 (from not_space rest) h) in
     let formed : IsValue (Quoted space more quote bytes (ending_of left)) (drop 1 left) = (
       subst (UpTo not_space space) (sym e3) (UpTo-read not_space refl rest),
       subst (UpTo not_space more) (sym e1) (UpTo-read not_space refl after),
       (quote_at-some quote value q).1,
-      subst (UpTo (stops (Byte quote)) bytes) (sym e0) (UpTo-read (stops (Byte quote)) refl (drop 1 value)),
+      subst (UpTo (is_at quote) bytes) (sym e0) (UpTo-read (is_at quote) refl (drop 1 value)),
       ends_by left,
     ) in
     let spelled : value_onto (Quoted space more quote bytes (ending_of left)) (drop 1 left) ≡ rest = ap (λ ys. space ++ ys) e3 ∙ before-from not_space rest in
@@ -197,13 +229,13 @@ bare_again space more bytes rest h =
     let b1 : before not_space all ≡ space = before-UpTo not_space space (61 ∷ after) h.0 in
     let f2 : value ≡ from not_space after = sym (from-UpTo not_space more value h.1) in
     let b2 : before not_space after ≡ more = before-UpTo not_space more value h.1 in
-    let f3 : from (stops BareValue) value ≡ rest = from-UpTo (stops BareValue) bytes rest h.3 in
-    let b3 : before (stops BareValue) value ≡ bytes = before-UpTo (stops BareValue) bytes rest h.3 in
+    let f3 : from (at_byte ends_bare_value) value ≡ rest = from-UpTo (at_byte ends_bare_value) bytes rest h.3 in
+    let b3 : before (at_byte ends_bare_value) value ≡ bytes = before-UpTo (at_byte ends_bare_value) bytes rest h.3 in
     let pair : List ℕ → List ℕ → List ℕ → List ℕ → Value × List ℕ = λ s m b r. (Bare s m b, r) in
     bare_read all after value (ap (first_is 61) f1) (sym (ap (drop 1) f1)) f2 (none_from value h.2)
-    ∙ ap (λ s. pair s (before not_space after) (before (stops BareValue) value) (from (stops BareValue) value)) b1
-    ∙ ap (λ m. pair space m (before (stops BareValue) value) (from (stops BareValue) value)) b2
-    ∙ ap (λ b. pair space more b (from (stops BareValue) value)) b3
+    ∙ ap (λ s. pair s (before not_space after) (before (at_byte ends_bare_value) value) (from (at_byte ends_bare_value) value)) b1
+    ∙ ap (λ m. pair space m (before (at_byte ends_bare_value) value) (from (at_byte ends_bare_value) value)) b2
+    ∙ ap (λ b. pair space more b (from (at_byte ends_bare_value) value)) b3
     ∙ ap (λ r. pair space more bytes r) f3
 
 quoted_again : (space more : List ℕ) (quote : ℕ) (bytes : List ℕ) (ending : Ending) (rest : List ℕ) → IsValue (Quoted space more quote bytes ending) rest → value_at (value_onto (Quoted space more quote bytes ending) rest) ≡ (Quoted space more quote bytes ending, rest)
@@ -217,14 +249,14 @@ quoted_again space more quote bytes ending rest h =
     let b1 : before not_space all ≡ space = before-UpTo not_space space (61 ∷ after) h.0 in
     let f2 : value ≡ from not_space after = sym (from-UpTo not_space more value h.1) in
     let b2 : before not_space after ≡ more = before-UpTo not_space more value h.1 in
-    let f3 : from (stops (Byte quote)) inner ≡ ends = from-UpTo (stops (Byte quote)) bytes ends h.3 in
-    let b3 : before (stops (Byte quote)) inner ≡ bytes = before-UpTo (stops (Byte quote)) bytes ends h.3 in
+    let f3 : from (is_at quote) inner ≡ ends = from-UpTo (is_at quote) bytes ends h.3 in
+    let b3 : before (is_at quote) inner ≡ bytes = before-UpTo (is_at quote) bytes ends h.3 in
     let again = ending_again quote ending rest h.4 in
     let pair : List ℕ → List ℕ → List ℕ → Ending → List ℕ → Value × List ℕ = λ s m b e r. (Quoted s m quote b e, r) in
     quoted_read all after value quote (ap (first_is 61) f1) (sym (ap (drop 1) f1)) f2 (ap (λ t. cond t (Some quote) None) h.2)
-    ∙ ap (λ s. pair s (before not_space after) (before (stops (Byte quote)) inner) (ending_of (from (stops (Byte quote)) inner)) (drop 1 (from (stops (Byte quote)) inner))) b1
-    ∙ ap (λ m. pair space m (before (stops (Byte quote)) inner) (ending_of (from (stops (Byte quote)) inner)) (drop 1 (from (stops (Byte quote)) inner))) b2
-    ∙ ap (λ b. pair space more b (ending_of (from (stops (Byte quote)) inner)) (drop 1 (from (stops (Byte quote)) inner))) b3
+    ∙ ap (λ s. pair s (before not_space after) (before (is_at quote) inner) (ending_of (from (is_at quote) inner)) (drop 1 (from (is_at quote) inner))) b1
+    ∙ ap (λ m. pair space m (before (is_at quote) inner) (ending_of (from (is_at quote) inner)) (drop 1 (from (is_at quote) inner))) b2
+    ∙ ap (λ b. pair space more b (ending_of (from (is_at quote) inner)) (drop 1 (from (is_at quote) inner))) b3
     ∙ ap (λ u. pair space more bytes (ending_of u) (drop 1 u)) f3
     ∙ ap (λ e. pair space more bytes e (drop 1 ends)) again.0
     ∙ ap (λ r. pair space more bytes ending r) again.1

@@ -1,6 +1,6 @@
 -- What the scanner's own functions read at a place. Private contracts alone speak of it: the proofs show that it is the one
 -- cut of the page, and the one reading of a value.
-use Rattle.std.specs.Prelude.{ℕ, ◌≡◌, ◌+◌, ◌*◌, Bool, false, ◌&&◌, ◌||◌, ◌==◌, not, nat_lt, nat_eq, List, [], ◌∷◌, length, drop, Option, Some, None, codes, if◌then◌else◌}
+use Rattle.std.specs.Prelude.{ℕ, ◌≡◌, ◌+◌, ◌*◌, ◌≤◌, Bool, false, ◌&&◌, ◌||◌, ◌==◌, not, nat_lt, nat_eq, List, [], ◌∷◌, length, take, drop, Option, Some, None, codes, if◌then◌else◌}
 use Rattle.std.specs.List.{starts_with}
 use Rattle.std.specs.Char.{digit_value}
 use Rattle.irl_scan.specs.declared.attribute.Ending.{Ending}
@@ -11,10 +11,8 @@ use Rattle.irl_scan.specs.declared.piece.Found.{Found}
 use Rattle.irl_scan.specs.declared.piece.Found.TheVariants as found
 use Rattle.irl_scan.specs.declared.reference.Radix.{Radix}
 use Rattle.irl_scan.specs.declared.reference.Radix.TheVariants.{Ten, Sixteen}
-use Rattle.irl_scan.specs.declared.stop.Stop.{Stop}
-use Rattle.irl_scan.specs.declared.stop.Stop.TheVariants.{NotSpace, NotGap, TagName, AttributeName, BareValue, Byte, CommentEnd, RawEnd, NotDigit}
-use Rattle.irl_scan.specs.Bytes.{is_gap, ends_tag_name, ends_attribute_name, ends_bare_value, is_quote, at_byte}
-use Rattle.irl_scan.specs.Page.{Value, Absent, Bare, Quoted, Attribute, Piece, end_onto, attributes_onto, piece_onto, tag_end_onto, AreAttributes, IsGap, EndsBy, IsPiece, ends_raw, ends_comment, not_space, Cut}
+use Rattle.irl_scan.specs.Bytes.{is_gap, ends_attribute_name, ends_bare_value, is_quote, at_byte}
+use Rattle.irl_scan.specs.Page.{Value, Absent, Bare, Quoted, Attribute, Piece, end_onto, attributes_onto, piece_onto, tag_end_onto, AreAttributes, IsGap, EndsBy, IsPiece, not_space, Cut}
 use Rattle.irl_scan.specs.Links.{IsWithin, first_span, found_at, links_from, base_from}
 use Rattle.irl_scan.specs.Text.{Item, Reads, text_of}
 
@@ -31,17 +29,23 @@ abbrev pub radix_of : Radix → ℕ
 radix_of Ten = 10
 radix_of Sixteen = 16
 
--- where a run ends
-abbrev pub stops : Stop → List ℕ → Bool
-stops NotSpace = not_space
-stops NotGap = at_byte (λ b. not (is_gap b))
-stops TagName = at_byte ends_tag_name
-stops AttributeName = at_byte ends_attribute_name
-stops BareValue = at_byte ends_bare_value
-stops (Byte byte) = at_byte (λ b. b == byte)
-stops CommentEnd = ends_comment
-stops (RawEnd kind) = ends_raw kind
-stops (NotDigit radix) = at_byte (λ b. not (nat_lt (digit_value b) (radix_of radix)))
+-- where runs end: at a byte that is neither white space nor `/`,
+abbrev pub not_gap : List ℕ → Bool
+not_gap = at_byte (λ b. not (is_gap b))
+
+-- at that byte,
+abbrev pub is_at : ℕ → List ℕ → Bool
+is_at byte = at_byte (λ b. b == byte)
+
+-- and at a byte that is no digit
+abbrev pub not_digit : Radix → List ℕ → Bool
+not_digit radix = at_byte (λ b. not (nat_lt (digit_value b) (radix_of radix)))
+
+-- so many bytes stand before the first place at which the test holds
+pub record IsRun (stops : List ℕ → Bool) (xs : List ℕ) (n : ℕ) : Type 0 where
+  pub within : n ≤ length xs
+  pub front : take n xs ≡ before stops xs
+  pub back : drop n xs ≡ from stops xs
 
 abbrev pub ending_of : List ℕ → Ending
 ending_of [] = PageEnd
@@ -59,9 +63,9 @@ quote_at (b ∷ bs) = if is_quote b then Some b else None
 
 -- behind the space before it, the sign and the space after it
 unfoldable pub content_at : List ℕ → List ℕ → List ℕ → Option ℕ → Value × List ℕ
-content_at space after value None = (Bare space after (before (stops BareValue) value), from (stops BareValue) value)
+content_at space after value None = (Bare space after (before (at_byte ends_bare_value) value), from (at_byte ends_bare_value) value)
 content_at space after value (Some quote) =
-    (Quoted space after quote (before (stops (Byte quote)) (drop 1 value)) (ending_of (from (stops (Byte quote)) (drop 1 value))), drop 1 (from (stops (Byte quote)) (drop 1 value)))
+    (Quoted space after quote (before (is_at quote) (drop 1 value)) (ending_of (from (is_at quote) (drop 1 value))), drop 1 (from (is_at quote) (drop 1 value)))
 
 -- the value behind an attribute's name, and what is left
 unfoldable pub value_at : List ℕ → Value × List ℕ
@@ -73,10 +77,10 @@ value_at rest =
 -- an attribute's name, of at least one byte, and what is left behind it
 abbrev pub name_of : List ℕ → List ℕ
 name_of [] = []
-name_of (b ∷ bs) = b ∷ before (stops AttributeName) bs
+name_of (b ∷ bs) = b ∷ before (at_byte ends_attribute_name) bs
 
 abbrev pub behind_name : List ℕ → List ℕ
-behind_name rest = from (stops AttributeName) (drop 1 rest)
+behind_name rest = from (at_byte ends_attribute_name) (drop 1 rest)
 
 -- the first that there is
 abbrev pub or_first : Option Span → Option Span → Option Span
@@ -132,8 +136,8 @@ closed digits behind (Some n) = Some (n, drop 1 behind)
 -- a number and its `;`
 unfoldable pub number_at : Radix → List ℕ → Option (ℕ × List ℕ)
 number_at radix rest =
-    if (length (before (stops (NotDigit radix)) rest) == 0 || nat_lt (most_digits radix) (length (before (stops (NotDigit radix)) rest))) || not (first_is 59 (from (stops (NotDigit radix)) rest)) then None
-    else closed (before (stops (NotDigit radix)) rest) (from (stops (NotDigit radix)) rest) (number_from (radix_of radix) 0 (before (stops (NotDigit radix)) rest))
+    if (length (before (not_digit radix) rest) == 0 || nat_lt (most_digits radix) (length (before (not_digit radix) rest))) || not (first_is 59 (from (not_digit radix) rest)) then None
+    else closed (before (not_digit radix) rest) (from (not_digit radix) rest) (number_from (radix_of radix) 0 (before (not_digit radix) rest))
 
 -- the byte that a reference at the front stands for, and what is left
 unfoldable pub reference_at : List ℕ → Option (ℕ × List ℕ)

@@ -2,14 +2,15 @@
 #![tactic(auto)]
 
 mod attribute;
+mod cursor;
 mod kind;
 mod piece;
 mod reference;
+mod run;
 mod scan;
 mod span;
-mod stop;
 
-pub use reference::text;
+pub use reference::{one_text, text};
 pub use scan::{base, links, one_cut};
 pub use span::Span;
 

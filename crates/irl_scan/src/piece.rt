@@ -1,12 +1,14 @@
-ghost use Rattle.std.specs.Prelude.{◌≡◌, ◌-◌, ◌<◌, ◌≤◌, length};
+ghost use Rattle.std.specs.Prelude.{◌≡◌, ◌-◌, ◌<◌, length};
 ghost use Rattle.irl_scan.specs.Links.{found_in};
-ghost use Rattle.irl_scan.specs.Page.{opening, has_letter_at};
+ghost use Rattle.irl_scan.specs.Page.{opening};
 ghost use Rattle.irl_scan.specs.Reading.{Takes, found_within};
 
-use crate::attribute::{Ending, first_is, read_inside};
+use crate::attribute::Ending;
+use crate::cursor::Cursor;
 use crate::kind::Kind;
+use crate::run::{raw_end, tag_name_end};
 use crate::span::Span;
-use crate::stop::{Stop, cut, split};
+use memchr::{memchr, memmem};
 
 /// What begins at a place of a page.
 #[derive(Clone, Copy)]
@@ -32,39 +34,16 @@ pub enum Found {
     Base(Span),
 }
 
-/// What a piece of a page gives, and what is left behind it.
-#[derive(Clone, Copy)]
-pub struct Taken<'a> {
-    pub found: Found,
-    pub rest: &'a [u8],
-}
-
-/// Whether a letter stands that many bytes from here.
-fn has_letter_at(rest: &[u8], place: usize) -> bool
-    ensures { result ≡ has_letter_at place rest.now }
-{
-    match cut(rest, place).1.first() {
-        Some(byte) => byte.is_ascii_alphabetic(),
-        None => false,
-    }
-}
-
 /// What begins here.
 fn opening_of(rest: &[u8]) -> Opening
     ensures { result ≡ opening rest.now }
 {
-    if !first_is(rest, b'<') {
-        Opening::Text
-    } else if rest.starts_with(b"<!--") {
-        Opening::Comment
-    } else if rest.starts_with(b"<!") || rest.starts_with(b"<?") {
-        Opening::Skipped
-    } else if rest.starts_with(b"</") && has_letter_at(rest, 2) {
-        Opening::Skipped
-    } else if rest.starts_with(b"<") && has_letter_at(rest, 1) {
-        Opening::Tag
-    } else {
-        Opening::Text
+    match rest {
+        [b'<', b'!', b'-', b'-', ..] => Opening::Comment,
+        [b'<', b'!' | b'?', ..] => Opening::Skipped,
+        [b'<', b'/', letter, ..] if letter.is_ascii_alphabetic() => Opening::Skipped,
+        [b'<', letter, ..] if letter.is_ascii_alphabetic() => Opening::Tag,
+        _ => Opening::Text,
     }
 }
 
@@ -79,53 +58,49 @@ fn found_in(ending: Ending, kind: Kind, first: Option<Span>) -> Found
     }
 }
 
-/// Reads a tag, and the text behind a `script` or a `style`.
-fn read_tag(size: usize, rest: &[u8]) -> Taken<'_>
-    requires opens { opening rest.now ≡ Opening.Tag }
-    requires fits { length rest.now ≤ size }
-    requires small { size ≤ 1048576 }
-    ensures takes { Takes (size - length rest.now) rest.now result.found result.rest.now }
-    ensures shorter { length result.rest.now < length rest.now }
-    ensures within { found_within size result.found }
-{
-    let (name, inside) = split(cut(rest, 1).1, Stop::TagName);
-    let kind = Kind::of(name);
-    let tag = read_inside(size, inside, kind);
-    let (_, rest) = split(tag.rest, Stop::RawEnd(kind));
-    Taken {
-        found: found_in(tag.ending, kind, tag.first),
-        rest,
+impl Cursor<'_> {
+    /// Reads a tag, and the text behind a `script` or a `style`.
+    fn read_tag(&mut self) -> Found
+        requires { opening self.old.rest.now ≡ Opening.Tag }
+        ensures takes { Takes (self.old.size - length self.old.rest.now) self.old.rest.now result self.new.rest.now }
+        ensures size { self.new.size ≡ self.old.size }
+        ensures shorter { length self.new.rest.now < length self.old.rest.now }
+        ensures within { found_within self.old.size result }
+    {
+        self.skip(1);
+        let name = self.take_to(tag_name_end(self.rest));
+        let kind = Kind::of(name);
+        let inside = self.read_inside(kind);
+        self.take_to(raw_end(kind, self.rest));
+        found_in(inside.ending, kind, inside.first)
     }
-}
 
-/// Reads the piece that begins here.
-pub fn read_piece(size: usize, rest: &[u8]) -> Taken<'_>
-    requires some { 0 < length rest.now }
-    requires fits { length rest.now ≤ size }
-    requires small { size ≤ 1048576 }
-    ensures takes { Takes (size - length rest.now) rest.now result.found result.rest.now }
-    ensures shorter { length result.rest.now < length rest.now }
-    ensures within { found_within size result.found }
-{
-    match opening_of(rest) {
-        Opening::Text => Taken {
-            found: Found::Nothing,
-            rest: cut(rest, 1).1,
-        },
-        Opening::Comment => {
-            let (_, end) = split(cut(rest, 4).1, Stop::CommentEnd);
-            Taken {
-                found: Found::Nothing,
-                rest: cut(end, 3).1,
+    /// Reads the piece that begins here.
+    pub fn read_piece(&mut self) -> Found
+        requires { 0 < length self.old.rest.now }
+        ensures takes { Takes (self.old.size - length self.old.rest.now) self.old.rest.now result self.new.rest.now }
+        ensures size { self.new.size ≡ self.old.size }
+        ensures shorter { length self.new.rest.now < length self.old.rest.now }
+        ensures within { found_within self.old.size result }
+    {
+        match opening_of(self.rest) {
+            Opening::Text => {
+                self.skip(1);
+                Found::Nothing
             }
-        }
-        Opening::Skipped => {
-            let (_, end) = split(cut(rest, 2).1, Stop::Byte(b'>'));
-            Taken {
-                found: Found::Nothing,
-                rest: cut(end, 1).1,
+            Opening::Comment => {
+                self.skip(4);
+                self.take_to(memmem::find(self.rest, b"-->"));
+                self.skip(3);
+                Found::Nothing
             }
+            Opening::Skipped => {
+                self.skip(2);
+                self.take_to(memchr(b'>', self.rest));
+                self.skip(1);
+                Found::Nothing
+            }
+            Opening::Tag => self.read_tag(),
         }
-        Opening::Tag => read_tag(size, rest),
     }
 }

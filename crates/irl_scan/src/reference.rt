@@ -1,11 +1,10 @@
-ghost use Rattle.std.specs.Prelude.{◌≡◌, ◌<◌, ◌≤◌, List, Some, None, if◌then◌else◌, nat_lt, IfOk, IfSome, length, option_map, slice_range};
+ghost use Rattle.std.specs.Prelude.{ℕ, ◌≡◌, ◌<◌, ◌≤◌, List, Some, None, if◌then◌else◌, nat_lt, not, position, IfOk, IfSome, length, option_map, slice_range};
 ghost use Rattle.std.specs.Char.{digit_value};
 ghost use Rattle.irl_scan.specs.Text.{Item, Reads, text_of};
-ghost use Rattle.irl_scan.specs.Reading.{radix_of, most_digits, number_from, number_at, reference_at, HasText};
+ghost use Rattle.irl_scan.specs.Reading.{before, from, not_digit, radix_of, most_digits, number_from, number_at, reference_at, HasText};
 
-use crate::attribute::first_is;
+use crate::run::{cut, first_is};
 use crate::span::Span;
-use crate::stop::{Stop, cut, split};
 use irl_offer::Text;
 use std::alloc::{AllocError, Global};
 
@@ -62,13 +61,30 @@ fn number_of(digits: &[u8], radix: Radix) -> Option<u8>
     Some(number)
 }
 
+/// Where the digits that come first end.
+fn digits_end(bytes: &[u8], radix: Radix) -> Option<usize>
+    ensures { result ≡ position (λ b. not (nat_lt (digit_value b) (radix_of radix))) bytes.now }
+{
+    bytes.iter().position(|byte| radix.digit(*byte).is_none())
+}
+
+/// The digits that come first, and the other bytes.
+fn split_digits(bytes: &[u8], radix: Radix) -> (&[u8], &[u8])
+    ensures front { result.0.now ≡ before (not_digit radix) bytes.now }
+    ensures back { result.1.now ≡ from (not_digit radix) bytes.now }
+    ensures shorter { length result.1.now ≤ length bytes.now }
+{
+    let end = digits_end(bytes, radix);
+    cut(bytes, end.unwrap_or(bytes.len()))
+}
+
 /// Reads digits and the `;` behind them: the byte whose number they write, and what is left.
 #[tactic(auto, unfolding(crate::specs::Reading::number_at))]
 fn number_at(rest: &[u8], radix: Radix) -> Option<(u8, &[u8])>
     ensures number { option_map (λ x. (x.0, x.1.now)) result ≡ number_at radix rest.now }
     ensures shorter { IfSome result (λ x. length x.1.now ≤ length rest.now) }
 {
-    let (digits, behind) = split(rest, Stop::NotDigit(radix));
+    let (digits, behind) = split_digits(rest, radix);
     if digits.is_empty() || digits.len() > radix.most_digits() || !first_is(behind, b';') {
         return None;
     }
@@ -142,3 +158,9 @@ pub fn text(alloc: Global, page: &[u8], span: &Span) -> Result<Text, AllocError>
     let value = &page[span.start as usize..span.end as usize];
     read_text(alloc, value)
 }
+
+/// Any bytes read as bytes and references, and have one text.
+pub fn one_text()
+    ensures some { (value : List ℕ) → (items : List Item) × Reads value items }
+    ensures one { (value : List ℕ) (a b : List Item) → Reads value a → Reads value b → text_of a ≡ text_of b }
+{}

@@ -1,8 +1,10 @@
 ghost use Rattle.std.specs.Prelude.{◌≡◌, ◌≤◌, ℕ, List, ◌++◌, length, All, IfOk, IfSome, OnOk, OnErr};
+ghost use Rattle.irl_offer.specs.Limits.{max_page};
 ghost use Rattle.irl_scan.specs.Page.{Piece, Cut};
 ghost use Rattle.irl_scan.specs.Links.{IsWithin, link_of, links_of, base_of};
 
-use crate::piece::{Found, read_piece};
+use crate::cursor::Cursor;
+use crate::piece::Found;
 use crate::span::Span;
 use std::alloc::{AllocError, Global};
 
@@ -21,10 +23,10 @@ fn push_link(spans: &mut Vec<Span>, found: Found) -> Result<(), AllocError>
 }
 
 /// The links of a page, in the order in which they stand: where the value of the first `href` of each tag `a` or `area`
-/// stands, and that of the first `src` of each tag `frame` or `iframe`, without quotes. The page has at most 1,048,576
-/// bytes. The only refusal is want of memory.
+/// stands, and that of the first `src` of each tag `frame` or `iframe`, without quotes. The page has at most
+/// [`irl_offer::MAX_PAGE`] bytes. The only refusal is want of memory.
 pub fn links(alloc: Global, page: &[u8]) -> Result<Vec<Span>, AllocError>
-    requires { length page.now ≤ 1048576 }
+    requires { length page.now ≤ max_page }
     // The page has a cut into pieces, of which these are the links,
     ensures found { IfOk result (λ spans. (pieces : List Piece) × Cut page.now pieces × (spans.items ≡ links_of pieces)) }
     // and it has no other.
@@ -32,32 +34,30 @@ pub fn links(alloc: Global, page: &[u8]) -> Result<Vec<Span>, AllocError>
     ensures within { IfOk result (λ spans. All (IsWithin (length page.now)) spans.items) }
 {
     let mut spans = Vec::new(alloc);
-    let mut rest = page;
-    while !rest.is_empty() {
-        let taken = read_piece(page.len(), rest);
-        push_link(&mut spans, taken.found)?;
-        rest = taken.rest;
+    let mut cursor = Cursor::new(page);
+    while !cursor.rest.is_empty() {
+        let found = cursor.read_piece();
+        push_link(&mut spans, found)?;
     }
     Ok(spans)
 }
 
 /// Where the base of a page's links stands: the value of the first `href` of the first tag `base` that has one, without
-/// quotes. The page has at most 1,048,576 bytes. It takes no memory.
+/// quotes. The page has at most [`irl_offer::MAX_PAGE`] bytes. It takes no memory.
 pub fn base(page: &[u8]) -> Option<Span>
-    requires { length page.now ≤ 1048576 }
+    requires { length page.now ≤ max_page }
     // The page has a cut into pieces, of which this is the base,
     ensures found { (pieces : List Piece) × Cut page.now pieces × (result ≡ base_of pieces) }
     // and it has no other.
     ensures only { (pieces : List Piece) → Cut page.now pieces → result ≡ base_of pieces }
     ensures within { IfSome result (IsWithin (length page.now)) }
 {
-    let mut rest = page;
-    while !rest.is_empty() {
-        let taken = read_piece(page.len(), rest);
-        if let Found::Base(span) = taken.found {
+    let mut cursor = Cursor::new(page);
+    while !cursor.rest.is_empty() {
+        let found = cursor.read_piece();
+        if let Found::Base(span) = found {
             return Some(span);
         }
-        rest = taken.rest;
     }
     None
 }

@@ -1,4 +1,5 @@
 use super::*;
+use irl_offer::{MAX_PAGE, Text};
 use std::alloc::{AllocError, Global};
 use std::process::Abort;
 use std::test::Fail;
@@ -6,22 +7,52 @@ use std::test::Fail;
 /// The texts of a page's links, each with `;` behind it, and then `^` and that of its base.
 fn told(rt: &impl Abort, alloc: Global, page: &[u8]) -> Result<Vec<u8>, AllocError> {
     let mut told = Vec::new(alloc);
-    assert!(rt; page.len() <= 1_048_576);
+    assert!(rt; page.len() <= MAX_PAGE);
     for span in &links(alloc, page)? {
-        assert!(rt; span.start <= span.end && span.end as usize <= page.len());
-        told.extend_from_slice(text(alloc, page, span)?.bytes())?;
+        told.extend_from_slice(text_of(rt, alloc, page, span)?.bytes())?;
         told.push(b';')?;
     }
     if let Some(span) = base(page) {
-        assert!(rt; span.start <= span.end && span.end as usize <= page.len());
         told.push(b'^')?;
-        told.extend_from_slice(text(alloc, page, &span)?.bytes())?;
+        told.extend_from_slice(text_of(rt, alloc, page, &span)?.bytes())?;
     }
     Ok(told)
 }
 
-/// Pages of tags, and what they give: the text of each link with `;` behind it, then `^` and that of the base.
-static TAGS: [(&[u8], &[u8]); 65] = [
+/// The text of a span.
+fn text_of(rt: &impl Abort, alloc: Global, page: &[u8], span: &Span) -> Result<Text, AllocError> {
+    assert!(rt; span.start <= span.end && span.end as usize <= page.len());
+    text(alloc, page, span)
+}
+
+/// The text of all bytes.
+fn whole_text(rt: &impl Abort, alloc: Global, bytes: &[u8]) -> Result<Text, AllocError> {
+    assert!(rt; bytes.len() <= MAX_PAGE);
+    let all = Span {
+        start: 0,
+        end: bytes.len() as u32,
+    };
+    text(alloc, bytes, &all)
+}
+
+/// How many links a page has that has no base.
+fn link_count(rt: &impl Abort, alloc: Global, page: &[u8]) -> Result<usize, AllocError> {
+    assert!(rt; page.len() <= MAX_PAGE);
+    assert_eq!(rt; base(page), None);
+    Ok(links(alloc, page)?.len())
+}
+
+/// The same bytes again and again.
+fn repeated(alloc: Global, bytes: &[u8], count: usize) -> Result<Vec<u8>, AllocError> {
+    let mut all = Vec::new(alloc);
+    for _ in 0..count {
+        all.extend_from_slice(bytes)?;
+    }
+    Ok(all)
+}
+
+/// Pages, and what they give: the text of each link with `;` behind it, then `^` and that of the base.
+static PAGES: [(&[u8], &[u8]); 107] = [
     (b"<a\thref=x>", b"x;"),
     (b"<a\nhref=x>", b"x;"),
     (b"<a\x0chref=x>", b"x;"),
@@ -87,10 +118,6 @@ static TAGS: [(&[u8], &[u8]); 65] = [
     (b"</", b""),
     (b"<a href=y><a href=x", b"y;"),
     (b"<a href=\"x\"", b""),
-];
-
-/// The same of comments, skipped markup, raw text and bases.
-static MARKUP: [(&[u8], &[u8]); 42] = [
     (b"<!-- <a href=x> --><a href=y>", b"y;"),
     (b"<!--><a href=x>--><a href=y>", b"y;"),
     (b"<!---><a href=x>", b""),
@@ -178,70 +205,51 @@ static TEXTS: [(&[u8], &[u8]); 36] = [
     (b"& amp;", b"& amp;"),
 ];
 
-/// What a hostile page repeats, how often, and how many links it then has.
-static HOSTILE: [(&[u8], usize, usize); 16] = [
-    (b"<a ", 300_000, 0),
-    (b"<", 1_048_576, 0),
-    (b"&#", 524_288, 0),
-    (b"&#1", 349_525, 0),
-    (b"&#x", 349_525, 0),
-    (b"&", 1_048_576, 0),
-    (b"<!--", 262_144, 0),
-    (b"<!", 524_288, 0),
-    (b"<script>", 131_072, 0),
-    (b"</script", 131_072, 0),
-    (b"<a href=", 131_072, 0),
-    (b"<a href=\"", 116_508, 0),
-    (b"<a =/", 209_715, 0),
-    (b"<style></styl", 80_659, 0),
-    (b"<a href>", 131_072, 131_072),
-    (b"<!--><base src=x>", 61_680, 0),
+/// What a page of a mebibyte repeats, whether each of these is a link, and their text.
+static LARGEST: [(&[u8], bool, &[u8]); 18] = [
+    (b"<a href>", true, b"<a href>"),
+    (b"<a href='&amp;'>", true, b"<a href='&'>"),
+    (b"<a ", false, b"<a "),
+    (b"<a =/", false, b"<a =/"),
+    (b"<a href=", false, b"<a href="),
+    (b"<a href=\"", false, b"<a href=\""),
+    (b"<", false, b"<"),
+    (b"<!", false, b"<!"),
+    (b"<!--", false, b"<!--"),
+    (b"<!--><base src=x>", false, b"<!--><base src=x>"),
+    (b"<script>", false, b"<script>"),
+    (b"</script", false, b"</script"),
+    (b"<style></styl", false, b"<style></styl"),
+    (b"&#x0000041", false, b"&#x0000041"),
+    (b"&#x", false, b"&#x"),
+    (b"&#1", false, b"&#1"),
+    (b"&#", false, b"&#"),
+    (b"&", false, b"&"),
 ];
 
-#[test]
-fn hostile_pages_end_at_once(rt: HostRuntime) -> Result<(), Fail> {
-    for (piece, count, wanted) in &HOSTILE {
-        let mut page = Vec::new(rt.alloc());
-        for _ in 0..*count {
-            page.extend_from_slice(piece)?;
-        }
-        assert!(rt; page.len() <= 1_048_576);
-        let spans = links(rt.alloc(), &page)?;
-        assert_eq!(rt; spans.len(), *wanted, "{piece:?}");
-        assert_eq!(rt; base(&page), None);
-        let span = Span {
-            start: 0,
-            end: page.len() as u32,
-        };
-        let text = text(rt.alloc(), &page, &span)?;
-        assert_eq!(rt; text.bytes(), page.as_slice(), "{piece:?}");
-    }
-    Ok(())
-}
+/// A page, and where its links stand.
+static PLACED: (&[u8], [(u32, u32); 5]) = (
+    b"<base href=\"/e/\"><a href=\"q\">1</a><a href=\"/d/p#x\">2</a><a href=\"?a=1&amp;b=2\">3</a>\
+        <a href=\"https://a.test/\">4</a><!-- <a href=\"no\"> --><script>\"<a href='no2'>\"</script><frame src=f>",
+    [(26, 27), (43, 49), (65, 77), (93, 108), (181, 182)],
+);
 
 #[test]
-fn a_page_of_each_kind(rt: HostRuntime) -> Result<(), Fail> {
-    let page =
-        b"<base href=\"/e/\"><a href=\"q\">1</a><a href=\"/d/p#x\">2</a><a href=\"?a=1&amp;b=2\">3</a>\
-        <a href=\"https://a.test/\">4</a><!-- <a href=\"no\"> --><script>\"<a href='no2'>\"</script><frame src=f>";
+fn spans_stand_where_the_values_do(rt: HostRuntime) -> Result<(), Fail> {
+    let (page, wanted) = PLACED;
+    assert!(rt; page.len() <= MAX_PAGE);
     let spans = links(rt.alloc(), page)?;
-    let wanted = [(26, 27), (43, 49), (65, 77), (93, 108), (181, 182)];
     assert_eq!(rt; spans.len(), wanted.len());
     for (span, (start, end)) in spans.iter().zip(wanted) {
         assert_eq!(rt; *span, Span { start, end });
     }
     assert_eq!(rt; base(page), Some(Span { start: 12, end: 15 }));
-    let all = told(&rt, rt.alloc(), page)?;
-    assert_eq!(rt;
-        all.as_slice(),
-        b"q;/d/p#x;?a=1&b=2;https://a.test/;f;^/e/".as_slice()
-    );
     Ok(())
 }
 
 #[test]
-fn each_rule_of_the_grammar(rt: HostRuntime) -> Result<(), Fail> {
-    for (page, wanted) in TAGS.iter().chain(&MARKUP) {
+fn pages_give_their_links_and_base(rt: HostRuntime) -> Result<(), Fail> {
+    for (page, wanted) in &PAGES {
         let all = told(&rt, rt.alloc(), page)?;
         assert_eq!(rt; all.as_slice(), *wanted, "{page:?}");
     }
@@ -249,15 +257,24 @@ fn each_rule_of_the_grammar(rt: HostRuntime) -> Result<(), Fail> {
 }
 
 #[test]
-fn each_kind_of_reference(rt: HostRuntime) -> Result<(), Fail> {
+fn values_have_their_texts(rt: HostRuntime) -> Result<(), Fail> {
     for (value, wanted) in &TEXTS {
-        assert!(rt; value.len() < 100);
-        let span = Span {
-            start: 0,
-            end: value.len() as u32,
-        };
-        let text = text(rt.alloc(), value, &span)?;
+        let text = whole_text(&rt, rt.alloc(), value)?;
         assert_eq!(rt; text.bytes(), *wanted, "{value:?}");
+    }
+    Ok(())
+}
+
+#[test]
+fn the_largest_pages_are_read_to_their_end(rt: HostRuntime) -> Result<(), Fail> {
+    for (bytes, is_link, text) in &LARGEST {
+        let count = MAX_PAGE / bytes.len().max(1);
+        let page = repeated(rt.alloc(), bytes, count)?;
+        let links = link_count(&rt, rt.alloc(), &page)?;
+        assert_eq!(rt; links, if *is_link { count } else { 0 }, "{bytes:?}");
+        let read = whole_text(&rt, rt.alloc(), &page)?;
+        let wanted = repeated(rt.alloc(), text, count)?;
+        assert_eq!(rt; read.bytes(), wanted.as_slice(), "{bytes:?}");
     }
     Ok(())
 }
