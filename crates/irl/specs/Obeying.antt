@@ -1,57 +1,50 @@
 -- What the program does for what its words ask.
-use Rattle.std.specs.Prelude.{◌≡◌, ◌≢◌, ℕ, List, map, drop, Option, None}
+use Rattle.std.specs.Prelude.{◌≡◌, ◌≢◌, ℕ, List, map, drop, Option}
 use Rattle.std.specs.Io.KnownBytes.{Appends}
 use Rattle.irl_offer.specs.Faults.{Rose}
+use Rattle.irl_disk.specs.Images.{silent}
 use Rattle.irl_top.specs.Message.{Says, message}
 use Rattle.irl_top.specs.Run.{Outside, Runs}
+use Rattle.irl_top.specs.Stream.{Stream}
 use Rattle.irl_top.specs.declared.ending.Ending.TheVariants.{WordsRefused}
 use Rattle.irl.specs.Words.{refusing_word}
 use Rattle.irl.specs.declared.words.Request.{Request}
 use Rattle.irl.specs.declared.words.Request.TheVariants.{Help, Version, SeenHelp, Refused, Run}
 
--- what the streams of a process tell at one moment, and how often each has failed
+-- what the standard streams of a process tell at one moment, and how often each has failed
 pub record Streams : Type 0 where
-  pub input : Option (List ℕ)
-  pub input_faults : ℕ
-  pub output : Option (List ℕ)
-  pub output_faults : ℕ
-  pub errors : Option (List ℕ)
-  pub error_faults : ℕ
+  pub input : Stream
+  pub output : Stream
+  pub errors : Stream
+
+abbrev pub streams : {I O E : Type 0} → (I → Option (List ℕ)) → (I → ℕ) → (O → Option (List ℕ)) → (O → ℕ) → (E → Option (List ℕ)) → (E → ℕ) → I → O → E → Streams
+streams left input_faults written output_faults said error_faults input output errors =
+    record {
+      input = record { bytes = left input; faults = input_faults input };
+      output = record { bytes = written output; faults = output_faults output };
+      errors = record { bytes = said errors; faults = error_faults errors };
+    }
 
 -- the same with the files, of which only the count of faults is known
 abbrev pub outside_of : Streams → ℕ → Outside
-outside_of streams faults =
-    record {
-      files = None;
-      images = λ image. ⊥;
-      moment = 0;
-      images_since = λ t image. ⊥;
-      disk_faults = faults;
-      input = streams.input;
-      input_faults = streams.input_faults;
-      output = streams.output;
-      output_faults = streams.output_faults;
-    }
+outside_of told faults = record { lent = record { store = silent; disk_faults = faults; input = told.input; output = told.output }; errors = told.errors }
 
 -- the words of a command were run over the files of a folder, which tell nothing and had not failed before
 abbrev pub RunsOverFiles : List (List ℕ) → Streams → Streams → ℕ → Type 0
 RunsOverFiles words before after status =
-    (faults : ℕ) × Runs words (outside_of before 0) (outside_of after faults)
-    before.errors after.errors before.error_faults after.error_faults status
+    (faults : ℕ) × Runs words (outside_of before 0) (outside_of after faults) status
 
 -- a text was written whole at status 0; any other status is that of an output fault, and the output failed
 pub record Shows (text : List ℕ) (before after : Streams) (status : ℕ) : Type 0 where
-  pub done : status ≡ 0 → Appends before.output after.output text
-  pub fault : status ≢ 0 → (status ≡ 6) × Rose before.output_faults after.output_faults
+  pub done : status ≡ 0 → Appends before.output.bytes after.output.bytes text
+  pub fault : status ≢ 0 → (status ≡ 6) × Rose before.output.faults after.output.faults
 
 -- the words were refused by this one: the error stream was given the line that a run gives it, and no other was called
 pub record Refuses (word : List ℕ) (before after : Streams) (status : ℕ) : Type 0 where
   pub status_is : status ≡ 1
-  pub says : Says (message word WordsRefused) before.errors after.errors before.error_faults after.error_faults
+  pub says : Says (message word WordsRefused) before.errors after.errors
   pub input : after.input ≡ before.input
-  pub input_faults : after.input_faults ≡ before.input_faults
   pub output : after.output ≡ before.output
-  pub output_faults : after.output_faults ≡ before.output_faults
 
 -- what was done for a request: one of the three texts was written, all words were refused, or those behind the folder were
 -- run

@@ -4,13 +4,13 @@
 ghost use Rattle.std.specs.Prelude.{◌≡◌, ◌≢◌, map, drop, IfOk, OnOk, OnErr, IsErr};
 ghost use Rattle.std.specs.Io.KnownBytes.{Appends};
 ghost use Rattle.irl_offer.specs.Faults.{Rose, HasCause};
-ghost use Rattle.irl_io.specs.Written.{AppendsFront};
+ghost use Rattle.irl_io.specs.Written.{AppendsPrefix};
 ghost use Rattle.irl_files.specs.FileStore.{fault_count, folder_path};
 ghost use Rattle.irl_files.specs.Folder.{named_folder};
 ghost use Rattle.irl_top.specs.Message.{Says, message};
 ghost use Rattle.irl_top.specs.declared.ending.Ending.TheVariants.{WordsRefused};
 ghost use Rattle.irl.specs.Words.{asked, folder_in};
-ghost use Rattle.irl.specs.Obeying.{RunsOverFiles, Obeys};
+ghost use Rattle.irl.specs.Obeying.{RunsOverFiles, Obeys, streams};
 
 mod words;
 
@@ -89,7 +89,8 @@ fn show<O: Sink, E: Sink>(output: &mut O, errors: &mut E, text: &str) -> u8
 fn refuse<E: Sink>(errors: &mut E, word: &str) -> u8
     ensures status { result ≡ WORDS_REFUSED }
     ensures says { Says (message word.now WordsRefused)
-        (E.written errors.old) (E.written errors.new) (E.faults errors.old) (E.faults errors.new) }
+        (record { bytes = E.written errors.old; faults = E.faults errors.old })
+        (record { bytes = E.written errors.new; faults = E.faults errors.new }) }
 {
     let _ = write_refusal(errors, word);
     WORDS_REFUSED
@@ -100,7 +101,7 @@ fn write_refusal<E: Sink>(errors: &mut E, word: &str) -> Result<(), Failed>
     ensures ok { OnOk result
         (Appends (E.written errors.old) (E.written errors.new) (message word.now WordsRefused)) }
     ensures err { OnErr result
-        (AppendsFront (E.written errors.old) (E.written errors.new) (message word.now WordsRefused)) }
+        (AppendsPrefix (E.written errors.old) (E.written errors.new) (message word.now WordsRefused)) }
     ensures cause { HasCause (IsErr result) (E.faults errors.old) (E.faults errors.new) }
 {
     errors.write(b"words refused: ")?;
@@ -144,24 +145,10 @@ where
     I: Source,
     O: Sink,
     E: Sink,
-    ensures { IfOk result (λ status. RunsOverFiles (map (λ word. word.now) (drop 1 words.now))
-        (record {
-          input = I.left input.old;
-          input_faults = I.faults input.old;
-          output = O.written output.old;
-          output_faults = O.faults output.old;
-          errors = E.written errors.old;
-          error_faults = E.faults errors.old;
-        })
-        (record {
-          input = I.left input.new;
-          input_faults = I.faults input.new;
-          output = O.written output.new;
-          output_faults = O.faults output.new;
-          errors = E.written errors.new;
-          error_faults = E.faults errors.new;
-        })
-        status) }
+    ensures { IfOk result (λ status.
+        let tells = streams I.left I.faults O.written O.faults E.written E.faults in
+        RunsOverFiles (map (λ word. word.now) (drop 1 words.now))
+        (tells input.old output.old errors.old) (tells input.new output.new errors.new) status) }
 {
     let (_, command) = folder_and_command(words);
     let store = store_in_folder(rt, words)?;
@@ -183,25 +170,11 @@ where
     I: Source,
     O: Sink,
     E: Sink,
-    ensures { IfOk result (λ status. Obeys (asked (map (λ word. word.now) words.now))
+    ensures { IfOk result (λ status.
+        let tells = streams I.left I.faults O.written O.faults E.written E.faults in
+        Obeys (asked (map (λ word. word.now) words.now))
         HELP.now SEEN_HELP.now VERSION.now (map (λ word. word.now) words.now)
-        (record {
-          input = I.left input.old;
-          input_faults = I.faults input.old;
-          output = O.written output.old;
-          output_faults = O.faults output.old;
-          errors = E.written errors.old;
-          error_faults = E.faults errors.old;
-        })
-        (record {
-          input = I.left input.new;
-          input_faults = I.faults input.new;
-          output = O.written output.new;
-          output_faults = O.faults output.new;
-          errors = E.written errors.new;
-          error_faults = E.faults errors.new;
-        })
-        status) }
+        (tells input.old output.old errors.old) (tells input.new output.new errors.new) status) }
 {
     match Request::from_words(words) {
         Request::Help => Ok(show(output, errors, HELP)),

@@ -9,9 +9,10 @@ use Rattle.std.proofs.lemmas.List.Folds.{prefix_len-append, length-prefix_len}
 use Rattle.std.proofs.lemmas.List.Sums.{position_or_len_is, passes_at_first, prefix_len-le-length}
 use Rattle.std.specs.List.{slice_range, AllByRecursion, position_or_len, before_first, after_first}
 use Rattle.memchr.specs.Find.{IsFirstByte, is_byte}
-use Rattle.irl_io.specs.Lines.{lines, is_line_feed, longest, IsLine}
+use Rattle.irl_offer.specs.Limits.{max_text}
+use Rattle.irl_io.specs.Lines.{lines, is_line_feed, IsLine}
 use Rattle.irl_io.specs.Steps.{TakesLine, RefusesLine, OfKnown}
-use Rattle.irl_io.specs.Front.{HasLine}
+use Rattle.irl_io.specs.Lookahead.{HasLine}
 use Rattle.irl_io.proofs.LineLemmas.{lines_first}
 
 -- the search among the first m bytes found the first line feed of all
@@ -59,9 +60,9 @@ pub takes_ended : (ahead left line new : List ℕ) (n : ℕ) → n ≡ position_
 takes_ended ahead left line new n first there line_is new_is =
     let some : ahead ++ left ≢ [] = not_nil ahead left (omega arith) in
     let same : position_or_len is_line_feed (ahead ++ left) ≡ n = first-append ahead left (omega arith) ∙ sym first in
-    let front : line ≡ before_first is_line_feed (ahead ++ left) = line_is ∙ sym (take-append-le n ahead left (omega arith)) ∙ ap (λ k. take k (ahead ++ left)) (sym same) in
+    let first_is : line ≡ before_first is_line_feed (ahead ++ left) = line_is ∙ sym (take-append-le n ahead left (omega arith)) ∙ ap (λ k. take k (ahead ++ left)) (sym same) in
     let back : new ++ left ≡ after_first is_line_feed (ahead ++ left) = ap (λ l. l ++ left) new_is ∙ sym (drop-append-le (n + 1) ahead left (omega arith)) ∙ ap (λ k. drop (k + 1) (ahead ++ left)) (sym same) in
-    takes line (ahead ++ left) (new ++ left) some front back
+    takes line (ahead ++ left) (new ++ left) some first_is back
 
 -- the last line was taken: all that was read ahead
 pub takes_last : (ahead left line new : List ℕ) (n : ℕ) → n ≡ position_or_len is_line_feed ahead → n ≡ length ahead → 0 < n → left ≡ [] → line ≡ take n ahead → new ≡ drop n ahead
@@ -70,22 +71,22 @@ takes_last ahead left line new n first all some end line_is new_is =
     let whole : ahead ++ left ≡ ahead = ap (λ l. ahead ++ l) end ∙ append-nil ahead in
     let none : new ++ left ≡ [] = ap (λ l. l ++ left) (new_is ∙ drop_all n ahead (omega arith)) ∙ end in
     let back : drop (position_or_len is_line_feed ahead + 1) ahead ≡ [] = drop_all _ ahead (omega arith) in
-    let front : line ≡ before_first is_line_feed ahead = line_is ∙ ap (λ k. take k ahead) first in
-    takes line (ahead ++ left) (new ++ left) (not_nil ahead left (omega arith)) (subst (λ l. line ≡ before_first is_line_feed l) (sym whole) front) (subst (λ l. new ++ left ≡ after_first is_line_feed l) (sym whole) (none ∙ sym back))
+    let first_is : line ≡ before_first is_line_feed ahead = line_is ∙ ap (λ k. take k ahead) first in
+    takes line (ahead ++ left) (new ++ left) (not_nil ahead left (omega arith)) (subst (λ l. line ≡ before_first is_line_feed l) (sym whole) first_is) (subst (λ l. new ++ left ≡ after_first is_line_feed l) (sym whole) (none ∙ sym back))
 
-whole_front : (feed : Bool) (b p : ℕ) (bytes : List ℕ) → eqb b 10 ≡ feed → AllByRecursion (λ x. x ≢ 10) (take p bytes) → AllByRecursion (λ x. x ≢ 10) (take (cond (not feed) (1 + p) 0) (b ∷ bytes))
-whole_front true b p bytes test later = tt
-whole_front false b p bytes test later =
+whole_before : (feed : Bool) (b p : ℕ) (bytes : List ℕ) → eqb b 10 ≡ feed → AllByRecursion (λ x. x ≢ 10) (take p bytes) → AllByRecursion (λ x. x ≢ 10) (take (cond (not feed) (1 + p) 0) (b ∷ bytes))
+whole_before true b p bytes test later = tt
+whole_before false b p bytes test later =
     let one : 1 + p ≡ suc p = omega arith in
     subst (λ k. AllByRecursion (λ x. x ≢ 10) (take k (b ∷ bytes))) (sym one) (eqb-false b 10 test, later)
 
--- no byte in front of the first line feed is one
+-- no byte before the first line feed is one
 pub whole_first : (bytes : List ℕ) → AllByRecursion (λ b. b ≢ 10) (before_first is_line_feed bytes)
 whole_first [] = tt
-whole_first (b ∷ bytes) = whole_front (eqb b 10) b (position_or_len is_line_feed bytes) bytes refl (whole_first bytes)
+whole_first (b ∷ bytes) = whole_before (eqb b 10) b (position_or_len is_line_feed bytes) bytes refl (whole_first bytes)
 
--- what stands in front of the first line feed is a line, where it is short
-pub is_line : (ahead line : List ℕ) (n : ℕ) → n ≡ position_or_len is_line_feed ahead → n ≤ longest → line ≡ take n ahead → IsLine line
+-- what stands before the first line feed is a line, where it is short
+pub is_line : (ahead line : List ℕ) (n : ℕ) → n ≡ position_or_len is_line_feed ahead → n ≤ max_text → line ≡ take n ahead → IsLine line
 is_line ahead line n first short line_is =
     record {
       short = omega (arith, ap length line_is, length-take n ahead);
@@ -93,20 +94,20 @@ is_line ahead line n first short line_is =
     }
 
 -- what a search among as many bytes as a line may have, and one more, says of all
-pub found_if : (bytes : List ℕ) (m : ℕ) (r : Option ℕ) → m ≡ min (length bytes) (longest + 1) → IsFirstByte (is_byte 10) (take m bytes) r
-    → IfSome r (λ n. (n ≡ position_or_len is_line_feed bytes) × (n < length bytes) × (n ≤ longest))
+pub found_if : (bytes : List ℕ) (m : ℕ) (r : Option ℕ) → m ≡ min (length bytes) (max_text + 1) → IsFirstByte (is_byte 10) (take m bytes) r
+    → IfSome r (λ n. (n ≡ position_or_len is_line_feed bytes) × (n < length bytes) × (n ≤ max_text))
 found_if bytes m None upto found = tt
 found_if bytes m (Some n) upto found =
     let first : (n < m) × (n ≡ position_or_len is_line_feed bytes) = found_first bytes m n (omega arith) found in
     (first.1, omega (arith, first.0), omega (arith, first.0))
 
-pub none_if : (bytes : List ℕ) (m : ℕ) (r : Option ℕ) → m ≡ min (length bytes) (longest + 1) → IsFirstByte (is_byte 10) (take m bytes) r
+pub none_if : (bytes : List ℕ) (m : ℕ) (r : Option ℕ) → m ≡ min (length bytes) (max_text + 1) → IsFirstByte (is_byte 10) (take m bytes) r
     → IfNone r (m ≤ position_or_len is_line_feed bytes)
 none_if bytes m None upto found = found_none bytes m (omega arith) found
 none_if bytes m (Some n) upto found = tt
 
 -- the last line is all that was read ahead
-pub all_first : (old new : List ℕ) → min (length old) (longest + 1) ≤ position_or_len is_line_feed old → length old ≤ longest → new ≡ old → length old ≡ position_or_len is_line_feed new
+pub all_first : (old new : List ℕ) → min (length old) (max_text + 1) ≤ position_or_len is_line_feed old → length old ≤ max_text → new ≡ old → length old ≡ position_or_len is_line_feed new
 all_first old new none short same = rw same (omega (arith, prefix_len-le-length (λ b. not (is_line_feed b)) old))
 
 -- a piece was read behind what was read ahead
@@ -116,9 +117,9 @@ filled (Some x) None held now k n moved read = absurd read
 filled (Some x) (Some y) held now k n moved read =
     ap (λ l. l ++ y) (take-add k n now) ∙ append_assoc (take k now) (take n (drop k now)) y ∙ ap (λ l. take k now ++ l) (sym read) ∙ ap (λ l. l ++ x) moved
 
--- the bytes between two places, from their front and without it
-pub slice_front : (items : List ℕ) (start end n : ℕ) → n ≤ end - start → take (start + n - start) (drop start items) ≡ take n (slice_range items start end)
-slice_front items start end n within =
+-- the first of the bytes between two places, and the rest
+pub slice_first : (items : List ℕ) (start end n : ℕ) → n ≤ end - start → take (start + n - start) (drop start items) ≡ take n (slice_range items start end)
+slice_first items start end n within =
     let count : start + n - start ≡ n = omega arith in
     ap (λ k. take k (drop start items)) count ∙ sym (take-take n (end - start) (drop start items) within)
 
@@ -139,12 +140,12 @@ at_end None left is end = absurd (cc)
 at_end (Some x) left is end = (cc)
 
 -- a step that gave a line
-pub takes_front : (b a : Option (List ℕ)) (old ahead shown items : List ℕ) (start end size whole : ℕ) → Keeps (prepend_known old b) (prepend_known ahead a) → shown ≡ items
+pub takes_line : (b a : Option (List ℕ)) (old ahead shown items : List ℕ) (start end size whole : ℕ) → Keeps (prepend_known old b) (prepend_known ahead a) → shown ≡ items
     → slice_range items start end ≡ ahead → HasLine size whole ahead a → OfKnown (TakesLine (take (start + size - start) (drop start shown))) (prepend_known old b) (prepend_known (slice_range items (start + whole) end) a)
-takes_front b a old ahead shown items start end size whole kept same view has =
+takes_line b a old ahead shown items start end size whole kept same view has =
     let fits : length ahead ≤ end - start = omega (arith, ap length view, length-take (end - start) (drop start items)) in
     let size_fits : size ≤ end - start = elim has.ended [ inl e ↦ omega (arith, has.within) | inr e ↦ omega (arith, has.within, e.0) ] in
-    let line_is : take (start + size - start) (drop start shown) ≡ take size ahead = ap (λ l. take (start + size - start) (drop start l)) same ∙ slice_front items start end size size_fits ∙ ap (take size) view in
+    let line_is : take (start + size - start) (drop start shown) ≡ take size ahead = ap (λ l. take (start + size - start) (drop start l)) same ∙ slice_first items start end size size_fits ∙ ap (take size) view in
     let new_is : slice_range items (start + whole) end ≡ drop whole ahead = slice_back items start end whole (omega (arith, has.within)) ∙ ap (drop whole) view in
     of_left _ b a old ahead _ kept (λ left known. elim has.ended [
       | inl e ↦ takes_ended ahead left _ _ size has.first (omega (arith, has.within, e)) line_is (new_is ∙ ap (λ k. drop k ahead) e)
@@ -156,10 +157,10 @@ pub gives_line : (a : Option (List ℕ)) (ahead shown items : List ℕ) (start e
 gives_line a ahead shown items start end size whole same view has =
     let fits : length ahead ≤ end - start = omega (arith, ap length view, length-take (end - start) (drop start items)) in
     let size_fits : size ≤ end - start = elim has.ended [ inl e ↦ omega (arith, has.within) | inr e ↦ omega (arith, has.within, e.0) ] in
-    is_line ahead _ size has.first has.short (ap (λ l. take (start + size - start) (drop start l)) same ∙ slice_front items start end size size_fits ∙ ap (take size) view)
+    is_line ahead _ size has.first has.short (ap (λ l. take (start + size - start) (drop start l)) same ∙ slice_first items start end size size_fits ∙ ap (take size) view)
 
 -- a step that refused a line which is too long
-pub refuses_long : (b a : Option (List ℕ)) (old ahead new : List ℕ) (n : ℕ) → Keeps (prepend_known old b) (prepend_known ahead a) → new ≡ ahead → longest < position_or_len is_line_feed ahead
+pub refuses_long : (b a : Option (List ℕ)) (old ahead new : List ℕ) (n : ℕ) → Keeps (prepend_known old b) (prepend_known ahead a) → new ≡ ahead → max_text < position_or_len is_line_feed ahead
     → OfKnown (RefusesLine n) (prepend_known old b) (prepend_known new a)
 refuses_long b a old ahead new n kept same long =
     of_left (RefusesLine n) b a old ahead new kept (λ left known. record {

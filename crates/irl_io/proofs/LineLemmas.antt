@@ -22,16 +22,16 @@ pub lines_first : (bytes : List ℕ) → bytes ≢ [] → lines bytes ≡ before
 lines_first [] some = absurd (some refl)
 lines_first (b ∷ bytes) some = first_line (eqb b 10) b bytes (lines_first bytes)
 
-put_in_front : (feed : Bool) (b : ℕ) (line rest : List ℕ) (later : List (List ℕ)) → feed ≡ false → later ≡ line ∷ lines rest → cond feed ([] ∷ later) (onto_first b later) ≡ (b ∷ line) ∷ lines rest
-put_in_front true b line rest later none law = absurd (cc)
-put_in_front false b line rest later none law = ap (onto_first b) law
+put_before : (feed : Bool) (b : ℕ) (line rest : List ℕ) (later : List (List ℕ)) → feed ≡ false → later ≡ line ∷ lines rest → cond feed ([] ∷ later) (onto_first b later) ≡ (b ∷ line) ∷ lines rest
+put_before true b line rest later none law = absurd (cc)
+put_before false b line rest later none law = ap (onto_first b) law
 
--- a line and its line feed in front of other bytes
+-- a line and its line feed before other bytes
 pub lines-line : (line rest : List ℕ) → AllByRecursion (λ b. b ≢ 10) line → lines (line ++ 10 ∷ rest) ≡ line ∷ lines rest
 lines-line [] rest whole = refl
-lines-line (b ∷ line) rest whole = put_in_front (eqb b 10) b line rest _ (ne_eqb b 10 whole.0) (lines-line line rest whole.1)
+lines-line (b ∷ line) rest whole = put_before (eqb b 10) b line rest _ (ne_eqb b 10 whole.0) (lines-line line rest whole.1)
 
--- a text that was put together of lines in front of other bytes
+-- a text that was put together of lines before other bytes
 pub lines-text_append : (ls : List (List ℕ)) (bytes : List ℕ) → AllByRecursion (AllByRecursion (λ b. b ≢ 10)) ls → lines (text ls ++ bytes) ≡ ls ++ lines bytes
 lines-text_append [] bytes whole = refl
 lines-text_append (line ∷ ls) bytes whole =

@@ -1,7 +1,7 @@
 pub mod Adapter
 pub mod Buffer
-pub mod Front
 pub mod Lines
+pub mod Lookahead
 pub mod Memory
 pub mod Steps
 pub mod Written

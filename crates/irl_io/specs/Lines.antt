@@ -1,6 +1,7 @@
 -- The lines of some bytes.
 use Rattle.std.specs.Prelude.{◌≡◌, ℕ, ◌≤◌, ◌≢◌, Bool, ◌==◌, List, [], ◌∷◌, ◌++◌, length, if◌then◌else◌}
 use Rattle.std.specs.List.{onto_first, flat_map, AllByRecursion}
+use Rattle.irl_offer.specs.Limits.{max_text}
 
 -- a line feed, at which a line ends
 abbrev pub is_line_feed : ℕ → Bool
@@ -12,16 +13,13 @@ abbrev pub lines : List ℕ → List (List ℕ)
 lines [] = []
 lines (b ∷ bytes) = if is_line_feed b then [] ∷ lines bytes else onto_first b (lines bytes)
 
--- the most bytes of a line, and the most lines of an input
-abbrev pub longest : ℕ
-longest = 2048
-
+-- the most lines of an input
 abbrev pub most_lines : ℕ
 most_lines = 4294967295
 
 -- a line that may be given: it is short, and no byte of it is a line feed
 pub record IsLine (line : List ℕ) : Type 0 where
-  pub short : length line ≤ longest
+  pub short : length line ≤ max_text
   pub whole : AllByRecursion (λ b. b ≢ 10) line
 
 -- the text of these lines, a line feed behind each

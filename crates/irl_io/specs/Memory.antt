@@ -1,5 +1,5 @@
 -- Sources and sinks in memory, as contracts see them.
-use Rattle.std.specs.Prelude.{ℕ, ◌+◌, ◌-◌, ◌^◌, min, List}
+use Rattle.std.specs.Prelude.{ℕ, List}
 
 -- a source: the bytes that it will still give, how often it was called and which calls fail, counted from 0, and its
 -- faults
@@ -15,7 +15,3 @@ pub record Writing : Type 0 where
   pub calls : ℕ
   pub failing : List ℕ
   pub faults : ℕ
-
--- one more, as a `u64` that stands still at its last value
-abbrev pub counted : ℕ → ℕ
-counted n = min (n + 1) (2 ^ 64 - 1)

@@ -2,8 +2,8 @@
 use Rattle.std.specs.Prelude.{◌≡◌, ◌≢◌, ℕ, ◌+◌, ◌<◌, ◌≤◌, ⊤, ◌⊎◌, List, [], ◌∷◌, length, Option, None, Some}
 use Rattle.std.specs.List.{before_first, after_first}
 use Rattle.std.specs.Io.KnownBytes.{prepend_known}
-use Rattle.irl_offer.specs.Faults.{Rose}
-use Rattle.irl_io.specs.Lines.{lines, is_line_feed, longest, most_lines, IsLine}
+use Rattle.irl_offer.specs.Limits.{max_text}
+use Rattle.irl_io.specs.Lines.{lines, is_line_feed, most_lines, IsLine}
 use Rattle.irl_io.specs.declared.lines.Step.{Step}
 use Rattle.irl_io.specs.declared.lines.Step.TheVariants.{Line, End, LongLine, Failed}
 
@@ -12,7 +12,7 @@ pub record Progress : Type 0 where
   pub ahead : List ℕ
   pub number : ℕ
 
--- the line was taken off the front of the bytes
+-- the line was taken off the bytes
 pub record TakesLine (line before after : List ℕ) : Type 0 where
   pub some : before ≢ []
   pub first : line ≡ before_first is_line_feed before
@@ -22,7 +22,7 @@ pub record TakesLine (line before after : List ℕ) : Type 0 where
 -- there is a next line, its number is n, and it is too long or there were lines enough; the bytes stay
 pub record RefusesLine (n : ℕ) (before after : List ℕ) : Type 0 where
   pub some : before ≢ []
-  pub too_much : (longest < length (before_first is_line_feed before)) ⊎ (n ≡ most_lines + 1)
+  pub too_much : (max_text < length (before_first is_line_feed before)) ⊎ (n ≡ most_lines + 1)
   pub same : after ≡ before
 
 -- what a step did to the bytes left
@@ -56,15 +56,3 @@ KeepsLimits (Line line) number = IsLine line.now × (number < most_lines)
 KeepsLimits End number = ⊤
 KeepsLimits (LongLine n) number = n ≡ number + 1
 KeepsLimits Failed number = ⊤
-
--- a fact of a step that failed
-abbrev pub OnFailed : Step → Type 0 → Type 0
-OnFailed (Line line) P = ⊤
-OnFailed End P = ⊤
-OnFailed (LongLine n) P = ⊤
-OnFailed Failed P = P
-
--- The count of faults never falls, and the step failed only where it rose.
-pub record StepHasCause (before now : ℕ) (step : Step) : Type 0 where
-  pub later : before ≤ now
-  pub failed : OnFailed step (Rose before now)

@@ -1,21 +1,21 @@
-ghost use Rattle.std.specs.Prelude.{◌≡◌, ◌+◌, ◌-◌, ◌<◌, ◌≤◌, [], min, length, take, drop, slice_range, IfOk, IfSome, IfNone, IsErr};
+ghost use Rattle.std.specs.Prelude.{◌≡◌, ◌+◌, ◌-◌, ◌<◌, ◌≤◌, [], min, length, take, drop, slice_range};
+ghost use Rattle.std.specs.Prelude.{IfOk, IfSome, IfNone, IsErr};
 ghost use Rattle.std.specs.Borrow.{sem};
 ghost use Rattle.std.specs.Io.BufRead.{Rests};
 ghost use Rattle.std.specs.Io.KnownBytes.{Keeps, ReadConsumes, IsAtEnd, prepend_known};
 ghost use Rattle.std.specs.List.{position_or_len};
 ghost use Rattle.irl_offer.specs.Faults.{HasCause};
-ghost use Rattle.irl_io.specs.Lines.{is_line_feed, longest};
-ghost use Rattle.irl_io.specs.Steps.{Stepped, KeepsLimits, StepHasCause};
-ghost use Rattle.irl_io.specs.Front.{Stands, FrontHasCause};
+ghost use Rattle.irl_offer.specs.Limits.{max_text};
+ghost use Rattle.irl_io.specs.Lines.{is_line_feed};
+ghost use Rattle.irl_io.specs.Steps.{Stepped, KeepsLimits};
+ghost use Rattle.irl_io.specs.Lookahead.{Stands};
 ghost use Rattle.irl_io.specs.contracts.lines.Lines.{the_row};
 
 use crate::source::{self, Source};
+use irl_offer::MAX_TEXT;
 use memchr::memchr;
 use std::alloc::{AllocError, Global};
 use std::marker::Model;
-
-/// The most bytes of a line.
-const LONGEST: usize = 2048;
 
 /// The most lines of an input.
 const MOST_LINES: u64 = 4_294_967_295;
@@ -23,8 +23,8 @@ const MOST_LINES: u64 = 4_294_967_295;
 /// Room for the bytes that are read ahead.
 const ROOM: usize = 131_072;
 
-/// Reads the lines of a source, in large pieces. A line ends at LF, which is no part of it; bytes behind the last LF are
-/// a line if there are any.
+/// Reads the lines of a source, in large pieces. A line ends at LF, which is no part of it; bytes behind the last LF
+/// are a line if there are any.
 #[derive(Drop)]
 pub struct Lines {
     buffer: Vec<u8>,
@@ -62,9 +62,9 @@ pub enum Step<'a> {
     Failed,
 }
 
-/// What stands at the front of the bytes left.
+/// What the bytes left begin with.
 #[derive(Clone, Copy)]
-enum Front {
+enum Lookahead {
     /// A line of `length` bytes: the first `whole` bytes, without the line feed that ends it, if one does.
     Line { length: usize, whole: usize },
 
@@ -101,51 +101,52 @@ impl Lines {
     /// The next line of the source. All calls are to be handed the same one.
     pub fn next<'a, I: Source>(&'a mut self, source: &mut I) -> Step<'a>
         ensures limits { KeepsLimits result self.old.number }
-        ensures cause { StepHasCause (I.faults source.old) (I.faults source.new) result }
+        ensures cause { HasCause (result ≡ Step.Failed) (I.faults source.old) (I.faults source.new) }
         ensures* after { sem 𝓛 (Rests the_row self.entry (λ new.
             Stepped result self.old new (I.left source.old) (I.left source.new))) }
     {
-        match self.front(source) {
-            Front::Line { length, whole } if self.number < MOST_LINES => {
+        match self.look_ahead(source) {
+            Lookahead::Line { length, whole } if self.number < MOST_LINES => {
                 let start = self.start;
                 self.start += whole;
                 self.number += 1;
                 Step::Line(&self.buffer[start..start + length])
             }
-            Front::Line { .. } => Step::LongLine(self.number + 1),
-            Front::Long => Step::LongLine(self.number + 1),
-            Front::End => Step::End,
-            Front::Failed => Step::Failed,
+            Lookahead::Line { .. } => Step::LongLine(self.number + 1),
+            Lookahead::Long => Step::LongLine(self.number + 1),
+            Lookahead::End => Step::End,
+            Lookahead::Failed => Step::Failed,
         }
     }
 
-    /// Reads until a line or the end of the input stands at the front.
-    fn front<I: Source>(&mut self, source: &mut I) -> Front
+    /// Reads until the bytes that were read ahead begin with a line, or are more than a line may have, or all are read.
+    fn look_ahead<I: Source>(&mut self, source: &mut I) -> Lookahead
         ensures stands { Stands result self.new.ahead (I.left source.new) }
-        ensures kept { Keeps (prepend_known self.old.ahead (I.left source.old)) (prepend_known self.new.ahead (I.left source.new)) }
+        ensures kept { Keeps (prepend_known self.old.ahead (I.left source.old))
+            (prepend_known self.new.ahead (I.left source.new)) }
         ensures number { self.new.number ≡ self.old.number }
-        ensures cause { FrontHasCause (I.faults source.old) (I.faults source.new) result }
+        ensures cause { HasCause (result ≡ Lookahead.Failed) (I.faults source.old) (I.faults source.new) }
     {
         loop {
             let ahead = self.ahead();
             let held = ahead.len();
             if let Some(length) = find_line_feed(ahead) {
-                return Front::Line {
+                return Lookahead::Line {
                     length,
                     whole: length + 1,
                 };
             }
-            if held > LONGEST {
-                return Front::Long;
+            if held > MAX_TEXT {
+                return Lookahead::Long;
             }
             match self.fill(source) {
-                Ok(0) if held == 0 => return Front::End,
-                Ok(0) => return Front::Line {
+                Ok(0) if held == 0 => return Lookahead::End,
+                Ok(0) => return Lookahead::Line {
                     length: held,
                     whole: held,
                 },
                 Ok(_) => {}
-                Err(source::Failed) => return Front::Failed,
+                Err(source::Failed) => return Lookahead::Failed,
             }
         }
     }
@@ -159,8 +160,9 @@ impl Lines {
 
     /// Reads more bytes ahead, and says how many: 0 only at the end.
     fn fill<I: Source>(&mut self, source: &mut I) -> Result<usize, source::Failed>
-        requires { length self.old.ahead ≤ longest }
-        ensures kept { Keeps (prepend_known self.old.ahead (I.left source.old)) (prepend_known self.new.ahead (I.left source.new)) }
+        requires { length self.old.ahead ≤ max_text }
+        ensures kept { Keeps (prepend_known self.old.ahead (I.left source.old))
+            (prepend_known self.new.ahead (I.left source.new)) }
         ensures count { IfOk result (λ n. length self.new.ahead ≡ length self.old.ahead + n) }
         ensures end { IfOk result (λ n. n ≡ 0 → (self.new.ahead ≡ self.old.ahead) × IsAtEnd (I.left source.new)) }
         ensures number { self.new.number ≡ self.old.number }
@@ -178,13 +180,14 @@ impl Lines {
 
 /// The first line feed among as many bytes as a line may have, and one more.
 fn find_line_feed(bytes: &[u8]) -> Option<usize>
-    ensures found { IfSome result (λ n. (n ≡ position_or_len is_line_feed bytes.now) × (n < length bytes.now) × (n ≤ longest)) }
-    ensures none { IfNone result (min (length bytes.now) (longest + 1) ≤ position_or_len is_line_feed bytes.now) }
+    ensures found { IfSome result (λ n.
+        (n ≡ position_or_len is_line_feed bytes.now) × (n < length bytes.now) × (n ≤ max_text)) }
+    ensures none { IfNone result (min (length bytes.now) (max_text + 1) ≤ position_or_len is_line_feed bytes.now) }
 {
-    memchr(b'\n', &bytes[..bytes.len().min(LONGEST + 1)])
+    memchr(b'\n', &bytes[..bytes.len().min(MAX_TEXT + 1)])
 }
 
-/// Moves the bytes between two places to the front of the buffer, and reads into all the room behind them.
+/// Moves the bytes between two places to the start of the buffer, and reads into all the room behind them.
 fn read_behind<I: Source>(
     buffer: &mut [u8],
     start: usize,

@@ -1,8 +1,7 @@
 ghost use Rattle.std.specs.Prelude.{◌≡◌, [], Some, IsErr, OnOk, OnErr, Contains, is_ok, if◌then◌else◌};
 ghost use Rattle.std.specs.Io.KnownBytes.{Appends};
-ghost use Rattle.irl_offer.specs.Faults.{HasCause};
-ghost use Rattle.irl_io.specs.Memory.{counted};
-ghost use Rattle.irl_io.specs.Written.{AppendsFront};
+ghost use Rattle.irl_offer.specs.Faults.{HasCause, counted};
+ghost use Rattle.irl_io.specs.Written.{AppendsPrefix};
 
 use crate::sink::Sink;
 use crate::source::Failed;
@@ -23,7 +22,12 @@ impl Model for MemSink {
 
     ghost Value = { Writing };
 
-    ghost view = { λ s. record { written = s.bytes.items; calls = s.calls; failing = s.failing.items; faults = s.faults } };
+    ghost view = { λ s. record {
+      written = s.bytes.items;
+      calls = s.calls;
+      failing = s.failing.items;
+      faults = s.faults;
+    } };
 }
 
 impl MemSink {
@@ -55,7 +59,7 @@ impl Sink for MemSink {
 
     fn write(&mut self, bytes: &[u8]) -> Result<(), Failed>
         ensures ok { OnOk result (Appends (Some self.old.written) (Some self.new.written) bytes.now) }
-        ensures err { OnErr result (AppendsFront (Some self.old.written) (Some self.new.written) bytes.now) }
+        ensures err { OnErr result (AppendsPrefix (Some self.old.written) (Some self.new.written) bytes.now) }
         ensures cause { HasCause (IsErr result) self.old.faults self.new.faults }
 
         // It fails at the calls that are listed, and then writes nothing.

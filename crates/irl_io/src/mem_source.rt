@@ -1,8 +1,8 @@
-ghost use Rattle.std.specs.Prelude.{◌≡◌, ◌+◌, ◌≤◌, ◌↔◌, min, length, take, drop, Some, IsErr, IfOk, Contains, is_ok, if◌then◌else◌};
+ghost use Rattle.std.specs.Prelude.{◌≡◌, ◌+◌, ◌≤◌, ◌↔◌, min, length, take, drop};
+ghost use Rattle.std.specs.Prelude.{Some, IsErr, IfOk, Contains, is_ok, if◌then◌else◌};
 ghost use Rattle.std.specs.Io.{ReadsAtMost};
 ghost use Rattle.std.specs.Io.KnownBytes.{ReadConsumes};
-ghost use Rattle.irl_offer.specs.Faults.{HasCause};
-ghost use Rattle.irl_io.specs.Memory.{counted};
+ghost use Rattle.irl_offer.specs.Faults.{HasCause, counted};
 
 use crate::source::{Failed, Source};
 use std::marker::Model;
@@ -23,7 +23,12 @@ impl Model for MemSource {
 
     ghost Value = { Reading };
 
-    ghost view = { λ s. record { left = drop s.at s.bytes.items; calls = s.calls; failing = s.failing.items; faults = s.faults } };
+    ghost view = { λ s. record {
+      left = drop s.at s.bytes.items;
+      calls = s.calls;
+      failing = s.failing.items;
+      faults = s.faults;
+    } };
 
     ghost invariant = { λ s. s.at ≤ length s.bytes.items };
 }
@@ -66,14 +71,14 @@ impl Source for MemSource {
             self.faults = self.faults.saturating_add(1);
             return Err(Failed);
         }
-        let count = copy_front(&self.bytes[self.at..], into);
+        let count = copy_some(&self.bytes[self.at..], into);
         self.at += count;
         Ok(count)
     }
 }
 
 /// Copies as many bytes as there are and as there is room for, and says how many.
-fn copy_front(from: &[u8], into: &mut [u8]) -> usize
+fn copy_some(from: &[u8], into: &mut [u8]) -> usize
     ensures count { result ≡ min (length into.old) (length from.now) }
     ensures bytes { take result into.new ≡ take result from.now }
 {

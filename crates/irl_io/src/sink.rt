@@ -1,7 +1,7 @@
 ghost use Rattle.std.specs.Prelude.{List, ℕ, Option, OnOk, OnErr, IsErr};
 ghost use Rattle.std.specs.Io.KnownBytes.{Appends};
 ghost use Rattle.irl_offer.specs.Faults.{HasCause};
-ghost use Rattle.irl_io.specs.Written.{AppendsFront};
+ghost use Rattle.irl_io.specs.Written.{AppendsPrefix};
 
 use crate::source::Failed;
 
@@ -13,9 +13,9 @@ pub trait Sink {
     /// How often it failed. The count never falls, and stands still at the last value of a `u64`.
     ghost faults: { Self → ℕ };
 
-    /// Writes the whole piece. A write that failed has written a front of it.
+    /// Writes the whole piece. A write that failed has written a prefix of it.
     fn write(&mut self, bytes: &[u8]) -> Result<(), Failed>
         ensures ok { OnOk result (Appends (written self.old) (written self.new) bytes.now) }
-        ensures err { OnErr result (AppendsFront (written self.old) (written self.new) bytes.now) }
+        ensures err { OnErr result (AppendsPrefix (written self.old) (written self.new) bytes.now) }
         ensures cause { HasCause (IsErr result) (faults self.old) (faults self.new) };
 }

@@ -12,7 +12,7 @@ use Rattle.irl_offer.specs.Tuple.{Tuple}
 use Rattle.irl_model.specs.Judging.{after}
 use Rattle.irl_model.proofs.JudgingLaws.{zip-judgements}
 use Rattle.irl_disk.specs.Images.{Snapshot}
-use Rattle.irl_io.specs.Written.{AppendsFront}
+use Rattle.irl_io.specs.Written.{AppendsPrefix}
 use Rattle.irl_bay.specs.declared.kept.Kept.{Kept}
 use Rattle.irl_bay.specs.declared.kept.Fault.{Fault}
 use Rattle.irl_bay.specs.declared.kept.Fault.TheVariants.{Failed, Memory}
@@ -47,10 +47,10 @@ all_done old new before kept w w' lines offers verdicts text are judged seen is 
   printed = subst (Appends w w') (is ∙ printed_added before lines offers verdicts are judged seen) wrote;
 }
 
--- all lines were appended, and a front of their text was written
+-- all lines were appended, and a prefix of their text was written
 pub part_printed : (old new : Snapshot) (before : Kept) (w w' : Option (List ℕ)) (lines : List (List ℕ)) (offers : List Tuple) (verdicts : List (Option Verdict)) (text : List ℕ) (IsSettled : Type 0) → AreLines offers → AreVerdicts before (texts offers) verdicts → before.seen ≡ after Keep empty (map line_tuple lines) → text ≡ printed (zip offers verdicts)
-    → Extends old new lines (texts offers) (length offers) (length offers) (length offers) → AppendsFront w w' text → CommitsPart old new w w' lines (texts offers) IsSettled
-part_printed old new before w w' lines offers verdicts text IsSettled are judged seen is extends front =
+    → Extends old new lines (texts offers) (length offers) (length offers) (length offers) → AppendsPrefix w w' text → CommitsPart old new w w' lines (texts offers) IsSettled
+part_printed old new before w w' lines offers verdicts text IsSettled are judged seen is extends wrote =
     let n = length offers in
     let all : take n (texts offers) ≡ texts offers = take_all _ _ (rw length-map (omega arith)) in
     let whole : text ≡ added lines (take n (texts offers)) = is ∙ printed_added before lines offers verdicts are judged seen ∙ ap (added lines) (sym all) in
@@ -58,10 +58,10 @@ part_printed old new before w w' lines offers verdicts text IsSettled are judged
       kept = n;
       told = n;
       most = n;
-      text = take front.0 text;
+      text = take wrote.0 text;
       extends = extends;
-      written_is = front.1;
-      printed = (drop front.0 text, sym whole ∙ sym (take-append-drop front.0 text));
+      written_is = wrote.1;
+      printed = (drop wrote.0 text, sym whole ∙ sym (take-append-drop wrote.0 text));
       settled = λ s. refl;
     }
 

@@ -6,7 +6,7 @@ use Rattle.std.proofs.Common.{true}
 use Rattle.std.specs.Io.KnownBytes.{Appends}
 use Rattle.irl_offer.specs.Faults.{Rose, HasCause}
 use Rattle.irl_disk.specs.Disk.{Files}
-use Rattle.irl_io.specs.Written.{AppendsFront}
+use Rattle.irl_io.specs.Written.{AppendsPrefix}
 use Rattle.irl_bay.specs.Lines.{HasLines}
 use Rattle.irl_bay.proofs.Lines.{not_damaged}
 use Rattle.irl_top.specs.Input.{refused}
@@ -16,7 +16,7 @@ use Rattle.irl_top.specs.Run.{Lent, Ran, EndsWell}
 use Rattle.irl_top.specs.declared.ending.Ending.{Ending}
 use Rattle.irl_top.specs.declared.ending.Ending.TheVariants.{Done, WordsRefused, LineRefused, NotOurs, Damaged, DiskFault, InputFault, OutputFault, NoMemory}
 
-pub says_of : {T E : Type 0} (r : Result T E) (text : List ℕ) (old new : Stream) → OnOk r (Appends old.bytes new.bytes text) → OnErr r (AppendsFront old.bytes new.bytes text) → HasCause (IsErr r) old.faults new.faults → Says text old new
+pub says_of : {T E : Type 0} (r : Result T E) (text : List ℕ) (old new : Stream) → OnOk r (Appends old.bytes new.bytes text) → OnErr r (AppendsPrefix old.bytes new.bytes text) → HasCause (IsErr r) old.faults new.faults → Says text old new
 says_of (Ok x) text old new ok err cause = record { later = cause.later; written = inl ok }
 says_of (Err e) text old new ok err cause = record { later = cause.later; written = inr (err, cause.rose refl) }
 

@@ -3,7 +3,8 @@ use Rattle.std.proofs.Common.{◌≡◌, ℕ, ◌+◌, ◌<◌, ◌≤◌, Bool,
 use Rattle.std.proofs.lemmas.Bool.Decides.{nat_tests}
 use Rattle.std.specs.Prelude.{filter}
 use Rattle.std.specs.List.{before_first}
-use Rattle.irl_io.specs.Lines.{lines, longest, most_lines, is_line_feed, IsLine}
+use Rattle.irl_offer.specs.Limits.{max_text}
+use Rattle.irl_io.specs.Lines.{lines, most_lines, is_line_feed, IsLine}
 use Rattle.irl_io.specs.Steps.{OfKnown, TakesLine, RefusesLine}
 use Rattle.irl_io.proofs.LineLemmas.{lines_first}
 use Rattle.irl_top.specs.Input.{is_refused, is_some_line, refused_from, offered_from}
@@ -31,7 +32,7 @@ or-false a b p q = rw (p, q) refl
 
 -- a line that is given is not refused
 pub not_refused : (n : ℕ) (line : List ℕ) → IsLine line → n < most_lines → is_refused (n + 1) line ≡ false
-not_refused n line is few = or-false _ _ (nat_lt-false longest (length line) is.short) (nat_lt-false most_lines (n + 1) (omega arith))
+not_refused n line is few = or-false _ _ (nat_lt-false max_text (length line) is.short) (nat_lt-false most_lines (n + 1) (omega arith))
 
 pub offered_line : (n : ℕ) (line before after : List ℕ) → TakesLine line before after → IsLine line → n < most_lines → offered_from (n + 1) before ≡ filter is_some_line (line ∷ []) ++ offered_from (n + 1 + 1) after
 offered_line n line before after takes is few =
@@ -47,7 +48,7 @@ first_refused n before after refuses =
     let first = before_first is_line_feed before in
     let bad : is_refused (n + 1) first ≡ true =
     elim refuses.too_much [
-      | inl long ↦ or-left _ _ (nat_lt-true longest (length first) long)
+      | inl long ↦ or-left _ _ (nat_lt-true max_text (length first) long)
       | inr last ↦ or-right _ _ (nat_lt-true most_lines (n + 1) (omega (arith, last)))
     ] in
     rw (lines_first before refuses.some, bad) refl

@@ -19,13 +19,13 @@ use Rattle.irl_bay.specs.Lines.{HasLines, IsDamagedAt, IsKeepable, line_file, ot
 use Rattle.irl_bay.proofs.Lines.{lines_after, opened_lines, each-append}
 use Rattle.irl_journal.proofs.Opened.{opens_same}
 use Rattle.irl_top.proofs.AddedLines.{added-append, added-nil}
-use Rattle.irl_top.proofs.Images.{has_front, stops_on, take_each, front_behind, length_both}
+use Rattle.irl_top.proofs.Images.{has_prefix, stops_on, take_each, prefix_beyond, length_both}
 use Rattle.irl_top.proofs.Running.{KeepsOthers, Running, others_same, others_step, others_both, start}
 use Rattle.irl_top.proofs.Sinks.{appends_both}
 use Rattle.irl_top.specs.Batch.{ReadsOn, ReadsOnTold}
-use Rattle.irl_top.specs.Input.{IsFrontOf, offered, offered_from, refused}
+use Rattle.irl_top.specs.Input.{IsPrefixOf, offered, offered_from, refused}
 use Rattle.irl_top.specs.Printed.{added}
-use Rattle.irl_top.specs.Run.{Lent, Ran, Gains, Spares, Continues, LeavesOnly, HasFront, IsEarly, is_late, prints_all}
+use Rattle.irl_top.specs.Run.{Lent, Ran, Gains, Spares, Continues, LeavesOnly, HasPrefix, IsEarly, is_late, prints_all}
 use Rattle.irl_bay.specs.declared.kept.OpenFault.{OpenFault}
 use Rattle.irl_bay.specs.declared.kept.OpenFault.TheVariants.{NotOurs as OpenNotOurs, Damaged as OpenDamaged, Failed as OpenFailed, Memory as OpenMemory}
 use Rattle.irl_top.specs.Message.{ending_of_open, ending_of_read, ending_of_commit}
@@ -96,9 +96,9 @@ not_begun before after ending not changes leaves counts output = λ files old te
     let step = rw tells at changes in
     let same : step.0 ≡ told.0 = let e = sym step.1 ∙ told.1 in cc in
     subst (λ (f : Files). ChangesFile line_file IsOpened files f) same step.2 in
-    let front : (a b : Files) → HasLines a old → ChangesFile line_file IsOpened a b → HasFront old [] 0 b = λ a b had step. subst (HasLines b) (sym (append-nil old)) (opened_lines a b old step had) in
+    let prefix : (a b : Files) → HasLines a old → ChangesFile line_file IsOpened a b → HasPrefix old [] 0 b = λ a b had step. subst (HasLines b) (sym (append-nil old)) (opened_lines a b old step had) in
     let stopped : LeavesOnly before after (Continues before old [] 0) =
-    widens before.store after.store _ _ leaves (λ image from. record { was = from.0; left = from.1; others = from.2.others; lines = λ had. (0, omega arith, omega arith, front from.0 image had from.2) }) in
+    widens before.store after.store _ _ leaves (λ image from. record { was = from.0; left = from.1; others = from.2.others; lines = λ had. (0, omega arith, omega arith, prefix from.0 image had from.2) }) in
     record {
       news = [];
       kept = 0;
@@ -110,7 +110,7 @@ not_begun before after ending not changes leaves counts output = λ files old te
       one = omega arith;
       settled = λ fine. refl;
       tells = told.1;
-      lines = front files told.0 has change;
+      lines = prefix files told.0 has change;
       offers = λ input known. ((offered input, refl), λ is. absurd (not is));
       written = subst (λ (w : Option (List ℕ)). Appends before.output.bytes w []) (sym output) (Appends-nil before.output.bytes);
       printed = (added old [], refl);
@@ -125,9 +125,9 @@ pub between : (before now after : Lent) (ending : Ending) (kept : Kept) (progres
 between before now after ending kept progress news not so_far files output moved same = λ told old tells has.
     let r = so_far.grown told old tells has in
     let all : take (length news) news ≡ news = take_all _ _ (omega arith) in
-    let whole : (f : Files) → HasLines f (old ++ news) → HasFront old news (length news) f = λ f had. subst (λ (l : List (List ℕ)). HasLines f (old ++ l)) (sym all) had in
+    let whole : (f : Files) → HasLines f (old ++ news) → HasPrefix old news (length news) f = λ f had. subst (λ (l : List (List ℕ)). HasLines f (old ++ l)) (sym all) had in
     let stopped : LeavesOnly before now (Continues before old news 0) =
-    widens before.store now.store _ _ r.stops (λ image from. record { was = from.0; left = from.1; others = from.2.others; lines = λ had. let f = has_front from.0 image old news had r.known.each from.2 in (f.0, omega arith, f.1, f.2) }) in
+    widens before.store now.store _ _ r.stops (λ image from. record { was = from.0; left = from.1; others = from.2.others; lines = λ had. let f = has_prefix from.0 image old news had r.known.each from.2 in (f.0, omega arith, f.1, f.2) }) in
     record {
       news = news;
       kept = length news;
@@ -164,7 +164,7 @@ pub record CommitsPartLent (now after : Lent) (lines more : List (List ℕ)) (Is
   pub text : List ℕ
   pub extends : Extends now.store after.store lines more kept told most
   pub written_is : Appends now.output.bytes after.output.bytes text
-  pub printed : IsFrontOf text (added lines (take kept more))
+  pub printed : IsPrefixOf text (added lines (take kept more))
   pub settled : IsSettled → kept ≡ most
 
 pub within : (before now after : Lent) (ending : Ending) (kept : Kept) (progress progress' : Progress) (news more : List (List ℕ)) → ending ≢ Done → (IsTrue (prints_all ending) → ⊥) → Running before now kept progress news → AllByRecursion IsKeepable more → ReadsOnTold progress progress' now.input.bytes after.input.bytes more
@@ -176,11 +176,11 @@ within before now after ending kept progress progress' news more not part so_far
     let now_told = others_step now.store.files after.store.files _ p.extends.tells r.new r.tells in
     let each : AllByRecursion IsKeepable (old ++ (news ++ take p.most more)) =
     subst (AllByRecursion IsKeepable) (append_assoc old news (take p.most more)) (each-append (old ++ news) (take p.most more) r.known.each (take_each p.most more keepable)) in
-    let front : (n : ℕ) → n ≤ p.most → (old ++ news) ++ take n more ≡ old ++ take (length news + n) (news ++ take p.most more) = λ n le.
-    append_assoc old news (take n more) ∙ ap (λ (l : List (List ℕ)). old ++ l) (sym (front_behind news more p.most n le)) in
+    let prefix : (n : ℕ) → n ≤ p.most → (old ++ news) ++ take n more ≡ old ++ take (length news + n) (news ++ take p.most more) = λ n le.
+    append_assoc old news (take n more) ∙ ap (λ (l : List (List ℕ)). old ++ l) (sym (prefix_beyond news more p.most n le)) in
     let stopped : LeavesOnly before after (Continues before old (news ++ take p.most more) 0) =
     widens before.store after.store _ _ (stops_on before now after old news more p.most p.extends.all so_far.counts r.stops p.extends.stops)
-    (λ image from. record { was = from.0; left = from.1; others = from.2.others; lines = λ had. let f = has_front from.0 image old (news ++ take p.most more) had each from.2 in (f.0, omega arith, f.1, f.2) }) in
+    (λ image from. record { was = from.0; left = from.1; others = from.2.others; lines = λ had. let f = has_prefix from.0 image old (news ++ take p.most more) had each from.2 in (f.0, omega arith, f.1, f.2) }) in
     record {
       news = news ++ take p.most more;
       kept = length news + p.kept;
@@ -192,7 +192,7 @@ within before now after ending kept progress progress' news more not part so_far
       one = rw all (omega (arith, p.extends.one));
       settled = λ fine. rw all (ap (λ (n : ℕ). length news + n) (p.settled fine));
       tells = now_told.1;
-      lines = subst (HasLines now_told.0) (front p.told p.extends.no_more) (lines_after now.store.files after.store.files r.new now_told.0 (old ++ news) more p.told r.tells now_told.1 p.extends.tells r.lines (take_each p.told more keepable));
+      lines = subst (HasLines now_told.0) (prefix p.told p.extends.no_more) (lines_after now.store.files after.store.files r.new now_told.0 (old ++ news) more p.told r.tells now_told.1 p.extends.tells r.lines (take_each p.told more keepable));
       offers = λ input known.
           let s = so_far.reads input known in
           let b = reads s.0 s.1 in
@@ -204,7 +204,7 @@ within before now after ending kept progress progress' news more not part so_far
       printed =
           let le : p.kept ≤ p.most = omega (arith, p.extends.acknowledged, p.extends.no_more) in
           let text : added (old ++ news) (take p.kept more) ≡ p.text ++ p.printed.0 = p.printed.1 in
-          (p.printed.0, ap (added old) (front_behind news more p.most p.kept le) ∙ added-append old news (take p.kept more) ∙ ap (λ (t : List ℕ). added old news ++ t) text ∙ sym (append_assoc (added old news) p.text p.printed.0));
+          (p.printed.0, ap (added old) (prefix_beyond news more p.most p.kept le) ∙ added-append old news (take p.kept more) ∙ ap (λ (t : List ℕ). added old news ++ t) text ∙ sym (append_assoc (added old news) p.text p.printed.0));
       whole = λ is. absurd (part is);
       stops = stopped;
       now = λ image left.
@@ -218,7 +218,7 @@ within before now after ending kept progress progress' news more not part so_far
               length news + n.0,
               omega (arith, n.1),
               rw all (omega (arith, n.2)),
-              subst (HasLines image) (front n.0 n.2) (record { ours = (found.lines had).3.ours; records = inr n.3; each = each-append (old ++ news) (take n.0 more) r.known.each (take_each n.0 more keepable) }),
+              subst (HasLines image) (prefix n.0 n.2) (record { ours = (found.lines had).3.ours; records = inr n.3; each = each-append (old ++ news) (take n.0 more) r.known.each (take_each n.0 more keepable) }),
             );
           };
     }

@@ -7,7 +7,7 @@ use Rattle.irl_io.specs.Lines.{lines}
 use Rattle.irl_io.specs.Steps.{Progress}
 use Rattle.irl_bay.specs.Kept.{IsKept, Extends}
 use Rattle.irl_bay.specs.declared.kept.Kept.{Kept}
-use Rattle.irl_top.specs.Input.{offered_from, refused_from, IsFrontOf}
+use Rattle.irl_top.specs.Input.{offered_from, refused_from, IsPrefixOf}
 use Rattle.irl_top.specs.Printed.{added}
 
 -- the texts of offers
@@ -38,7 +38,7 @@ pub record Commits (old new : Snapshot) (kept : Kept) (written_before written : 
   pub extends : Extends old new lines news (length news) (length news) (length news)
   pub printed : Appends written_before written (added lines news)
 
--- some of the lines were appended, and a front of the text of those that are acknowledged was written; where it is
+-- some of the lines were appended, and a prefix of the text of those that are acknowledged was written; where it is
 -- settled, none is in doubt
 pub record CommitsPart (old new : Snapshot) (written_before written : Option (List ℕ)) (lines news : List (List ℕ)) (IsSettled : Type 0) : Type 0 where
   pub kept : ℕ
@@ -47,5 +47,5 @@ pub record CommitsPart (old new : Snapshot) (written_before written : Option (Li
   pub text : List ℕ
   pub extends : Extends old new lines news kept told most
   pub written_is : Appends written_before written text
-  pub printed : IsFrontOf text (added lines (take kept news))
+  pub printed : IsPrefixOf text (added lines (take kept news))
   pub settled : IsSettled → kept ≡ most

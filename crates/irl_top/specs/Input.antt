@@ -1,10 +1,11 @@
 -- What an input of lines offers.
 use Rattle.std.specs.Prelude.{◌≡◌, ℕ, ◌+◌, ◌||◌, nat_lt, if◌then◌else◌, Bool, List, [], ◌∷◌, ◌++◌, length, filter, Option, None, Some}
-use Rattle.irl_io.specs.Lines.{lines, longest, most_lines}
+use Rattle.irl_offer.specs.Limits.{max_text}
+use Rattle.irl_io.specs.Lines.{lines, most_lines}
 
 -- whether the line of this number, from 1, is refused: it is too long, or there were lines enough
 abbrev pub is_refused : ℕ → List ℕ → Bool
-is_refused number line = nat_lt longest (length line) || nat_lt most_lines number
+is_refused number line = nat_lt max_text (length line) || nat_lt most_lines number
 
 -- the number of the first line that is refused, where the first line has this number
 abbrev pub refused_from : ℕ → List (List ℕ) → Option ℕ
@@ -33,6 +34,6 @@ offered_from number input = filter is_some_line (accepted_from number (lines inp
 abbrev pub offered : List ℕ → List (List ℕ)
 offered input = offered_from 1 input
 
--- the front of a list
-abbrev pub IsFrontOf : {X : Type 0} → List X → List X → Type 0
-IsFrontOf {X} front whole = (rest : List X) × (whole ≡ front ++ rest)
+-- the first elements of a list, up to some place
+abbrev pub IsPrefixOf : {X : Type 0} → List X → List X → Type 0
+IsPrefixOf {X} prefix whole = (rest : List X) × (whole ≡ prefix ++ rest)

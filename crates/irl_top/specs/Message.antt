@@ -4,7 +4,7 @@ use Rattle.std.specs.Cmp.Lexicographic.{pointwise}
 use Rattle.std.specs.Fmt.{decimal}
 use Rattle.std.specs.Io.KnownBytes.{Appends}
 use Rattle.irl_offer.specs.Faults.{Rose}
-use Rattle.irl_io.specs.Written.{AppendsFront}
+use Rattle.irl_io.specs.Written.{AppendsPrefix}
 use Rattle.irl_bay.specs.declared.kept.Fault.{Fault}
 use Rattle.irl_bay.specs.declared.kept.Fault.TheVariants.{Failed as AppendFailed, Memory as AppendMemory}
 use Rattle.irl_bay.specs.declared.kept.OpenFault.{OpenFault}
@@ -50,7 +50,7 @@ message word NoMemory = codes "no memory" ++ 10 ∷ []
 -- a text was written, or a prefix of it where the sink failed
 pub record Says (text : List ℕ) (before after : Stream) : Type 0 where
   pub later : before.faults ≤ after.faults
-  pub written : Appends before.bytes after.bytes text ⊎ (AppendsFront before.bytes after.bytes text × Rose before.faults after.faults)
+  pub written : Appends before.bytes after.bytes text ⊎ (AppendsPrefix before.bytes after.bytes text × Rose before.faults after.faults)
 
 -- what a refused append is answered with
 abbrev pub commit_fault_of : Fault → CommitFault

@@ -10,7 +10,7 @@ use Rattle.irl_journal.specs.Visiting.{IsOpened}
 use Rattle.irl_bay.specs.Lines.{line_file, other_file, HasLines, IsDamagedAt}
 use Rattle.irl_top.specs.declared.ending.Ending.{Ending}
 use Rattle.irl_top.specs.declared.ending.Ending.TheVariants.{Done, WordsRefused, LineRefused, NotOurs, Damaged, DiskFault, InputFault, OutputFault, NoMemory}
-use Rattle.irl_top.specs.Input.{refused, offered, IsFrontOf}
+use Rattle.irl_top.specs.Input.{refused, offered, IsPrefixOf}
 use Rattle.irl_top.specs.Message.{Says, message, refused_word, status_of}
 use Rattle.irl_top.specs.Printed.{added}
 use Rattle.irl_top.specs.Stream.{Stream}
@@ -81,8 +81,8 @@ pub record IsUntouched (before after : Lent) : Type 0 where
   pub output : after.output ≡ before.output
 
 -- a store with the old lines, and the first n of the new ones
-abbrev pub HasFront : List (List ℕ) → List (List ℕ) → ℕ → Files → Type 0
-HasFront old news n files = HasLines files (old ++ take n news)
+abbrev pub HasPrefix : List (List ℕ) → List (List ℕ) → ℕ → Files → Type 0
+HasPrefix old news n files = HasLines files (old ++ take n news)
 
 -- a stop at any moment between two leaves a joint image that has P
 abbrev pub LeavesOnly : Lent → Lent → (Files → Type 0) → Type 0
@@ -94,7 +94,7 @@ pub record Continues (before : Lent) (old news : List (List ℕ)) (least : ℕ) 
   pub was : Files
   pub left : before.store.images was
   pub others : (f : ℕ) → f ≢ line_file → image f ≡ was f
-  pub lines : HasLines was old → (n : ℕ) × (least ≤ n) × (n ≤ length news) × HasFront old news n image
+  pub lines : HasLines was old → (n : ℕ) × (least ≤ n) × (n ≤ length news) × HasPrefix old news n image
 
 -- What a run leaves of a store with these lines, whatever ends it. `news` are all the new lines that stand anywhere after it,
 -- `kept` of them are acknowledged, and `told` stand in the files.
@@ -111,13 +111,13 @@ pub record Gains (before after : Lent) (ending : Ending) (old : List (List ℕ))
   pub settled : ending ≢ DiskFault → kept ≡ length news
   -- the files have the old lines and then new ones
   pub tells : after.store.files ≡ Some new
-  pub lines : HasFront old news told new
-  -- the new lines are a front of those that the input offers, and all of them at Done
-  pub offers : ForSome before.input.bytes (λ input. IsFrontOf news (offered input) × (ending ≡ Done → news ≡ offered input))
-  -- what is written is of acknowledged lines: of those that are judged Unique a front, and all of them where the input ended
+  pub lines : HasPrefix old news told new
+  -- the new lines are a prefix of those that the input offers, and all of them at Done
+  pub offers : ForSome before.input.bytes (λ input. IsPrefixOf news (offered input) × (ending ≡ Done → news ≡ offered input))
+  -- what is written is of acknowledged lines: of those that are judged Unique a prefix, and all of them where the input ended
   -- the run
   pub written : Appends before.output.bytes after.output.bytes text
-  pub printed : IsFrontOf text (added old (take kept news))
+  pub printed : IsPrefixOf text (added old (take kept news))
   pub whole : IsTrue (prints_all ending) → text ≡ added old news
   -- a stop at any moment leaves what goes on from before the run: the old lines and then some of the new ones
   pub stops : LeavesOnly before after (Continues before old news 0)

@@ -1,7 +1,7 @@
 ghost use Rattle.std.specs.Prelude.{◌≡◌, ◌≢◌, ◌≤◌, ℕ, List, OnOk, OnErr, IsErrOf, IsErr};
 ghost use Rattle.irl_offer.specs.Faults.{HasCause};
 ghost use Rattle.std.specs.Io.KnownBytes.{Appends};
-ghost use Rattle.irl_io.specs.Written.{AppendsFront};
+ghost use Rattle.irl_io.specs.Written.{AppendsPrefix};
 ghost use Rattle.irl_bay.specs.Lines.{AreLines};
 ghost use Rattle.irl_bay.specs.Kept.{IsReady, IsKnown, IsKept};
 ghost use Rattle.irl_top.specs.Batch.{texts, Commits, CommitsPart};
@@ -87,7 +87,7 @@ pub fn commit<O: Sink, S: Store>(
 /// Writes a text where there is one.
 fn write_some<O: Sink>(output: &mut O, text: &[u8]) -> Result<(), Failed>
     ensures ok { OnOk result (Appends (O.written output.old) (O.written output.new) text.now) }
-    ensures err { OnErr result (AppendsFront (O.written output.old) (O.written output.new) text.now) }
+    ensures err { OnErr result (AppendsPrefix (O.written output.old) (O.written output.new) text.now) }
     ensures cause { HasCause (IsErr result) (O.faults output.old) (O.faults output.new) }
 {
     if text.is_empty() {

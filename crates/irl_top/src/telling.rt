@@ -1,7 +1,7 @@
 ghost use Rattle.std.specs.Prelude.{◌≡◌, ◌++◌, map, length, OnOk, OnErr, IsErr};
 ghost use Rattle.std.specs.Io.KnownBytes.{Appends};
 ghost use Rattle.irl_offer.specs.Faults.{HasCause};
-ghost use Rattle.irl_io.specs.Written.{AppendsFront};
+ghost use Rattle.irl_io.specs.Written.{AppendsPrefix};
 ghost use Rattle.irl_top.specs.Message.{message};
 
 use crate::Ending;
@@ -11,7 +11,7 @@ use itoa::Buffer;
 /// Writes the line of an ending: nothing at `Done`. It takes no memory.
 pub fn tell<E: Sink>(errors: &mut E, refused: &str, ending: Ending) -> Result<(), Failed>
     ensures ok { OnOk result (Appends (E.written errors.old) (E.written errors.new) (message refused.now ending)) }
-    ensures err { OnErr result (AppendsFront (E.written errors.old) (E.written errors.new)
+    ensures err { OnErr result (AppendsPrefix (E.written errors.old) (E.written errors.new)
         (message refused.now ending)) }
     ensures cause { HasCause (IsErr result) (E.faults errors.old) (E.faults errors.new) }
 {
@@ -40,15 +40,15 @@ pub fn tell<E: Sink>(errors: &mut E, refused: &str, ending: Ending) -> Result<()
 }
 
 /// Writes three pieces, up to the first that fails.
-fn say<E: Sink>(errors: &mut E, front: &[u8], middle: &[u8], back: &[u8]) -> Result<(), Failed>
+fn say<E: Sink>(errors: &mut E, first: &[u8], middle: &[u8], last: &[u8]) -> Result<(), Failed>
     ensures ok { OnOk result (Appends (E.written errors.old) (E.written errors.new)
-        (front.now ++ middle.now ++ back.now)) }
-    ensures err { OnErr result (AppendsFront (E.written errors.old) (E.written errors.new)
-        (front.now ++ middle.now ++ back.now)) }
+        (first.now ++ middle.now ++ last.now)) }
+    ensures err { OnErr result (AppendsPrefix (E.written errors.old) (E.written errors.new)
+        (first.now ++ middle.now ++ last.now)) }
     ensures cause { HasCause (IsErr result) (E.faults errors.old) (E.faults errors.new) }
 {
-    errors.write(front)?;
+    errors.write(first)?;
     errors.write(middle)?;
-    errors.write(back)?;
+    errors.write(last)?;
     Ok(())
 }

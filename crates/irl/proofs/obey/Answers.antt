@@ -9,9 +9,7 @@ returns-in-Refused g c =
       status_is = c.refuse.ensures.status;
       says = rw (← c.refusing_word.ensures) c.refuse.ensures.says;
       input = refl;
-      input_faults = refl;
       output = refl;
-      output_faults = refl;
     })
 
 pub returns-in-Run : goal.returns-in-Run

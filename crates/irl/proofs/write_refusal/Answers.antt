@@ -1,27 +1,27 @@
 use Rattle.std.proofs.Common.{◌∷◌, ◌++◌, []}
 use Rattle.std.specs.Prelude.{codes}
-use Rattle.irl_top.proofs.Sinks.{appends_both, front_more, then_front, on_err_always}
+use Rattle.irl_top.proofs.Sinks.{appends_both, prefix_more, then_prefix, on_err_always}
 use Rattle.irl.proofs.write_refusal.Goals as goal
 
 pub returns-in_err-write-clause-err : goal.returns-in_err-write-clause-err
 returns-in_err-write-clause-err g c =
     let front = codes "words refused: " in
     let word = c.args.word.now in
-    on_err_always _ _ (front_more _ _ (front ++ word) (10 ∷ []) (front_more _ _ front word c.in_err-write.ensures.err))
+    on_err_always _ _ (prefix_more _ _ (front ++ word) (10 ∷ []) (prefix_more _ _ front word c.in_err-write.ensures.err))
 
 pub returns-in_err-write-2-clause-err : goal.returns-in_err-write-2-clause-err
 returns-in_err-write-2-clause-err g c =
     let front = codes "words refused: " in
     let word = c.as_bytes.result.now in
-    let begun = then_front _ _ _ front word c.in_ok-write.ensures.ok c.in_err-write-2.ensures.err in
-    rw (← c.as_bytes.ensures.value) (on_err_always _ _ (front_more _ _ (front ++ word) (10 ∷ []) begun))
+    let begun = then_prefix _ _ _ front word c.in_ok-write.ensures.ok c.in_err-write-2.ensures.err in
+    rw (← c.as_bytes.ensures.value) (on_err_always _ _ (prefix_more _ _ (front ++ word) (10 ∷ []) begun))
 
 pub returns-in_err-write-3-clause-err : goal.returns-in_err-write-3-clause-err
 returns-in_err-write-3-clause-err g c =
     let front = codes "words refused: " in
     let word = c.as_bytes.result.now in
     let both = appends_both _ _ _ front word c.in_ok-write.ensures.ok c.in_ok-write-2.ensures.ok in
-    let begun = then_front _ _ _ (front ++ word) (10 ∷ []) both c.in_err-write-3.ensures.err in
+    let begun = then_prefix _ _ _ (front ++ word) (10 ∷ []) both c.in_err-write-3.ensures.err in
     rw (← c.as_bytes.ensures.value) (on_err_always _ _ begun)
 
 pub returns-clause-ok : goal.returns-clause-ok

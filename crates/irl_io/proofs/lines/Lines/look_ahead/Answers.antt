@@ -1,7 +1,7 @@
 -- At the end of the source, all that was read ahead is the last line.
 use Rattle.std.proofs.Common.{length, sym, ap, ◌∙◌, refl, inr, arith}
 use Rattle.irl_io.proofs.FeedLemmas.{all_first}
-use Rattle.irl_io.proofs.lines.Lines.front.Goals as goal
+use Rattle.irl_io.proofs.lines.Lines.look_ahead.Goals as goal
 
 pub returns-in-Ok-eq0-2-clause-stands : goal.returns-in-Ok-eq0-2-clause-stands
 returns-in-Ok-eq0-2-clause-stands g c =

@@ -1,7 +1,7 @@
 use Rattle.std.proofs.Common.{◌≡◌, ◌+◌, ◌-◌, ◌≤◌, length}
 use Rattle.std.specs.Io.KnownBytes.{Keeps, prepend_known}
-use Rattle.irl_io.specs.Lines.{longest}
-use Rattle.irl_io.proofs.lines.Lines.front.Given as goal
+use Rattle.irl_offer.specs.Limits.{max_text}
+use Rattle.irl_io.proofs.lines.Lines.look_ahead.Given as goal
 
 -- the bytes left stay, wherever they are
 abbrev pub invariant-loop-length : goal.invariant-loop-length
@@ -15,4 +15,4 @@ invariant-loop-length g l =
 
 -- each turn reads a byte or ends, and one that has more bytes than a line may have ends
 abbrev pub decreases-loop-length : goal.decreases-loop-length
-decreases-loop-length g l = longest + 1 - length l.self.ahead
+decreases-loop-length g l = max_text + 1 - length l.self.ahead
