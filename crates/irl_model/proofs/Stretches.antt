@@ -5,7 +5,8 @@ use Rattle.std.proofs.lemmas.List.{append-nil, drop_all}
 use Rattle.std.proofs.lemmas.List.Elements.{filter-append}
 use Rattle.std.specs.List.{filter, AllByRecursion}
 use Rattle.irl_offer.specs.Tuple.{Tuple}
-use Rattle.irl_model.specs.Book.{bucket_of, AreOfBuckets, IsBelow, AreCuts, last_cut, list_lengths, stretch, stretches, Book, IsBook, judged_offers, judged_cut, lengths_of}
+use Rattle.irl_offer.specs.Buckets.{bucket_of}
+use Rattle.irl_model.specs.Book.{AreOfBuckets, IsBelow, AreCuts, last_cut, list_lengths, stretch, stretches, Book, IsBook, judged_offers, judged_cut, lengths_of}
 
 nil_take : (n : ℕ) → take {A = Tuple} n [] ≡ []
 nil_take zero = refl

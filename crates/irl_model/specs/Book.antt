@@ -6,16 +6,9 @@ use Rattle.std.specs.FinMap.{empty}
 use Rattle.irl_offer.specs.declared.offer.Rule.{Rule}
 use Rattle.irl_offer.specs.declared.offer.Verdict.{Verdict}
 use Rattle.irl_offer.specs.declared.offer.Verdict.TheVariants.{Unique, Absent, Known}
+use Rattle.irl_offer.specs.Buckets.{IsBucketCount, bucket_of}
 use Rattle.irl_offer.specs.Tuple.{Tuple}
 use Rattle.irl_model.specs.Judging.{KeyMap, judgements}
-
--- a number of buckets: a power of two from 1 to 64
-abbrev pub IsBucketCount : ℕ → Type 0
-IsBucketCount buckets = (n : ℕ) × (n ≤ 6) × (buckets ≡ 2 ^ n)
-
--- the bucket of a key: the number that its top bits give, as many as tell that many buckets apart
-abbrev pub bucket_of : ℕ → ℕ → ℕ
-bucket_of buckets key = key * buckets / 2 ^ 64
 
 -- Offers and cuts of one DRUM. Offers are numbered bucket by bucket, from 0, from the beginning of time, and a cut has a number
 -- for each bucket: the offers below it are judged. The first cuts may be dropped, with the offers below the last of them.

@@ -1,7 +1,8 @@
 ghost use Rattle.std.specs.Prelude.{◌≡◌, ◌≢◌, ◌-◌, ◌<◌, ◌++◌, ℕ, List, nat_eq, map, filter, take, slice_index, slice_index_or, [], AllPairs};
 ghost use Rattle.irl_offer.specs.Tuple.{Tuple};
 ghost use Rattle.irl_model.specs.Judging.{judgements};
-ghost use Rattle.irl_model.specs.Book.{Book, IsBook, IsFront, IsPrefixOf, bucket_of, judged, judged_cut, judged_offers, lengths_of, uniques};
+ghost use Rattle.irl_offer.specs.Buckets.{bucket_of};
+ghost use Rattle.irl_model.specs.Book.{Book, IsBook, IsFront, IsPrefixOf, judged, judged_cut, judged_offers, lengths_of, uniques};
 ghost use Rattle.irl_model.specs.Book.{flushed, merged, stretch};
 
 /// Equal keys share a bucket, so a judged offer's verdict is what its bucket's list alone would give: of the judged offers
