@@ -1,2 +1,5 @@
+pub mod BookLaws
+pub mod FrontLaws
 pub mod JudgingLaws
 pub mod KeyMaps
+pub mod Stretches

@@ -1,20 +1,145 @@
 //! Plain data that the crates of the crawler share.
 #![tactic(auto)]
 
+mod buckets;
+mod entry;
 mod limits;
 mod note;
 mod offer;
+mod receipt;
+mod settings;
 mod text;
 
+pub use buckets::bucket_of;
+pub use entry::{ENTRY_LEN, Entry, decode, encode};
 pub use limits::{MAX_PAGE, MAX_ROBOTS, MAX_TEXT};
 pub use note::{Note, NoteState};
 pub use offer::{Offer, Op, Rule, Verdict};
+pub use receipt::{Fault, Judged, Pair, Receipt};
+pub use settings::{Asked, Kind, Settings};
 pub use text::Text;
 
 #[cfg(test)]
 mod tests {
     use super::*;
     use std::test::Fail;
+
+    // An entry with the bytes that a bucket's journal keeps of it.
+    const ENTRY: Entry = Entry {
+        op: Op::Both,
+        aux_len: 1,
+        key: 1,
+        value: 7,
+        from: 0,
+    };
+
+    const ENTRY_BYTES: [u8; 27] = [
+        2, 1, 0, 1, 0, 0, 0, 0, 0, 0, 0, 7, 0, 0, 0, 0, 0, 0, 0, 0, 0, 0, 0, 0, 0, 0, 0,
+    ];
+
+    #[test]
+    fn an_entry_has_27_bytes(rt: HostRuntime) {
+        assert_eq!(rt; encode(&ENTRY), ENTRY_BYTES);
+        assert_eq!(rt; decode(&ENTRY_BYTES), Some(ENTRY));
+        // The byte of the operation, those of the length, and whether they are an entry's.
+        for (op, low, high, is_entry) in [
+            (0, 0, 8, true),
+            (1, 255, 7, true),
+            (2, 1, 8, false),
+            (3, 1, 0, false),
+            (255, 0, 0, false),
+        ] {
+            let mut bytes = ENTRY_BYTES;
+            bytes[0] = op;
+            bytes[1] = low;
+            bytes[2] = high;
+            assert_eq!(rt;
+                decode(&bytes).is_some(),
+                is_entry,
+                "at {op}, {low}, {high}"
+            );
+        }
+    }
+
+    #[test]
+    fn a_key_has_its_bucket_by_its_top_bits(rt: HostRuntime) {
+        for (key, buckets, bucket) in [
+            (0xA999_3E36_4706_816A, 1, 0),
+            (0xA999_3E36_4706_816A, 16, 10),
+            (0xA999_3E36_4706_816A, 64, 42),
+            (u64::MAX, 64, 63),
+            (0x8000_0000_0000_0000, 2, 1),
+            (0x7FFF_FFFF_FFFF_FFFF, 2, 0),
+        ] {
+            assert_eq!(rt; bucket_of(key, buckets), bucket, "at {key:x} of {buckets}");
+        }
+    }
+
+    const NOTHING_ASKED: Asked = Asked {
+        kind: Kind::Lines,
+        rule: None,
+        buckets: None,
+        array: None,
+        trigger: None,
+        block: None,
+        cap: None,
+        queues: None,
+        base: None,
+        most: None,
+        ranks: None,
+    };
+
+    #[test]
+    fn a_new_store_has_what_is_asked_and_else_defaults(rt: HostRuntime) {
+        let asked = Asked {
+            rule: Some(Rule::Add),
+            most: Some(9),
+            ..NOTHING_ASKED
+        };
+        let settings = Settings::of_new_store(&asked);
+        assert_eq!(rt; settings.rule, Rule::Add);
+        assert_eq!(rt; settings.most, 9);
+        assert_eq!(rt; settings.buckets, 16);
+        assert!(rt;
+            !settings.is_valid(),
+            "the greatest budget is below the least"
+        );
+        let settings = Settings::of_new_store(&NOTHING_ASKED);
+        assert!(rt; settings.is_valid());
+        for (buckets, array, is_valid) in [
+            (64, 8_192, true),
+            (3, 1, false),
+            (128, 1, false),
+            (0, 1, false),
+            (1, 0, false),
+            (1, 8_193, false),
+        ] {
+            let changed = Settings {
+                buckets,
+                array,
+                ..settings
+            };
+            assert_eq!(rt; changed.is_valid(), is_valid, "at {buckets}, {array}");
+        }
+    }
+
+    #[test]
+    fn a_note_is_used_for_a_day(rt: HostRuntime) -> Result<(), Fail> {
+        let note = Note {
+            host: Text::from_bytes(rt.alloc(), b"a.test")?,
+            when: 5,
+            state: NoteState::Free,
+        };
+        for (moment, is_in_use) in [
+            (4, false),
+            (5, true),
+            (86_400_004, true),
+            (86_400_005, false),
+        ] {
+            assert_eq!(rt; note.is_in_use(moment), is_in_use, "at {moment}");
+        }
+        Ok(())
+    }
 
     #[test]
     fn a_text_gives_its_bytes_back(rt: HostRuntime) -> Result<(), Fail> {

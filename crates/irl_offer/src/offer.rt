@@ -12,6 +12,34 @@ pub enum Op {
     Both,
 }
 
+impl Op {
+    ghost use Rattle.std.specs.Prelude.{◌≡◌};
+    ghost use Rattle.irl_offer.specs.Entries.{op_number, op_of};
+
+    /// The number that stands for the operation in files.
+    pub fn number(self) -> u8
+        ensures { result ≡ op_number self }
+    {
+        match self {
+            Op::Check => 0,
+            Op::Update => 1,
+            Op::Both => 2,
+        }
+    }
+
+    /// The operation that a number stands for, if there is one.
+    pub fn from_number(number: u8) -> Option<Op>
+        ensures { result ≡ op_of number }
+    {
+        match number {
+            0 => Some(Op::Check),
+            1 => Some(Op::Update),
+            2 => Some(Op::Both),
+            _ => None,
+        }
+    }
+}
+
 /// How a value combines with the one that its key has already.
 #[derive(Clone, Copy, Debug, PartialEq, Eq)]
 pub enum Rule {

@@ -1,0 +1,7 @@
+use Rattle.std.proofs.Common.{arith, refl}
+use Rattle.byteorder.specs.Endian.{little_bytes}
+use Rattle.irl_offer.proofs.Writing.{put_number}
+use Rattle.irl_offer.proofs.entry.put_u64.Goals as goal
+
+pub returns : goal.returns
+returns c = put_number c.args.at _ 8 c.args.bytes.now c.write_u64.new.buf (little_bytes 8 c.args.number) (omega arith) refl c.write_u64.ensures c.requires
