@@ -1,5 +1,5 @@
 -- What a contract reads of a store over files.
-use Rattle.std.specs.Prelude.{ℕ, ◌+◌, ◌-◌, ◌^◌, min, List, string_bytes}
+use Rattle.std.specs.Prelude.{ℕ, List, string_bytes}
 use Rattle.irl_files.specs.declared.file_store.FileStore.{FileStore}
 
 -- how often it has failed
@@ -9,7 +9,3 @@ fault_count store = store.faults
 -- the path of its folder
 abbrev pub folder_path : {R F D : Type 0} → FileStore R F D → List ℕ
 folder_path store = string_bytes store.folder.path
-
--- a count after one more, which stands still at the last `u64`
-abbrev pub counted : ℕ → ℕ
-counted n = min (n + 1) (2 ^ 64 - 1)

@@ -1,7 +1,7 @@
 ghost use Rattle.std.specs.Prelude.{◌≡◌, ◌+◌, ◌^◌, ◌<◌, ◌≤◌, None, Ok, length, IfOk, OnOk, IsErr, is_ok, if◌then◌else◌, MatchResult};
 ghost use Rattle.std.proofs.Common.{rules};
-ghost use Rattle.irl_offer.specs.Faults.{HasCause};
-ghost use Rattle.irl_files.specs.FileStore.{fault_count, folder_path, counted};
+ghost use Rattle.irl_offer.specs.Faults.{counted, HasCause};
+ghost use Rattle.irl_files.specs.FileStore.{fault_count, folder_path};
 ghost use Rattle.irl_files.specs.Folder.{named_folder};
 
 use crate::folder::Folder;

@@ -3,6 +3,11 @@
 
 mod file_store;
 mod folder;
+mod lost;
+
+mod opening;
+mod paths;
 mod place;
+mod table;
 
 pub use file_store::FileStore;
