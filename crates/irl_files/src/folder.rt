@@ -2,8 +2,8 @@ ghost use Rattle.std.specs.Prelude.{◌≡◌, ◌+◌, ◌^◌, ◌<◌, ◌≤
 ghost use Rattle.irl_files.specs.Folder.{named_folder};
 ghost use Rattle.irl_files.specs.Lost.{is_lost, KeepsLost};
 
-use crate::paths::{named, path_of};
 use crate::opening::{Access, existing, make_folder, new_file, sync_name};
+use crate::paths::{named, path_of};
 use crate::place::{read_at, write_at};
 use crate::table::{Table, is_unsupported};
 use std::alloc::{AllocError, Global};

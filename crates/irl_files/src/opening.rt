@@ -45,7 +45,11 @@ pub(crate) fn new_file() -> OpenOptions
 }
 
 /// Makes a folder, and those that it lies in, where they aren't there.
-pub(crate) fn make_folder<R: Files>(rt: &R, files: &mut Table<R::File>, path: &str) -> io::Result<()>
+pub(crate) fn make_folder<R: Files>(
+    rt: &R,
+    files: &mut Table<R::File>,
+    path: &str,
+) -> io::Result<()>
     ensures { KeepsLost files.old.lost files.new.lost }
 {
     'levels: for end in 1..path.len() {
@@ -80,7 +84,11 @@ fn is_folder<R: Files>(rt: &R, path: &str) -> bool {
 }
 
 /// Makes a folder's own name last, unless the folder that it lies in may not be read.
-pub(crate) fn sync_name<R: Files>(rt: &R, files: &mut Table<R::File>, folder: &str) -> io::Result<()>
+pub(crate) fn sync_name<R: Files>(
+    rt: &R,
+    files: &mut Table<R::File>,
+    folder: &str,
+) -> io::Result<()>
     ensures { KeepsLost files.old.lost files.new.lost }
 {
     let Some(above) = folder_above(folder) else {
