@@ -1,4 +1,4 @@
-ghost use Rattle.std.specs.Prelude.{◌≡◌, ◌+◌, ◌^◌, ◌<◌, ◌≤◌, false, true, length, IfOk, OnOk, OnErr, IsErr, string_bytes};
+ghost use Rattle.std.specs.Prelude.{◌≡◌, ◌+◌, ◌^◌, ◌<◌, ◌≤◌, false, true, length, IfOk, OnOk, OnErr, ℕ, string_bytes};
 ghost use Rattle.irl_files.specs.Folder.{named_folder};
 ghost use Rattle.irl_files.specs.Lost.{is_lost, KeepsLost};
 
@@ -30,6 +30,7 @@ impl<R: Files + Drop> Folder<R> {
     pub(crate) fn new(rt: R, alloc: Global, name: &str) -> Result<Folder<R>, AllocError>
         ensures path { IfOk result (λ folder. string_bytes folder.path ≡ named_folder name.now) }
         ensures unsynced { IfOk result (λ folder. folder.is_synced ≡ false) }
+        ensures sound { IfOk result (λ folder. (f : ℕ) → is_lost folder.files.lost f ≡ false) }
     {
         Ok(Folder {
             rt,
@@ -136,7 +137,7 @@ impl<R: Files + Drop> Folder<R> {
     /// have been stopped before. One that failed is remembered, and each later one of that file fails.
     pub(crate) fn sync(&mut self, f: u16) -> io::Result<()>
         requires { f < 10000 }
-        ensures remembered { is_lost self.old.files.lost f ≡ true → IsErr result }
+        ensures first { OnOk result (is_lost self.old.files.lost f ≡ false) }
         ensures lost { OnErr result (is_lost self.new.files.lost f ≡ true) }
         ensures kept { KeepsLost self.old.files.lost self.new.files.lost }
     {

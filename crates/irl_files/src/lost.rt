@@ -1,4 +1,4 @@
-ghost use Rattle.std.specs.Prelude.{◌≡◌, ℕ, ◌^◌, false, true, IfOk, vec_len};
+ghost use Rattle.std.specs.Prelude.{◌≡◌, ◌≢◌, ℕ, ◌^◌, false, true, IfOk, slice_index_or, vec_len};
 
 use std::alloc::{AllocError, Global};
 
@@ -13,15 +13,24 @@ pub(crate) struct Lost {
     ghost slots: { vec_len files ≡ 2 ^ 16 },
 }
 
+/// So many times `false`.
+fn all_false(alloc: Global, count: usize) -> Result<Vec<bool>, AllocError>
+    ensures len { IfOk result (λ v. vec_len v ≡ count) }
+    ensures each { IfOk result (λ v. (i : ℕ) → slice_index_or v.items i false ≡ false) }
+{
+    let all = vec![in alloc; false; count]?;
+    Ok(all)
+}
+
 impl Lost {
     ghost use Rattle.irl_files.specs.Lost.{is_lost, KeepsLost};
 
     /// No failed sync.
     pub(crate) fn new(alloc: Global) -> Result<Lost, AllocError>
-        ensures { IfOk result (λ lost. lost.has_folder ≡ false) }
+        ensures { IfOk result (λ lost. (f : ℕ) → is_lost lost f ≡ false) }
     {
         Ok(Lost {
-            files: vec![in alloc; false; 65536]?,
+            files: all_false(alloc, 65536)?,
             has_folder: false,
         })
     }
@@ -36,6 +45,7 @@ impl Lost {
     /// Remembers a failed sync of a file.
     pub(crate) fn add(&mut self, f: u16)
         ensures added { is_lost self.new f ≡ true }
+        ensures others { (g : ℕ) → g ≢ f → is_lost self.new g ≡ is_lost self.old g }
         ensures kept { KeepsLost self.old self.new }
     {
         self.files[f as usize] = true;

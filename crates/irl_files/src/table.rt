@@ -1,4 +1,5 @@
-ghost use Rattle.irl_files.specs.Lost.{KeepsLost};
+ghost use Rattle.std.specs.Prelude.{◌≡◌, ℕ, false, IfOk};
+ghost use Rattle.irl_files.specs.Lost.{is_lost, KeepsLost};
 
 use crate::lost::Lost;
 use crate::opening::{Access, existing};
@@ -44,7 +45,9 @@ impl<F: OpenFile> Handle<F> {
 
 impl<F: OpenFile + Drop> Table<F> {
     /// No open file and no failed sync.
-    pub(crate) fn new(alloc: Global) -> Result<Table<F>, AllocError> {
+    pub(crate) fn new(alloc: Global) -> Result<Table<F>, AllocError>
+        ensures { IfOk result (λ table. (f : ℕ) → is_lost table.lost f ≡ false) }
+    {
         Ok(Table {
             handles: BTreeMap::new(alloc),
             uses: 0,
