@@ -9,7 +9,11 @@ pub KeepsLost-same : (old mid new : Lost) → KeepsLost old mid → new ≡ mid 
 KeepsLost-same old mid new kept same f lost = ap (λ at. is_lost at f) same ∙ kept f lost
 
 -- a sync's answer, by that of the folder's
-pub FailsOnce-answer : {T E F : Type 0} (f : ℕ) (answer : Result T E) (result : Result T F) (old mid new : Lost) → MatchResult answer (λ value. result ≡ Ok value) (λ error. IsErr result) → OnOk answer (is_lost old f ≡ false) → OnErr answer (is_lost mid f ≡ true) → new ≡ mid → FailsOnce (Sync f) (is_ok result) old new
+pub FailsOnce-answer :
+    {T E F : Type 0} (f : ℕ) (answer : Result T E) (result : Result T F) (old mid new : Lost)
+    → MatchResult answer (λ value. result ≡ Ok value) (λ error. IsErr result)
+    → OnOk answer (is_lost old f ≡ false) → OnErr answer (is_lost mid f ≡ true) → new ≡ mid
+    → FailsOnce (Sync f) (is_ok result) old new
 FailsOnce-answer f (Ok value) (Ok v) old mid new is first lost same = search rules
 FailsOnce-answer f (Ok value) (Err e) old mid new is first lost same = search rules
 FailsOnce-answer f (Err error) (Ok v) old mid new is first lost same = search rules

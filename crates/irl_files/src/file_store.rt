@@ -1,4 +1,5 @@
-ghost use Rattle.std.specs.Prelude.{◌≡◌, ℕ, false, ◌+◌, ◌^◌, ◌<◌, ◌≤◌, None, Ok, length, IfOk, OnOk, IsErr, is_ok, if◌then◌else◌, MatchResult};
+ghost use Rattle.std.specs.Prelude.{◌≡◌, ℕ, ◌+◌, ◌^◌, ◌<◌, ◌≤◌, false, None, Ok, length, IfOk, OnOk};
+ghost use Rattle.std.specs.Prelude.{IsErr, is_ok, if◌then◌else◌, MatchResult};
 ghost use Rattle.std.proofs.Common.{rules};
 ghost use Rattle.irl_offer.specs.Faults.{counted, HasCause};
 ghost use Rattle.irl_disk.specs.Images.{silent};
@@ -14,7 +15,8 @@ use std::rt::Files;
 
 /// A store over the files of one folder, where file f has the name of its number in four digits, as `0998`. It tells no
 /// content, and counts each call that failed. A file that isn't there is empty: the folder and the file are made at the
-/// first write. A read that got past place 2 ^ 64 - 1 and a write that would go past it are refused.
+/// first write. A read that got past place 2 ^ 64 - 1 and a write that would go past it are refused. After a failed sync
+/// of a file each later sync of it fails.
 #[derive(Drop)]
 pub struct FileStore<R: Files> {
     folder: Folder<R>,

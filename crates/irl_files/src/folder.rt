@@ -133,8 +133,8 @@ impl<R: Files + Drop> Folder<R> {
         }
     }
 
-    /// Makes the file's bytes last, and its name. The first sync of a process makes the names last that an earlier one may
-    /// have been stopped before. One that failed is remembered, and each later one of that file fails.
+    /// Makes the file's bytes last, and its name. The first sync of a process makes the names last that an earlier one
+    /// may have been stopped before. One that failed is remembered, and each later one of that file fails.
     pub(crate) fn sync(&mut self, f: u16) -> io::Result<()>
         requires { f < 10000 }
         ensures first { OnOk result (is_lost self.old.files.lost f ≡ false) }
@@ -164,8 +164,8 @@ impl<R: Files + Drop> Folder<R> {
         Ok(())
     }
 
-    /// Makes the file's bytes last, and answers whether it is there. It is opened for writing only where the system refuses
-    /// to sync what is open for reading.
+    /// Makes the file's bytes last, and answers whether it is there. It is opened for writing only where the system
+    /// refuses to sync what is open for reading.
     fn sync_bytes(&mut self, f: u16) -> io::Result<bool>
         requires { f < 10000 }
         ensures { KeepsLost self.old.files.lost self.new.files.lost }

@@ -61,8 +61,8 @@ pub(crate) fn make_folder<R: Files>(
     make_level(rt, files, path)
 }
 
-/// Makes a folder where it isn't there, once the name of the one that it lies in lasts. So of the folders that a stopped
-/// process made only the last one's name may be lost.
+/// Makes a folder where it isn't there, once the name of the one that it lies in lasts. So of the folders that a
+/// stopped process made only the last one's name may be lost.
 fn make_level<R: Files>(rt: &R, files: &mut Table<R::File>, path: &str) -> io::Result<()>
     ensures { KeepsLost files.old.lost files.new.lost }
 {
