@@ -31,7 +31,7 @@ struct Case {
     log: &'static str,
 }
 
-const CASES: [Case; 12] = [
+const CASES: [Case; 13] = [
     // Bytes at places; a file that isn't there is empty, and a refused write reaches nothing.
     Case {
         folder: "d",
@@ -53,6 +53,8 @@ const CASES: [Case; 12] = [
             (7, Read(0)),
             (7, Write(u64::MAX, "a")),
             (7, Sync),
+            (8, Write(0, "new")),
+            (8, Sync),
         ],
         log: "\
             open d/0007\n\
@@ -88,6 +90,18 @@ const CASES: [Case; 12] = [
             - [abx]\n\
             - failed\n\
             sync d/0007\n\
+            - done\n\
+            open to write d/0008\n\
+            make d/0008\n\
+            write d/0008 at 0: new\n\
+            - done\n\
+            sync d/0008\n\
+            open d\n\
+            sync d\n\
+            close d\n\
+            open .\n\
+            sync .\n\
+            close .\n\
             - done\n\
         ",
     },
@@ -388,6 +402,27 @@ const CASES: [Case; 12] = [
             close d/0001\n\
             open d/0002\n\
             - [b]\n\
+            - failed\n\
+        ",
+    },
+    // None for the whole system, and none that this process could close.
+    Case {
+        folder: "d",
+        there: &[(".", None), ("d", None), ("d/0001", Some("a"))],
+        most_open: 10,
+        faults: &[Fault {
+            call: "open d/0002",
+            number: 23,
+        }],
+        calls: &[(1, Write(0, "x")), (2, Read(0))],
+        log: "\
+            open to write d/0001\n\
+            write d/0001 at 0: x\n\
+            - done\n\
+            open d/0002\n\
+            sync d/0001\n\
+            close d/0001\n\
+            open d/0002\n\
             - failed\n\
         ",
     },
