@@ -378,7 +378,7 @@ const CASES: [Case; 13] = [
             - done\n\
         ",
     },
-    // A sync that fails there is remembered.
+    // So is one that was cut, and a sync that fails there is remembered.
     Case {
         folder: "d",
         there: &[
@@ -392,10 +392,10 @@ const CASES: [Case; 13] = [
             call: "sync d/0001",
             number: 5,
         }],
-        calls: &[(1, Write(0, "x")), (2, Read(0)), (1, Sync)],
+        calls: &[(1, Cut(0)), (2, Read(0)), (1, Sync)],
         log: "\
             open to write d/0001\n\
-            write d/0001 at 0: x\n\
+            cut d/0001 to 0\n\
             - done\n\
             open d/0002\n\
             sync d/0001\n\
