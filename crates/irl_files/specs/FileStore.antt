@@ -1,6 +1,7 @@
 -- What a contract reads of a store over files.
-use Rattle.std.specs.Prelude.{ℕ, ◌+◌, ◌-◌, ◌^◌, min, List, string_bytes}
+use Rattle.std.specs.Prelude.{ℕ, List, string_bytes}
 use Rattle.irl_files.specs.declared.file_store.FileStore.{FileStore}
+use Rattle.irl_files.specs.declared.lost.Lost.{Lost}
 
 -- how often it has failed
 abbrev pub fault_count : {R F D : Type 0} → FileStore R F D → ℕ
@@ -10,6 +11,6 @@ fault_count store = store.faults
 abbrev pub folder_path : {R F D : Type 0} → FileStore R F D → List ℕ
 folder_path store = string_bytes store.folder.path
 
--- a count after one more, which stands still at the last `u64`
-abbrev pub counted : ℕ → ℕ
-counted n = min (n + 1) (2 ^ 64 - 1)
+-- which of its syncs failed
+abbrev pub lost_syncs : {R F D : Type 0} → FileStore R F D → Lost
+lost_syncs store = store.folder.files.lost

@@ -1,2 +1,3 @@
 pub mod FileStore
 pub mod Folder
+pub mod Lost

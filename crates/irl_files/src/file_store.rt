@@ -1,7 +1,10 @@
-ghost use Rattle.std.specs.Prelude.{◌≡◌, ◌+◌, ◌^◌, ◌<◌, ◌≤◌, None, Ok, length, IfOk, OnOk, IsErr, is_ok, if◌then◌else◌, MatchResult};
+ghost use Rattle.std.specs.Prelude.{◌≡◌, ℕ, ◌+◌, ◌^◌, ◌<◌, ◌≤◌, false, None, Ok, length, IfOk, OnOk};
+ghost use Rattle.std.specs.Prelude.{IsErr, is_ok, if◌then◌else◌, MatchResult};
 ghost use Rattle.std.proofs.Common.{rules};
-ghost use Rattle.irl_offer.specs.Faults.{HasCause};
-ghost use Rattle.irl_files.specs.FileStore.{fault_count, folder_path, counted};
+ghost use Rattle.irl_offer.specs.Faults.{counted, HasCause};
+ghost use Rattle.irl_disk.specs.Images.{silent};
+ghost use Rattle.irl_files.specs.FileStore.{fault_count, folder_path, lost_syncs};
+ghost use Rattle.irl_files.specs.Lost.{is_lost, Remembers};
 ghost use Rattle.irl_files.specs.Folder.{named_folder};
 
 use crate::folder::Folder;
@@ -12,7 +15,8 @@ use std::rt::Files;
 
 /// A store over the files of one folder, where file f has the name of its number in four digits, as `0998`. It tells no
 /// content, and counts each call that failed. A file that isn't there is empty: the folder and the file are made at the
-/// first write. A read that got past place 2 ^ 64 - 1 and a write that would go past it are refused.
+/// first write. A read that got past place 2 ^ 64 - 1 and a write that would go past it are refused. After a failed sync
+/// of a file each later sync of it fails.
 #[derive(Drop)]
 pub struct FileStore<R: Files> {
     folder: Folder<R>,
@@ -25,6 +29,7 @@ impl<R: Files + Drop> FileStore<R> {
     pub fn new(rt: R, alloc: Global, folder: &str) -> Result<FileStore<R>, AllocError>
         ensures faults { IfOk result (λ store. fault_count store ≡ 0) }
         ensures folder { IfOk result (λ store. folder_path store ≡ named_folder folder.now) }
+        ensures sound { IfOk result (λ store. (f : ℕ) → is_lost (lost_syncs store) f ≡ false) }
     {
         Ok(FileStore {
             folder: Folder::new(rt, alloc, folder)?,
@@ -37,6 +42,7 @@ impl<R: Files + Drop> FileStore<R> {
         ensures value { MatchResult answer (λ value. result ≡ Ok value) (λ _. IsErr result) }
         ensures faults { self.new.faults ≡ (if is_ok answer then self.old.faults else counted self.old.faults) }
         ensures cause { HasCause (IsErr result) self.old.faults self.new.faults }
+        ensures lost { lost_syncs self.new ≡ lost_syncs self.old }
     {
         match answer {
             Ok(value) => Ok(value),
@@ -49,27 +55,15 @@ impl<R: Files + Drop> FileStore<R> {
 }
 
 impl<R: Files + Drop> Store for FileStore<R> {
-    ghost contents = { λ _. None };
-
-    ghost images = { λ _ _. ⊥ };
-
-    ghost moment = { λ _. 0 };
-
-    ghost images_since = { λ _ _ _. ⊥ };
+    ghost snapshot = { λ _. silent };
 
     ghost faults = { λ s. s.faults };
 
     ghost taken = { λ _. None };
 
-    ghost told_is_image = { Prim.search rules };
+    ghost logs = { λ call is_ok old new. Remembers call is_ok (lost_syncs old) (lost_syncs new) };
 
-    ghost told_where_image = { λ _ _ left. absurd left };
-
-    ghost counts_now = { λ _ _ _ _ left. left };
-
-    ghost only_now = { λ _ _ left. left };
-
-    ghost since_earlier = { λ _ _ _ _ _ left. left };
+    ghost is_consistent = { Prim.search rules };
 
     fn length(&mut self, f: u16) -> Result<u64, Failed> {
         let answer = self.folder.length(f);

@@ -1,15 +1,18 @@
-ghost use Rattle.std.specs.Prelude.{◌≡◌, ◌+◌, ◌^◌, ◌<◌, ◌≤◌, ◌∷◌, ◌++◌, false, true, length, IfOk, OnOk, string_bytes};
-ghost use Rattle.std.specs.Fs.{asks_read, asks_write, asks_append, asks_truncate, asks_create, asks_create_new};
-ghost use Rattle.irl_files.specs.Folder.{four_digits, named_folder};
+ghost use Rattle.std.specs.Prelude.{◌≡◌, ◌+◌, ◌^◌, ◌<◌, ◌≤◌, false, true, length, IfOk, OnOk, OnErr, ℕ, string_bytes};
+ghost use Rattle.irl_files.specs.Folder.{named_folder};
+ghost use Rattle.irl_files.specs.Lost.{is_lost, KeepsLost};
 
+use crate::opening::{Access, existing, make_folder, new_file, sync_name};
+use crate::paths::{named, path_of};
 use crate::place::{read_at, write_at};
+use crate::table::{Table, is_unsupported};
 use std::alloc::{AllocError, Global};
-use std::collections::BTreeMap;
-use std::collections::btree_map::Entry;
-use std::fs::{self, OpenFile, OpenOptions};
-use std::io::{self, ErrorKind};
-use std::path::Path;
+use std::fs::OpenFile;
+use std::io::{self, Error, ErrorKind};
 use std::rt::Files;
+
+/// Linux's number of the error that a file wasn't opened for what is asked of it.
+const NOT_OPEN_FOR_THIS: i32 = 9;
 
 /// A folder whose files stay open.
 #[derive(Drop)]
@@ -17,7 +20,7 @@ pub(crate) struct Folder<R: Files> {
     rt: R,
     alloc: Global,
     path: String,
-    files: BTreeMap<u16, R::File>,
+    files: Table<R::File>,
     /// Whether the names of the files were made to last.
     is_synced: bool,
 }
@@ -27,158 +30,165 @@ impl<R: Files + Drop> Folder<R> {
     pub(crate) fn new(rt: R, alloc: Global, name: &str) -> Result<Folder<R>, AllocError>
         ensures path { IfOk result (λ folder. string_bytes folder.path ≡ named_folder name.now) }
         ensures unsynced { IfOk result (λ folder. folder.is_synced ≡ false) }
+        ensures sound { IfOk result (λ folder. (f : ℕ) → is_lost folder.files.lost f ≡ false) }
     {
-        let path = if name.is_empty() { "." } else { name };
         Ok(Folder {
             rt,
             alloc,
-            path: String::from_str(alloc, path)?,
-            files: BTreeMap::new(alloc),
+            path: String::from_str(alloc, named(name))?,
+            files: Table::new(alloc)?,
             is_synced: false,
         })
     }
 
-    /// The file, if it is there.
-    fn find(&mut self, f: u16) -> io::Result<Option<&mut R::File>>
+    /// Opens the file for this access, if it is there and isn't open for it yet.
+    fn open(&mut self, f: u16, access: Access) -> io::Result<()>
         requires { f < 10000 }
+        ensures { KeepsLost self.old.files.lost self.new.files.lost }
     {
-        match self.files.entry(f).map_err(AllocError::from)? {
-            Entry::Occupied(place) => Ok(Some(place.into_mut())),
-            Entry::Vacant(place) => {
-                let path = path_of(self.alloc, self.path.as_str(), f)?;
-                match existing().open(&self.rt, path) {
-                    Ok(file) => Ok(Some(place.insert(file))),
-                    Err(error) if error.kind() == ErrorKind::NotFound => Ok(None),
-                    Err(error) => Err(error),
-                }
+        if !self.files.has(f, access) {
+            let path = path_of(self.alloc, self.path.as_str(), f)?;
+            match self.files.open(&self.rt, &existing(access), path.as_str()) {
+                Ok(file) => self.files.put(f, file, access)?,
+                Err(error) if error.kind() == ErrorKind::NotFound => return Ok(()),
+                Err(error) => return Err(error),
             }
         }
+        self.files.touch(f);
+        Ok(())
     }
 
     /// Makes the file and the folder, where they aren't there.
     fn make(&mut self, f: u16) -> io::Result<()>
         requires { f < 10000 }
         ensures unsynced { OnOk result (self.new.is_synced ≡ false) }
+        ensures kept { KeepsLost self.old.files.lost self.new.files.lost }
     {
         let path = path_of(self.alloc, self.path.as_str(), f)?;
         self.is_synced = false;
-        match new_file().open(&self.rt, path.as_str()) {
-            Err(error) if error.kind() == ErrorKind::NotFound => {}
-            Err(error) => return Err(error),
-            Ok(_) => return Ok(()),
-        }
-        fs::create_dir_all(&self.rt, self.path.as_str())?;
-        new_file().open(&self.rt, path.as_str())?;
+        let file = match self.files.open(&self.rt, &new_file(), path.as_str()) {
+            Err(error) if error.kind() == ErrorKind::NotFound => {
+                make_folder(&self.rt, &mut self.files, self.path.as_str())?;
+                self.files.open(&self.rt, &new_file(), path.as_str())?
+            }
+            answer => answer?,
+        };
+        self.files.put(f, file, Access::Write)?;
+        self.files.touch(f);
         Ok(())
     }
 
     pub(crate) fn length(&mut self, f: u16) -> io::Result<u64>
         requires { f < 10000 }
+        ensures { KeepsLost self.old.files.lost self.new.files.lost }
     {
-        match self.find(f)? {
-            Some(file) => Ok(file.metadata()?.len()),
+        self.open(f, Access::Read)?;
+        match self.files.handles.get_mut(&f) {
+            Some(handle) => Ok(handle.file.metadata()?.len()),
             None => Ok(0),
         }
     }
 
     pub(crate) fn read(&mut self, f: u16, at: u64, into: &mut [u8]) -> io::Result<usize>
         requires { f < 10000 }
-        ensures { IfOk result (λ n. (n ≤ length into.new) × (at + n < 2 ^ 64)) }
+        ensures within { IfOk result (λ n. (n ≤ length into.new) × (at + n < 2 ^ 64)) }
+        ensures kept { KeepsLost self.old.files.lost self.new.files.lost }
     {
-        match self.find(f)? {
-            Some(file) => read_at(file, at, into),
+        self.open(f, Access::Read)?;
+        match self.files.handles.get_mut(&f) {
+            Some(handle) => read_at(&mut handle.file, at, into),
             None => Ok(0),
         }
     }
 
     pub(crate) fn write(&mut self, f: u16, at: u64, bytes: &[u8]) -> io::Result<()>
         requires { f < 10000 }
-        ensures { OnOk result (at + length bytes.now < 2 ^ 64) }
+        ensures within { OnOk result (at + length bytes.now < 2 ^ 64) }
+        ensures kept { KeepsLost self.old.files.lost self.new.files.lost }
     {
-        if self.find(f)?.is_none() {
+        self.open(f, Access::Write)?;
+        if !self.files.has(f, Access::Write) {
             self.make(f)?;
         }
-        match self.find(f)? {
-            Some(file) => write_at(file, at, bytes),
+        match self.files.handles.get_mut(&f) {
+            Some(handle) => {
+                handle.is_unsynced = true;
+                write_at(&mut handle.file, at, bytes)
+            }
             None => Err(ErrorKind::NotFound.into()),
         }
     }
 
     pub(crate) fn cut(&mut self, f: u16, to: u64) -> io::Result<()>
         requires { f < 10000 }
+        ensures { KeepsLost self.old.files.lost self.new.files.lost }
     {
-        match self.find(f)? {
-            Some(file) => file.set_len(to),
+        self.open(f, Access::Write)?;
+        match self.files.handles.get_mut(&f) {
+            Some(handle) => {
+                handle.is_unsynced = true;
+                handle.file.set_len(to)
+            }
             None => Ok(()),
         }
     }
 
-    /// Makes the file's bytes last, and its name. The first sync of a process makes the names last that an earlier one may
-    /// have been stopped before.
+    /// Makes the file's bytes last, and its name. The first sync of a process makes the names last that an earlier one
+    /// may have been stopped before. One that failed is remembered, and each later one of that file fails.
     pub(crate) fn sync(&mut self, f: u16) -> io::Result<()>
         requires { f < 10000 }
+        ensures first { OnOk result (is_lost self.old.files.lost f ≡ false) }
+        ensures lost { OnErr result (is_lost self.new.files.lost f ≡ true) }
+        ensures kept { KeepsLost self.old.files.lost self.new.files.lost }
     {
-        match self.find(f)? {
-            Some(file) => file.sync_all()?,
-            None => return Ok(()),
+        if self.files.lost.has(f) {
+            return Err(Error::other("an earlier sync failed"));
         }
-        if !self.is_synced {
-            self.sync_all_names()?;
+        let answer = self.sync_all(f);
+        if answer.is_err() {
+            self.files.lost.add(f);
+        }
+        answer
+    }
+
+    /// Makes the file's bytes last, if it is there, and the names that no sync made last.
+    fn sync_all(&mut self, f: u16) -> io::Result<()>
+        requires { f < 10000 }
+        ensures { KeepsLost self.old.files.lost self.new.files.lost }
+    {
+        if self.sync_bytes(f)? && !self.is_synced {
+            self.files.sync_folder(&self.rt, self.path.as_str())?;
+            sync_name(&self.rt, &mut self.files, self.path.as_str())?;
             self.is_synced = true;
         }
         Ok(())
     }
 
-    /// Makes the names of the files last, and the folder's own, unless the folder that it lies in may not be read.
-    fn sync_all_names(&self) -> io::Result<()> {
-        let path = self.path.as_str();
-        sync_names(&self.rt, path)?;
-        let above = match Path::new(path).parent() {
-            Some(parent) if !parent.as_str().is_empty() => sync_names(&self.rt, parent.as_str()),
-            _ => sync_names(&self.rt, "."),
-        };
-        match above {
-            Err(error) if error.kind() == ErrorKind::PermissionDenied => Ok(()),
-            answer => answer,
+    /// Makes the file's bytes last, and answers whether it is there. It is opened for writing only where the system
+    /// refuses to sync what is open for reading.
+    fn sync_bytes(&mut self, f: u16) -> io::Result<bool>
+        requires { f < 10000 }
+        ensures { KeepsLost self.old.files.lost self.new.files.lost }
+    {
+        self.open(f, Access::Read)?;
+        match self.files.handles.get_mut(&f) {
+            Some(handle) => match handle.sync() {
+                Err(error) if handle.access == Access::Read && is_refusal(&error) => {}
+                answer => return answer.map(|()| true),
+            },
+            None => return Ok(false),
+        }
+        self.open(f, Access::Write)?;
+        match self.files.handles.get_mut(&f) {
+            Some(handle) => handle.sync().map(|()| true),
+            None => Ok(false),
         }
     }
 }
 
-/// The path of a file.
-fn path_of(alloc: Global, folder: &str, f: u16) -> Result<String, AllocError>
-    requires { f < 10000 }
-    ensures { IfOk result (λ path. string_bytes path ≡ folder.now ++ 47 ∷ four_digits f) }
-{
-    format!(in alloc; "{folder}/{f:04}")
-}
-
-/// How a file that is there is opened: to read and to write, with all that it has.
-fn existing() -> OpenOptions
-    ensures reads { asks_read result ≡ true }
-    ensures writes { asks_write result ≡ true }
-    ensures anywhere { asks_append result ≡ false }
-    ensures whole { asks_truncate result ≡ false }
-    ensures makes_none { (asks_create result ≡ false) × (asks_create_new result ≡ false) }
-{
-    let mut options = OpenOptions::new();
-    options.read(true).write(true);
-    options
-}
-
-/// How a file is made: in the same way, and what is there stays.
-fn new_file() -> OpenOptions
-    ensures reads { asks_read result ≡ true }
-    ensures writes { asks_write result ≡ true }
-    ensures anywhere { asks_append result ≡ false }
-    ensures whole { asks_truncate result ≡ false }
-    ensures makes { (asks_create result ≡ true) × (asks_create_new result ≡ false) }
-{
-    let mut options = existing();
-    options.create(true);
-    options
-}
-
-/// Makes the names in a folder last.
-fn sync_names<R: Files>(rt: &R, folder: &str) -> io::Result<()> {
-    fs::open(rt, folder)?.sync_all()
+/// Whether the system refused to sync a file that is open for reading, with nothing tried.
+fn is_refusal(error: &Error) -> bool {
+    error.raw_os_error() == Some(NOT_OPEN_FOR_THIS)
+        || error.kind() == ErrorKind::PermissionDenied
+        || is_unsupported(error)
 }

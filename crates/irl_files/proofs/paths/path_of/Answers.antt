@@ -2,7 +2,7 @@
 use Rattle.std.proofs.Common.{IfOk, subst, ap, ◌∙◌, ◌≡◌, ◌∷◌, ◌++◌, string_bytes}
 use Rattle.std.specs.Fmt.{styled_decimal}
 use Rattle.irl_files.proofs.Names.{in_four}
-use Rattle.irl_files.proofs.folder.path_of.Goals as goal
+use Rattle.irl_files.proofs.paths.path_of.Goals as goal
 
 pub returns : goal.returns
 returns c =

@@ -1,0 +1,511 @@
+ghost use Rattle.std.specs.Prelude.{◌<◌};
+
+use crate::FileStore;
+use crate::stand_in::{Fault, OnSystem, System};
+use irl_disk::{Failed, Store};
+use std::alloc::Global;
+use std::io;
+use std::test::Fail;
+
+/// A call of a store on a file.
+#[derive(Clone, Copy)]
+enum Call {
+    Length,
+    Read(u64),
+    Write(u64, &'static str),
+    Cut(u64),
+    Sync,
+}
+
+use Call::{Cut, Length, Read, Sync, Write};
+
+/// What a store over the stand-in is to do.
+struct Case {
+    folder: &'static str,
+    /// What is there, as paths with bytes, or with none for a folder.
+    there: &'static [(&'static str, Option<&'static str>)],
+    most_open: usize,
+    faults: &'static [Fault],
+    calls: &'static [(u16, Call)],
+    /// What reaches the system, with each call's answer behind it.
+    log: &'static str,
+}
+
+const CASES: [Case; 13] = [
+    // Bytes at places; a file that isn't there is empty, and a refused write reaches nothing.
+    Case {
+        folder: "d",
+        there: &[(".", None), ("d", None)],
+        most_open: 10,
+        faults: &[],
+        calls: &[
+            (7, Length),
+            (7, Read(0)),
+            (7, Cut(0)),
+            (7, Sync),
+            (7, Write(0, "abcd")),
+            (7, Write(2, "xyz")),
+            (998, Write(0, "other")),
+            (7, Sync),
+            (7, Length),
+            (7, Read(1)),
+            (7, Cut(3)),
+            (7, Read(0)),
+            (7, Write(u64::MAX, "a")),
+            (7, Sync),
+            (8, Write(0, "new")),
+            (8, Sync),
+        ],
+        log: "\
+            open d/0007\n\
+            - 0\n\
+            open d/0007\n\
+            - []\n\
+            open to write d/0007\n\
+            - done\n\
+            open d/0007\n\
+            - done\n\
+            open to write d/0007\n\
+            make d/0007\n\
+            write d/0007 at 0: abcd\n\
+            - done\n\
+            write d/0007 at 2: xyz\n\
+            - done\n\
+            open to write d/0998\n\
+            make d/0998\n\
+            write d/0998 at 0: other\n\
+            - done\n\
+            sync d/0007\n\
+            open d\n\
+            sync d\n\
+            close d\n\
+            open .\n\
+            sync .\n\
+            close .\n\
+            - done\n\
+            - 5\n\
+            - [bxyz]\n\
+            cut d/0007 to 3\n\
+            - done\n\
+            - [abx]\n\
+            - failed\n\
+            sync d/0007\n\
+            - done\n\
+            open to write d/0008\n\
+            make d/0008\n\
+            write d/0008 at 0: new\n\
+            - done\n\
+            sync d/0008\n\
+            open d\n\
+            sync d\n\
+            close d\n\
+            open .\n\
+            sync .\n\
+            close .\n\
+            - done\n\
+        ",
+    },
+    // A folder is made once the name of the one that it lies in lasts.
+    Case {
+        folder: "a/b/c",
+        there: &[(".", None)],
+        most_open: 10,
+        faults: &[],
+        calls: &[(7, Write(0, "x")), (7, Sync)],
+        log: "\
+            open to write a/b/c/0007\n\
+            make a/b/c/0007\n\
+            open .\n\
+            sync .\n\
+            close .\n\
+            make folder a\n\
+            open .\n\
+            sync .\n\
+            close .\n\
+            make folder a/b\n\
+            open a\n\
+            sync a\n\
+            close a\n\
+            make folder a/b/c\n\
+            make a/b/c/0007\n\
+            write a/b/c/0007 at 0: x\n\
+            - done\n\
+            sync a/b/c/0007\n\
+            open a/b/c\n\
+            sync a/b/c\n\
+            close a/b/c\n\
+            open a/b\n\
+            sync a/b\n\
+            close a/b\n\
+            - done\n\
+        ",
+    },
+    // So is one in a folder that a stopped process made.
+    Case {
+        folder: "a/b",
+        there: &[(".", None), ("a", None)],
+        most_open: 10,
+        faults: &[],
+        calls: &[(7, Write(0, "x"))],
+        log: "\
+            open to write a/b/0007\n\
+            make a/b/0007\n\
+            open .\n\
+            sync .\n\
+            close .\n\
+            make folder a/b\n\
+            make a/b/0007\n\
+            write a/b/0007 at 0: x\n\
+            - done\n\
+        ",
+    },
+    // A system that syncs no folders.
+    Case {
+        folder: "d",
+        there: &[(".", None), ("d", None), ("d/0007", Some("abc"))],
+        most_open: 10,
+        faults: &[
+            Fault {
+                call: "sync d",
+                number: 95,
+            },
+            Fault {
+                call: "sync .",
+                number: 22,
+            },
+        ],
+        calls: &[(7, Sync), (7, Sync)],
+        log: "\
+            open d/0007\n\
+            sync read-only d/0007\n\
+            open d\n\
+            sync d\n\
+            close d\n\
+            open .\n\
+            sync .\n\
+            close .\n\
+            - done\n\
+            sync read-only d/0007\n\
+            - done\n\
+        ",
+    },
+    // The folder above may not be read.
+    Case {
+        folder: "d",
+        there: &[(".", None), ("d", None), ("d/0007", Some("abc"))],
+        most_open: 10,
+        faults: &[Fault {
+            call: "open .",
+            number: 13,
+        }],
+        calls: &[(7, Sync), (7, Sync)],
+        log: "\
+            open d/0007\n\
+            sync read-only d/0007\n\
+            open d\n\
+            sync d\n\
+            close d\n\
+            open .\n\
+            - done\n\
+            sync read-only d/0007\n\
+            - done\n\
+        ",
+    },
+    // A failed sync of the folder is remembered for each file.
+    Case {
+        folder: "d",
+        there: &[(".", None), ("d", None), ("d/0007", Some("abc"))],
+        most_open: 10,
+        faults: &[Fault {
+            call: "sync d",
+            number: 5,
+        }],
+        calls: &[(7, Sync), (8, Sync), (7, Read(0))],
+        log: "\
+            open d/0007\n\
+            sync read-only d/0007\n\
+            open d\n\
+            sync d\n\
+            close d\n\
+            - failed\n\
+            - failed\n\
+            - [abc]\n\
+        ",
+    },
+    // A failed sync of a file is remembered for that file.
+    Case {
+        folder: "d",
+        there: &[(".", None), ("d", None)],
+        most_open: 10,
+        faults: &[Fault {
+            call: "sync d/0007",
+            number: 5,
+        }],
+        calls: &[
+            (7, Write(0, "x")),
+            (8, Write(0, "y")),
+            (7, Sync),
+            (7, Sync),
+            (7, Write(1, "z")),
+            (7, Sync),
+            (8, Sync),
+        ],
+        log: "\
+            open to write d/0007\n\
+            make d/0007\n\
+            write d/0007 at 0: x\n\
+            - done\n\
+            open to write d/0008\n\
+            make d/0008\n\
+            write d/0008 at 0: y\n\
+            - done\n\
+            sync d/0007\n\
+            - failed\n\
+            - failed\n\
+            write d/0007 at 1: z\n\
+            - done\n\
+            - failed\n\
+            sync d/0008\n\
+            open d\n\
+            sync d\n\
+            close d\n\
+            open .\n\
+            sync .\n\
+            close .\n\
+            - done\n\
+        ",
+    },
+    // A folder that may only be read.
+    Case {
+        folder: "d",
+        there: &[(".", None), ("d", None), ("d/0007", Some("abc"))],
+        most_open: 10,
+        faults: &[Fault {
+            call: "open to write d/0007",
+            number: 30,
+        }],
+        calls: &[
+            (7, Length),
+            (7, Read(0)),
+            (7, Write(0, "x")),
+            (7, Cut(1)),
+            (7, Read(1)),
+        ],
+        log: "\
+            open d/0007\n\
+            - 3\n\
+            - [abc]\n\
+            open to write d/0007\n\
+            - failed\n\
+            open to write d/0007\n\
+            - failed\n\
+            - [bc]\n\
+        ",
+    },
+    // A system that syncs only what is open for writing.
+    Case {
+        folder: "d",
+        there: &[(".", None), ("d", None), ("d/0007", Some("abc"))],
+        most_open: 10,
+        faults: &[Fault {
+            call: "sync read-only d/0007",
+            number: 9,
+        }],
+        calls: &[(7, Sync)],
+        log: "\
+            open d/0007\n\
+            sync read-only d/0007\n\
+            open to write d/0007\n\
+            close d/0007\n\
+            sync d/0007\n\
+            open d\n\
+            sync d\n\
+            close d\n\
+            open .\n\
+            sync .\n\
+            close .\n\
+            - done\n\
+        ",
+    },
+    // No more open files: the one that was used longest ago is synced and closed.
+    Case {
+        folder: "d",
+        there: &[
+            (".", None),
+            ("d", None),
+            ("d/0001", Some("a")),
+            ("d/0002", Some("b")),
+            ("d/0003", Some("c")),
+        ],
+        most_open: 2,
+        faults: &[],
+        calls: &[
+            (1, Write(0, "x")),
+            (2, Read(0)),
+            (1, Length),
+            (3, Read(0)),
+            (2, Read(0)),
+            (1, Sync),
+        ],
+        log: "\
+            open to write d/0001\n\
+            write d/0001 at 0: x\n\
+            - done\n\
+            open d/0002\n\
+            - [b]\n\
+            - 1\n\
+            open d/0003\n\
+            close d/0002\n\
+            open d/0003\n\
+            - [c]\n\
+            open d/0002\n\
+            sync d/0001\n\
+            close d/0001\n\
+            open d/0002\n\
+            - [b]\n\
+            open d/0001\n\
+            close d/0003\n\
+            open d/0001\n\
+            sync read-only d/0001\n\
+            open d\n\
+            close d/0002\n\
+            open d\n\
+            sync d\n\
+            close d\n\
+            open .\n\
+            sync .\n\
+            close .\n\
+            - done\n\
+        ",
+    },
+    // So is one that was cut, and a sync that fails there is remembered.
+    Case {
+        folder: "d",
+        there: &[
+            (".", None),
+            ("d", None),
+            ("d/0001", Some("a")),
+            ("d/0002", Some("b")),
+        ],
+        most_open: 1,
+        faults: &[Fault {
+            call: "sync d/0001",
+            number: 5,
+        }],
+        calls: &[(1, Cut(0)), (2, Read(0)), (1, Sync)],
+        log: "\
+            open to write d/0001\n\
+            cut d/0001 to 0\n\
+            - done\n\
+            open d/0002\n\
+            sync d/0001\n\
+            close d/0001\n\
+            open d/0002\n\
+            - [b]\n\
+            - failed\n\
+        ",
+    },
+    // None for the whole system, and none that this process could close.
+    Case {
+        folder: "d",
+        there: &[(".", None), ("d", None), ("d/0001", Some("a"))],
+        most_open: 10,
+        faults: &[Fault {
+            call: "open d/0002",
+            number: 23,
+        }],
+        calls: &[(1, Write(0, "x")), (2, Read(0))],
+        log: "\
+            open to write d/0001\n\
+            write d/0001 at 0: x\n\
+            - done\n\
+            open d/0002\n\
+            sync d/0001\n\
+            close d/0001\n\
+            open d/0002\n\
+            - failed\n\
+        ",
+    },
+    // No open file at all.
+    Case {
+        folder: "d",
+        there: &[(".", None), ("d", None), ("d/0007", Some("abc"))],
+        most_open: 0,
+        faults: &[],
+        calls: &[(7, Length)],
+        log: "\
+            open d/0007\n\
+            - failed\n\
+        ",
+    },
+];
+
+/// Writes the answer of a call down.
+fn note(system: &System, answer: Result<(), Failed>) -> io::Result<()> {
+    match answer {
+        Ok(()) => system.note("- done", ""),
+        Err(_) => system.note("- failed", ""),
+    }
+}
+
+/// Writes down how long a file is.
+fn note_length(system: &System, answer: Result<u64, Failed>) -> io::Result<()> {
+    match answer {
+        Ok(length) => system.note("- ", format!(in system.alloc; "{length}")?.as_str()),
+        Err(_) => system.note("- failed", ""),
+    }
+}
+
+/// Writes down what a read gave.
+fn note_read(system: &System, into: &[u8], answer: Result<usize, Failed>) -> io::Result<()> {
+    match answer {
+        Ok(count) => {
+            let text = std::str::from_utf8(into.get(..count).unwrap_or(&[])).unwrap_or("no text");
+            system.note("- ", format!(in system.alloc; "[{text}]")?.as_str())
+        }
+        Err(_) => system.note("- failed", ""),
+    }
+}
+
+/// Makes one call and writes its answer down.
+fn make_call(
+    store: &mut FileStore<OnSystem<'_>>,
+    system: &System,
+    f: u16,
+    call: Call,
+) -> io::Result<()>
+    requires { f < 10000 }
+{
+    match call {
+        Length => note_length(system, store.length(f)),
+        Read(at) => {
+            let mut into = [0; 8];
+            let answer = store.read(f, at, &mut into);
+            note_read(system, &into, answer)
+        }
+        Write(at, bytes) => note(system, store.write(f, at, bytes.as_bytes())),
+        Cut(to) => note(system, store.cut(f, to)),
+        Sync => note(system, store.sync(f)),
+    }
+}
+
+/// What reaches the system.
+fn log_of(alloc: Global, case: &Case) -> io::Result<String> {
+    let system = System::new(alloc, case.most_open, case.faults)?;
+    for (path, bytes) in case.there {
+        system.put(path, *bytes)?;
+    }
+    let mut store = FileStore::new(OnSystem(&system), alloc, case.folder)?;
+    for (f, call) in case.calls {
+        make_call(&mut store, &system, *f % 10_000, *call)?;
+    }
+    system.log()
+}
+
+#[test]
+fn calls_reach_the_system_in_order(rt: HostRuntime) -> Result<(), Fail> {
+    for case in &CASES {
+        assert_eq!(rt; log_of(rt.alloc(), case)?.as_str(), case.log);
+    }
+    Ok(())
+}
