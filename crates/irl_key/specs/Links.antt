@@ -42,11 +42,13 @@ IsPlainHttp url = (url.scheme ≡ codes "http") × (has_credentials url ≡ fals
 -- Why a link that reads so counts as this. Exactly one cause holds of each link.
 abbrev pub IsCause : Option Parts → Canon → Type 0
 -- it reads as a plain http URL, and this is its text without fragment, which is not too long
-IsCause link (Web web) = (url : Parts) × (link ≡ Some url) × IsPlainHttp url × (web ≡ canonical_text url) × (length web ≤ max_text)
+IsCause link (Web web) =
+    (url : Parts) × (link ≡ Some url) × IsPlainHttp url × (web ≡ canonical_text url) × (length web ≤ max_text)
 -- it reads as a URL of another scheme
 IsCause link NotHttp = (url : Parts) × (link ≡ Some url) × (url.scheme ≢ codes "http")
 -- it reads as no URL, or as one of scheme http with a user name or a password
-IsCause link Bad = (link ≡ None) ⊎ ((url : Parts) × (link ≡ Some url) × (url.scheme ≡ codes "http") × (has_credentials url ≡ true))
+IsCause link Bad =
+    (link ≡ None) ⊎ ((url : Parts) × (link ≡ Some url) × (url.scheme ≡ codes "http") × (has_credentials url ≡ true))
 -- it reads as a plain http URL whose text without fragment is too long
 IsCause link TooLong = (url : Parts) × (link ≡ Some url) × IsPlainHttp url × (max_text < length (canonical_text url))
 

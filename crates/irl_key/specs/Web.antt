@@ -42,7 +42,8 @@ pub record IsWeb (url : Parts) : Type 0 where
   pub fragment : url.fragment ≡ None
   pub host : length (host_part url) + 8 ≤ max_text
 
--- The text of a web URL, which reads as that URL again. Its length is no part of this: it is asked where a link is read.
+-- The text of a web URL, which reads as that URL again. Its length is no part of this: it is asked where a link is
+-- read.
 pub record IsWebText (text : List ℕ) : Type 0 where
   pub url : Parts
   pub web : IsWeb url

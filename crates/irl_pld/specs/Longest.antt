@@ -36,6 +36,8 @@ IsOwn text host = IsTrue (is_address host) ⊎ IsTrue (is_listed text host) ⊎ 
 pub record IsDomain (text host domain : List ℕ) : Type 0 where
   pub own : IsOwn text host → domain ≡ host
   -- of any other host, the longest suffix and one label more
-  pub longest : ¬ (IsOwn text host) → (suffix : List ℕ) → IsLongestSuffix text host suffix → IsOneMore host suffix domain
+  pub longest : ¬ (IsOwn text host)
+      → (suffix : List ℕ) → IsLongestSuffix text host suffix → IsOneMore host suffix domain
   -- with no suffix, the last two labels
-  pub two_labels : ¬ (IsOwn text host) → ((suffix : List ℕ) → ¬ (IsSuffix text host suffix)) → (last : List ℕ) × HasNoDot last × IsOneMore host last domain
+  pub two_labels : ¬ (IsOwn text host) → ((suffix : List ℕ) → ¬ (IsSuffix text host suffix))
+      → (last : List ℕ) × HasNoDot last × IsOneMore host last domain

@@ -49,8 +49,8 @@ fn a_text_is_refused_at_its_first_bad_line(rt: HostRuntime) -> Result<(), Fail> 
     Ok(())
 }
 
-// Hosts, and the domain of each by the suffixes `com` and `co.uk`: suffixes and no suffixes, labels that end in one, names
-// in front, ports, addresses, one dot at the end, and empty labels.
+// Hosts, and the domain of each by the suffixes `com` and `co.uk`: suffixes and no suffixes, labels that end in one,
+// names in front, ports, addresses, one dot at the end, and empty labels.
 const DOMAINS: &str = "x.y.co.uk => y.co.uk
 y.co.uk => y.co.uk
 co.uk => co.uk
