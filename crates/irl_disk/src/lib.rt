@@ -6,10 +6,12 @@ mod changes;
 mod log;
 mod memory;
 mod store;
+mod sure;
 
 pub use calls::Part;
 pub use memory::MemStore;
 pub use store::{Failed, Store};
+pub use sure::SureStore;
 
 #[cfg(test)]
 mod tests {
