@@ -1,5 +1,5 @@
 -- Bytes cut into pieces, one behind the other: setting one piece changes no other.
-use Rattle.std.specs.Prelude.{◌≡◌, ℕ, ◌+◌, ◌-◌, ◌<◌, ◌≤◌, suc, min, List, [], ◌∷◌, ◌++◌, length, take, drop, get_or}
+use Rattle.std.specs.Prelude.{◌≡◌, ℕ, ◌+◌, ◌-◌, ◌<◌, ◌≤◌, suc, List, [], ◌∷◌, ◌++◌, length, take, drop, get_or}
 use Rattle.std.specs.List.{sum, sum_by, copy_within}
 use Rattle.std.proofs.Common.{refl, sym, ap, subst, ◌∙◌, arith, zero, length-append, length-take, length-drop, append_assoc, set}
 use Rattle.std.proofs.Math.Seq.{take-add, take-append-add}

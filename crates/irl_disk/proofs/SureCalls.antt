@@ -1,11 +1,11 @@
 -- What a call of a store whose writes count at once tells, and what stops leave.
-use Rattle.std.specs.Prelude.{◌≡◌, ℕ, ◌+◌, ◌-◌, ◌≤◌, List, [], ◌++◌, length, take, drop, max, get_or}
+use Rattle.std.specs.Prelude.{◌≡◌, ℕ, ◌+◌, ◌-◌, ◌≤◌, List, [], ◌++◌, length, take, drop, get_or}
 use Rattle.std.specs.List.{sum, sum_by}
-use Rattle.std.proofs.Common.{refl, sym, ap, subst, inr, ◌∙◌, arith, append_assoc, length-append, length-take, length-drop}
+use Rattle.std.proofs.Common.{refl, sym, ap, subst, inr, ◌∙◌, arith, append_assoc, length-append, length-drop}
 use Rattle.std.proofs.lemmas.List.{take_at, drop_at, length-take-le}
 use Rattle.irl_disk.specs.Disk.{Files, ChangesFile, Holds, Scribbled, IsPrefix, PartlyCut}
 use Rattle.irl_disk.specs.Images.{LeavesBy}
-use Rattle.irl_disk.specs.Sure.{Held, bytes_held, files_cut, pieces, settled, sure_files}
+use Rattle.irl_disk.specs.Sure.{Held, bytes_held, pieces, settled, sure_files}
 use Rattle.irl_disk.proofs.Pieces.{piece_long, pieces_total}
 
 -- a stop behind a step leaves what the step made

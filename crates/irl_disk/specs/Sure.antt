@@ -1,5 +1,5 @@
 -- What a store in memory holds that fails only where it must, and what each of its calls does.
-use Rattle.std.specs.Prelude.{◌≡◌, ℕ, ◌+◌, ◌-◌, ◌^◌, ◌<◌, ◌≤◌, ◌↔◌, min, Bool, true, false, if◌then◌else◌, List, [], ◌∷◌, length, take, drop, get_or, Some}
+use Rattle.std.specs.Prelude.{◌≡◌, ℕ, ◌+◌, ◌-◌, ◌^◌, ◌<◌, ◌≤◌, ◌↔◌, min, Bool, false, if◌then◌else◌, List, [], ◌∷◌, length, take, drop, get_or, Some}
 use Rattle.std.specs.List.{sum_by}
 use Rattle.irl_offer.specs.Faults.{counted}
 use Rattle.irl_disk.specs.DeviceCall.{DeviceCall, Length, Read, Write, Cut, Sync}

@@ -1,7 +1,7 @@
 -- What holds of every store whose writes count at once, and how many bytes its files have together after one of them changed.
 use Rattle.std.specs.Prelude.{◌≡◌, ◌≢◌, ℕ, ◌+◌, suc, List, [], ◌∷◌, length, get_or}
 use Rattle.std.specs.List.{sum_by}
-use Rattle.std.proofs.Common.{refl, sym, ap, zero, arith}
+use Rattle.std.proofs.Common.{refl, ap, zero, arith}
 use Rattle.std.proofs.lemmas.List.Sums.{sum_by-cons}
 use Rattle.irl_disk.specs.Disk.{ChangesFile}
 use Rattle.irl_disk.specs.Images.{IsConsistent}

@@ -1,4 +1,4 @@
-use Rattle.std.proofs.Common.{◌≡◌, ◌+◌, ◌-◌, ℕ, List, ap, ◌∙◌, sym, get_or, take, drop, arith}
+use Rattle.std.proofs.Common.{◌≡◌, ◌+◌, ◌-◌, ℕ, ap, ◌∙◌, sym, get_or, take, drop, arith}
 use Rattle.irl_disk.proofs.Pieces.{piece_at}
 use Rattle.irl_disk.proofs.sure.file_in.Goals as goal
 

@@ -1,4 +1,4 @@
-use Rattle.std.proofs.Common.{◌+◌, arith, length}
+use Rattle.std.proofs.Common.{arith}
 use Rattle.irl_disk.specs.Sure.{files_cut}
 use Rattle.irl_disk.proofs.Pieces.{file_written_past, piece_long}
 use Rattle.irl_disk.proofs.sure.write_into.Goals as goal

@@ -1,5 +1,5 @@
-use Rattle.std.proofs.Common.{◌≡◌, ◌≤◌, ℕ, List, refl, sym, ap, subst, ◌∙◌, arith, length}
-use Rattle.irl_disk.specs.Sure.{Held, files_cut, sure_files}
+use Rattle.std.proofs.Common.{◌≡◌, ◌≤◌, refl, ap, ◌∙◌, length}
+use Rattle.irl_disk.specs.Sure.{Held, sure_files}
 use Rattle.irl_disk.proofs.sure.SureStoreStore.read.Goals as goal
 use Rattle.irl_disk.proofs.sure.SureStoreStore.read.Goals.{After-file_in}
 
