@@ -1,4 +1,4 @@
-//! A store of numbered files: its trait, and a form of it in memory.
+//! A store of numbered files: its trait, and two forms of it in memory.
 #![tactic(auto)]
 
 mod calls;
