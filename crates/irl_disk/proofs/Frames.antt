@@ -1,5 +1,5 @@
 -- Which files a call changes, and which it reads: what holds of one file holds among several, and two stretches join.
-use Rattle.std.proofs.Common.{◌≡◌, ◌⊎◌, ℕ, List, Option, None, Some, refl, sym, subst, ◌∙◌, inl, inr, ⊎_elim, arith}
+use Rattle.std.proofs.Common.{◌≡◌, ◌⊎◌, ℕ, List, Option, None, Some, refl, sym, subst, ◌∙◌, ⊎_elim, arith}
 use Rattle.irl_disk.specs.Disk.{Files, Changes, ChangesFile, ChangesAmong}
 use Rattle.irl_disk.specs.Taken.{Takes, TakesAmong, TakesOnly}
 

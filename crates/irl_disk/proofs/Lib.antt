@@ -2,7 +2,9 @@ pub mod Before
 pub mod Clones
 pub mod Frames
 pub mod Logged
+pub mod Pieces
 pub mod Replayed
 pub mod Steps
 pub mod Stretches
+pub mod SureCalls
 pub mod Torn

@@ -1,6 +1,6 @@
 -- What a store tells at one moment, and what a stop then may leave. A joint image gives the bytes of every file as they stand
 -- after a stop at one moment.
-use Rattle.std.specs.Prelude.{◌≡◌, ◌≢◌, ◌⊎◌, ℕ, ◌+◌, ◌^◌, ◌<◌, ◌≤◌, Bool, true, false, Option, None, Some}
+use Rattle.std.specs.Prelude.{◌≡◌, ◌⊎◌, ℕ, ◌≤◌, Option, None, Some}
 use Rattle.irl_disk.specs.Disk.{Files}
 
 pub record Snapshot : Type 1 where

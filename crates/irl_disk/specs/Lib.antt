@@ -7,4 +7,6 @@ pub mod Memory
 pub mod MemoryLaws
 pub mod Model
 pub mod ModelLaws
+pub mod Sure
+pub mod SureLaws
 pub mod Taken

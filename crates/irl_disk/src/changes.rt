@@ -49,7 +49,8 @@ fn write_over(
     at: u64,
     bytes: &[u8],
 ) -> Result<(), AllocError>
-    ensures ok { OnOk result (Writes file (λ old new. Holds (min at (length old)) bytes.now old new) files.old files.new) }
+    ensures ok { OnOk result (Writes file (λ old new. Holds (min at (length old)) bytes.now old new)
+        files.old files.new) }
     ensures within { min at (length (files_of files.old file)) + length bytes.now < 2 ^ 64 }
     ensures err { OnErr result (AllStay files.old files.new) }
 {

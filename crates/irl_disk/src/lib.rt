@@ -1,4 +1,4 @@
-//! A store of numbered files: its trait, and a form of it in memory.
+//! A store of numbered files: its trait, and two forms of it in memory.
 #![tactic(auto)]
 
 mod calls;
@@ -6,10 +6,12 @@ mod changes;
 mod log;
 mod memory;
 mod store;
+mod sure;
 
 pub use calls::Part;
 pub use memory::MemStore;
 pub use store::{Failed, Store};
+pub use sure::SureStore;
 
 #[cfg(test)]
 mod tests {

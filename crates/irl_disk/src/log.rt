@@ -28,7 +28,8 @@ impl Model for Log {
 
     ghost view = { λ log. record { first = log.first.entries; entries = log.entries.items } };
 
-    ghost invariant = { λ log. (f : ℕ) → files_of log.files f ≡ (states (record { first = log.first.entries; entries = log.entries.items }) f).now };
+    ghost invariant = { λ log. (f : ℕ) → files_of log.files f
+        ≡ (states (record { first = log.first.entries; entries = log.entries.items }) f).now };
 }
 
 impl Log {
@@ -113,7 +114,8 @@ fn make_entry(
 ) -> Result<(), NotDone>
     ensures done { OnOk result (entries.new.items ≡ entries.old.items ++ record { call = call; is_done = true } ∷ []) }
     ensures files { OnOk result ((f : ℕ) → files_of files.new f ≡ read_after call f (files_of files.old f)) }
-    ensures not_done { OnErr result ((entries.new.items ≡ entries.old.items) ⊎ (entries.new.items ≡ entries.old.items ++ record { call = call; is_done = false } ∷ [])) }
+    ensures not_done { OnErr result ((entries.new.items ≡ entries.old.items)
+        ⊎ (entries.new.items ≡ entries.old.items ++ record { call = call; is_done = false } ∷ [])) }
     ensures kept { OnErr result (AllStay files.old files.new) }
     ensures listed { OnOk result (is_failing ≡ false) }
     ensures within { OnOk result (EndsWithin call (files_of files.old)) }

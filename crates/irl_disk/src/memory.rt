@@ -56,7 +56,8 @@ impl MemStore {
     /// A store that starts again on what a stop in this call left: this part of each file.
     pub fn image(&self, alloc: Global, call: u64, part: Part) -> Result<MemStore, AllocError>
         requires made { call < call_count self.now }
-        ensures part { IfOk result (λ store. (f : ℕ) → IsPart part (states_at (call + 1) self.now.log f) (files_in store f)) }
+        ensures part { IfOk result (λ store. (f : ℕ) →
+            IsPart part (states_at (call + 1) self.now.log f) (files_in store f)) }
         ensures image { IfOk result (λ store. AreImages (states_at (call + 1) self.now.log) (files_in store)) }
         ensures no_fault { IfOk result (λ store. fault_count store ≡ 0) }
         ensures no_call { IfOk result (λ store. call_count store ≡ 0) }

@@ -4,7 +4,7 @@ use Rattle.std.specs.declared.alloc.Global.{Global}
 use Rattle.irl_disk.proofs.Steps.{made, on_ok_at, not_done_stays, refused_leaves, scribbled_images, scribbled_none, tells_change, write_holds, write_leaves, write_logged}
 use Rattle.std.proofs.lemmas.Result.{on_ok_weaker, on_err_weaker}
 use Rattle.irl_disk.specs.Disk.{ChangesFile, Holds, Scribbled}
-use Rattle.irl_disk.specs.Images.{Follows, Leaves, LeavesBy}
+use Rattle.irl_disk.specs.Images.{Follows, LeavesBy}
 use Rattle.irl_disk.specs.Memory.{files_in, snapshot_of}
 use Rattle.irl_disk.proofs.memory.MemStoreStore.write.Goals as goal
 
