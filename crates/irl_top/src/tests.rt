@@ -170,7 +170,7 @@ fn runs() -> &'static [Case<'static>] {
 }
 
 #[test]
-fn new_lines_are_printed_once(rt: HostRuntime) -> Result<(), Fail> {
+fn each_run_goes_on_from_the_one_before(rt: HostRuntime) -> Result<(), Fail> {
     let mut store = new_store(rt.alloc(), NONE)?;
     for case in runs() {
         store = check(&rt, store, NONE, *case)?;
