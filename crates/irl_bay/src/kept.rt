@@ -1,4 +1,5 @@
-ghost use Rattle.std.specs.Prelude.{◌≡◌, ◌≢◌, ◌++◌, ◌∷◌, [], ◌<◌, ◌≤◌, List, ℕ, Some, length, map, IfOk, OnOk, OnErr, IsErrOf, ⊤, true, IsErr};
+ghost use Rattle.std.specs.Prelude.{◌≡◌, ◌≢◌, ◌++◌, ◌∷◌, [], ◌<◌, ◌≤◌, List, ℕ, Some, length, map};
+ghost use Rattle.std.specs.Prelude.{IfOk, OnOk, OnErr, IsErrOf, ⊤, true, IsErr};
 ghost use Rattle.std.specs.Option.{ForSome};
 ghost use Rattle.irl_offer.specs.Faults.{HasCause};
 ghost use Rattle.irl_disk.specs.Disk.{Files, Changes, ChangesFile};
@@ -103,12 +104,18 @@ impl Kept {
     /// Reads the lines of a store. It writes only where the journal's file has at most one byte: its closed gate.
     pub fn open<S: Store>(alloc: Global, store: &mut S) -> Result<Kept, OpenFault>
         ensures ready { IfOk result (λ kept. IsReady kept) }
-        ensures lines { IfOk result (λ kept. ForSome (S.snapshot store.old).files (λ files. (lines : List (List ℕ)) × HasLines files lines × IsKept (S.snapshot store.new).images kept lines)) }
+        ensures lines { IfOk result (λ kept. ForSome (S.snapshot store.old).files (λ files.
+            (lines : List (List ℕ)) × HasLines files lines × IsKept (S.snapshot store.new).images kept lines)) }
         ensures known { IfOk result (λ kept. IsKnown (S.snapshot store.new).files (S.snapshot store.new).images kept) }
-        ensures not_ours { (n : ℕ) → IsErrOf result (OpenFault.NotOurs n) → (n ≡ 0) × ForSome (S.snapshot store.old).files (λ files. 1 < length (files other_file)) }
-        ensures damaged { (at : ℕ) → IsErrOf result (OpenFault.Damaged at) → ForSome (S.snapshot store.old).files (λ files. (length (files other_file) ≤ 1) × IsDamagedAt (files line_file) at) }
-        ensures not_ours_same { (n : ℕ) → IsErrOf result (OpenFault.NotOurs n) → (S.snapshot store.new).files ≡ (S.snapshot store.old).files }
-        ensures damaged_same { (at : ℕ) → IsErrOf result (OpenFault.Damaged at) → (S.snapshot store.new).files ≡ (S.snapshot store.old).files }
+        ensures not_ours { (n : ℕ) → IsErrOf result (OpenFault.NotOurs n) →
+            (n ≡ 0) × ForSome (S.snapshot store.old).files (λ files. 1 < length (files other_file)) }
+        ensures damaged { (at : ℕ) → IsErrOf result (OpenFault.Damaged at) →
+            ForSome (S.snapshot store.old).files (λ files.
+            (length (files other_file) ≤ 1) × IsDamagedAt (files line_file) at) }
+        ensures not_ours_same { (n : ℕ) → IsErrOf result (OpenFault.NotOurs n) →
+            (S.snapshot store.new).files ≡ (S.snapshot store.old).files }
+        ensures damaged_same { (at : ℕ) → IsErrOf result (OpenFault.Damaged at) →
+            (S.snapshot store.new).files ≡ (S.snapshot store.old).files }
         ensures changes { Changes line_file IsOpened (S.snapshot store.old).files (S.snapshot store.new).files }
         // A stop at any moment leaves each file as it was, but that a line file of at most one byte has at most one.
         ensures stops { LeavesBy (ChangesFile line_file IsOpened) (S.snapshot store.old) (S.snapshot store.new) }
@@ -130,9 +137,9 @@ impl Kept {
         })
     }
 
-    /// Appends the lines of these offers to the store's journal, one after the other, and gives their verdicts. Each line
-    /// is acknowledged before the next is written. After want of memory the store is as before; of the lines that are known
-    /// no more can be said then.
+    /// Appends the lines of these offers to the store's journal, one after the other, and gives their verdicts. Each
+    /// line is acknowledged before the next is written. After want of memory the store is as before; of the lines that
+    /// are known no more can be said then.
     pub fn append<S: Store>(
         &mut self,
         alloc: Global,
@@ -144,13 +151,18 @@ impl Kept {
         requires known { IsKnown (S.snapshot store.old).files (S.snapshot store.old).images self.old }
         ensures ready { OnOk result (IsReady self.new) }
         ensures known { OnOk result (IsKnown (S.snapshot store.new).files (S.snapshot store.new).images self.new) }
-        ensures kept { OnOk result ((lines : List (List ℕ)) → IsKept (S.snapshot store.old).images self.old lines → IsKept (S.snapshot store.new).images self.new (lines ++ map (λ offer. offer.aux) offers.now)) }
-        ensures verdicts { IfOk result (λ verdicts. AreVerdicts self.old (map (λ offer. offer.aux) offers.now) verdicts.items) }
+        ensures kept { OnOk result ((lines : List (List ℕ)) → IsKept (S.snapshot store.old).images self.old lines →
+            IsKept (S.snapshot store.new).images self.new (lines ++ map (λ offer. offer.aux) offers.now)) }
+        ensures verdicts { IfOk result (λ verdicts.
+            AreVerdicts self.old (map (λ offer. offer.aux) offers.now) verdicts.items) }
         ensures count { IfOk result (λ verdicts. length verdicts.items ≡ length offers.now) }
         ensures whole { OnOk result ((lines : List (List ℕ)) → IsKept (S.snapshot store.old).images self.old lines →
-            Extends (S.snapshot store.old) (S.snapshot store.new) lines (map (λ offer. offer.aux) offers.now) (length offers.now) (length offers.now) (length offers.now)) }
-        ensures part { IsErrOf result Fault.Failed → (lines : List (List ℕ)) → IsKept (S.snapshot store.old).images self.old lines → (kept told most : ℕ) ×
-            Extends (S.snapshot store.old) (S.snapshot store.new) lines (map (λ offer. offer.aux) offers.now) kept told most }
+            Extends (S.snapshot store.old) (S.snapshot store.new) lines (map (λ offer. offer.aux) offers.now)
+            (length offers.now) (length offers.now) (length offers.now)) }
+        ensures part { IsErrOf result Fault.Failed →
+            (lines : List (List ℕ)) → IsKept (S.snapshot store.old).images self.old lines → (kept told most : ℕ) ×
+            Extends (S.snapshot store.old) (S.snapshot store.new) lines (map (λ offer. offer.aux) offers.now)
+            kept told most }
         ensures memory { IsErrOf result Fault.Memory → store.new ≡ store.old }
         ensures cause { HasCause (IsErrOf result Fault.Failed) (S.faults store.old) (S.faults store.new) }
     {
@@ -171,15 +183,19 @@ fn append_line<S: Store>(
 ) -> Result<(), Failed>
     requires few { length line.now ≤ frame.old.room }
     requires sound { journal.old.is_sound ≡ true }
-    requires open_ { (files : Files) → (S.snapshot store.old).files ≡ Some files → (lines : List (List ℕ)) × IsOpen (S.snapshot store.old).images journal.old lines }
+    requires open_ { (files : Files) → (S.snapshot store.old).files ≡ Some files →
+        (lines : List (List ℕ)) × IsOpen (S.snapshot store.old).images journal.old lines }
     ensures file { journal.new.file ≡ journal.old.file }
     ensures sound { OnOk result (journal.new.is_sound ≡ true) }
     ensures room { frame.new.room ≡ frame.old.room }
-    ensures acknowledged { OnOk result ((lines : List (List ℕ)) → IsOpen (S.snapshot store.old).images journal.old lines → IsOpen (S.snapshot store.new).images journal.new (lines ++ line.now ∷ [])) }
+    ensures acknowledged { OnOk result ((lines : List (List ℕ)) →
+        IsOpen (S.snapshot store.old).images journal.old lines →
+        IsOpen (S.snapshot store.new).images journal.new (lines ++ line.now ∷ [])) }
     ensures changes { (lines : List (List ℕ)) → IsOpen (S.snapshot store.old).images journal.old lines →
         Changes journal.old.file (HasOrGains lines line.now) (S.snapshot store.old).files (S.snapshot store.new).files }
     ensures stops { (lines : List (List ℕ)) → IsOpen (S.snapshot store.old).images journal.old lines →
-        LeavesBy (ChangesFile journal.old.file (HasOrGains lines line.now)) (S.snapshot store.old) (S.snapshot store.new) }
+        LeavesBy (ChangesFile journal.old.file (HasOrGains lines line.now))
+        (S.snapshot store.old) (S.snapshot store.new) }
     ensures cause { HasCause (IsErr result) (S.faults store.old) (S.faults store.new) }
 {
     frame.clear();

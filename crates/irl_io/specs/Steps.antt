@@ -1,5 +1,5 @@
 -- What a reader of lines answers, of the bytes that are left: those that it read ahead, and then the source's.
-use Rattle.std.specs.Prelude.{◌≡◌, ◌≢◌, ℕ, ◌+◌, ◌<◌, ◌≤◌, ⊤, ◌⊎◌, List, [], ◌∷◌, length, Option, None, Some}
+use Rattle.std.specs.Prelude.{◌≡◌, ◌≢◌, ℕ, ◌+◌, ◌<◌, ⊤, ◌⊎◌, List, [], ◌∷◌, length, Option, None, Some}
 use Rattle.std.specs.List.{before_first, after_first}
 use Rattle.std.specs.Io.KnownBytes.{prepend_known}
 use Rattle.irl_offer.specs.Limits.{max_text}

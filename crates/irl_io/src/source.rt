@@ -15,8 +15,8 @@ pub trait Source {
     /// How often it failed. The count never falls, and stands still at the last value of a `u64`.
     ghost faults: { Self → ℕ };
 
-    /// Reads bytes into the slice, from its first place on, and says how many: 0 of a slice that isn't empty only at the end.
-    /// A read that failed gave nothing.
+    /// Reads bytes into the slice, from its first place on, and says how many: 0 of a slice that isn't empty only at
+    /// the end. A read that failed gave nothing.
     fn read(&mut self, into: &mut [u8]) -> Result<usize, Failed>
         ensures bound { ReadsAtMost result into.new }
         ensures bytes { ReadConsumes (left self.old) (left self.new) result into.new }

@@ -1,12 +1,9 @@
-ghost use Rattle.std.specs.Prelude.{◌≡◌, ◌≤◌, ◌++◌, None, IfOk, IsTrue};
-ghost use Rattle.std.specs.Io.KnownBytes.{prepend_known};
-ghost use Rattle.irl_io.specs.Lines.{lines as lines_of};
-ghost use Rattle.irl_io.specs.Steps.{OfKnown};
+ghost use Rattle.std.specs.Prelude.{None};
 
 use crate::{Failed, Lines, MemSink, MemSource, ReadSource, Sink, Source, Step, WriteSink};
-use irl_offer::Text;
 use std::alloc::{AllocError, Global};
 use std::io;
+use std::process::Abort;
 use std::test::Fail;
 
 /// Gives one byte at a time, and tells nothing.
@@ -65,213 +62,219 @@ impl io::Write for Narrow {
     }
 }
 
-fn put<O: Sink>(sink: &mut O, bytes: &[u8]) -> Result<(), Failed> {
-    sink.write(bytes)
+// Shows a step: a line with a `|` behind it, a refused line's number, or how the input ended. Whether it gave a line or
+// failed.
+fn show_step<I: Source>(
+    lines: &mut Lines,
+    source: &mut I,
+    out: &mut Vec<u8>,
+) -> Result<bool, AllocError> {
+    match lines.next(source) {
+        Step::Line(line) => {
+            out.extend_from_slice(line)?;
+            out.push(b'|')?;
+            return Ok(true);
+        }
+        Step::Failed => {
+            out.push(b'!')?;
+            return Ok(true);
+        }
+        Step::LongLine(n) => {
+            out.push(b'>')?;
+            out.push(digit(n))?;
+        }
+        Step::End => out.push(b'.')?,
+    }
+    Ok(false)
 }
 
-/// The lines that come, each with a `|` behind it, and then a sign of what ended them.
+// The last digit of a number.
+fn digit(n: u64) -> u8 {
+    b'0' + (n % 10) as u8
+}
+
+// All steps, with one more behind that at which the input ended or a line was refused, and how many lines were given.
 fn shown<I: Source>(alloc: Global, source: &mut I) -> Result<Vec<u8>, AllocError> {
     let mut lines = Lines::new(alloc)?;
     let mut out = Vec::new(alloc);
     for _ in 0..u64::MAX {
-        match lines.next(source) {
-            Step::Line(line) => {
-                out.extend_from_slice(line)?;
-                out.push(b'|')?;
-            }
-            Step::End => {
-                out.push(b'.')?;
-                break;
-            }
-            Step::LongLine(_) => {
-                out.push(b'>')?;
-                break;
-            }
-            Step::Failed => out.push(b'!')?,
+        if !show_step(&mut lines, source, &mut out)? {
+            break;
         }
     }
+    show_step(&mut lines, source, &mut out)?;
+    out.push(digit(lines.number()))?;
     Ok(out)
 }
 
-/// The lines of a source up to its end, and whether it was reached: a caller of `next`, with what it can state.
-fn gather<I: Source>(
-    alloc: Global,
-    reader: &mut Lines,
-    source: &mut I,
-) -> Result<(Vec<Text>, bool), AllocError>
-    ensures { IfOk result (λ found. IsTrue found.1 → OfKnown (λ before after. found.0.items ≡ lines_of before)
-        (prepend_known reader.old.ahead (I.left source.old)) (prepend_known reader.new.ahead (I.left source.new))) }
-{
-    let mut out = Vec::new(alloc);
-    for _ in 0..u64::MAX {
-        match reader.next(source) {
-            Step::Line(line) => out.push(Text::from_bytes(alloc, line)?)?,
-            Step::End => return Ok((out, true)),
-            Step::LongLine(_) => return Ok((out, false)),
-            Step::Failed => return Ok((out, false)),
-        }
-    }
-    Ok((out, false))
+fn source_of(alloc: Global, bytes: &[u8], failing: &[u64]) -> Result<MemSource, AllocError> {
+    Ok(MemSource::new(bytes.to_vec(alloc)?, failing.to_vec(alloc)?))
+}
+
+fn shown_whole(alloc: Global, bytes: &[u8]) -> Result<Vec<u8>, AllocError> {
+    shown(alloc, &mut source_of(alloc, bytes, &[])?)
+}
+
+fn shown_byte_by_byte(alloc: Global, bytes: &[u8], failing: &[u64]) -> Result<Vec<u8>, AllocError> {
+    let source = source_of(alloc, bytes, failing)?;
+    shown(alloc, &mut Trickle { source })
 }
 
 #[test]
 fn lines_end_at_line_feeds(rt: HostRuntime) -> Result<(), Fail> {
     let alloc = rt.alloc();
-    let cases = [
-        ("", "."),
-        ("\n", "|."),
-        ("\n\n\n", "|||."),
-        ("a", "a|."),
-        ("a\n", "a|."),
-        ("a\nb", "a|b|."),
-        ("a\n\nb\n", "a||b|."),
-        ("\nab\r\n", "|ab\r|."),
+    let table: [(&[u8], &[u8]); 8] = [
+        (b"", b"..0"),
+        (b"\n", b"|..1"),
+        (b"\n\n\n", b"|||..3"),
+        (b"a", b"a|..1"),
+        (b"a\n", b"a|..1"),
+        (b"a\nb", b"a|b|..2"),
+        (b"a\n\nb\n", b"a||b|..3"),
+        (b"\nab\r\n", b"|ab\r|..2"),
     ];
-    for (input, expected) in cases {
-        let bytes = input.as_bytes().to_vec(alloc)?;
-        let mut source = MemSource::new(bytes, Vec::new(alloc));
-        let whole = shown(alloc, &mut source)?;
-        assert_eq!(rt; whole.as_slice(), expected.as_bytes(), "at {input:?}");
-
-        let bytes = input.as_bytes().to_vec(alloc)?;
-        let source = MemSource::new(bytes, Vec::new(alloc));
-        let trickled = shown(alloc, &mut Trickle { source })?;
-        assert_eq!(rt;
-            trickled.as_slice(),
-            expected.as_bytes(),
-            "byte by byte at {input:?}"
-        );
+    for (input, expected) in table {
+        let whole = shown_whole(alloc, input)?;
+        assert_eq!(rt; whole.as_slice(), expected);
+        let trickled = shown_byte_by_byte(alloc, input, &[])?;
+        assert_eq!(rt; trickled.as_slice(), expected);
     }
     Ok(())
 }
 
-#[test]
-fn a_line_has_at_most_2048_bytes(rt: HostRuntime) -> Result<(), Fail> {
-    let alloc = rt.alloc();
-    let cases = [
-        (2047, "", true),
-        (2048, "", true),
-        (2048, "\nab", true),
-        (2049, "", false),
-        (2049, "\n", false),
-        (200_000, "\n", false),
-    ];
-    for (length, rest, taken) in cases {
-        let mut bytes = b"first\n".to_vec(alloc)?;
-        bytes.resize(6 + length, b'x')?;
-        bytes.extend_from_slice(rest.as_bytes())?;
-        let mut source = MemSource::new(bytes, Vec::new(alloc));
-        let mut lines = Lines::new(alloc)?;
-        assert_eq!(rt; lines.next(&mut source), Step::Line(b"first".as_slice()));
-        match lines.next(&mut source) {
-            Step::Line(line) => assert!(rt; taken && line.len() == length, "of {length}"),
-            other => assert!(rt; !taken && other == Step::LongLine(2), "of {length}"),
-        }
-        if !taken {
-            assert_eq!(rt;
-                lines.next(&mut source),
-                Step::LongLine(2),
-                "again of {length}"
-            );
-        }
-        assert_eq!(rt; lines.number(), if taken { 2 } else { 1 });
-    }
-    Ok(())
-}
-
-// 200 lines of 2,040 bytes are more than three times what is read ahead, and no line ends with a read.
-#[test]
-fn lines_lie_across_reads(rt: HostRuntime) -> Result<(), Fail> {
-    let alloc = rt.alloc();
-    let mut bytes = Vec::new(alloc);
-    let mut expected = Vec::new(alloc);
-    for number in 0..200u8 {
-        let line = vec![in alloc; number.max(11); 2040]?;
-        bytes.extend_from_slice(&line)?;
-        bytes.push(b'\n')?;
-        expected.push(Text::from_vec(line))?;
-    }
-    let mut source = MemSource::new(bytes, Vec::new(alloc));
-    let mut lines = Lines::new(alloc)?;
-    let (found, ended) = gather(alloc, &mut lines, &mut source)?;
-    assert!(rt; ended);
-    assert_eq!(rt; found.len(), expected.len());
-    for (line, wanted) in found.iter().zip(&expected) {
-        assert_eq!(rt; line.bytes(), wanted.bytes());
-    }
-    assert_eq!(rt; lines.number(), 200);
-    Ok(())
-}
-
-// The numbers are those of the reads, which give one byte each.
+// The numbers are those of the reads that fail, which give one byte each.
 #[test]
 fn a_failed_read_loses_nothing(rt: HostRuntime) -> Result<(), Fail> {
     let alloc = rt.alloc();
-    let cases = [
-        ([0, 1], "!!ab|c|."),
-        ([1, 2], "!!ab|c|."),
-        ([2, 4], "!ab|!c|."),
-        ([5, 6], "ab|c|!!."),
+    let table: [([u64; 2], &[u8]); 4] = [
+        ([0, 1], b"!!ab|c|..2"),
+        ([1, 2], b"!!ab|c|..2"),
+        ([2, 4], b"!ab|!c|..2"),
+        ([5, 6], b"ab|c|!!..2"),
     ];
-    for (failing, expected) in cases {
-        let source = MemSource::new(b"ab\nc\n".to_vec(alloc)?, failing.to_vec(alloc)?);
-        let mut trickle = Trickle { source };
-        assert_eq!(rt;
-            shown(alloc, &mut trickle)?.as_slice(),
-            expected.as_bytes(),
-            "at {failing:?}"
-        );
+    for (failing, expected) in table {
+        let trickled = shown_byte_by_byte(alloc, b"ab\nc\n", &failing)?;
+        assert_eq!(rt; trickled.as_slice(), expected);
     }
     Ok(())
+}
+
+// Some bytes, so many `x`, and some bytes more.
+fn padded(alloc: Global, head: &[u8], count: usize, tail: &[u8]) -> Result<Vec<u8>, AllocError> {
+    let mut bytes = head.to_vec(alloc)?;
+    bytes.extend_from_slice(&vec![in alloc; b'x'; count]?)?;
+    bytes.extend_from_slice(tail)?;
+    Ok(bytes)
+}
+
+// The length of the second line and what follows it, and how much of the line is shown and what follows it.
+#[test]
+fn a_line_has_at_most_2048_bytes(rt: HostRuntime) -> Result<(), Fail> {
+    let alloc = rt.alloc();
+    let table: [(usize, &[u8], usize, &[u8]); 6] = [
+        (2047, b"", 2047, b"|..2"),
+        (2048, b"", 2048, b"|..2"),
+        (2048, b"\nab", 2048, b"|ab|..3"),
+        (2049, b"", 0, b">2>21"),
+        (2049, b"\n", 0, b">2>21"),
+        (200_000, b"\n", 0, b">2>21"),
+    ];
+    for (length, rest, count, end) in table {
+        let whole = shown_whole(alloc, &padded(alloc, b"first\n", length, rest)?)?;
+        let expected = padded(alloc, b"first|", count, end)?;
+        assert_eq!(rt; whole.as_slice(), expected.as_slice(), "of {length}");
+    }
+    Ok(())
+}
+
+// 200 lines of 2,040 bytes, each of one byte that is no line feed.
+fn long_lines(alloc: Global, separator: u8) -> Result<Vec<u8>, AllocError> {
+    let mut bytes = Vec::new(alloc);
+    for number in 0..200u8 {
+        bytes.extend_from_slice(&vec![in alloc; number.max(11); 2040]?)?;
+        bytes.push(separator)?;
+    }
+    Ok(bytes)
+}
+
+// They are more than three times what is read ahead, and no line ends with a read.
+#[test]
+fn lines_lie_across_reads(rt: HostRuntime) -> Result<(), Fail> {
+    let alloc = rt.alloc();
+    let whole = shown_whole(alloc, &long_lines(alloc, b'\n')?)?;
+    let mut expected = long_lines(alloc, b'|')?;
+    expected.extend_from_slice(b"..0")?;
+    assert_eq!(rt; whole.as_slice(), expected.as_slice());
+    Ok(())
+}
+
+// Each read into the same three bytes, its answer and what stands there then.
+fn check_reads<I: Source>(
+    rt: &impl Abort,
+    source: &mut I,
+    reads: &[(Result<usize, Failed>, [u8; 3])],
+) {
+    let mut into = *b"---";
+    for (answer, bytes) in reads {
+        assert_eq!(rt; source.read(&mut into), *answer);
+        assert_eq!(rt; into, *bytes);
+    }
+}
+
+// Each piece, and whether the write of it fails.
+fn check_writes<O: Sink>(rt: &impl Abort, sink: &mut O, pieces: &[(&[u8], bool)]) {
+    for (piece, fails) in pieces {
+        assert_eq!(rt; sink.write(piece).is_err(), *fails);
+    }
 }
 
 #[test]
 fn memory_gives_and_takes_bytes(rt: HostRuntime) -> Result<(), Fail> {
     let alloc = rt.alloc();
-    let mut source = MemSource::new(b"abcde".to_vec(alloc)?, vec![in alloc; 1]?);
-    let mut into = [b'-'; 3];
-    assert_eq!(rt; source.read(&mut into), Ok(3));
-    assert_eq!(rt; into, *b"abc");
-    assert_eq!(rt; source.read(&mut into), Err(Failed));
-    assert_eq!(rt; source.read(&mut into), Ok(2));
-    assert_eq!(rt; into, *b"dec");
-    assert_eq!(rt; source.read(&mut into), Ok(0));
+    let mut source = source_of(alloc, b"abcde", &[1])?;
+    let reads = [
+        (Ok(3), *b"abc"),
+        (Err(Failed), *b"abc"),
+        (Ok(2), *b"dec"),
+        (Ok(0), *b"dec"),
+    ];
+    check_reads(&rt, &mut source, &reads);
 
     let mut sink = MemSink::new(alloc, vec![in alloc; 1]?);
-    assert_eq!(rt; put(&mut sink, b"ab"), Ok(()));
-    assert_eq!(rt; put(&mut sink, b"cd"), Err(Failed));
-    assert_eq!(rt; put(&mut sink, b"ef"), Ok(()));
+    let pieces: [(&[u8], bool); 3] = [(b"ab", false), (b"cd", true), (b"ef", false)];
+    check_writes(&rt, &mut sink, &pieces);
     assert_eq!(rt; sink.bytes(), b"abef".as_slice());
     Ok(())
 }
 
 #[test]
-fn readers_and_writers_of_std_are_passed_on(rt: HostRuntime) -> Result<(), Fail> {
-    let alloc = rt.alloc();
+fn readers_of_std_are_passed_on(rt: HostRuntime) -> Result<(), Fail> {
     let mut source = ReadSource::new(b"ab\nc".as_slice());
-    assert_eq!(rt; shown(alloc, &mut source)?.as_slice(), b"ab|c|.".as_slice());
+    let lines = shown(rt.alloc(), &mut source)?;
+    assert_eq!(rt; lines.as_slice(), b"ab|c|..2".as_slice());
 
     let mut source = ReadSource::new(Shaky { interruptions: 66 });
-    assert_eq!(rt; source.read(&mut [0; 4]), Err(Failed));
-    assert_eq!(rt; source.read(&mut [0; 4]), Ok(0));
+    check_reads(
+        &rt,
+        &mut source,
+        &[(Err(Failed), *b"---"), (Ok(0), *b"---")],
+    );
+    Ok(())
+}
 
-    let mut bytes = Vec::new(alloc);
-    let mut sink = WriteSink::new(&mut bytes);
-    assert_eq!(rt; put(&mut sink, b"ab"), Ok(()));
-    assert_eq!(rt; put(&mut sink, b""), Ok(()));
-    assert_eq!(rt; put(&mut sink, b"cde"), Ok(()));
-    drop(sink);
+#[test]
+fn writers_of_std_are_passed_on(rt: HostRuntime) {
+    let mut bytes = Vec::new(rt.alloc());
+    let pieces: [(&[u8], bool); 3] = [(b"ab", false), (b"", false), (b"cde", false)];
+    check_writes(&rt, &mut WriteSink::new(&mut bytes), &pieces);
     assert_eq!(rt; bytes.as_slice(), b"abcde".as_slice());
 
     let mut narrow = Narrow {
-        bytes: Vec::new(alloc),
+        bytes: Vec::new(rt.alloc()),
         flushes: 0,
     };
-    let mut sink = WriteSink::new(&mut narrow);
-    assert_eq!(rt; put(&mut sink, b"0123456"), Ok(()));
-    assert_eq!(rt; put(&mut sink, b"789abc"), Err(Failed));
-    drop(sink);
+    let pieces: [(&[u8], bool); 2] = [(b"0123456", false), (b"789abc", true)];
+    check_writes(&rt, &mut WriteSink::new(&mut narrow), &pieces);
     assert_eq!(rt; narrow.bytes.as_slice(), b"0123456789".as_slice());
     assert_eq!(rt; narrow.flushes, 1);
-    Ok(())
 }

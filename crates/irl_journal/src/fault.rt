@@ -1,5 +1,6 @@
 ghost use Rattle.std.specs.Prelude.{◌≡◌};
-ghost use Rattle.irl_journal.specs.declared.fault.JournalFault.TheVariants.{Failed as VisitFailed, Memory as VisitMemory};
+ghost use Rattle.irl_journal.specs.declared.fault.JournalFault.TheVariants.{Failed as VisitFailed};
+ghost use Rattle.irl_journal.specs.declared.fault.JournalFault.TheVariants.{Memory as VisitMemory};
 
 use irl_disk::Failed;
 use std::alloc::AllocError;

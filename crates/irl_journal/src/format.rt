@@ -1,4 +1,5 @@
-ghost use Rattle.std.specs.Prelude.{◌≡◌, ◌≢◌, ◌⊎◌, ◌≤◌, ◌++◌, [], ◌∷◌, List, ℕ, length as len, true, false, IfSome, IfNone};
+ghost use Rattle.std.specs.Prelude.{◌≡◌, ◌≢◌, ◌⊎◌, ◌≤◌, ◌++◌, [], ◌∷◌, List, ℕ, length as len};
+ghost use Rattle.std.specs.Prelude.{true, false, IfSome, IfNone};
 ghost use Rattle.irl_journal.specs.Format.{open_gate, body_text, IsPayload, HasNoRecord};
 
 /// The greatest length of a payload, in bytes.

@@ -65,9 +65,10 @@ impl Journal {
         }
     }
 
-    /// Appends a record, in four calls of the store: its bytes with the next gate behind the closed one, a sync, the open
-    /// gate over the closed one, and a sync. At `Ok` it is acknowledged: each stop from then on leaves it. A refusal ends
-    /// the journal's soundness, and the file stands for the records before or for these and the new one. It takes no memory.
+    /// Appends a record, in four calls of the store: its bytes with the next gate behind the closed one, a sync, the
+    /// open gate over the closed one, and a sync. At `Ok` it is acknowledged: each stop from then on leaves it. A
+    /// refusal ends the journal's soundness, and the file stands for the records before or for these and the new one.
+    /// It takes no memory.
     pub fn append<S: Store>(&mut self, store: &mut S, frame: &mut Frame) -> Result<(), Failed>
         requires sound { self.old.is_sound ≡ true }
         requires place { ForSome (S.snapshot store.old).files (λ files. self.old.end < length (files self.old.file)) }
@@ -82,13 +83,15 @@ impl Journal {
         ensures changes { (payloads : List (List ℕ)) → IsOpen (S.snapshot store.old).images self.old payloads →
             Changes self.old.file (HasOrGains payloads frame.old.bytes)
             (S.snapshot store.old).files (S.snapshot store.new).files }
-        // A stop at any moment leaves the records from before, with the new one or without, and every other file as it was.
+        // A stop at any moment leaves the records from before, with the new one or without, and every other file as it
+        // was.
         ensures stops { (payloads : List (List ℕ)) → IsOpen (S.snapshot store.old).images self.old payloads →
             LeavesBy (ChangesFile self.old.file (HasOrGains payloads frame.old.bytes))
             (S.snapshot store.old) (S.snapshot store.new) }
         // At its end the file has the record and the next gate; the rest is as it was.
         ensures bytes { OnOk result (Changes self.old.file (λ old new. new ≡ take self.old.end old
-            ++ (record_text frame.old.bytes ++ (0 ∷ drop (self.old.end + length (record_text frame.old.bytes) + 1) old)))
+            ++ (record_text frame.old.bytes
+            ++ (0 ∷ drop (self.old.end + length (record_text frame.old.bytes) + 1) old)))
             (S.snapshot store.old).files (S.snapshot store.new).files) }
         // Every other file stays, whatever this one has.
         ensures others { Changes self.old.file (λ _ _. ⊤) (S.snapshot store.old).files (S.snapshot store.new).files }

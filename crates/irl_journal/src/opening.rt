@@ -6,7 +6,8 @@ ghost use Rattle.irl_disk.specs.Disk.{Files, Changes, ChangesFile};
 ghost use Rattle.irl_disk.specs.Images.{LeavesBy, LeavesSame};
 ghost use Rattle.irl_disk.specs.Taken.{TakesOnly};
 ghost use Rattle.irl_journal.specs.Format.{records_text, placed_from, StandsFor};
-ghost use Rattle.irl_journal.specs.Visiting.{TakesAll, IsBrokenFor, IsRefusedAt, RefusesOneOf, RefusesAt, HandsOver, IsOpened};
+ghost use Rattle.irl_journal.specs.Visiting.{TakesAll, IsBrokenFor, IsRefusedAt, RefusesOneOf, RefusesAt};
+ghost use Rattle.irl_journal.specs.Visiting.{HandsOver, IsOpened};
 ghost use Rattle.irl_journal.specs.Appending.{Ends, IsOpen};
 
 use crate::fault::JournalFault;
@@ -17,8 +18,8 @@ use irl_disk::{Failed, Store};
 use std::alloc::{AllocError, Global};
 
 impl Journal {
-    /// Opens a journal: syncs its file, and hands each record to the visitor, in order. A file of at most one byte is an
-    /// empty journal: its gate is written closed where it isn't. No other file's gate is written.
+    /// Opens a journal: syncs its file, and hands each record to the visitor, in order. A file of at most one byte is
+    /// an empty journal: its gate is written closed where it isn't. No other file's gate is written.
     pub fn visit<S: Store, V: Visit>(
         alloc: Global,
         store: &mut S,
@@ -51,8 +52,8 @@ impl Journal {
         ensures short { OnOk result (ForSome (S.snapshot store.old).files (λ files. length (files f) ≤ 1 →
             (new : Files) × ((S.snapshot store.new).files ≡ Some new) × (new f ≡ 0 ∷ []))) }
         ensures changes { Changes f IsOpened (S.snapshot store.old).files (S.snapshot store.new).files }
-        // A stop at any moment leaves each file as it was, but that a file of at most one byte which is no closed gate has
-        // at most one.
+        // A stop at any moment leaves each file as it was, but that a file of at most one byte which is no closed gate
+        // has at most one.
         ensures stops { LeavesBy (ChangesFile f IsOpened) (S.snapshot store.old) (S.snapshot store.new) }
         // Where memory runs out or the file is damaged, it leaves what a stop left before.
         ensures quiet { (IsErrOf result JournalFault.Memory) ⊎ ((at : ℕ) × IsErrOf result (JournalFault.Damaged at)) →
@@ -98,7 +99,7 @@ fn zeros(alloc: Global, len: usize) -> Result<Vec<u8>, AllocError>
     vec![in alloc; 0; len]
 }
 
-// Reads a journal's file of this length from its front, hands over its records, and gives the place of the closed gate.
+// Reads a journal's file of this length, hands over its records, and gives the place of the closed gate.
 fn read_records<S: Store, V: Visit>(
     alloc: Global,
     store: &mut S,
@@ -136,8 +137,8 @@ fn read_records<S: Store, V: Visit>(
     Err(JournalFault::Damaged(at))
 }
 
-// Hands over the whole records at the front of these bytes, whose first gate stands at this place of the file. Says how many
-// bytes they take, and whether a closed gate stands behind them.
+// Hands over the whole records that these bytes begin with, whose first gate stands at this place of the file. Says how
+// many bytes they take, and whether a closed gate stands behind them.
 fn hand_over<V: Visit>(
     bytes: &[u8],
     at: u64,
@@ -145,7 +146,8 @@ fn hand_over<V: Visit>(
 ) -> Result<(usize, bool), JournalFault>
     requires { at + len bytes.now < 2 ^ 64 }
     ensures records { IfOk result (λ p. HandsOver V.takes visitor.old visitor.new at p.0 p.1 bytes.now) }
-    ensures refused { (place : ℕ) → IsErrOf result (JournalFault.Damaged place) → RefusesAt V.takes V.refuses visitor.old visitor.new at bytes.now place }
+    ensures refused { (place : ℕ) → IsErrOf result (JournalFault.Damaged place) →
+        RefusesAt V.takes V.refuses visitor.old visitor.new at bytes.now place }
     ensures no_fault { IsErrOf result JournalFault.Failed → ⊥ }
 {
     let mut rest = bytes;

@@ -64,7 +64,8 @@ struct Kept {
 // A journal that was made in calls 0 and 1 of its store, with a record of `ab` that was appended in calls 2 to 5.
 fn append_first(alloc: Global, failing: Vec<u64>) -> Result<Kept, Fail>
     ensures sound { IfOk result (λ kept. kept.journal.is_sound ≡ true) }
-    ensures open { IfOk result (λ kept. (payloads : List (List ℕ)) × IsOpen (snapshot_of kept.store).images kept.journal payloads) }
+    ensures open { IfOk result (λ kept. (payloads : List (List ℕ)) ×
+        IsOpen (snapshot_of kept.store).images kept.journal payloads) }
     ensures room { IfOk result (λ kept. kept.frame.room ≡ 8) }
 {
     let mut store = MemStore::new(alloc, failing);

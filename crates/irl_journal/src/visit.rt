@@ -8,8 +8,8 @@ pub trait Visit {
     /// the visitor after.
     ghost takes: { Self → ℕ → List ℕ → Self → Type 0 };
 
-    /// A visitor refuses the record with this place and payload: it is none that the journal's owner writes. The last is
-    /// what the visitor becomes.
+    /// A visitor refuses the record with this place and payload: it is none that the journal's owner writes. The last
+    /// is what the visitor becomes.
     ghost refuses: { Self → ℕ → List ℕ → Self → Type 0 };
 
     /// Takes a record, or answers false where it refuses it.

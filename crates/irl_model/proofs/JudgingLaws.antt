@@ -23,15 +23,15 @@ judged_on-append rule seen [] ys = refl
 judged_on-append rule seen (x ∷ xs) ys = ap (λ rest. (x, answer x.op (get seen x.key)) ∷ rest) (judged_on-append rule (entered rule seen x) xs ys)
 
 -- the offer at a list's seam, and what stands before it
-at_seam : (front : List Tuple) (x : Tuple) (rest : List Tuple) → slice_get (front ++ x ∷ rest) (length front) ≡ Some x
+at_seam : (before : List Tuple) (x : Tuple) (rest : List Tuple) → slice_get (before ++ x ∷ rest) (length before) ≡ Some x
 at_seam [] x rest = refl
-at_seam (y ∷ front) x rest = at_seam front x rest
+at_seam (y ∷ before) x rest = at_seam before x rest
 
-from_place : (rule : Rule) (base : KeyMap) (front offers : List Tuple) → map (λ (p : ℕ × Tuple). (p.1, verdict rule base (front ++ offers) p.0)) (enumerate_from (length front) offers) ≡ judged_on rule (after rule base front) offers
-from_place rule base front [] = refl
-from_place rule base front (x ∷ offers) =
-    let ih = rw (append_assoc front (x ∷ []) offers, length-append front (x ∷ []), after-append rule base front (x ∷ [])) at (from_place rule base (front ++ x ∷ []) offers) in
-    rw (take-append_seam front (x ∷ offers), at_seam front x offers, ih) refl
+from_place : (rule : Rule) (base : KeyMap) (before offers : List Tuple) → map (λ (p : ℕ × Tuple). (p.1, verdict rule base (before ++ offers) p.0)) (enumerate_from (length before) offers) ≡ judged_on rule (after rule base before) offers
+from_place rule base before [] = refl
+from_place rule base before (x ∷ offers) =
+    let ih = rw (append_assoc before (x ∷ []) offers, length-append before (x ∷ []), after-append rule base before (x ∷ [])) at (from_place rule base (before ++ x ∷ []) offers) in
+    rw (take-append_seam before (x ∷ offers), at_seam before x offers, ih) refl
 
 pub judgements-judged_on : (rule : Rule) (base : KeyMap) (offers : List Tuple) → judgements rule base offers ≡ judged_on rule base offers
 judgements-judged_on rule base offers = from_place rule base [] offers

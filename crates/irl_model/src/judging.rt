@@ -51,13 +51,85 @@ mod tests {
 
     const ZERO: Option<Verdict> = Some(Verdict::Known(0));
 
-    fn asked(
-        alloc: Global,
-        rule: Rule,
-        tuples: &[(Op, u64, u64)],
-    ) -> Result<Vec<Option<Verdict>>, AllocError> {
+    // A key of the upper half, which stands in bucket 1 of two.
+    const HIGH: u64 = 0x8000_0000_0000_0001;
+
+    const NEAR: u64 = 0xFFFF_FFFF_FFFF_FFFD;
+
+    // An operation, a key, a value, and the verdict.
+    type Row = (Op, u64, u64, Option<Verdict>);
+
+    // Each list stands in the order in which a merge judges it: cut by cut, bucket 0 first within a cut.
+    static LISTS: [(Rule, &[Row]); 7] = [
+        // Two lines, and the first again; the key of a line stands for it.
+        (
+            Rule::Keep,
+            &[
+                (Op::Both, 1, 0, UNIQUE),
+                (Op::Both, 2, 0, UNIQUE),
+                (Op::Both, 1, 0, ZERO),
+            ],
+        ),
+        // Two buckets and one cut: bucket 0's offer comes first.
+        (
+            Rule::Keep,
+            &[
+                (Op::Both, 1, 0, UNIQUE),
+                (Op::Both, HIGH, 0, UNIQUE),
+                (Op::Both, HIGH, 0, ZERO),
+            ],
+        ),
+        // The same with two cuts: the first leaves bucket 0's offer.
+        (
+            Rule::Keep,
+            &[
+                (Op::Both, HIGH, 0, UNIQUE),
+                (Op::Both, HIGH, 0, ZERO),
+                (Op::Both, 1, 0, UNIQUE),
+                (Op::Both, 0x8000_0000_0000_0002, 0, UNIQUE),
+            ],
+        ),
+        // A check changes nothing, and a key has the value that it was entered with.
+        (
+            Rule::Keep,
+            &[
+                (Op::Both, 2, 0, UNIQUE),
+                (Op::Check, 1, 0, ABSENT),
+                (Op::Both, 1, 7, UNIQUE),
+                (Op::Check, 1, 0, Some(Verdict::Known(7))),
+            ],
+        ),
+        // The rules differ in what the second value leaves, and a sum stops at the greatest number.
+        (
+            Rule::Keep,
+            &[
+                (Op::Update, 1, NEAR, None),
+                (Op::Update, 1, 5, None),
+                (Op::Check, 1, 0, Some(Verdict::Known(NEAR))),
+            ],
+        ),
+        (
+            Rule::Replace,
+            &[
+                (Op::Update, 1, NEAR, None),
+                (Op::Update, 1, 5, None),
+                (Op::Check, 1, 0, Some(Verdict::Known(5))),
+            ],
+        ),
+        (
+            Rule::Add,
+            &[
+                (Op::Update, 1, NEAR, None),
+                (Op::Update, 1, 5, None),
+                (Op::Check, 1, 0, Some(Verdict::Known(0xFFFF_FFFF_FFFF_FFFF))),
+            ],
+        ),
+    ];
+
+    // The verdicts on a list's offers.
+    fn judged(alloc: Global, rule: Rule, rows: &[Row]) -> Result<Vec<Option<Verdict>>, AllocError> {
         let mut offers = Vec::new(alloc);
-        for (op, key, value) in tuples {
+        for (op, key, value, _) in rows {
             offers.push(Offer {
                 op: *op,
                 key: *key,
@@ -69,68 +141,25 @@ mod tests {
         judge(alloc, rule, &offers)
     }
 
-    // Each list stands in the order in which a merge judges it: cut by cut, bucket 0 first within a cut.
+    fn verdicts_of(alloc: Global, rows: &[Row]) -> Result<Vec<Option<Verdict>>, AllocError> {
+        let mut verdicts = Vec::new(alloc);
+        for (_, _, _, verdict) in rows {
+            verdicts.push(*verdict)?;
+        }
+        Ok(verdicts)
+    }
+
     #[test]
     fn verdicts_of_worked_lists(rt: HostRuntime) -> Result<(), Fail> {
         let alloc = rt.alloc();
-
-        // Two lines, and the first again; the key of a line stands for it.
-        let lines = [(Op::Both, 1, 0), (Op::Both, 2, 0), (Op::Both, 1, 0)];
-        let verdicts = asked(alloc, Rule::Keep, &lines)?;
-        assert_eq!(rt; verdicts.as_slice(), [UNIQUE, UNIQUE, ZERO].as_slice());
-
-        // Two buckets and one cut: bucket 0's offer comes first.
-        let high = 0x8000_0000_0000_0001;
-        let one_cut = [(Op::Both, 1, 0), (Op::Both, high, 0), (Op::Both, high, 0)];
-        let verdicts = asked(alloc, Rule::Keep, &one_cut)?;
-        assert_eq!(rt; verdicts.as_slice(), [UNIQUE, UNIQUE, ZERO].as_slice());
-
-        // The same with two cuts: the first leaves bucket 0's offer.
-        let two_cuts = [
-            (Op::Both, high, 0),
-            (Op::Both, high, 0),
-            (Op::Both, 1, 0),
-            (Op::Both, high + 1, 0),
-        ];
-        let verdicts = asked(alloc, Rule::Keep, &two_cuts)?;
-        assert_eq!(rt;
-            verdicts.as_slice(),
-            [UNIQUE, ZERO, UNIQUE, UNIQUE].as_slice()
-        );
-
-        // A check changes nothing, and a key has the value that it was entered with.
-        let checks = [
-            (Op::Both, 2, 0),
-            (Op::Check, 1, 0),
-            (Op::Both, 1, 7),
-            (Op::Check, 1, 0),
-        ];
-        let seven = Some(Verdict::Known(7));
-        let verdicts = asked(alloc, Rule::Keep, &checks)?;
-        assert_eq!(rt;
-            verdicts.as_slice(),
-            [UNIQUE, ABSENT, UNIQUE, seven].as_slice()
-        );
-        Ok(())
-    }
-
-    // Of one key: the rules differ in what the second value leaves, and a sum stops at the greatest number.
-    #[test]
-    fn values_combine_by_the_rule(rt: HostRuntime) -> Result<(), Fail> {
-        let alloc = rt.alloc();
-        let updates = [
-            (Op::Update, 1, u64::MAX - 2),
-            (Op::Update, 1, 5),
-            (Op::Check, 1, 0),
-        ];
-        for (rule, value) in [
-            (Rule::Keep, u64::MAX - 2),
-            (Rule::Replace, 5),
-            (Rule::Add, u64::MAX),
-        ] {
-            let verdicts = asked(alloc, rule, &updates)?;
-            let known = Some(Verdict::Known(value));
-            assert_eq!(rt; verdicts.as_slice(), [None, None, known].as_slice());
+        for (rule, rows) in &LISTS {
+            let verdicts = judged(alloc, *rule, rows)?;
+            let expected = verdicts_of(alloc, rows)?;
+            assert_eq!(rt;
+                verdicts.as_slice(),
+                expected.as_slice(),
+                "{rule:?} of {rows:?}"
+            );
         }
         Ok(())
     }

@@ -83,7 +83,8 @@ impl KeySet {
         rule: Rule,
         offers: &[Offer],
     ) -> Result<Vec<Option<Verdict>>, AllocError>
-        ensures verdicts { IfOk result (λ verdicts. verdicts.items ≡ list_map (λ p. p.1) (judgements rule self.old offers.now)) }
+        ensures verdicts { IfOk result (λ verdicts.
+            verdicts.items ≡ list_map (λ p. p.1) (judgements rule self.old offers.now)) }
         ensures count { IfOk result (λ verdicts. length verdicts.items ≡ length offers.now) }
         ensures ok { OnOk result (self.new ≡ after rule self.old offers.now) }
     {

@@ -1,15 +1,15 @@
 -- What a stop leaves over a run, from one moment of it to another.
-use Rattle.std.proofs.Common.{◌≡◌, ◌∙◌, ◌⊎◌, inl, inr, ℕ, zero, suc, ◌+◌, ◌≤◌, List, [], ◌∷◌, ◌++◌, length, take, Option, sym, ap, subst, arith, length-take-le, append_assoc, append-nil, length-append}
+use Rattle.std.proofs.Common.{◌≡◌, ◌∙◌, ◌⊎◌, inl, inr, ℕ, zero, suc, ◌+◌, ◌≤◌, List, [], ◌∷◌, ◌++◌, length, take, sym, ap, subst, arith, length-take-le, append_assoc, append-nil, length-append}
 use Rattle.std.proofs.lemmas.List.{take-append-le, take-take}
 use Rattle.std.proofs.Math.Seq.{take-append-add}
 use Rattle.std.specs.List.{AllByRecursion}
 use Rattle.irl_disk.specs.Disk.{Files, ChangesFile}
-use Rattle.irl_disk.specs.Images.{Follows, Leaves}
+use Rattle.irl_disk.specs.Images.{Follows}
 use Rattle.irl_disk.proofs.Stretches.{joins, widens}
 use Rattle.irl_journal.specs.Format.{HasRecords}
 use Rattle.irl_journal.specs.Visiting.{IsOpened}
 use Rattle.irl_bay.specs.Lines.{line_file, other_file, HasLines, IsKeepable}
-use Rattle.irl_bay.specs.Kept.{Extends, HasSome}
+use Rattle.irl_bay.specs.Kept.{HasSome}
 use Rattle.irl_bay.proofs.Lines.{each-append}
 use Rattle.irl_journal.proofs.Opened.{opened_stands}
 use Rattle.irl_top.specs.Run.{Lent, LeavesOnly, HasPrefix}

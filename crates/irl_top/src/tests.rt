@@ -12,43 +12,67 @@ const LINE_FILE: u16 = 999;
 const OTHER_FILE: u16 = 998;
 
 // The journal of the one line `ab`: an open gate, the length, the line, and the closed gate.
-const AB: &[u8] = &[0xA5, 2, 0, 0, 0, b'a', b'b', 0];
+const AB: &[u8] = b"\xA5\x02\0\0\0ab\0";
 
 const ROW: &[u8] = b"http://a.test/\nhttp://b.test/\nhttp://a.test/\n";
 
-// The calls of the outside that fail, by their numbers.
+const NEW_OF_ROW: &[u8] = b"http://a.test/\nhttp://b.test/\n";
+
+// The number of the call that fails, of each object.
 #[derive(Clone, Copy)]
-struct Failing<'a> {
-    store: &'a [u64],
-    input: &'a [u64],
-    output: &'a [u64],
+struct Failing {
+    store: Option<u64>,
+    input: Option<u64>,
+    output: Option<u64>,
 }
 
-const NONE: Failing<'static> = Failing {
-    store: &[],
-    input: &[],
-    output: &[],
+const NONE: Failing = Failing {
+    store: None,
+    input: None,
+    output: None,
 };
 
-// What a run left.
-#[derive(Drop)]
-struct Left {
+// The words and the input of a run, its status, and what it writes.
+#[derive(Clone, Copy)]
+struct Case<'a> {
+    words: &'a [&'a str],
+    input: &'a [u8],
     status: u8,
-    output: MemSink,
-    errors: MemSink,
-    store: MemStore,
+    output: &'a [u8],
+    errors: &'a [u8],
 }
 
-fn run_over<R: Threads + Wait + Sync + AllocGlobal>(
+const EMPTY: Case<'static> = Case {
+    words: &["seen"],
+    input: b"",
+    status: 0,
+    output: b"",
+    errors: b"",
+};
+
+fn numbers(alloc: Global, call: Option<u64>) -> Result<Vec<u64>, AllocError> {
+    let mut numbers = Vec::new(alloc);
+    if let Some(call) = call {
+        numbers.push(call)?;
+    }
+    Ok(numbers)
+}
+
+fn new_store(alloc: Global, failing: Failing) -> Result<MemStore, AllocError> {
+    Ok(MemStore::new(alloc, numbers(alloc, failing.store)?))
+}
+
+// Runs the program over a store.
+fn check<R: Threads + Wait + Sync + Abort + AllocGlobal>(
     rt: &R,
-    words: &[&str],
-    input: &[u8],
     store: MemStore,
-    failing: Failing<'_>,
-) -> Result<Left, AllocError> {
+    failing: Failing,
+    case: Case<'_>,
+) -> Result<MemStore, AllocError> {
     let alloc = rt.alloc();
-    let mut source = MemSource::new(input.to_vec(alloc)?, failing.input.to_vec(alloc)?);
-    let mut output = MemSink::new(alloc, failing.output.to_vec(alloc)?);
+    let Case { words, input, .. } = case;
+    let mut source = MemSource::new(input.to_vec(alloc)?, numbers(alloc, failing.input)?);
+    let mut output = MemSink::new(alloc, numbers(alloc, failing.output)?);
     let mut errors = MemSink::new(alloc, Vec::new(alloc));
     let (status, store) = run(
         rt,
@@ -59,174 +83,274 @@ fn run_over<R: Threads + Wait + Sync + AllocGlobal>(
         &mut errors,
         store,
     );
-    Ok(Left {
+    check_written(rt, case, status, output.bytes(), errors.bytes());
+    Ok(store)
+}
+
+fn check_written(rt: &impl Abort, case: Case<'_>, status: u8, output: &[u8], errors: &[u8]) {
+    assert_eq!(rt; output, case.output);
+    assert_eq!(rt; errors, case.errors);
+    assert_eq!(rt; status, case.status);
+}
+
+// A run on `ab` over a store.
+fn check_ab<R: Threads + Wait + Sync + Abort + AllocGlobal>(
+    rt: &R,
+    store: MemStore,
+    status: u8,
+    output: &[u8],
+    errors: &[u8],
+) -> Result<MemStore, AllocError> {
+    let case = Case {
+        words: &["seen"],
+        input: b"ab",
         status,
         output,
         errors,
-        store,
-    })
-}
-
-// A run on an empty store.
-fn run_new<R: Threads + Wait + Sync + AllocGlobal>(
-    rt: &R,
-    words: &[&str],
-    input: &[u8],
-    failing: Failing<'_>,
-) -> Result<Left, AllocError> {
-    let alloc = rt.alloc();
-    let store = MemStore::new(alloc, failing.store.to_vec(alloc)?);
-    run_over(rt, words, input, store, failing)
-}
-
-fn check(rt: &impl Abort, left: &Left, status: u8, output: &[u8], errors: &[u8]) {
-    assert_eq!(rt; left.status, status);
-    assert_eq!(rt; left.output.bytes(), output);
-    assert_eq!(rt; left.errors.bytes(), errors);
-}
-
-// A run answers something else than want of memory where there is enough of it.
-#[test]
-fn new_lines_are_printed_once(rt: HostRuntime) -> Result<(), Fail> {
-    let empty = run_new(&rt, &["seen"], b"", NONE)?;
-    check(&rt, &empty, 0, b"", b"");
-
-    let first = run_new(&rt, &["seen"], ROW, NONE)?;
-    check(&rt, &first, 0, b"http://a.test/\nhttp://b.test/\n", b"");
-    let again = run_over(&rt, &["seen"], ROW, first.store, NONE)?;
-    check(&rt, &again, 0, b"", b"");
-    let more = run_over(
-        &rt,
-        &["seen"],
-        b"\nhttp://c.test/\n\nlast",
-        again.store,
-        NONE,
-    )?;
-    check(&rt, &more, 0, b"http://c.test/\nlast\n", b"");
-    Ok(())
-}
-
-#[test]
-fn a_line_has_at_most_2048_bytes(rt: HostRuntime) -> Result<(), Fail> {
-    let alloc = rt.alloc();
-    let mut line = vec![in alloc; b'x'; 2048]?;
-    line.push(b'\n')?;
-    let longest = run_new(&rt, &["seen"], &line, NONE)?;
-    check(&rt, &longest, 0, &line, b"");
-    line.insert(0, b'x')?;
-    let longer = run_new(&rt, &["seen"], &line, NONE)?;
-    check(&rt, &longer, 2, b"", b"line 1 refused\n");
-    Ok(())
-}
-
-#[test]
-fn other_words_are_refused(rt: HostRuntime) -> Result<(), Fail> {
-    let none = run_new(&rt, &[], ROW, NONE)?;
-    check(&rt, &none, 1, b"", b"words refused: -\n");
-    let unknown = run_new(&rt, &["saw"], ROW, NONE)?;
-    check(&rt, &unknown, 1, b"", b"words refused: saw\n");
-    let more = run_new(&rt, &["seen", "twice"], ROW, NONE)?;
-    check(&rt, &more, 1, b"", b"words refused: seen\n");
-    Ok(())
+    };
+    check(rt, store, NONE, case)
 }
 
 // Whether a store's journal has these bytes and no more.
-fn is_journal<R: Abort + AllocGlobal>(
-    rt: &R,
-    store: &mut MemStore,
-    bytes: &[u8],
-) -> Result<bool, AllocError> {
-    let mut buffer = vec![in rt.alloc(); 0; bytes.len() + 1]?;
+fn is_journal(alloc: Global, store: &mut MemStore, bytes: &[u8]) -> Result<bool, AllocError> {
+    let mut buffer = vec![in alloc; 0; bytes.len() + 1]?;
     match store.read(LINE_FILE, 0, &mut buffer) {
         Ok(count) => Ok(&buffer[..count] == bytes),
         Err(_) => Ok(false),
     }
 }
 
-// A run on `ab` over a store with these bytes in a file.
-fn run_over_file<R: Threads + Wait + Sync + Abort + AllocGlobal>(
+// Each over what the one before it left. A run answers something else than want of memory where there is enough of it.
+fn runs() -> &'static [Case<'static>] {
+    &[
+        EMPTY,
+        Case {
+            words: &["seen"],
+            input: ROW,
+            status: 0,
+            output: NEW_OF_ROW,
+            errors: b"",
+        },
+        Case {
+            words: &["seen"],
+            input: ROW,
+            status: 0,
+            output: b"",
+            errors: b"",
+        },
+        Case {
+            words: &["seen"],
+            input: b"\nhttp://c.test/\n\nlast",
+            status: 0,
+            output: b"http://c.test/\nlast\n",
+            errors: b"",
+        },
+        Case {
+            words: &[],
+            input: b"new",
+            status: 1,
+            output: b"",
+            errors: b"words refused: -\n",
+        },
+        Case {
+            words: &["saw"],
+            input: b"new",
+            status: 1,
+            output: b"",
+            errors: b"words refused: saw\n",
+        },
+        Case {
+            words: &["seen", "twice"],
+            input: b"new",
+            status: 1,
+            output: b"",
+            errors: b"words refused: seen\n",
+        },
+    ]
+}
+
+#[test]
+fn each_run_goes_on_from_the_one_before(rt: HostRuntime) -> Result<(), Fail> {
+    let mut store = new_store(rt.alloc(), NONE)?;
+    for case in runs() {
+        store = check(&rt, store, NONE, *case)?;
+    }
+    Ok(())
+}
+
+// A line of so many bytes, on an empty store.
+fn check_length<R: Threads + Wait + Sync + Abort + AllocGlobal>(
+    rt: &R,
+    length: usize,
+    is_taken: bool,
+) -> Result<(), AllocError> {
+    let alloc = rt.alloc();
+    let mut line = vec![in alloc; b'x'; length]?;
+    line.push(b'\n')?;
+    let (status, output, errors) = if is_taken {
+        (0, line.as_slice(), b"".as_slice())
+    } else {
+        (2, b"".as_slice(), b"line 1 refused\n".as_slice())
+    };
+    let case = Case {
+        words: &["seen"],
+        input: &line,
+        status,
+        output,
+        errors,
+    };
+    let _ = check(rt, new_store(alloc, NONE)?, NONE, case)?;
+    Ok(())
+}
+
+#[test]
+fn a_line_has_at_most_2048_bytes(rt: HostRuntime) -> Result<(), Fail> {
+    for (length, is_taken) in [(2048, true), (2049, false)] {
+        check_length(&rt, length, is_taken)?;
+    }
+    Ok(())
+}
+
+// A file as a run on `ab` finds it, some bytes, so many `x` and a tail; and the line that refuses it, or nothing where
+// the run goes well. The place of a damage is the gate of the first record that passes the file's end or is no line.
+fn files() -> &'static [(u16, &'static [u8], usize, &'static [u8], &'static [u8])] {
+    &[
+        (LINE_FILE, b"", 0, b"", b""),
+        (LINE_FILE, b"\xA5", 0, b"", b""),
+        (OTHER_FILE, b"x", 0, b"", b""),
+        (
+            LINE_FILE,
+            b"\xA5\xFF\0\0\0\0",
+            0,
+            b"",
+            b"damaged: byte 0 of file 0999\n",
+        ),
+        (
+            LINE_FILE,
+            b"\xA5\0\0\0\0\0",
+            0,
+            b"",
+            b"damaged: byte 0 of file 0999\n",
+        ),
+        (
+            LINE_FILE,
+            b"\xA5\x02\0\0\0ab\xA5\0\0\0\0\0",
+            0,
+            b"",
+            b"damaged: byte 7 of file 0999\n",
+        ),
+        (
+            LINE_FILE,
+            b"\xA5\x01\x08\0\0",
+            2049,
+            b"\0",
+            b"damaged: byte 0 of file 0999\n",
+        ),
+        (
+            OTHER_FILE,
+            b"xy",
+            0,
+            b"",
+            b"not a store: byte 0 of file 0000\n",
+        ),
+    ]
+}
+
+fn store_with(
+    rt: &impl Abort,
+    alloc: Global,
+    file: u16,
+    bytes: &[u8],
+) -> Result<MemStore, AllocError> {
+    let mut store = new_store(alloc, NONE)?;
+    assert!(rt; file < 10_000);
+    assert_eq!(rt; store.write(file, 0, bytes), Ok(()));
+    Ok(store)
+}
+
+// A run on `ab` over these bytes of a file. Where it is refused the journal stays as it was.
+fn check_file<R: Threads + Wait + Sync + Abort + AllocGlobal>(
     rt: &R,
     file: u16,
     bytes: &[u8],
-) -> Result<Left, AllocError> {
+    refused: &[u8],
+) -> Result<bool, AllocError> {
     let alloc = rt.alloc();
-    let mut store = MemStore::new(alloc, Vec::new(alloc));
-    assert!(rt; file < 10_000);
-    assert_eq!(rt; store.write(file, 0, bytes), Ok(()));
-    run_over(rt, &["seen"], b"ab", store, NONE)
+    let store = store_with(rt, alloc, file, bytes)?;
+    let (status, output, journal) = if refused.is_empty() {
+        (0, b"ab\n".as_slice(), AB)
+    } else if file == LINE_FILE {
+        (3, b"".as_slice(), bytes)
+    } else {
+        (3, b"".as_slice(), b"".as_slice())
+    };
+    let mut left = check_ab(rt, store, status, output, refused)?;
+    is_journal(alloc, &mut left, journal)
+}
+
+fn padded(alloc: Global, head: &[u8], count: usize, tail: &[u8]) -> Result<Vec<u8>, AllocError> {
+    let mut bytes = vec![in alloc; b'x'; count]?;
+    bytes.extend_from_slice(tail)?;
+    let mut whole = head.to_vec(alloc)?;
+    whole.extend_from_slice(&bytes)?;
+    Ok(whole)
 }
 
 #[test]
-fn a_line_stands_in_the_journal(rt: HostRuntime) -> Result<(), Fail> {
-    for (file, bytes) in [
-        (LINE_FILE, b"".as_slice()),
-        (LINE_FILE, &[0xA5]),
-        (OTHER_FILE, b"x"),
-    ] {
-        let mut left = run_over_file(&rt, file, bytes)?;
-        check(&rt, &left, 0, b"ab\n", b"");
-        assert!(rt; is_journal(&rt, &mut left.store, AB)?);
+fn files_are_opened_or_refused(rt: HostRuntime) -> Result<(), Fail> {
+    for (file, head, count, tail, refused) in files() {
+        let bytes = padded(rt.alloc(), head, *count, tail)?;
+        assert!(rt; check_file(&rt, *file, &bytes, refused)?, "at {head:?}");
     }
     Ok(())
 }
 
-// The place is the gate of the first record that passes the file's end or is no line.
-#[test]
-fn a_damaged_journal_is_refused(rt: HostRuntime) -> Result<(), Fail> {
-    let alloc = rt.alloc();
-    let mut long = vec![in alloc; b'x'; 2055]?;
-    long[..5].copy_from_slice(&[0xA5, 1, 8, 0, 0]);
-    long[2054] = 0;
-    for (bytes, message) in [
-        (
-            [0xA5, 0xFF, 0, 0, 0, 0].as_slice(),
-            b"damaged: byte 0 of file 0999\n".as_slice(),
-        ),
-        (&[0xA5, 0, 0, 0, 0, 0], b"damaged: byte 0 of file 0999\n"),
-        (
-            &[0xA5, 2, 0, 0, 0, b'a', b'b', 0xA5, 0, 0, 0, 0, 0],
-            b"damaged: byte 7 of file 0999\n",
-        ),
-        (&long, b"damaged: byte 0 of file 0999\n"),
-    ] {
-        let mut left = run_over_file(&rt, LINE_FILE, bytes)?;
-        check(&rt, &left, 3, b"", message);
-        assert!(rt; is_journal(&rt, &mut left.store, bytes)?);
-    }
-    let left = run_over_file(&rt, OTHER_FILE, b"xy")?;
-    check(&rt, &left, 3, b"", b"not a store: byte 0 of file 0000\n");
-    Ok(())
+// What a stop in a call leaves of a store.
+fn stopped(
+    rt: &impl Abort,
+    alloc: Global,
+    store: &MemStore,
+    call: u64,
+    part: Part,
+) -> Result<MemStore, AllocError> {
+    assert!(rt; call < store.calls());
+    store.image(alloc, call, part)
 }
 
-// Whether a stop in this call of a run on `ab` leaves the line. What it leaves is opened, and `ab` is printed again just
-// where it was lost.
+// Whether a stop in this call of a run on `ab` leaves the line. What it leaves is opened, and `ab` is printed again
+// just where it was lost.
 fn leaves_line<R: Threads + Wait + Sync + Abort + AllocGlobal>(
     rt: &R,
     store: &MemStore,
     call: u64,
     part: Part,
 ) -> Result<bool, AllocError> {
-    assert!(rt; call < store.calls());
-    let mut image = store.image(rt.alloc(), call, part)?;
-    let is_left = is_journal(rt, &mut image, AB)?;
-    let opened = run_over(rt, &["seen"], b"", image, NONE)?;
-    check(rt, &opened, 0, b"", b"");
-    let again = run_over(rt, &["seen"], b"ab", opened.store, NONE)?;
+    let alloc = rt.alloc();
+    let mut image = stopped(rt, alloc, store, call, part)?;
+    let is_left = is_journal(alloc, &mut image, AB)?;
+    let opened = check(rt, image, NONE, EMPTY)?;
     let printed = if is_left { b"".as_slice() } else { b"ab\n" };
-    check(rt, &again, 0, printed, b"");
+    let _ = check_ab(rt, opened, 0, printed, b"")?;
     Ok(is_left)
+}
+
+// The calls of a run on `ab` over an empty store, and the store that it leaves.
+fn after_ab<R: Threads + Wait + Sync + Abort + AllocGlobal>(
+    rt: &R,
+) -> Result<(u64, MemStore), AllocError> {
+    let mut store = check_ab(rt, new_store(rt.alloc(), NONE)?, 0, b"ab\n", b"")?;
+    let calls = store.calls();
+    assert_eq!(rt; store.length(LINE_FILE), Ok(8));
+    Ok((calls, store))
 }
 
 // Of the four calls that append the line the first two leave none, and after the last it stays.
 #[test]
 fn a_stop_leaves_the_line_or_none(rt: HostRuntime) -> Result<(), Fail> {
-    let mut left = run_new(&rt, &["seen"], b"ab", NONE)?;
-    check(&rt, &left, 0, b"ab\n", b"");
-    let calls = left.store.calls();
-    assert_eq!(rt; left.store.length(LINE_FILE), Ok(8));
+    let (calls, store) = after_ab(&rt)?;
     for call in 0..=calls {
         for part in [Part::Old, Part::New, Part::Torn] {
-            let is_left = leaves_line(&rt, &left.store, call, part)?;
+            let is_left = leaves_line(&rt, &store, call, part)?;
             assert!(rt; calls - call <= 2 || !is_left, "at {call}");
             assert!(rt; call < calls || is_left);
         }
@@ -234,54 +358,49 @@ fn a_stop_leaves_the_line_or_none(rt: HostRuntime) -> Result<(), Fail> {
     Ok(())
 }
 
-fn check_failing<R: Threads + Wait + Sync + Abort + AllocGlobal>(
+// How many calls a run on the row makes of an empty store, where the calls of these numbers fail.
+fn calls_of_row<R: Threads + Wait + Sync + Abort + AllocGlobal>(
     rt: &R,
-    failing: Failing<'_>,
+    failing: Failing,
     status: u8,
     errors: &[u8],
-) -> Result<(), AllocError> {
-    let left = run_new(rt, &["seen"], ROW, failing)?;
-    let output = if status == 0 {
-        b"http://a.test/\nhttp://b.test/\n".as_slice()
-    } else {
-        b""
+) -> Result<u64, AllocError> {
+    let case = Case {
+        words: &["seen"],
+        input: ROW,
+        status,
+        output: if status == 0 { NEW_OF_ROW } else { b"" },
+        errors,
     };
-    check(rt, &left, status, output, errors);
-    Ok(())
+    Ok(check(rt, new_store(rt.alloc(), failing)?, failing, case)?.calls())
 }
 
 // The first call of each object fails, and the last; one number further none does.
 #[test]
 fn a_fault_ends_the_run(rt: HostRuntime) -> Result<(), Fail> {
-    let calls = run_new(&rt, &["seen"], ROW, NONE)?.store.calls();
-    for (call, status, errors) in [
-        (0, 4, b"disk fault\n".as_slice()),
-        (calls.saturating_sub(1), 4, b"disk fault\n"),
-        (calls, 0, b""),
+    let calls = calls_of_row(&rt, NONE, 0, b"")?;
+    for (store, input, output, status, errors) in [
+        (Some(0), None, None, 4, b"disk fault\n".as_slice()),
+        (
+            Some(calls.saturating_sub(1)),
+            None,
+            None,
+            4,
+            b"disk fault\n",
+        ),
+        (Some(calls), None, None, 0, b""),
+        (None, Some(0), None, 5, b"input fault\n"),
+        (None, Some(1), None, 5, b"input fault\n"),
+        (None, Some(2), None, 0, b""),
+        (None, None, Some(0), 6, b"output fault\n"),
+        (None, None, Some(1), 0, b""),
     ] {
         let failing = Failing {
-            store: &[call],
-            ..NONE
+            store,
+            input,
+            output,
         };
-        check_failing(&rt, failing, status, errors)?;
-    }
-    for (call, status, errors) in [
-        (0, 5, b"input fault\n".as_slice()),
-        (1, 5, b"input fault\n"),
-        (2, 0, b""),
-    ] {
-        let failing = Failing {
-            input: &[call],
-            ..NONE
-        };
-        check_failing(&rt, failing, status, errors)?;
-    }
-    for (call, status, errors) in [(0, 6, b"output fault\n".as_slice()), (1, 0, b"")] {
-        let failing = Failing {
-            output: &[call],
-            ..NONE
-        };
-        check_failing(&rt, failing, status, errors)?;
+        calls_of_row(&rt, failing, status, errors)?;
     }
     Ok(())
 }

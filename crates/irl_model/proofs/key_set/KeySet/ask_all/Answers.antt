@@ -10,13 +10,13 @@ loop-offer-preserved c =
     let rule = c.args.rule in
     let first = c.args.self.now in
     let offers = c.args.offers.now in
-    let front = take c.loop-offer.offer-index offers in
+    let before = take c.loop-offer.offer-index offers in
     let x = c.offer-item.result in
-    let more : take (c.loop-offer.offer-index + 1) offers ≡ front ++ x ∷ [] =
-    take_more offers c.loop-offer.offer-index x c.loop-offer-test.true ∙ ap (λ (y : Tuple). front ++ y ∷ []) (sym c.offer-item.is) in
+    let more : take (c.loop-offer.offer-index + 1) offers ≡ before ++ x ∷ [] =
+    take_more offers c.loop-offer.offer-index x c.loop-offer-test.true ∙ ap (λ (y : Tuple). before ++ y ∷ []) (sym c.offer-item.is) in
     record {
-      seen = c.in_ok-ask.ensures.ok ∙ ap (λ (m : KeyMap). entered rule m x) c.loop-offer.invariant.seen ∙ sym (after-more rule first front x) ∙ ap (after rule first) (sym more);
-      told = rw (more, judged_on-more rule first front x, map-append, ← c.loop-offer.invariant.told, ← c.loop-offer.invariant.seen, ← c.in_ok-ask.ensures.verdict) c.in_ok-push.ensures.items;
+      seen = c.in_ok-ask.ensures.ok ∙ ap (λ (m : KeyMap). entered rule m x) c.loop-offer.invariant.seen ∙ sym (after-more rule first before x) ∙ ap (after rule first) (sym more);
+      told = rw (more, judged_on-more rule first before x, map-append, ← c.loop-offer.invariant.told, ← c.loop-offer.invariant.seen, ← c.in_ok-ask.ensures.verdict) c.in_ok-push.ensures.items;
     }
 
 pub returns : goal.returns
