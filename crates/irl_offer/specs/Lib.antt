@@ -3,5 +3,7 @@ pub mod Entries
 pub mod Faults
 pub mod Limits
 pub mod Notes
+pub mod Purses
+pub mod Replies
 pub mod Settings
 pub mod Tuple

@@ -1,5 +1,5 @@
 -- The settings of a store, the ranges that they lie in, and those of a new store.
-use Rattle.std.specs.Prelude.{◌≡◌, ℕ, ◌≤◌, Option, None, Some, unwrap_or}
+use Rattle.std.specs.Prelude.{◌≤◌, unwrap_or}
 use Rattle.irl_offer.specs.Buckets.{IsBucketCount}
 use Rattle.irl_offer.specs.declared.offer.Rule.TheVariants.{Keep}
 use Rattle.irl_offer.specs.declared.settings.Settings.{Settings}

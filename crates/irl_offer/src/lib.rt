@@ -2,20 +2,28 @@
 #![tactic(auto)]
 
 mod buckets;
+mod done;
 mod entry;
 mod limits;
 mod note;
 mod offer;
+mod outcome;
+mod place;
 mod receipt;
+mod reply;
 mod settings;
 mod text;
 
 pub use buckets::bucket_of;
+pub use done::{Done, Receipts};
 pub use entry::{ENTRY_LEN, Entry, decode, encode};
 pub use limits::{MAX_PAGE, MAX_ROBOTS, MAX_TEXT};
 pub use note::{Note, NoteState};
 pub use offer::{Offer, Op, Rule, Verdict};
+pub use outcome::Outcome;
+pub use place::{Place, Purse, Slot};
 pub use receipt::{Fault, Judged, Pair, Receipt};
+pub use reply::{Answer, Reply, Want};
 pub use settings::{Asked, Kind, Settings};
 pub use text::Text;
 
@@ -137,6 +145,24 @@ mod tests {
             (86_400_005, false),
         ] {
             assert_eq!(rt; note.is_in_use(moment), is_in_use, "at {moment}");
+        }
+        Ok(())
+    }
+
+    #[test]
+    fn receipts_stand_in_order(rt: HostRuntime) -> Result<(), Fail> {
+        let mut receipts = Receipts::new(rt.alloc());
+        for number in 0..3 {
+            receipts.push(Receipt { bucket: 1, number })?;
+        }
+        let done = Done {
+            number: 7,
+            outcome: Outcome::Page,
+            receipts,
+        };
+        assert_eq!(rt; done.receipts.items().len(), 3);
+        for (i, receipt) in done.receipts.items().iter().enumerate() {
+            assert_eq!(rt; receipt.number, i as u64);
         }
         Ok(())
     }

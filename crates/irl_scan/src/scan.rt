@@ -28,7 +28,8 @@ fn push_link(spans: &mut Vec<Span>, found: Found) -> Result<(), AllocError>
 pub fn links(alloc: Global, page: &[u8]) -> Result<Vec<Span>, AllocError>
     requires { length page.now ≤ max_page }
     // The page has a cut into pieces, of which these are the links,
-    ensures found { IfOk result (λ spans. (pieces : List Piece) × Cut page.now pieces × (spans.items ≡ links_of pieces)) }
+    ensures found { IfOk result (λ spans. (pieces : List Piece)
+        × Cut page.now pieces × (spans.items ≡ links_of pieces)) }
     // and it has no other.
     ensures only { IfOk result (λ spans. (pieces : List Piece) → Cut page.now pieces → spans.items ≡ links_of pieces) }
     ensures within { IfOk result (λ spans. All (IsWithin (length page.now)) spans.items) }

@@ -1,4 +1,4 @@
-use Rattle.std.proofs.Common.{◌≡◌, ◌∙◌, ap, ◌∷◌, []}
+use Rattle.std.proofs.Common.{◌∙◌, ap, ◌∷◌, []}
 use Rattle.std.specs.Prelude.{replicate}
 use Rattle.byteorder.specs.Endian.{little_bytes}
 use Rattle.irl_offer.proofs.Writing.{all_put}
