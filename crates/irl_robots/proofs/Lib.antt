@@ -1,5 +1,6 @@
 pub mod CutLemmas
 pub mod GroupsLemmas
+pub mod KeptLemmas
 pub mod LinesLemmas
 pub mod MatchingLemmas
 pub mod NormalLemmas

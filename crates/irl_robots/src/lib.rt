@@ -3,6 +3,7 @@
 
 mod answer;
 mod groups;
+mod host;
 mod lines;
 mod matching;
 mod octets;
@@ -11,8 +12,10 @@ mod rule;
 mod status;
 
 pub use answer::Class;
+pub use host::{HostState, Leave};
+pub use lines::kept;
 pub use robots::Robots;
-pub use rule::Rule;
+pub use rule::PathRule;
 pub use status::class;
 
 #[cfg(test)]

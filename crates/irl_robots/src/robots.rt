@@ -7,7 +7,7 @@ ghost use Rattle.irl_robots.specs.Numbered.{IsOfLine, said_by};
 ghost use Rattle.irl_robots.specs.Rule.{rule, allows, IsVerdict, NoneMatches};
 
 use crate::groups::obeyed;
-use crate::rule::{Rule, best};
+use crate::rule::{PathRule, best};
 use std::alloc::{AllocError, Global};
 use std::marker::Model;
 
@@ -17,20 +17,20 @@ const ROBOTS_FILE: &[u8] = b"/robots.txt";
 /// The rules of a robots file that an agent obeys. Contracts see them as a list of rules.
 #[derive(Drop)]
 pub struct Robots {
-    rules: Vec<Rule>,
+    rules: Vec<PathRule>,
 }
 
 impl Model for Robots {
     ghost use Rattle.std.specs.Prelude.{List};
-    ghost use Rattle.irl_robots.specs.declared.rule.Rule.{Rule};
+    ghost use Rattle.irl_robots.specs.declared.rule.PathRule.{PathRule};
 
-    ghost Value = { List Rule };
+    ghost Value = { List PathRule };
 
     ghost view = { λ r. r.rules.items };
 }
 
 impl Robots {
-    ghost use Rattle.irl_robots.specs.declared.rule.Rule.{Rule};
+    ghost use Rattle.irl_robots.specs.declared.rule.PathRule.{PathRule};
 
     /// Reads a robots file, of which the first 512,000 bytes count, for the agent with this product token. Any bytes
     /// are a file.
@@ -39,7 +39,7 @@ impl Robots {
 
         // Each rule is what the line with its number says, and no line has two.
         ensures lines { IfOk result (All (IsOfLine (said_by bytes.now))) }
-        ensures order { IfOk result (λ robots. IsStrictlyIncreasing (map (λ (r : Rule). r.line) robots)) }
+        ensures order { IfOk result (λ robots. IsStrictlyIncreasing (map (λ (r : PathRule). r.line) robots)) }
     {
         Ok(Robots {
             rules: obeyed(alloc, bytes, agent)?,

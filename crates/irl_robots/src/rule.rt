@@ -9,7 +9,7 @@ use std::cmp::Ordering;
 
 /// A rule of a robots file.
 #[derive(Drop)]
-pub struct Rule {
+pub struct PathRule {
     /// The number of its line, from 1.
     pub line: u32,
     /// Whether it allows the paths that it matches.
@@ -18,9 +18,9 @@ pub struct Rule {
     pub pattern: Text,
 }
 
-impl Rule {
+impl PathRule {
     /// Whether this rule is obeyed before the other where both match.
-    fn wins_over(&self, other: &Rule) -> bool
+    fn wins_over(&self, other: &PathRule) -> bool
         ensures value { result ≡ wins_over self.now other.now }
         ensures meaning { IsTrue result ↔ WinsOver self.now other.now }
     {
@@ -36,12 +36,12 @@ impl Rule {
 }
 
 /// The best of the rules that match a path. It takes no memory.
-pub fn best<'a>(rules: &'a [Rule], path: &[u8]) -> Option<&'a Rule>
+pub fn best<'a>(rules: &'a [PathRule], path: &[u8]) -> Option<&'a PathRule>
     ensures value { option_copied result ≡ best_rule rules.now (normal path.now) }
     ensures best { IfSome result (λ best. IsBest rules.now (normal path.now) best.now) }
     ensures none { IfNone result (NoneMatches rules.now (normal path.now)) }
 {
-    let mut best: Option<&Rule> = None;
+    let mut best: Option<&PathRule> = None;
     for rule in rules {
         let wins = match best {
             None => true,
