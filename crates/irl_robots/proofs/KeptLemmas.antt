@@ -1,5 +1,5 @@
 -- What is kept of a file says what the whole says.
-use Rattle.std.proofs.Common.{◌≡◌, ℕ, List, take, map, ap, ◌∙◌, sym, le_refl}
+use Rattle.std.proofs.Common.{◌≡◌, ℕ, List, take, map, ap, ◌∙◌, le_refl}
 use Rattle.std.specs.List.{flat_map}
 use Rattle.std.proofs.lemmas.List.{take-take}
 use Rattle.irl_offer.specs.Limits.{max_robots}

@@ -3,13 +3,16 @@
 
 mod answer;
 mod groups;
+mod heads;
 mod host;
 mod lines;
 mod matching;
 mod octets;
 mod robots;
 mod rule;
+mod runs;
 mod status;
+mod target;
 
 pub use answer::Class;
 pub use host::{HostState, Leave};

@@ -33,7 +33,7 @@ pub fn kept(body: &[u8]) -> &[u8]
 }
 
 /// At most this many of the first bytes.
-fn front(bytes: &[u8], most: usize) -> &[u8]
+pub fn front(bytes: &[u8], most: usize) -> &[u8]
     ensures value { result.now ≡ take most bytes.now }
     ensures length { length result.now ≤ most }
 {

@@ -7,6 +7,7 @@ ghost use Rattle.irl_robots.specs.Numbered.{IsOfLine, said_by};
 ghost use Rattle.irl_robots.specs.Rule.{rule, allows, IsVerdict, NoneMatches};
 
 use crate::groups::obeyed;
+use crate::heads::{Head, heads_of};
 use crate::rule::{PathRule, best};
 use std::alloc::{AllocError, Global};
 use std::marker::Model;
@@ -18,15 +19,20 @@ const ROBOTS_FILE: &[u8] = b"/robots.txt";
 #[derive(Drop)]
 pub struct Robots {
     rules: Vec<PathRule>,
+    /// The heads of their patterns, by which most rules are passed over.
+    heads: Vec<Head>,
 }
 
 impl Model for Robots {
-    ghost use Rattle.std.specs.Prelude.{List};
+    ghost use Rattle.std.specs.Prelude.{◌≡◌, List};
     ghost use Rattle.irl_robots.specs.declared.rule.PathRule.{PathRule};
+    ghost use Rattle.irl_robots.specs.Heads.{heads_of};
 
     ghost Value = { List PathRule };
 
     ghost view = { λ r. r.rules.items };
+
+    ghost invariant = { λ r. r.heads.items ≡ heads_of r.rules.items };
 }
 
 impl Robots {
@@ -41,9 +47,9 @@ impl Robots {
         ensures lines { IfOk result (All (IsOfLine (said_by bytes.now))) }
         ensures order { IfOk result (λ robots. IsStrictlyIncreasing (map (λ (r : PathRule). r.line) robots)) }
     {
-        Ok(Robots {
-            rules: obeyed(alloc, bytes, agent)?,
-        })
+        let rules = obeyed(alloc, bytes, agent)?;
+        let heads = heads_of(alloc, &rules)?;
+        Ok(Robots { rules, heads })
     }
 
     /// The line of the rule that holds for a target, which is a path with its query, and whether it allows.
@@ -60,7 +66,7 @@ impl Robots {
         if target == ROBOTS_FILE {
             return None;
         }
-        best(&self.rules, target).map(|rule| (rule.line, rule.allow))
+        best(&self.rules, &self.heads, target).map(|rule| (rule.line, rule.allow))
     }
 
     /// Whether a target, which is a path with its query, may be fetched.

@@ -1,5 +1,3 @@
-use Rattle.std.proofs.Common.{subst}
-use Rattle.irl_robots.specs.Groups.{obeyed}
 use Rattle.irl_robots.proofs.KeptLemmas.{obeyed-kept}
 use Rattle.irl_robots.proofs.lines.kept.Goals as goal
 
