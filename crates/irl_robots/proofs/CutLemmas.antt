@@ -64,7 +64,7 @@ at-first c cs = elim (cases_Bool (eqb c 42)) [
   ]
 ]
 
-matches-last : (c : ℕ) (cs t : List ℕ) → eqb c 42 ≡ false → (eqb c 36 && is_empty cs) ≡ true → matches (c ∷ cs) t ≡ is_empty t
+pub matches-last : (c : ℕ) (cs t : List ℕ) → eqb c 42 ≡ false → (eqb c 36 && is_empty cs) ≡ true → matches (c ∷ cs) t ≡ is_empty t
 unfolding matches
 matches-last c cs t other last = rw (other, last) refl
 
@@ -72,15 +72,15 @@ matches-run : (c : ℕ) (cs t : List ℕ) → eqb c 42 ≡ true → matches (c �
 unfolding matches
 matches-run c cs t star = rw star refl
 
-matches-none : (t : List ℕ) → matches [] t ≡ true
+pub matches-none : (t : List ℕ) → matches [] t ≡ true
 unfolding matches
 matches-none t = refl
 
-nil-from_empty : (t : List ℕ) → is_empty t ≡ true → t ≡ []
+pub nil-from_empty : (t : List ℕ) → is_empty t ≡ true → t ≡ []
 nil-from_empty [] h = refl
 nil-from_empty (c ∷ cs) h = absurd (false≢true h)
 
-one_then-parts : (c : ℕ) (passes : List ℕ → Bool) (t : List ℕ) → one_then c passes t ≡ true → (rest : List ℕ) × (t ≡ c ∷ rest) × (passes rest ≡ true)
+pub one_then-parts : (c : ℕ) (passes : List ℕ → Bool) (t : List ℕ) → one_then c passes t ≡ true → (rest : List ℕ) × (t ≡ c ∷ rest) × (passes rest ≡ true)
 one_then-parts c passes [] h = absurd (false≢true h)
 one_then-parts c passes (d ∷ rest) h =
     let both = and_parts (eqb c d) (passes rest) h in

@@ -4,7 +4,7 @@ use Rattle.std.specs.List.{list_any, filter, flat_map}
 use Rattle.std.proofs.lemmas.List.{append_assoc}
 use Rattle.std.proofs.lemmas.Bool.{cases_Bool}
 use Rattle.std.proofs.Math.Bool.{or-false, or_assoc, or_comm}
-use Rattle.irl_robots.specs.declared.rule.Rule.{Rule}
+use Rattle.irl_robots.specs.declared.rule.PathRule.{PathRule}
 use Rattle.irl_robots.specs.Lines.{Line, Agent, Access, Other}
 use Rattle.irl_robots.specs.Groups.{Entry, Group, opened, outline_of, is_for, rule_of, rules_of}
 
@@ -35,27 +35,27 @@ any-outline passes n (Other ∷ rest) = any-outline passes (n + 1) rest
 
 -- what the pass gathers from the lines that are left, the first with this number: whether the line before them was
 -- a user-agent line, and whether the group so far is meant
-abbrev pub gathered : (List ℕ → Bool) → ℕ → Bool → Bool → List Line → List Rule
+abbrev pub gathered : (List ℕ → Bool) → ℕ → Bool → Bool → List Line → List PathRule
 gathered passes n opening meant [] = []
 gathered passes n opening meant (Agent value ∷ rest) = gathered passes (n + 1) true (passes value || (opening && meant)) rest
 gathered passes n opening meant (Access allow value ∷ rest) =
     cond meant (rule_of (record { line = n; allow = allow; value = value })) [] ++ gathered passes (n + 1) false meant rest
 gathered passes n opening meant (Other ∷ rest) = gathered passes (n + 1) opening meant rest
 
-abbrev chosen : (List ℕ → Bool) → List Group → List Rule
+abbrev chosen : (List ℕ → Bool) → List Group → List PathRule
 chosen passes groups = flat_map rules_of (filter (is_for passes) groups)
 
 -- within a group that has rules already
-abbrev within : (List ℕ → Bool) → Bool → List Entry → List Group → List Rule
+abbrev within : (List ℕ → Bool) → Bool → List Entry → List Group → List PathRule
 within passes meant before groups = cond meant (flat_map rule_of before) [] ++ chosen passes groups
 
 -- while a group is being opened, of which user-agent lines came
-abbrev joined : (List ℕ → Bool) → Bool → List Entry → List Group → List Rule
+abbrev joined : (List ℕ → Bool) → Bool → List Entry → List Group → List PathRule
 joined passes meant (entry ∷ before) groups = within passes meant (entry ∷ before) groups
 joined passes meant [] [] = []
 joined passes meant [] (group ∷ groups) = cond (meant || is_for passes group) (rules_of group) [] ++ chosen passes groups
 
-cond-nil : (b : Bool) → cond {A = List Rule} b [] [] ++ [] ≡ []
+cond-nil : (b : Bool) → cond {A = List PathRule} b [] [] ++ [] ≡ []
 cond-nil true = refl
 cond-nil false = refl
 
@@ -82,11 +82,11 @@ joined-opened passes meant agent [] (group ∷ groups) =
     ap (λ b. cond b (rules_of group) [] ++ chosen passes groups)
     (sym (or_assoc meant (passes agent) (is_for passes group)) ∙ ap (λ b. b || is_for passes group) (or_comm meant (passes agent)))
 
-cond-same : (b : Bool) → cond {A = List Rule} b [] [] ≡ []
+cond-same : (b : Bool) → cond {A = List PathRule} b [] [] ≡ []
 cond-same true = refl
 cond-same false = refl
 
-joins : (b : Bool) (xs ys zs : List Rule) → cond b xs [] ++ (cond b ys [] ++ zs) ≡ cond b (xs ++ ys) [] ++ zs
+joins : (b : Bool) (xs ys zs : List PathRule) → cond b xs [] ++ (cond b ys [] ++ zs) ≡ cond b (xs ++ ys) [] ++ zs
 joins true xs ys zs = sym (append_assoc xs ys zs)
 joins false xs ys zs = refl
 

@@ -1,8 +1,12 @@
 pub mod CutLemmas
 pub mod GroupsLemmas
+pub mod HeadsLemmas
+pub mod KeptLemmas
 pub mod LinesLemmas
 pub mod MatchingLemmas
 pub mod NormalLemmas
 pub mod NumberedLemmas
 pub mod RuleLemmas
+pub mod RunsLemmas
 pub mod SearchLemmas
+pub mod TargetLemmas

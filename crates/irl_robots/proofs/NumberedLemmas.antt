@@ -3,7 +3,7 @@ use Rattle.std.proofs.Common.{◌≡◌, ℕ, ◌+◌, ◌-◌, ◌<◌, ◌≤�
 use Rattle.std.specs.List.{All, AllByRecursion, list_any}
 use Rattle.std.specs.List.Sorted.{IsStrictlyIncreasing}
 use Rattle.std.proofs.lemmas.List.Elements.{All-from_recursion}
-use Rattle.irl_robots.specs.declared.rule.Rule.{Rule}
+use Rattle.irl_robots.specs.declared.rule.PathRule.{PathRule}
 use Rattle.irl_robots.specs.Lines.{Line, Agent, Access, Other}
 use Rattle.irl_robots.specs.Groups.{rule_of, obeyed, groups_of, is_for, is_named, is_star}
 use Rattle.irl_robots.specs.Numbered.{IsOfLine, said_by}
@@ -12,15 +12,15 @@ use Rattle.irl_robots.proofs.GroupsLemmas.{gathered, gathered-outline}
 -- ---- the order
 
 -- the lines rise, from this number on
-abbrev RisesFrom : ℕ → List Rule → Type 0
+abbrev RisesFrom : ℕ → List PathRule → Type 0
 RisesFrom n [] = Unit {0}
 RisesFrom n (r ∷ rs) = (n ≤ r.line) × RisesFrom (suc r.line) rs
 
-rises-sooner : (n m : ℕ) (rs : List Rule) → n ≤ m → RisesFrom m rs → RisesFrom n rs
+rises-sooner : (n m : ℕ) (rs : List PathRule) → n ≤ m → RisesFrom m rs → RisesFrom n rs
 rises-sooner n m [] sooner h = tt
 rises-sooner n m (r ∷ rs) sooner h = (omega (arith, sooner, h.0), h.1)
 
-rises-put : (n : ℕ) (meant allow : Bool) (value : List ℕ) (later : List Rule) → RisesFrom (n + 1) later → RisesFrom n (cond meant (rule_of (record { line = n; allow = allow; value = value })) [] ++ later)
+rises-put : (n : ℕ) (meant allow : Bool) (value : List ℕ) (later : List PathRule) → RisesFrom (n + 1) later → RisesFrom n (cond meant (rule_of (record { line = n; allow = allow; value = value })) [] ++ later)
 rises-put n true allow [] later h = rises-sooner n (n + 1) later (omega arith) h
 rises-put n true allow (c ∷ cs) later h = (omega arith, subst (λ k. RisesFrom k later) (add-one n) h)
 rises-put n false allow value later h = rises-sooner n (n + 1) later (omega arith) h
@@ -32,20 +32,20 @@ rises passes n opening meant (Agent value ∷ rest) =
 rises passes n opening meant (Access allow value ∷ rest) = rises-put n meant allow value _ (rises passes (n + 1) false meant rest)
 rises passes n opening meant (Other ∷ rest) = rises-sooner n (n + 1) _ (omega arith) (rises passes (n + 1) opening meant rest)
 
-next_above : (n : ℕ) (rs : List Rule) → RisesFrom n rs → (k : ℕ) → suc k < length (map (λ (r : Rule). r.line) rs) → get_or (map (λ (r : Rule). r.line) rs) k 0 < get_or (map (λ (r : Rule). r.line) rs) (suc k) 0
+next_above : (n : ℕ) (rs : List PathRule) → RisesFrom n rs → (k : ℕ) → suc k < length (map (λ (r : PathRule). r.line) rs) → get_or (map (λ (r : PathRule). r.line) rs) k 0 < get_or (map (λ (r : PathRule). r.line) rs) (suc k) 0
 next_above n [] h k within = absurd (omega (arith, within))
 next_above n (r ∷ []) h k within = absurd (omega (arith, within))
 next_above n (r ∷ s ∷ rs) h zero within = omega (arith, h.1.0)
 next_above n (r ∷ s ∷ rs) h (suc k) within = next_above (suc r.line) (s ∷ rs) h.1 k (omega (arith, within))
 
-increasing : (n : ℕ) (rs : List Rule) → RisesFrom n rs → IsStrictlyIncreasing (map (λ (r : Rule). r.line) rs)
+increasing : (n : ℕ) (rs : List PathRule) → RisesFrom n rs → IsStrictlyIncreasing (map (λ (r : PathRule). r.line) rs)
 increasing n rs h k within =
-    let ns = map (λ (r : Rule). r.line) rs in
+    let ns = map (λ (r : PathRule). r.line) rs in
     subst (λ j. get_or ns k 0 < get_or ns j 0) (sym (add-one k)) (next_above n rs h k (subst (λ j. j < length ns) (add-one k) within))
 
 -- ---- the lines
 
-stands-put : (said : List Line) (n : ℕ) (meant allow : Bool) (value : List ℕ) (later : List Rule) → 1 ≤ n → slice_get said (n - 1) ≡ Some (Access allow value) → AllByRecursion (IsOfLine said) later → AllByRecursion (IsOfLine said) (cond meant (rule_of (record { line = n; allow = allow; value = value })) [] ++ later)
+stands-put : (said : List Line) (n : ℕ) (meant allow : Bool) (value : List ℕ) (later : List PathRule) → 1 ≤ n → slice_get said (n - 1) ≡ Some (Access allow value) → AllByRecursion (IsOfLine said) later → AllByRecursion (IsOfLine said) (cond meant (rule_of (record { line = n; allow = allow; value = value })) [] ++ later)
 stands-put said n true allow [] later first says h = h
 stands-put said n true allow (c ∷ cs) later first says h =
     (record { value = c ∷ cs; counted = first; says = says; some = refl; pattern = refl }, h)
@@ -83,14 +83,14 @@ obeyed-gathered file agent =
     let passes : List ℕ → Bool = cond (list_any (is_for (is_named agent)) groups) (is_named agent) is_star in
     (passes, sym (gathered-outline passes (said_by file)))
 
-pub obeyed-increasing : (file agent : List ℕ) → IsStrictlyIncreasing (map (λ (r : Rule). r.line) (obeyed file agent))
+pub obeyed-increasing : (file agent : List ℕ) → IsStrictlyIncreasing (map (λ (r : PathRule). r.line) (obeyed file agent))
 obeyed-increasing file agent =
     let pass = obeyed-gathered file agent in
-    subst (λ (rs : List Rule). IsStrictlyIncreasing (map (λ (r : Rule). r.line) rs)) (sym pass.1)
+    subst (λ (rs : List PathRule). IsStrictlyIncreasing (map (λ (r : PathRule). r.line) rs)) (sym pass.1)
     (increasing 1 _ (rises pass.0 1 false false (said_by file)))
 
 pub obeyed-lines : (file agent : List ℕ) → All (IsOfLine (said_by file)) (obeyed file agent)
 obeyed-lines file agent =
     let pass = obeyed-gathered file agent in
-    subst (λ (rs : List Rule). All (IsOfLine (said_by file)) rs) (sym pass.1)
+    subst (λ (rs : List PathRule). All (IsOfLine (said_by file)) rs) (sym pass.1)
     (All-from_recursion (IsOfLine (said_by file)) _ (stands pass.0 (said_by file) 0 false false (said_by file) refl))

@@ -7,19 +7,19 @@ use Rattle.std.proofs.lemmas.List.Elements.{Contains-push, Contains-push_cases, 
 use Rattle.std.proofs.lemmas.Bool.{cases_Bool, lt-ltb, le-ltb, false≢true}
 use Rattle.std.proofs.Math.Bool.{and-false}
 use Rattle.std.proofs.lemmas.Bool.Decides.{nat_tests}
-use Rattle.irl_robots.specs.declared.rule.Rule.{Rule}
+use Rattle.irl_robots.specs.declared.rule.PathRule.{PathRule}
 use Rattle.irl_robots.specs.Matching.{matches, Matches}
 use Rattle.irl_robots.specs.Rule.{WinsOver, wins_over, IsBest, NoneMatches, best_after, best_rule}
 use Rattle.irl_robots.proofs.CutLemmas.{cut-from_match, match-from_cut}
 
 -- ---- the order
 
-wins-itself : (x : Rule) → WinsOver x x → ⊥
+wins-itself : (x : PathRule) → WinsOver x x → ⊥
 wins-itself x (inl more) = omega (arith, more)
 wins-itself x (inr (same, inl (allowed, denied))) = false≢true (sym denied ∙ allowed)
 wins-itself x (inr (same, inr (alike, earlier))) = omega (arith, earlier)
 
-wins-through : (x y z : Rule) → WinsOver x y → WinsOver y z → WinsOver x z
+wins-through : (x y z : PathRule) → WinsOver x y → WinsOver y z → WinsOver x z
 wins-through x y z (inl a) (inl b) = inl (omega (arith, a, b))
 wins-through x y z (inl a) (inr (same, b)) = inl (omega (arith, a, same))
 wins-through x y z (inr (same, a)) (inl b) = inl (omega (arith, same, b))
@@ -31,44 +31,44 @@ wins-through x y z (inr (same, inr (alike, a))) (inr (also, inr (too, b))) = inr
 -- ---- the scan
 
 -- what was found is the best of what was seen
-abbrev pub IsBestOf : List Rule → List ℕ → Option Rule → Type 0
+abbrev pub IsBestOf : List PathRule → List ℕ → Option PathRule → Type 0
 IsBestOf seen path None = NoneMatches seen path
 IsBestOf seen path (Some best) = IsBest seen path best
 
 -- a rule that doesn't match changes nothing
-skips : (seen : List Rule) (path : List ℕ) (found : Option Rule) (x : Rule) → (Matches x.pattern path → ⊥) → IsBestOf seen path found → IsBestOf (seen ++ x ∷ []) path found
+skips : (seen : List PathRule) (path : List ℕ) (found : Option PathRule) (x : PathRule) → (Matches x.pattern path → ⊥) → IsBestOf seen path found → IsBestOf (seen ++ x ∷ []) path found
 skips seen path None x unmatched h = λ other there matching. elim (Contains-push_cases seen x other there) [
   | inl before ↦ h other before matching
-  | inr is ↦ unmatched (subst (λ (y : Rule). Matches y.pattern path) (sym is) matching)
+  | inr is ↦ unmatched (subst (λ (y : PathRule). Matches y.pattern path) (sym is) matching)
 ]
 skips seen path (Some best) x unmatched h = record {
   among = Contains-append_left seen (x ∷ []) best h.among;
   matching = h.matching;
   unbeaten = λ other there matching wins. elim (Contains-push_cases seen x other there) [
     | inl before ↦ h.unbeaten other before matching wins
-    | inr is ↦ unmatched (subst (λ (y : Rule). Matches y.pattern path) (sym is) matching)
+    | inr is ↦ unmatched (subst (λ (y : PathRule). Matches y.pattern path) (sym is) matching)
   ];
 }
 
 -- nor does one that doesn't win
-yields : (seen : List Rule) (path : List ℕ) (best x : Rule) → (WinsOver x best → ⊥) → IsBest seen path best → IsBest (seen ++ x ∷ []) path best
+yields : (seen : List PathRule) (path : List ℕ) (best x : PathRule) → (WinsOver x best → ⊥) → IsBest seen path best → IsBest (seen ++ x ∷ []) path best
 yields seen path best x behind h = record {
   among = Contains-append_left seen (x ∷ []) best h.among;
   matching = h.matching;
   unbeaten = λ other there matching wins. elim (Contains-push_cases seen x other there) [
     | inl before ↦ h.unbeaten other before matching wins
-    | inr is ↦ behind (subst (λ (y : Rule). WinsOver y best) (sym is) wins)
+    | inr is ↦ behind (subst (λ (y : PathRule). WinsOver y best) (sym is) wins)
   ];
 }
 
 -- one that matches and that no earlier one wins over is the best
-takes : (seen : List Rule) (path : List ℕ) (x : Rule) → Matches x.pattern path → ((other : Rule) → Contains seen other → Matches other.pattern path → WinsOver other x → ⊥) → IsBest (seen ++ x ∷ []) path x
+takes : (seen : List PathRule) (path : List ℕ) (x : PathRule) → Matches x.pattern path → ((other : PathRule) → Contains seen other → Matches other.pattern path → WinsOver other x → ⊥) → IsBest (seen ++ x ∷ []) path x
 takes seen path x matched h = record {
   among = Contains-push seen x;
   matching = matched;
   unbeaten = λ other there matching wins. elim (Contains-push_cases seen x other there) [
     | inl before ↦ h other before matching wins
-    | inr is ↦ wins-itself x (subst (λ (y : Rule). WinsOver y x) (sym is) wins)
+    | inr is ↦ wins-itself x (subst (λ (y : PathRule). WinsOver y x) (sym is) wins)
   ];
 }
 
@@ -90,7 +90,7 @@ test-from_wins m n k l true false (inr (same, inr (alike, earlier))) = absurd (f
 test-from_wins m n k l false true (inr (same, inr (alike, earlier))) = absurd (false≢true alike)
 
 -- one rule more
-step : (seen : List Rule) (path : List ℕ) (found : Option Rule) (x : Rule) → IsBestOf seen path found → IsBestOf (seen ++ x ∷ []) path (best_after path found x)
+step : (seen : List PathRule) (path : List ℕ) (found : Option PathRule) (x : PathRule) → IsBestOf seen path found → IsBestOf (seen ++ x ∷ []) path (best_after path found x)
 step seen path None x h = elim (cases_Bool (matches x.pattern path)) [
   | inl matched ↦
       let is : best_after path None x ≡ Some x = rw matched refl in
@@ -120,24 +120,24 @@ step seen path (Some best) x h = elim (cases_Bool (matches x.pattern path)) [
       (skips seen path (Some best) x (λ cut. false≢true (sym unmatched ∙ match-from_cut x.pattern path cut)) h)
 ]
 
-all_steps : (seen rest : List Rule) (path : List ℕ) (found : Option Rule) → IsBestOf seen path found → IsBestOf (seen ++ rest) path (fold (best_after path) found rest)
-all_steps seen [] path found h = subst (λ (rules : List Rule). IsBestOf rules path found) (sym (append-nil seen)) h
+all_steps : (seen rest : List PathRule) (path : List ℕ) (found : Option PathRule) → IsBestOf seen path found → IsBestOf (seen ++ rest) path (fold (best_after path) found rest)
+all_steps seen [] path found h = subst (λ (rules : List PathRule). IsBestOf rules path found) (sym (append-nil seen)) h
 all_steps seen (x ∷ rest) path found h =
-    subst (λ (rules : List Rule). IsBestOf rules path (fold (best_after path) (best_after path found x) rest)) (append_assoc seen (x ∷ []) rest)
+    subst (λ (rules : List PathRule). IsBestOf rules path (fold (best_after path) (best_after path found x) rest)) (append_assoc seen (x ∷ []) rest)
     (all_steps (seen ++ x ∷ []) rest path (best_after path found x) (step seen path found x h))
 
 nothing_there : (path : List ℕ) → NoneMatches [] path
 nothing_there path other there matching = omega (arith, there.1)
 
 -- the scan ends with the best rule
-pub best_rule-is : (rules : List Rule) (path : List ℕ) → IsBestOf rules path (best_rule rules path)
+pub best_rule-is : (rules : List PathRule) (path : List ℕ) → IsBestOf rules path (best_rule rules path)
 best_rule-is rules path = all_steps [] rules path None (nothing_there path)
 
 -- the same, of what is lent
-pub lent-best : (rules : List Rule) (path : List ℕ) (found : Option (Bor Rule)) → option_copied found ≡ best_rule rules path → IfSome found (λ best. IsBest rules path best.now)
+pub lent-best : (rules : List PathRule) (path : List ℕ) (found : Option (Bor PathRule)) → option_copied found ≡ best_rule rules path → IfSome found (λ best. IsBest rules path best.now)
 lent-best rules path None is = tt
 lent-best rules path (Some best) is = subst (IsBestOf rules path) (sym is) (best_rule-is rules path)
 
-pub lent-none : (rules : List Rule) (path : List ℕ) (found : Option (Bor Rule)) → option_copied found ≡ best_rule rules path → IfNone found (NoneMatches rules path)
+pub lent-none : (rules : List PathRule) (path : List ℕ) (found : Option (Bor PathRule)) → option_copied found ≡ best_rule rules path → IfNone found (NoneMatches rules path)
 lent-none rules path None is = subst (IsBestOf rules path) (sym is) (best_rule-is rules path)
 lent-none rules path (Some best) is = tt

@@ -7,6 +7,7 @@ use Rattle.std.proofs.lemmas.Bool.{or_cases, or_left, or_right, and_parts, and_r
 use Rattle.irl_robots.specs.declared.matching.Place.{Place}
 use Rattle.irl_robots.specs.Matching.{matches, is_empty, some_end}
 use Rattle.irl_robots.specs.Octets.{octets_left}
+use Rattle.irl_robots.specs.Runs.{AreLiteral}
 use Rattle.irl_robots.specs.Place.{fits, IsPast, IsPastStar}
 use Rattle.irl_robots.proofs.MatchingLemmas.{IsLiteralAt, matches-one, matches-star}
 
@@ -19,11 +20,6 @@ some_later passes (c ∷ cs) = some_end passes cs
 abbrev pub again : Option Place → Bool
 again None = false
 again (Some from) = some_later (matches from.pattern.now) (octets_left from.path)
-
--- the octets are no `*`
-abbrev pub AreLiteral : List ℕ → Type 0
-AreLiteral [] = Unit {0}
-AreLiteral (c ∷ cs) = (c ≢ 42) × AreLiteral cs
 
 -- since the last `*` these octets of pattern and path met
 pub record IsBehind (from at : Place) (met : List ℕ) : Type 0 where
@@ -74,12 +70,13 @@ some_end-split : (passes : List ℕ → Bool) (t : List ℕ) → some_end passes
 some_end-split passes [] = sym (or-false (passes []))
 some_end-split passes (c ∷ cs) = refl
 
-more-follows : (cs ps : List ℕ) → is_empty (cs ++ 42 ∷ ps) ≡ false
-more-follows [] ps = refl
-more-follows (c ∷ cs) ps = refl
+-- what more follows is not empty
+pub more-follows : (cs : List ℕ) (d : ℕ) (ps : List ℕ) → is_empty (cs ++ d ∷ ps) ≡ false
+more-follows [] d ps = refl
+more-follows (c ∷ cs) d ps = refl
 
 literal-before : (c : ℕ) (cs ps : List ℕ) → c ≢ 42 → IsLiteralAt c (cs ++ 42 ∷ ps)
-literal-before c cs ps literal = (ne_eqb c 42 literal, and_right (eqb c 36) _ (more-follows cs ps))
+literal-before c cs ps literal = (ne_eqb c 42 literal, and_right (eqb c 36) _ (more-follows cs 42 ps))
 
 -- octets before a `*` are met by as many octets
 skip : (met ps s : List ℕ) → AreLiteral met → matches (met ++ 42 ∷ ps) s ≡ true → some_end (matches ps) (drop (length met) s) ≡ true

@@ -3,7 +3,7 @@ use Rattle.std.specs.Prelude.{ℕ, ◌+◌, List, [], ◌∷◌, map, Bool, ◌&
 use Rattle.std.specs.Char.{is_ascii_alphabetic}
 use Rattle.std.specs.List.{before_first, list_any, filter, flat_map}
 use Rattle.std.specs.Str.{bytes_eq, str_eq_ignore_ascii_case}
-use Rattle.irl_robots.specs.declared.rule.Rule.{Rule}
+use Rattle.irl_robots.specs.declared.rule.PathRule.{PathRule}
 use Rattle.irl_robots.specs.Lines.{Line, Agent, Access, Other, text_of, lines, line_of}
 use Rattle.irl_robots.specs.Matching.{is_empty}
 use Rattle.irl_robots.specs.Normal.{normal}
@@ -76,13 +76,13 @@ abbrev pub groups_for : List ℕ → List Group → List Group
 groups_for agent groups = filter (is_for (if list_any (is_for (is_named agent)) groups then is_named agent else is_star)) groups
 
 -- a line with an empty value is no rule
-abbrev pub rule_of : Entry → List Rule
+abbrev pub rule_of : Entry → List PathRule
 rule_of entry =
     if is_empty entry.value then [] else record { line = entry.line; allow = entry.allow; pattern = normal entry.value } ∷ []
 
-abbrev pub rules_of : Group → List Rule
+abbrev pub rules_of : Group → List PathRule
 rules_of group = flat_map rule_of group.entries
 
 -- The rules of a file that an agent obeys, in the order of their lines: those of all its groups together.
-unfoldable pub obeyed : List ℕ → List ℕ → List Rule
+unfoldable pub obeyed : List ℕ → List ℕ → List PathRule
 obeyed file agent = flat_map rules_of (groups_for agent (groups_of file))

@@ -1,5 +1,6 @@
 pub mod Agents
 pub mod Groups
+pub mod Heads
 pub mod Leave
 pub mod Lines
 pub mod Matching
@@ -8,5 +9,7 @@ pub mod Numbered
 pub mod Octets
 pub mod Place
 pub mod Rule
+pub mod Runs
 pub mod Seen
 pub mod Status
+pub mod Target

@@ -2,6 +2,7 @@
 use Rattle.std.specs.Prelude.{ℕ, List, [], ◌∷◌, length, take, drop, reverse, Bool, true, false, ◌&&◌, ◌||◌, ◌==◌, nat_eq, nat_lt, if◌then◌else◌, codes}
 use Rattle.std.specs.List.{starts_with, position_or_len, before_first, after_first}
 use Rattle.std.specs.Str.{str_eq_ignore_ascii_case}
+use Rattle.irl_offer.specs.Limits.{max_robots}
 
 -- the byte order mark of UTF-8
 abbrev pub mark : List ℕ
@@ -13,7 +14,7 @@ without_mark bytes = if starts_with nat_eq bytes mark then drop 3 bytes else byt
 -- The part of a file that counts: its first 500 KiB, the least that RFC 9309 asks for, without a byte order mark at
 -- the front. The mark is one of the bytes that are counted.
 unfoldable pub text_of : List ℕ → List ℕ
-text_of bytes = without_mark (take 512000 bytes)
+text_of bytes = without_mark (take max_robots bytes)
 
 abbrev pub is_line_end : ℕ → Bool
 is_line_end c = (c == 10) || (c == 13)

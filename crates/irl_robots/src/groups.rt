@@ -3,10 +3,11 @@ ghost use Rattle.std.specs.List.{list_any, filter, flat_map, position};
 ghost use Rattle.irl_robots.specs.Lines.{lines, line_of};
 ghost use Rattle.irl_robots.specs.Groups.{is_named as named, is_star, is_for, is_token_octet as token_octet, token as token_by, outline_of, rules_of, obeyed as obeyed_by};
 ghost use Rattle.irl_robots.specs.Agents.{are_meant};
+ghost use Rattle.irl_offer.specs.Limits.{max_robots};
 
 use crate::lines::{Line, Lines, parse, text_of};
 use crate::octets::normalized;
-use crate::rule::Rule;
+use crate::rule::PathRule;
 use irl_offer::Text;
 use std::alloc::{AllocError, Global};
 
@@ -33,7 +34,7 @@ impl Agents<'_> {
 
 /// The rules of a file that the agent with this product token obeys, in the order of their lines.
 #[tactic(auto, unfolding(crate::specs::Groups::obeyed))]
-pub fn obeyed(alloc: Global, bytes: &[u8], agent: &[u8]) -> Result<Vec<Rule>, AllocError>
+pub fn obeyed(alloc: Global, bytes: &[u8], agent: &[u8]) -> Result<Vec<PathRule>, AllocError>
     ensures { IfOk result (λ rules. rules.items ≡ obeyed_by bytes.now agent.now) }
 {
     let text = text_of(bytes);
@@ -46,8 +47,8 @@ pub fn obeyed(alloc: Global, bytes: &[u8], agent: &[u8]) -> Result<Vec<Rule>, Al
 }
 
 /// The rules of the groups that are for these agents, in the order of their lines.
-fn rules_for(alloc: Global, text: &[u8], agents: Agents<'_>) -> Result<Vec<Rule>, AllocError>
-    requires { length text.now ≤ 512000 }
+fn rules_for(alloc: Global, text: &[u8], agents: Agents<'_>) -> Result<Vec<PathRule>, AllocError>
+    requires { length text.now ≤ max_robots }
     ensures { IfOk result (λ rules. rules.items
         ≡ flat_map rules_of (filter (is_for (are_meant agents.entry)) (outline_of 1 (map line_of (lines text.now))).groups)) }
 {
@@ -66,7 +67,7 @@ fn rules_for(alloc: Global, text: &[u8], agents: Agents<'_>) -> Result<Vec<Rule>
                 opening = false;
                 if meant && !value.is_empty() {
                     let pattern = Text::from_vec(normalized(alloc, value)?);
-                    rules.push(Rule {
+                    rules.push(PathRule {
                         line: number,
                         allow,
                         pattern,

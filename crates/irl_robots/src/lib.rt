@@ -3,16 +3,22 @@
 
 mod answer;
 mod groups;
+mod heads;
+mod host;
 mod lines;
 mod matching;
 mod octets;
 mod robots;
 mod rule;
+mod runs;
 mod status;
+mod target;
 
 pub use answer::Class;
+pub use host::{HostState, Leave};
+pub use lines::kept;
 pub use robots::Robots;
-pub use rule::Rule;
+pub use rule::PathRule;
 pub use status::class;
 
 #[cfg(test)]

@@ -1,11 +1,12 @@
-ghost use Rattle.std.specs.Prelude.{◌≡◌, ◌<◌, ◌≤◌, ◌==◌, ◌||◌, ◌∷◌, [], take, length, MatchOption};
+ghost use Rattle.std.specs.Prelude.{◌≡◌, ◌<◌, ◌≤◌, ◌==◌, ◌||◌, ◌∷◌, [], List, ℕ, take, length, MatchOption};
 ghost use Rattle.std.specs.List.{position};
 ghost use Rattle.std.specs.Iterator.{YieldsFirstRef, item_count};
 ghost use Rattle.irl_robots.specs.Lines.{text_of as counted, without_mark, lines, is_line_end, after_end, is_blank as blank, trim_start as trimmed_start, trim_end as trimmed_end, field as field_of, line_of, without_comment as uncommented, said as said_by};
+ghost use Rattle.irl_robots.specs.Groups.{obeyed as obeyed_by};
 ghost use Rattle.irl_robots.specs.Seen.{seen};
+ghost use Rattle.irl_offer.specs.Limits.{max_robots};
 
-/// How many bytes of a file count.
-pub const LIMIT: usize = 512_000;
+use irl_offer::MAX_ROBOTS;
 
 /// The byte order mark of UTF-8.
 const MARK: &[u8] = b"\xef\xbb\xbf";
@@ -21,21 +22,31 @@ pub enum Line<'a> {
     Other,
 }
 
-/// The part of a file that counts: its first bytes, without a byte order mark.
-#[tactic(auto, unfolding(crate::specs::Lines::text_of))]
-pub fn text_of(bytes: &[u8]) -> &[u8]
-    ensures value { result.now ≡ counted bytes.now }
-    ensures length { length result.now ≤ LIMIT }
+/// What is kept of the body of a robots file: its first 512,000 bytes, a byte order mark among them. It is obeyed as
+/// the whole body is.
+pub fn kept(body: &[u8]) -> &[u8]
+    ensures value { result.now ≡ take max_robots body.now }
+    ensures length { length result.now ≤ max_robots }
+    ensures obeyed { (agent : List ℕ) → obeyed_by result.now agent ≡ obeyed_by body.now agent }
 {
-    skip_mark(front(bytes, LIMIT))
+    front(body, MAX_ROBOTS)
 }
 
 /// At most this many of the first bytes.
-fn front(bytes: &[u8], most: usize) -> &[u8]
+pub fn front(bytes: &[u8], most: usize) -> &[u8]
     ensures value { result.now ≡ take most bytes.now }
     ensures length { length result.now ≤ most }
 {
     &bytes[..bytes.len().min(most)]
+}
+
+/// The part of a file that counts: what is kept of it, without a byte order mark.
+#[tactic(auto, unfolding(crate::specs::Lines::text_of))]
+pub fn text_of(bytes: &[u8]) -> &[u8]
+    ensures value { result.now ≡ counted bytes.now }
+    ensures length { length result.now ≤ max_robots }
+{
+    skip_mark(kept(bytes))
 }
 
 /// The bytes behind a byte order mark.

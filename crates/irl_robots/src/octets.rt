@@ -1,4 +1,4 @@
-ghost use Rattle.std.specs.Prelude.{◌≡◌, false, ◌<◌, ◌++◌, ◌&&◌, [], Some, None, IfOk, MatchOption, if◌then◌else◌};
+ghost use Rattle.std.specs.Prelude.{◌≡◌, false, ◌<◌, ◌≤◌, ◌++◌, ◌&&◌, [], take, length, Some, None, IfOk, MatchOption, if◌then◌else◌};
 ghost use Rattle.std.specs.Char.{is_digit};
 ghost use Rattle.std.specs.Iterator.{YieldsFirst, item_count};
 ghost use Rattle.irl_robots.specs.Normal.{hex_digit as digit_of, is_unreserved as unreserved, triplet_value as value_of, begins_triplet, normal, normal_octet, normal_triplet};
@@ -78,6 +78,24 @@ pub fn normalized(alloc: Global, path: &[u8]) -> Result<Vec<u8>, AllocError>
     ensures { IfOk result (λ octets. octets.items ≡ normal path.now) }
 {
     Octets::new(path).collect(alloc)
+}
+
+/// Writes a path in normal form to the front of a buffer, and gives the number of its octets, or `None` where there is
+/// no room for them.
+pub fn write_normal(path: &[u8], buffer: &mut [u8]) -> Option<usize>
+    ensures { MatchOption result
+        (length buffer.new < length (normal path.now))
+        (λ end. (end ≤ length buffer.new) × (take end buffer.new ≡ normal path.now)) }
+{
+    let mut end = 0;
+    for octet in Octets::new(path) {
+        if end == buffer.len() {
+            return None;
+        }
+        buffer[end] = octet;
+        end += 1;
+    }
+    Some(end)
 }
 
 /// The first unit of a path, and what follows it. `None` comes at the path's end.

@@ -7,7 +7,8 @@ ghost use Rattle.irl_robots.specs.Numbered.{IsOfLine, said_by};
 ghost use Rattle.irl_robots.specs.Rule.{rule, allows, IsVerdict, NoneMatches};
 
 use crate::groups::obeyed;
-use crate::rule::{Rule, best};
+use crate::heads::{Head, heads_of};
+use crate::rule::{PathRule, best};
 use std::alloc::{AllocError, Global};
 use std::marker::Model;
 
@@ -17,20 +18,25 @@ const ROBOTS_FILE: &[u8] = b"/robots.txt";
 /// The rules of a robots file that an agent obeys. Contracts see them as a list of rules.
 #[derive(Drop)]
 pub struct Robots {
-    rules: Vec<Rule>,
+    rules: Vec<PathRule>,
+    /// The heads of their patterns, by which most rules are passed over.
+    heads: Vec<Head>,
 }
 
 impl Model for Robots {
-    ghost use Rattle.std.specs.Prelude.{List};
-    ghost use Rattle.irl_robots.specs.declared.rule.Rule.{Rule};
+    ghost use Rattle.std.specs.Prelude.{◌≡◌, List};
+    ghost use Rattle.irl_robots.specs.declared.rule.PathRule.{PathRule};
+    ghost use Rattle.irl_robots.specs.Heads.{heads_of};
 
-    ghost Value = { List Rule };
+    ghost Value = { List PathRule };
 
     ghost view = { λ r. r.rules.items };
+
+    ghost invariant = { λ r. r.heads.items ≡ heads_of r.rules.items };
 }
 
 impl Robots {
-    ghost use Rattle.irl_robots.specs.declared.rule.Rule.{Rule};
+    ghost use Rattle.irl_robots.specs.declared.rule.PathRule.{PathRule};
 
     /// Reads a robots file, of which the first 512,000 bytes count, for the agent with this product token. Any bytes
     /// are a file.
@@ -39,11 +45,11 @@ impl Robots {
 
         // Each rule is what the line with its number says, and no line has two.
         ensures lines { IfOk result (All (IsOfLine (said_by bytes.now))) }
-        ensures order { IfOk result (λ robots. IsStrictlyIncreasing (map (λ (r : Rule). r.line) robots)) }
+        ensures order { IfOk result (λ robots. IsStrictlyIncreasing (map (λ (r : PathRule). r.line) robots)) }
     {
-        Ok(Robots {
-            rules: obeyed(alloc, bytes, agent)?,
-        })
+        let rules = obeyed(alloc, bytes, agent)?;
+        let heads = heads_of(alloc, &rules)?;
+        Ok(Robots { rules, heads })
     }
 
     /// The line of the rule that holds for a target, which is a path with its query, and whether it allows.
@@ -60,7 +66,7 @@ impl Robots {
         if target == ROBOTS_FILE {
             return None;
         }
-        best(&self.rules, target).map(|rule| (rule.line, rule.allow))
+        best(&self.rules, &self.heads, target).map(|rule| (rule.line, rule.allow))
     }
 
     /// Whether a target, which is a path with its query, may be fetched.

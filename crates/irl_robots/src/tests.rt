@@ -1,469 +1,557 @@
 use super::*;
+use irl_offer::{NoteState, Text};
+use std::alloc::{AllocError, Global};
+use std::process::Abort;
 use std::test::Fail;
 
-// The profile's own cases, for the agent `irlbot`: a file, a target, and the line and the verdict of the rule.
+/// A file or its rules, a target, and the line and the verdict of the rule that holds.
+type Case = (&'static [u8], &'static [u8], Option<(u32, bool)>);
+
+/// The profile's own cases of groups and lines, for the agent `irlbot`.
+const GROUPS: [Case; 57] = [
+    // An empty file, a file of other fields, and rules before the first group have no rule.
+    (b"", b"/x", None),
+    (b"Sitemap: /map\nHost: a\n", b"/x", None),
+    (b"Disallow: /\n", b"/x", None),
+    (b"Disallow: /a\nUser-agent: *\nDisallow: /b", b"/a", None),
+    (
+        b"Disallow: /a\nUser-agent: *\nDisallow: /b",
+        b"/b",
+        Some((3, false)),
+    ),
+    // Lines end at LF, CR and CR LF, and each counts once; empty lines count too.
+    (b"User-agent: *\nDisallow: /x", b"/x", Some((2, false))),
+    (b"User-agent: *\rDisallow: /x", b"/x", Some((2, false))),
+    (
+        b"User-agent: *\r\nDisallow: /x\r\n",
+        b"/x",
+        Some((2, false)),
+    ),
+    (
+        b"\n\r\n\rUser-agent: *\n\nDisallow: /x",
+        b"/x",
+        Some((6, false)),
+    ),
+    (b"User-agent: *\n\rDisallow: /x", b"/x", Some((3, false))),
+    (b"User-agent: *\r\r\nDisallow: /x", b"/x", Some((3, false))),
+    // A byte order mark is skipped at the front alone.
+    (
+        b"\xef\xbb\xbfUser-agent: *\nDisallow: /x",
+        b"/x",
+        Some((2, false)),
+    ),
+    (
+        b"\xef\xbb\xbf\xef\xbb\xbfUser-agent: *\nDisallow: /x",
+        b"/x",
+        None,
+    ),
+    (b"User-agent: *\n\xef\xbb\xbfDisallow: /x", b"/x", None),
+    // Comments.
+    (
+        b"# first\nUser-agent: * # all\nDisallow: /x # not /y",
+        b"/x",
+        Some((3, false)),
+    ),
+    (b"User-agent: *\nDisallow: /x#y", b"/x", Some((2, false))),
+    (b"User-agent: *\n#Disallow: /x", b"/x", None),
+    (b"User-agent: *\nDisallow: # /x", b"/x", None),
+    // Fields: the colon, spaces and tabs, and case.
+    (b"User-agent *\nDisallow: /x", b"/x", None),
+    (b"User-agent: *\nDisallow /x", b"/x", None),
+    (b"User-agent:*\nDisallow:/x", b"/x", Some((2, false))),
+    (
+        b" \tUser-agent\t : \t* \t\n\tDisallow \t:\t /x \t",
+        b"/x",
+        Some((2, false)),
+    ),
+    (b"uSER-AGENT: *\ndISALLOW: /x", b"/x", Some((2, false))),
+    (b"User agent: *\nDisallow: /x", b"/x", None),
+    (b"User-agent: *\nDis-allow: /x", b"/x", None),
+    (b"User-agent: *\nDisallow: /a b", b"/a b", Some((2, false))),
+    (b"User-agent: *\nDisallow: /a:b", b"/a:b", Some((2, false))),
+    (
+        b"User-agent: *\n: /x\nDisallow: /y",
+        b"/y",
+        Some((3, false)),
+    ),
+    // Empty values are no rules, but end the user-agent lines.
+    (b"User-agent: *\nDisallow:\nAllow:", b"/x", None),
+    (
+        b"User-agent: irlbot\nDisallow:\nUser-agent: other\nDisallow: /",
+        b"/x",
+        None,
+    ),
+    (
+        b"User-agent: other\nDisallow: /\nUser-agent: IRLbot\nCrawl-delay: 5\nDisallow:",
+        b"/x",
+        None,
+    ),
+    // Other fields end nothing.
+    (
+        b"User-agent: a\nCrawl-delay: 1\nUser-agent: irlbot\nDisallow: /x",
+        b"/x",
+        Some((4, false)),
+    ),
+    (
+        b"User-agent: irlbot\nSitemap: /m\nDisallow: /x\nSitemap: /m\nDisallow: /y",
+        b"/y",
+        Some((5, false)),
+    ),
+    // Several agents on one group, and a group after it.
+    (
+        b"User-agent: a\nUser-agent: irlbot\nUser-agent: b\nDisallow: /x",
+        b"/x",
+        Some((4, false)),
+    ),
+    (
+        b"User-agent: irlbot\nUser-agent: b\nDisallow: /x\nUser-agent: b\nDisallow: /y",
+        b"/y",
+        None,
+    ),
+    (
+        b"User-agent: irlbot\nDisallow: /x\nUser-agent: b",
+        b"/x",
+        Some((2, false)),
+    ),
+    // Groups of one token are combined, and so are those for all.
+    (
+        b"User-agent: irlbot\nDisallow: /x\nUser-agent: irlbot\nDisallow: /y",
+        b"/x",
+        Some((2, false)),
+    ),
+    (
+        b"User-agent: irlbot\nDisallow: /x\nUser-agent: irlbot\nDisallow: /y",
+        b"/y",
+        Some((4, false)),
+    ),
+    (
+        b"User-agent: *\nDisallow: /x\nUser-agent: b\nUser-agent: *\nDisallow: /y",
+        b"/y",
+        Some((5, false)),
+    ),
+    // The agent's own groups shut out those for all, wherever they stand, and without rules too.
+    (
+        b"User-agent: *\nDisallow: /x\nUser-agent: irlbot\nDisallow: /y",
+        b"/x",
+        None,
+    ),
+    (
+        b"User-agent: irlbot\nDisallow: /y\nUser-agent: *\nDisallow: /x",
+        b"/x",
+        None,
+    ),
+    (
+        b"User-agent: *\nDisallow: /x\nUser-agent: irlbot",
+        b"/x",
+        None,
+    ),
+    (
+        b"User-agent: *\nUser-agent: irlbot\nDisallow: /x\nUser-agent: *\nDisallow: /y",
+        b"/x",
+        Some((3, false)),
+    ),
+    (
+        b"User-agent: *\nUser-agent: irlbot\nDisallow: /x\nUser-agent: *\nDisallow: /y",
+        b"/y",
+        None,
+    ),
+    (
+        b"User-agent: *\nDisallow: /x\nUser-agent: irlbots\nDisallow: /y",
+        b"/x",
+        Some((2, false)),
+    ),
+    // Tokens: case, what follows them, and values without one.
+    (b"User-agent: IRLBOT\nDisallow: /x", b"/x", Some((2, false))),
+    (
+        b"User-agent: irlbot/1.0\nDisallow: /x",
+        b"/x",
+        Some((2, false)),
+    ),
+    (
+        b"User-agent: irlbot2\nDisallow: /x",
+        b"/x",
+        Some((2, false)),
+    ),
+    (
+        b"User-agent: irlbot.net\nDisallow: /x",
+        b"/x",
+        Some((2, false)),
+    ),
+    (
+        b"User-agent: irlbot (a crawler)\nDisallow: /x",
+        b"/x",
+        Some((2, false)),
+    ),
+    (b"User-agent: irlbot-news\nDisallow: /x", b"/x", None),
+    (b"User-agent: irlbot_news\nDisallow: /x", b"/x", None),
+    (b"User-agent: irl\nDisallow: /x", b"/x", None),
+    (b"User-agent: 1irlbot\nDisallow: /x", b"/x", None),
+    (b"User-agent:\nDisallow: /x", b"/x", None),
+    (b"User-agent: **\nDisallow: /x", b"/x", None),
+    (b"User-agent: * irlbot\nDisallow: /x", b"/x", None),
+];
+
+/// The profile's own cases of patterns and targets, for rules of one group for all, from line 2 on.
+const PATTERNS: [Case; 61] = [
+    // The most octets win, then allow, then the earlier line.
+    (b"Allow: /p\nDisallow: /p", b"/p", Some((2, true))),
+    (b"Disallow: /p\nAllow: /p", b"/p", Some((3, true))),
+    (b"Disallow: /p\nDisallow: /p", b"/p", Some((2, false))),
+    (
+        b"Allow: /p\nAllow: /p\nDisallow: /p",
+        b"/pq",
+        Some((2, true)),
+    ),
+    (b"Disallow: /p\nAllow: /", b"/p", Some((2, false))),
+    (b"Allow: /\nDisallow: /p", b"/p", Some((3, false))),
+    (b"Disallow: /a*\nAllow: /ab", b"/abc", Some((3, true))),
+    (b"Allow: /ab\nDisallow: /a*b", b"/ab", Some((3, false))),
+    (b"Allow: /ab\nDisallow: /ab$", b"/ab", Some((3, false))),
+    (b"Allow: /ab\nDisallow: /ab$", b"/abc", Some((2, true))),
+    // The length is that of the normal form.
+    (
+        b"Allow: /%61%62\nDisallow: /abc",
+        b"/abcd",
+        Some((3, false)),
+    ),
+    (
+        b"Allow: /abcdef\nDisallow: /*\xc3\xa9",
+        b"/abcdef\xc3\xa9",
+        Some((3, false)),
+    ),
+    // Prefixes, with the query.
+    (b"Disallow: /x", b"/xyz/a?b=c", Some((2, false))),
+    (b"Disallow: /x/", b"/x", None),
+    (b"Disallow: /a?b", b"/a?bc", Some((2, false))),
+    (b"Disallow: /a?b", b"/a/b", None),
+    (b"Disallow: x", b"/x", None),
+    (b"Disallow: /X", b"/x", None),
+    // `*`, first, inside, last and twice.
+    (b"Disallow: *", b"/", Some((2, false))),
+    (b"Disallow: *x", b"/abcx", Some((2, false))),
+    (b"Disallow: /a*c", b"/ac", Some((2, false))),
+    (b"Disallow: /a*c", b"/abbcd", Some((2, false))),
+    (b"Disallow: /a*c", b"/abb", None),
+    (b"Disallow: /a*", b"/a", Some((2, false))),
+    (b"Disallow: /**b", b"/ab", Some((2, false))),
+    (b"Disallow: /*a*b*c", b"/xaxbxbxc", Some((2, false))),
+    (b"Disallow: /*ab*ac", b"/aabaabac", Some((2, false))),
+    (b"Disallow: /*ab*ac", b"/aabaab", None),
+    // `$`, at the end and elsewhere.
+    (b"Disallow: *.gif$", b"/a.gif", Some((2, false))),
+    (b"Disallow: *.gif$", b"/a.gifs", None),
+    (b"Disallow: *.gif$", b"/a.gif.gif", Some((2, false))),
+    (b"Disallow: /a$", b"/a?b", None),
+    (b"Disallow: /a$b", b"/a$bc", Some((2, false))),
+    (b"Disallow: /a$b", b"/a", None),
+    (b"Disallow: /a$$", b"/a$", Some((2, false))),
+    (b"Disallow: /a$$", b"/a", None),
+    (b"Disallow: /a*$", b"/abc", Some((2, false))),
+    (b"Disallow: *$", b"/", Some((2, false))),
+    (b"Disallow: $", b"/", None),
+    (b"Disallow: $", b"", Some((2, false))),
+    // Triplets of unreserved octets are decoded, on both sides.
+    (b"Disallow: /a%7eb", b"/a~b", Some((2, false))),
+    (b"Disallow: /a~b", b"/a%7Eb", Some((2, false))),
+    (
+        b"Disallow: /%41%7a%30%2d%2E%5f",
+        b"/Az0-._",
+        Some((2, false)),
+    ),
+    // Those of reserved octets are not, and their digits have no case.
+    (b"Disallow: /a/b", b"/a%2Fb", None),
+    (b"Disallow: /a%2fb", b"/a%2Fb", Some((2, false))),
+    (b"Disallow: /a%2fb", b"/a/b", None),
+    (b"Disallow: /a%2A", b"/a*", None),
+    (b"Disallow: /a%2a", b"/a%2A", Some((2, false))),
+    (b"Disallow: /a%24", b"/a%24b", Some((2, false))),
+    (b"Disallow: /%25", b"/%2541", Some((2, false))),
+    (b"Disallow: /%2541", b"/%41", None),
+    // A lone `%` stays.
+    (b"Disallow: /%", b"/%", Some((2, false))),
+    (b"Disallow: /%4", b"/%4", Some((2, false))),
+    (b"Disallow: /%4g", b"/%4G", None),
+    (b"Disallow: /%%41", b"/%A", Some((2, false))),
+    // Octets above 127 are their triplets.
+    (b"Disallow: /\xc3\xa9", b"/%c3%A9", Some((2, false))),
+    (b"Disallow: /%c3%a9", b"/\xc3\xa9", Some((2, false))),
+    (b"Disallow: /%7F", b"/\x7f", None),
+    // The robots file has no rule, as its target is written.
+    (b"Disallow: /", b"/robots.txt", None),
+    (b"Disallow: /", b"/robots.txt?", Some((2, false))),
+    (b"Disallow: /", b"/robots%2Etxt", Some((2, false))),
+];
+
+/// The files of RFC 9309, sections 5.1 and 5.2, and of its section 2.2.1.
+const SIMPLE: &[u8] =
+    b"User-Agent: *\nDisallow: *.gif$\nDisallow: /example/\nAllow: /publications/\n\nUser-Agent: foobot\nDisallow:/\nAllow:/example/page.html\nAllow:/example/allowed.gif\n\nUser-Agent: barbot\nUser-Agent: bazbot\nDisallow: /example/page.html\n\nUser-Agent: quxbot\n";
+
+const LONGEST: &[u8] =
+    b"User-Agent: foobot\nAllow: /example/page/\nDisallow: /example/page/disallowed.gif\n";
+
+const MERGED: &[u8] =
+    b"user-agent: ExampleBot\ndisallow: /foo\ndisallow: /bar\n\nuser-agent: ExampleBot\ndisallow: /baz\n";
+
+/// A file, an agent, a target and whether it may be fetched.
+type Example = (&'static [u8], &'static [u8], &'static [u8], bool);
+
+/// RFC 9309, sections 2.2.1 to 2.2.3, 5.1 and 5.2: a file, an agent, a target and whether it may be fetched. Where the
+/// profile leaves reserved octets as they are written, that is so here too.
+const EXAMPLES: [Example; 31] = [
+    (SIMPLE, b"anybot", b"/publications/a.html", true),
+    (SIMPLE, b"anybot", b"/a.gif", false),
+    (SIMPLE, b"anybot", b"/publications/a.gif", true),
+    (SIMPLE, b"anybot", b"/example/a", false),
+    (SIMPLE, b"anybot", b"/a", true),
+    (SIMPLE, b"foobot", b"/example/page.html", true),
+    (SIMPLE, b"foobot", b"/example/allowed.gif", true),
+    (SIMPLE, b"FooBot", b"/example/", false),
+    (SIMPLE, b"barbot", b"/example/page.html?a", false),
+    (SIMPLE, b"bazbot", b"/example/page.html", false),
+    (SIMPLE, b"bazbot", b"/example/", true),
+    (SIMPLE, b"quxbot", b"/example/a.gif", true),
+    (LONGEST, b"foobot", b"/example/page/disallowed.gif", false),
+    (LONGEST, b"foobot", b"/example/page/x", true),
+    (LONGEST, b"foobot", b"/y", true),
+    (LONGEST, b"barbot", b"/example/page/disallowed.gif", true),
+    (MERGED, b"examplebot", b"/foo", false),
+    (MERGED, b"examplebot", b"/bar", false),
+    (MERGED, b"examplebot", b"/baz", false),
+    (MERGED, b"examplebot", b"/qux", true),
+    (
+        b"User-agent: *\nDisallow: /foo/bar?baz=quz",
+        b"a",
+        b"/foo/bar?baz=quz",
+        false,
+    ),
+    (
+        b"User-agent: *\nDisallow: /foo/bar?baz=https://foo.bar",
+        b"a",
+        b"/foo/bar?baz=https://foo.bar",
+        false,
+    ),
+    (
+        b"User-agent: *\nDisallow: /foo/bar?baz=https://foo.bar",
+        b"a",
+        b"/foo/bar?baz=https%3A%2F%2Ffoo.bar",
+        true,
+    ),
+    (
+        b"User-agent: *\nDisallow: /foo/bar/\xe3\x83\x84",
+        b"a",
+        b"/foo/bar/%E3%83%84",
+        false,
+    ),
+    (
+        b"User-agent: *\nDisallow: /foo/bar/%E3%83%84",
+        b"a",
+        b"/foo/bar/\xe3\x83\x84",
+        false,
+    ),
+    (
+        b"User-agent: *\nDisallow: /foo/bar/%62%61%7A",
+        b"a",
+        b"/foo/bar/baz",
+        false,
+    ),
+    (
+        b"User-agent: *\nDisallow: / # all\nAllow: /this/path/exactly$",
+        b"a",
+        b"/this/path/exactly",
+        true,
+    ),
+    (
+        b"User-agent: *\nDisallow: / # all\nAllow: /this/path/exactly$",
+        b"a",
+        b"/this/path/exactly/not",
+        false,
+    ),
+    (
+        b"User-agent: *\nDisallow: /\nAllow: /this/*/exactly",
+        b"a",
+        b"/this/path/is/exactly",
+        true,
+    ),
+    (
+        b"User-agent: *\nDisallow: /path/file-with-a-%2A.html",
+        b"a",
+        b"/path/file-with-a-%2A.html",
+        false,
+    ),
+    (
+        b"User-agent: *\nDisallow: /path/foo-%24",
+        b"a",
+        b"/path/foo-%24",
+        false,
+    ),
+];
+
+const STATUSES: [(u16, Class); 22] = [
+    (199, Class::Free),
+    (200, Class::Rules),
+    (204, Class::Rules),
+    (299, Class::Rules),
+    (300, Class::Free),
+    (301, Class::Moved),
+    (302, Class::Moved),
+    (303, Class::Moved),
+    (304, Class::Free),
+    (307, Class::Moved),
+    (308, Class::Moved),
+    (309, Class::Free),
+    (399, Class::Free),
+    (400, Class::Free),
+    (404, Class::Free),
+    (499, Class::Free),
+    (500, Class::Shut),
+    (503, Class::Shut),
+    (599, Class::Shut),
+    (600, Class::Free),
+    (0, Class::Free),
+    (65535, Class::Free),
+];
+
+/// A file of a head, a piece many times and an end; a target of `/`, `a` many times and a last part; and the line and the
+/// verdict of the rule.
+struct Size {
+    head: &'static [u8],
+    piece: &'static [u8],
+    times: u32,
+    end: &'static [u8],
+    octets: u32,
+    last: &'static [u8],
+    answer: Option<(u32, bool)>,
+}
+
+/// A size by its parts.
+macro_rules! size {
+    ($head:expr, $piece:expr, $times:expr, $end:expr; $octets:expr, $last:expr; $answer:expr) => {
+        Size {
+            head: $head,
+            piece: $piece,
+            times: $times,
+            end: $end,
+            octets: $octets,
+            last: $last,
+            answer: $answer,
+        }
+    };
+}
+
+const RULES: &[u8] = b"User-agent: *\nDisallow: /";
+
+/// Files up to the limit of 512,000 bytes and past it, and patterns and targets that a slow search would take long for.
+const SIZES: [Size; 15] = [
+    // Lines of one kind, 512,000 bytes of them.
+    size!(b"User-agent: *\n", b"Disallow: /\n", 42_665, b"######"; 0, b"x"; Some((2, false))),
+    size!(b"", b"\n", 511_975, RULES; 0, b"x"; Some((511_977, false))),
+    size!(b"", b"\r", 511_975, RULES; 0, b"x"; Some((511_977, false))),
+    size!(b"########\n", b"User-agent: a\n", 36_569, RULES; 0, b"x"; Some((36_572, false))),
+    size!(b"User-agent: *\n", b"Disallow: /b\n", 9_999, b"Disallow: /x"; 0, b"x"; Some((10_001, false))),
+    // The rule ends with the limit, and passes it by one octet and by all.
+    size!(b"User-agent: *\n", b"#", 511_974, b"\nDisallow: /"; 0, b"x"; Some((3, false))),
+    size!(b"User-agent: *\n", b"#", 511_975, b"\nDisallow: /"; 0, b"x"; None),
+    size!(b"User-agent: *\n", b"#", 511_985, b"\nDisallow: /"; 0, b"x"; None),
+    // Patterns of many `*` and of a long run, against targets of one octet.
+    size!(RULES, b"*a", 1000, b"b"; 2000, b""; None),
+    size!(RULES, b"*a", 1000, b"b"; 2000, b"b"; Some((2, false))),
+    size!(RULES, b"*a", 1000, b"b"; 7000, b"b"; Some((2, false))),
+    size!(b"User-agent: *\nDisallow:*", b"a", 1000, b"b"; 2000, b""; None),
+    size!(b"User-agent: *\nDisallow:*", b"a", 1000, b"b"; 2000, b"b/"; Some((2, false))),
+    size!(b"User-agent: *\nDisallow:*", b"a", 1000, b"b$"; 2000, b"b"; Some((2, false))),
+    size!(b"User-agent: *\nDisallow:*", b"a", 1000, b"b$"; 2000, b"b/"; None),
+];
+
+/// A head, a piece many times and an end.
+fn long(
+    alloc: Global,
+    head: &[u8],
+    piece: &[u8],
+    times: u32,
+    end: &[u8],
+) -> Result<Vec<u8>, AllocError> {
+    let mut bytes = head.to_vec(alloc)?;
+    for _ in 0..times {
+        bytes.extend_from_slice(piece)?;
+    }
+    bytes.extend_from_slice(end)?;
+    Ok(bytes)
+}
+
+/// Asserts the rules of cases, of which each file follows this head.
+fn assert_rules(rt: &impl Abort, alloc: Global, head: &[u8], cases: &[Case]) -> Result<(), Fail> {
+    for (i, (rules, target, answer)) in cases.iter().enumerate() {
+        let file = long(alloc, head, rules, 1, b"")?;
+        let robots = Robots::read(alloc, &file, b"irlbot")?;
+        assert_eq!(rt; robots.by(target), *answer, "case {i}");
+    }
+    Ok(())
+}
+
+/// Asserts what is allowed.
+fn assert_allowed(rt: &impl Abort, alloc: Global, cases: &[Example]) -> Result<(), Fail> {
+    for (i, (file, agent, target, allowed)) in cases.iter().enumerate() {
+        let robots = Robots::read(alloc, file, agent)?;
+        assert_eq!(rt; robots.allows(target), *allowed, "example {i}");
+    }
+    Ok(())
+}
+
+/// Asserts the rules of long files and targets.
+fn assert_sizes(rt: &impl Abort, alloc: Global, cases: &[Size]) -> Result<(), Fail> {
+    for (i, size) in cases.iter().enumerate() {
+        let file = long(alloc, size.head, size.piece, size.times, size.end)?;
+        let target = long(alloc, b"/", b"a", size.octets, size.last)?;
+        let robots = Robots::read(alloc, kept(&file), b"irlbot")?;
+        assert_eq!(rt; robots.by(&target), size.answer, "size {i}");
+    }
+    Ok(())
+}
+
+/// Whether a target may be fetched, by a note.
+fn leave(alloc: Global, note: &NoteState, target: &[u8]) -> Result<Leave, AllocError> {
+    Ok(HostState::read(alloc, note, b"irlbot")?.leave(target))
+}
+
 #[test]
 fn groups_and_lines(rt: HostRuntime) -> Result<(), Fail> {
-    let cases = [
-        // An empty file, a file of other fields, and rules before the first group have no rule.
-        ("", "/x", None),
-        ("Sitemap: /map\nHost: a\n", "/x", None),
-        ("Disallow: /\n", "/x", None),
-        ("Disallow: /a\nUser-agent: *\nDisallow: /b", "/a", None),
-        (
-            "Disallow: /a\nUser-agent: *\nDisallow: /b",
-            "/b",
-            Some((3, false)),
-        ),
-        // Lines end at LF, CR and CR LF, and each counts once; empty lines count too.
-        ("User-agent: *\nDisallow: /x", "/x", Some((2, false))),
-        ("User-agent: *\rDisallow: /x", "/x", Some((2, false))),
-        ("User-agent: *\r\nDisallow: /x\r\n", "/x", Some((2, false))),
-        (
-            "\n\r\n\rUser-agent: *\n\nDisallow: /x",
-            "/x",
-            Some((6, false)),
-        ),
-        ("User-agent: *\n\rDisallow: /x", "/x", Some((3, false))),
-        ("User-agent: *\r\r\nDisallow: /x", "/x", Some((3, false))),
-        // A byte order mark is skipped at the front alone.
-        (
-            "\u{feff}User-agent: *\nDisallow: /x",
-            "/x",
-            Some((2, false)),
-        ),
-        ("\u{feff}\u{feff}User-agent: *\nDisallow: /x", "/x", None),
-        ("User-agent: *\n\u{feff}Disallow: /x", "/x", None),
-        // Comments.
-        (
-            "# first\nUser-agent: * # all\nDisallow: /x # not /y",
-            "/x",
-            Some((3, false)),
-        ),
-        ("User-agent: *\nDisallow: /x#y", "/x", Some((2, false))),
-        ("User-agent: *\n#Disallow: /x", "/x", None),
-        ("User-agent: *\nDisallow: # /x", "/x", None),
-        // Fields: the colon, spaces and tabs, and case.
-        ("User-agent *\nDisallow: /x", "/x", None),
-        ("User-agent: *\nDisallow /x", "/x", None),
-        ("User-agent:*\nDisallow:/x", "/x", Some((2, false))),
-        (
-            " \tUser-agent\t : \t* \t\n\tDisallow \t:\t /x \t",
-            "/x",
-            Some((2, false)),
-        ),
-        ("uSER-AGENT: *\ndISALLOW: /x", "/x", Some((2, false))),
-        ("User agent: *\nDisallow: /x", "/x", None),
-        ("User-agent: *\nDis-allow: /x", "/x", None),
-        ("User-agent: *\nDisallow: /a b", "/a b", Some((2, false))),
-        ("User-agent: *\nDisallow: /a:b", "/a:b", Some((2, false))),
-        ("User-agent: *\n: /x\nDisallow: /y", "/y", Some((3, false))),
-        // Empty values are no rules, but end the user-agent lines.
-        ("User-agent: *\nDisallow:\nAllow:", "/x", None),
-        (
-            "User-agent: irlbot\nDisallow:\nUser-agent: other\nDisallow: /",
-            "/x",
-            None,
-        ),
-        (
-            "User-agent: other\nDisallow: /\nUser-agent: IRLbot\nCrawl-delay: 5\nDisallow:",
-            "/x",
-            None,
-        ),
-        // Other fields end nothing.
-        (
-            "User-agent: a\nCrawl-delay: 1\nUser-agent: irlbot\nDisallow: /x",
-            "/x",
-            Some((4, false)),
-        ),
-        (
-            "User-agent: irlbot\nSitemap: /m\nDisallow: /x\nSitemap: /m\nDisallow: /y",
-            "/y",
-            Some((5, false)),
-        ),
-        // Several agents on one group, and a group after it.
-        (
-            "User-agent: a\nUser-agent: irlbot\nUser-agent: b\nDisallow: /x",
-            "/x",
-            Some((4, false)),
-        ),
-        (
-            "User-agent: irlbot\nUser-agent: b\nDisallow: /x\nUser-agent: b\nDisallow: /y",
-            "/y",
-            None,
-        ),
-        (
-            "User-agent: irlbot\nDisallow: /x\nUser-agent: b",
-            "/x",
-            Some((2, false)),
-        ),
-        // Groups of one token are combined, and so are those for all.
-        (
-            "User-agent: irlbot\nDisallow: /x\nUser-agent: irlbot\nDisallow: /y",
-            "/x",
-            Some((2, false)),
-        ),
-        (
-            "User-agent: irlbot\nDisallow: /x\nUser-agent: irlbot\nDisallow: /y",
-            "/y",
-            Some((4, false)),
-        ),
-        (
-            "User-agent: *\nDisallow: /x\nUser-agent: b\nUser-agent: *\nDisallow: /y",
-            "/y",
-            Some((5, false)),
-        ),
-        // The agent's own groups shut out those for all, wherever they stand, and without rules too.
-        (
-            "User-agent: *\nDisallow: /x\nUser-agent: irlbot\nDisallow: /y",
-            "/x",
-            None,
-        ),
-        (
-            "User-agent: irlbot\nDisallow: /y\nUser-agent: *\nDisallow: /x",
-            "/x",
-            None,
-        ),
-        (
-            "User-agent: *\nDisallow: /x\nUser-agent: irlbot",
-            "/x",
-            None,
-        ),
-        (
-            "User-agent: *\nUser-agent: irlbot\nDisallow: /x\nUser-agent: *\nDisallow: /y",
-            "/x",
-            Some((3, false)),
-        ),
-        (
-            "User-agent: *\nUser-agent: irlbot\nDisallow: /x\nUser-agent: *\nDisallow: /y",
-            "/y",
-            None,
-        ),
-        (
-            "User-agent: *\nDisallow: /x\nUser-agent: irlbots\nDisallow: /y",
-            "/x",
-            Some((2, false)),
-        ),
-        // Tokens: case, what follows them, and values without one.
-        ("User-agent: IRLBOT\nDisallow: /x", "/x", Some((2, false))),
-        (
-            "User-agent: irlbot/1.0\nDisallow: /x",
-            "/x",
-            Some((2, false)),
-        ),
-        ("User-agent: irlbot2\nDisallow: /x", "/x", Some((2, false))),
-        (
-            "User-agent: irlbot.net\nDisallow: /x",
-            "/x",
-            Some((2, false)),
-        ),
-        (
-            "User-agent: irlbot (a crawler)\nDisallow: /x",
-            "/x",
-            Some((2, false)),
-        ),
-        ("User-agent: irlbot-news\nDisallow: /x", "/x", None),
-        ("User-agent: irlbot_news\nDisallow: /x", "/x", None),
-        ("User-agent: irl\nDisallow: /x", "/x", None),
-        ("User-agent: 1irlbot\nDisallow: /x", "/x", None),
-        ("User-agent:\nDisallow: /x", "/x", None),
-        ("User-agent: **\nDisallow: /x", "/x", None),
-        ("User-agent: * irlbot\nDisallow: /x", "/x", None),
-    ];
-    for (file, target, answer) in cases {
-        let robots = Robots::read(rt.alloc(), file.as_bytes(), b"irlbot")?;
-        assert_eq!(rt;
-            robots.by(target.as_bytes()),
-            answer,
-            "{file:?} at {target}"
-        );
-    }
-    Ok(())
+    assert_rules(&rt, rt.alloc(), b"", &GROUPS)
 }
 
-// The same for one group for all, of which the table has the rules, from line 2 on.
 #[test]
 fn patterns_and_targets(rt: HostRuntime) -> Result<(), Fail> {
-    let cases = [
-        // The most octets win, then allow, then the earlier line.
-        ("Allow: /p\nDisallow: /p", "/p", Some((2, true))),
-        ("Disallow: /p\nAllow: /p", "/p", Some((3, true))),
-        ("Disallow: /p\nDisallow: /p", "/p", Some((2, false))),
-        ("Allow: /p\nAllow: /p\nDisallow: /p", "/pq", Some((2, true))),
-        ("Disallow: /p\nAllow: /", "/p", Some((2, false))),
-        ("Allow: /\nDisallow: /p", "/p", Some((3, false))),
-        ("Disallow: /a*\nAllow: /ab", "/abc", Some((3, true))),
-        ("Allow: /ab\nDisallow: /a*b", "/ab", Some((3, false))),
-        ("Allow: /ab\nDisallow: /ab$", "/ab", Some((3, false))),
-        ("Allow: /ab\nDisallow: /ab$", "/abc", Some((2, true))),
-        // The length is that of the normal form.
-        ("Allow: /%61%62\nDisallow: /abc", "/abcd", Some((3, false))),
-        (
-            "Allow: /abcdef\nDisallow: /*\u{e9}",
-            "/abcdef\u{e9}",
-            Some((3, false)),
-        ),
-        // Prefixes, with the query.
-        ("Disallow: /x", "/xyz/a?b=c", Some((2, false))),
-        ("Disallow: /x/", "/x", None),
-        ("Disallow: /a?b", "/a?bc", Some((2, false))),
-        ("Disallow: /a?b", "/a/b", None),
-        ("Disallow: x", "/x", None),
-        ("Disallow: /X", "/x", None),
-        // `*`, first, inside, last and twice.
-        ("Disallow: *", "/", Some((2, false))),
-        ("Disallow: *x", "/abcx", Some((2, false))),
-        ("Disallow: /a*c", "/ac", Some((2, false))),
-        ("Disallow: /a*c", "/abbcd", Some((2, false))),
-        ("Disallow: /a*c", "/abb", None),
-        ("Disallow: /a*", "/a", Some((2, false))),
-        ("Disallow: /**b", "/ab", Some((2, false))),
-        ("Disallow: /*a*b*c", "/xaxbxbxc", Some((2, false))),
-        ("Disallow: /*ab*ac", "/aabaabac", Some((2, false))),
-        ("Disallow: /*ab*ac", "/aabaab", None),
-        // `$`, at the end and elsewhere.
-        ("Disallow: *.gif$", "/a.gif", Some((2, false))),
-        ("Disallow: *.gif$", "/a.gifs", None),
-        ("Disallow: *.gif$", "/a.gif.gif", Some((2, false))),
-        ("Disallow: /a$", "/a?b", None),
-        ("Disallow: /a$b", "/a$bc", Some((2, false))),
-        ("Disallow: /a$b", "/a", None),
-        ("Disallow: /a$$", "/a$", Some((2, false))),
-        ("Disallow: /a$$", "/a", None),
-        ("Disallow: /a*$", "/abc", Some((2, false))),
-        ("Disallow: *$", "/", Some((2, false))),
-        ("Disallow: $", "/", None),
-        ("Disallow: $", "", Some((2, false))),
-        // Triplets of unreserved octets are decoded, on both sides.
-        ("Disallow: /a%7eb", "/a~b", Some((2, false))),
-        ("Disallow: /a~b", "/a%7Eb", Some((2, false))),
-        ("Disallow: /%41%7a%30%2d%2E%5f", "/Az0-._", Some((2, false))),
-        // Those of reserved octets are not, and their digits have no case.
-        ("Disallow: /a/b", "/a%2Fb", None),
-        ("Disallow: /a%2fb", "/a%2Fb", Some((2, false))),
-        ("Disallow: /a%2fb", "/a/b", None),
-        ("Disallow: /a%2A", "/a*", None),
-        ("Disallow: /a%2a", "/a%2A", Some((2, false))),
-        ("Disallow: /a%24", "/a%24b", Some((2, false))),
-        ("Disallow: /%25", "/%2541", Some((2, false))),
-        ("Disallow: /%2541", "/%41", None),
-        // A lone `%` stays.
-        ("Disallow: /%", "/%", Some((2, false))),
-        ("Disallow: /%4", "/%4", Some((2, false))),
-        ("Disallow: /%4g", "/%4G", None),
-        ("Disallow: /%%41", "/%A", Some((2, false))),
-        // Octets above 127 are their triplets.
-        ("Disallow: /\u{e9}", "/%c3%A9", Some((2, false))),
-        ("Disallow: /%c3%a9", "/\u{e9}", Some((2, false))),
-        ("Disallow: /%7F", "/\u{7f}", None),
-        // The robots file has no rule, as its target is written.
-        ("Disallow: /", "/robots.txt", None),
-        ("Disallow: /", "/robots.txt?", Some((2, false))),
-        ("Disallow: /", "/robots%2Etxt", Some((2, false))),
-    ];
-    for (rules, target, answer) in cases {
-        let file = format!(in rt.alloc(); "User-agent: *\n{rules}")?;
-        let robots = Robots::read(rt.alloc(), file.as_bytes(), b"irlbot")?;
-        assert_eq!(rt;
-            robots.by(target.as_bytes()),
-            answer,
-            "{rules:?} at {target}"
-        );
-    }
-    Ok(())
+    assert_rules(&rt, rt.alloc(), b"User-agent: *\n", &PATTERNS)
 }
 
-// RFC 9309, sections 2.2.1 to 2.2.3, 5.1 and 5.2: a file, an agent, a target and whether it may be fetched. Where the
-// profile leaves reserved octets as they are written, that is so here too.
 #[test]
 fn examples_of_the_standard(rt: HostRuntime) -> Result<(), Fail> {
-    let simple =
-        "User-Agent: *\nDisallow: *.gif$\nDisallow: /example/\nAllow: /publications/\n\nUser-Agent: foobot\nDisallow:/\nAllow:/example/page.html\nAllow:/example/allowed.gif\n\nUser-Agent: barbot\nUser-Agent: bazbot\nDisallow: /example/page.html\n\nUser-Agent: quxbot\n";
-    let longest =
-        "User-Agent: foobot\nAllow: /example/page/\nDisallow: /example/page/disallowed.gif\n";
-    let merged =
-        "user-agent: ExampleBot\ndisallow: /foo\ndisallow: /bar\n\nuser-agent: ExampleBot\ndisallow: /baz\n";
+    assert_allowed(&rt, rt.alloc(), &EXAMPLES)
+}
+
+#[test]
+fn sizes(rt: HostRuntime) -> Result<(), Fail> {
+    assert_sizes(&rt, rt.alloc(), &SIZES)
+}
+
+#[test]
+fn notes(rt: HostRuntime) -> Result<(), Fail> {
+    let text = Text::from_bytes(rt.alloc(), b"User-agent: *\nDisallow: /x")?;
+    let rules = NoteState::Rules(text);
     let cases = [
-        (simple, "anybot", "/publications/a.html", true),
-        (simple, "anybot", "/a.gif", false),
-        (simple, "anybot", "/publications/a.gif", true),
-        (simple, "anybot", "/example/a", false),
-        (simple, "anybot", "/a", true),
-        (simple, "foobot", "/example/page.html", true),
-        (simple, "foobot", "/example/allowed.gif", true),
-        (simple, "FooBot", "/example/", false),
-        (simple, "barbot", "/example/page.html?a", false),
-        (simple, "bazbot", "/example/page.html", false),
-        (simple, "bazbot", "/example/", true),
-        (simple, "quxbot", "/example/a.gif", true),
-        (longest, "foobot", "/example/page/disallowed.gif", false),
-        (longest, "foobot", "/example/page/x", true),
-        (longest, "foobot", "/y", true),
-        (longest, "barbot", "/example/page/disallowed.gif", true),
-        (merged, "examplebot", "/foo", false),
-        (merged, "examplebot", "/bar", false),
-        (merged, "examplebot", "/baz", false),
-        (merged, "examplebot", "/qux", true),
-        (
-            "User-agent: *\nDisallow: /foo/bar?baz=quz",
-            "a",
-            "/foo/bar?baz=quz",
-            false,
-        ),
-        (
-            "User-agent: *\nDisallow: /foo/bar?baz=https://foo.bar",
-            "a",
-            "/foo/bar?baz=https://foo.bar",
-            false,
-        ),
-        (
-            "User-agent: *\nDisallow: /foo/bar?baz=https://foo.bar",
-            "a",
-            "/foo/bar?baz=https%3A%2F%2Ffoo.bar",
-            true,
-        ),
-        (
-            "User-agent: *\nDisallow: /foo/bar/\u{30c4}",
-            "a",
-            "/foo/bar/%E3%83%84",
-            false,
-        ),
-        (
-            "User-agent: *\nDisallow: /foo/bar/%E3%83%84",
-            "a",
-            "/foo/bar/\u{30c4}",
-            false,
-        ),
-        (
-            "User-agent: *\nDisallow: /foo/bar/%62%61%7A",
-            "a",
-            "/foo/bar/baz",
-            false,
-        ),
-        (
-            "User-agent: *\nDisallow: / # all\nAllow: /this/path/exactly$",
-            "a",
-            "/this/path/exactly",
-            true,
-        ),
-        (
-            "User-agent: *\nDisallow: / # all\nAllow: /this/path/exactly$",
-            "a",
-            "/this/path/exactly/not",
-            false,
-        ),
-        (
-            "User-agent: *\nDisallow: /\nAllow: /this/*/exactly",
-            "a",
-            "/this/path/is/exactly",
-            true,
-        ),
-        (
-            "User-agent: *\nDisallow: /path/file-with-a-%2A.html",
-            "a",
-            "/path/file-with-a-%2A.html",
-            false,
-        ),
-        (
-            "User-agent: *\nDisallow: /path/foo-%24",
-            "a",
-            "/path/foo-%24",
-            false,
-        ),
+        (&rules, Leave::Denied(2)),
+        (&NoteState::Free, Leave::Allowed),
+        (&NoteState::Shut, Leave::Shut),
     ];
-    for (file, agent, target, allowed) in cases {
-        let robots = Robots::read(rt.alloc(), file.as_bytes(), agent.as_bytes())?;
-        assert_eq!(rt;
-            robots.allows(target.as_bytes()),
-            allowed,
-            "{agent} at {target}"
-        );
+    for (note, answer) in cases {
+        assert_eq!(rt; leave(rt.alloc(), note, b"/x")?, answer);
     }
-    Ok(())
-}
-
-// RFC 9309, section 5.2: the rule that a target falls under, by its line.
-#[test]
-fn the_longest_rule_is_taken(rt: HostRuntime) -> Result<(), Fail> {
-    let file =
-        b"User-Agent: foobot\nAllow: /example/page/\nDisallow: /example/page/disallowed.gif\n";
-    let robots = Robots::read(rt.alloc(), file, b"foobot")?;
-    assert_eq!(rt;
-        robots.by(b"/example/page/disallowed.gif"),
-        Some((3, false))
-    );
-    assert_eq!(rt; robots.by(b"/example/page/x"), Some((2, true)));
-    assert_eq!(rt; robots.by(b"/y"), None);
-    Ok(())
-}
-
-// The limit of 512,000 bytes, bytes that are no text, agents that are no token, and a pattern that would be tried
-// very often by backtracking.
-#[test]
-fn large_and_odd_files(rt: HostRuntime) -> Result<(), Fail> {
-    let alloc = rt.alloc();
-    for (filler, answer) in [
-        (511_974, Some((3, false))),
-        (511_975, None),
-        (511_985, None),
-    ] {
-        let mut file = b"User-agent: *\n".to_vec(alloc)?;
-        let comment = vec![in alloc; b'#'; filler]?;
-        file.extend_from_slice(&comment)?;
-        file.extend_from_slice(b"\nDisallow: /")?;
-        let robots = Robots::read(alloc, &file, b"irlbot")?;
-        assert_eq!(rt; robots.by(b"/x"), answer, "{filler} octets of comment");
-    }
-
-    let mut file = b"User-agent: *\nDisallow: /".to_vec(alloc)?;
-    for _ in 0..1000 {
-        file.extend_from_slice(b"*a")?;
-    }
-    file.push(b'b')?;
-    let mut target = b"/".to_vec(alloc)?;
-    let run = vec![in alloc; b'a'; 2000]?;
-    target.extend_from_slice(&run)?;
-    let robots = Robots::read(alloc, &file, b"irlbot")?;
-    assert_eq!(rt; robots.by(&target), None);
-    target.push(b'b')?;
-    assert_eq!(rt; robots.by(&target), Some((2, false)));
-
-    let odd = b"\xff\x00\r\nUser-agent: *\nDisallow: /\xff";
-    let robots = Robots::read(alloc, odd, b"")?;
-    assert_eq!(rt; robots.by(b"/%ffa"), Some((3, false)));
-    let named = b"User-agent:\nDisallow: /x\nUser-agent: 1\nDisallow: /y";
-    assert_eq!(rt; Robots::read(alloc, named, b"")?.by(b"/x"), None);
-    assert_eq!(rt; Robots::read(alloc, named, b"1")?.by(b"/y"), None);
+    assert_eq!(rt; leave(rt.alloc(), &rules, b"/y")?, Leave::Allowed);
     Ok(())
 }
 
 #[test]
 fn classes_of_statuses(rt: HostRuntime) {
-    let cases = [
-        (199, Class::Free),
-        (200, Class::Rules),
-        (204, Class::Rules),
-        (299, Class::Rules),
-        (300, Class::Free),
-        (301, Class::Moved),
-        (302, Class::Moved),
-        (303, Class::Moved),
-        (304, Class::Free),
-        (307, Class::Moved),
-        (308, Class::Moved),
-        (309, Class::Free),
-        (399, Class::Free),
-        (400, Class::Free),
-        (404, Class::Free),
-        (499, Class::Free),
-        (500, Class::Shut),
-        (503, Class::Shut),
-        (599, Class::Shut),
-        (600, Class::Free),
-        (0, Class::Free),
-        (65535, Class::Free),
-    ];
-    for (status, expected) in cases {
+    for (status, expected) in STATUSES {
         assert_eq!(rt; class(status), expected, "status {status}");
     }
 }

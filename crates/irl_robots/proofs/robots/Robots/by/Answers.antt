@@ -1,6 +1,6 @@
 use Rattle.std.proofs.Common.{◌≡◌, ◌∙◌, List, Option, Some, None, IfNone, is_some, subst}
 use Rattle.std.proofs.lemmas.Bool.{false≢true}
-use Rattle.irl_robots.specs.declared.rule.Rule.{Rule}
+use Rattle.irl_robots.specs.declared.rule.PathRule.{PathRule}
 use Rattle.irl_robots.specs.Normal.{normal}
 use Rattle.irl_robots.specs.Rule.{NoneMatches}
 use Rattle.irl_robots.proofs.robots.Robots.by.Goals as goal
@@ -16,4 +16,4 @@ pub returns-clause-none : goal.returns-clause-none
 returns-clause-none c =
     let path = normal c.args.target.now in
     if_none-mapped _ _ c.best.result c.map.result c.map.ensures.variant
-    (subst (λ (rules : List Rule). IfNone c.best.result (NoneMatches rules path)) (c.deref.ensures.value ∙ c.self.view_is) c.best.ensures.none)
+    (subst (λ (rules : List PathRule). IfNone c.best.result (NoneMatches rules path)) (c.deref.ensures.value ∙ c.self.view_is) c.best.ensures.none)
