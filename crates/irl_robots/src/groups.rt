@@ -49,8 +49,8 @@ pub fn obeyed(alloc: Global, bytes: &[u8], agent: &[u8]) -> Result<Vec<PathRule>
 /// The rules of the groups that are for these agents, in the order of their lines.
 fn rules_for(alloc: Global, text: &[u8], agents: Agents<'_>) -> Result<Vec<PathRule>, AllocError>
     requires { length text.now ≤ max_robots }
-    ensures { IfOk result (λ rules. rules.items
-        ≡ flat_map rules_of (filter (is_for (are_meant agents.entry)) (outline_of 1 (map line_of (lines text.now))).groups)) }
+    ensures { IfOk result (λ rules. rules.items ≡ flat_map rules_of
+        (filter (is_for (are_meant agents.entry)) (outline_of 1 (map line_of (lines text.now))).groups)) }
 {
     let mut rules = Vec::new(alloc);
     let mut number = 0;
