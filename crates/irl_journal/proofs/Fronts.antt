@@ -1,8 +1,8 @@
 -- What a file begins with, and what an append behind it leaves.
-use Rattle.std.proofs.Common.{◌≡◌, ◌∙◌, ℕ, ◌+◌, ◌≤◌, List, [], ◌∷◌, ◌++◌, length, take, drop, Option, None, Some, refl, sym, ap, subst, arith, append_assoc, length-append, length-drop, length-take-le, take-append-drop}
+use Rattle.std.proofs.Common.{◌≡◌, ◌∙◌, ℕ, ◌+◌, ◌≤◌, List, [], ◌∷◌, ◌++◌, length, take, drop, Option, None, Some, Result, Ok, Err, OnOk, OnErr, refl, sym, ap, subst, arith, append_assoc, length-append, length-drop, length-take-le, take-append-drop}
 use Rattle.std.proofs.lemmas.List.{take_at, take-take, take-append-le, drop-append-le}
 use Rattle.std.specs.Option.{ForSome}
-use Rattle.irl_disk.specs.Disk.{Files, Changes, ChangesFile, Holds, Scribbled}
+use Rattle.irl_disk.specs.Disk.{Files, Changes, ChangesFile, Holds, Scribbled, PartlyCut}
 use Rattle.irl_disk.specs.Images.{Snapshot, IsConsistent, Follows, Leaves, LeavesBy, LeavesSame}
 use Rattle.irl_disk.proofs.Frames.{told_from}
 use Rattle.irl_disk.proofs.Stretches.{widens, widens_by, reads_on, left_now}
@@ -48,6 +48,12 @@ held_past n at bytes old new past within holds =
     ∙ ap (λ (l : List ℕ). take n l) (append_assoc (take at old) bytes rest)
     ∙ take-append-le n (take at old) (bytes ++ rest) (omega (arith, length-take-le at old within))
     ∙ take-take n at old past)
+
+-- a cut past it, whole or not
+pub cut_past : (n to : ℕ) (old new : List ℕ) → n ≤ to → PartlyCut to old new → KeepsFront n old new
+cut_past n to old new past cut = λ held size begins.
+    let within : length held ≤ length new = omega (arith, size, begins_long old held begins, cut.no_shorter) in
+    take_begins new held (ap (λ (l : List ℕ). take (length held) l) cut.prefix ∙ take-take (length held) (length new) old within ∙ begins_take old held begins)
 
 -- no change, and two changes
 pub keeps_none : (n : ℕ) (file : List ℕ) → KeepsFront n file file
@@ -102,6 +108,28 @@ pub stops_committed : (blob : Front) (held : List ℕ) (old new : Snapshot) → 
 stops_committed blob held old new stops committed =
     widens old new _ (λ image. BeginsWith (image blob.file) held) stops (λ image from. from.2.changed held committed.size (committed.each from.0 from.1))
 
--- what was committed before the last bytes is committed after a rewind to it
-pub rewinds : (images : Files → Type 0) (blob : Front) (held more : List ℕ) → IsCommitted images blob (held ++ more) → IsCommitted images (record { file = blob.file; length = length held }) held
-rewinds images blob held more committed = record { size = refl; each = λ image left. begins_less (image blob.file) held more (committed.each image left) }
+-- the file has as many bytes, so that more can be appended
+pub committed_within : (blob : Front) (held : List ℕ) (now : Snapshot) → IsConsistent now → IsCommitted now.images blob held → ForSome now.files (λ files. blob.length ≤ length (files blob.file))
+committed_within blob held now law committed = λ files told.
+    omega (arith, committed.size, begins_long (files blob.file) held (committed.each files (law.told files told)))
+
+-- so some bytes are committed after an append, whether it failed or not
+pub committed_after : {T E : Type 0} (result : Result T E) (blob after : Front) (held bytes : List ℕ) (old new : Snapshot) → IsConsistent new → IsCommitted old.images blob held
+    → OnOk result ((held : List ℕ) → IsCommitted old.images blob held → IsCommitted new.images after (held ++ bytes)) → OnErr result (after ≡ blob) → LeavesBy (ChangesFile blob.file (KeepsFront blob.length)) old new
+    → (held : List ℕ) × IsCommitted new.images after held
+committed_after (Ok value) blob after held bytes old new law committed ok err stops = (held ++ bytes, ok held committed)
+committed_after (Err error) blob after held bytes old new law committed ok err stops =
+    (held, subst (λ (front : Front). IsCommitted new.images front held) (sym err) (stays_committed blob held old new law stops committed))
+
+-- of a blob of length 0 no byte is
+pub none_committed : (images : Files → Type 0) (file : ℕ) → IsCommitted images (record { file = file; length = 0 }) []
+none_committed images file = record { size = refl; each = λ image left. (image file, refl) }
+
+-- a rewind commits fewer of the bytes
+pub rewinds : (images : Files → Type 0) (blob : Front) (held : List ℕ) (n : ℕ) → n ≤ blob.length → IsCommitted images blob held → IsCommitted images (record { file = blob.file; length = n }) (take n held)
+rewinds images blob held n less committed = record {
+  size = length-take-le n held (omega (arith, committed.size));
+  each = λ image left.
+      begins_less (image blob.file) (take n held) (drop n held)
+      (subst (λ (bytes : List ℕ). BeginsWith (image blob.file) bytes) (sym (take-append-drop n held)) (committed.each image left));
+}

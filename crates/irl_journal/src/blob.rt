@@ -47,7 +47,7 @@ impl Blob {
             IsCommitted (S.snapshot store.old).images self.old held →
             IsCommitted (S.snapshot store.new).images self.new (held ++ bytes.now)) }
         ensures length { OnOk result (self.new.length ≡ self.old.length + len bytes.now) }
-        ensures length_kept { OnErr result (self.new.length ≡ self.old.length) }
+        ensures kept { OnErr result (self.new ≡ self.old) }
         ensures file { self.new.file ≡ self.old.file }
         // What a read gives has the bytes there.
         ensures bytes { OnOk result (Changes self.old.file (Holds self.old.length bytes.now)
@@ -100,3 +100,6 @@ impl Blob {
         Ok(count == into.len())
     }
 }
+
+#[cfg(test)]
+mod tests;
