@@ -1,4 +1,5 @@
 pub mod Appended
+pub mod Fronts
 pub mod Gates
 pub mod Lists
 pub mod Opened

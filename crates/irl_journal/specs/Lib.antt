@@ -1,3 +1,4 @@
 pub mod Appending
+pub mod Blob
 pub mod Format
 pub mod Visiting

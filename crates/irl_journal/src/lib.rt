@@ -1,6 +1,7 @@
 //! A write-ahead journal: records behind a gate, each on the disk before it counts.
 #![tactic(auto)]
 
+mod blob;
 mod fault;
 mod format;
 mod frame;
@@ -9,6 +10,7 @@ mod laws;
 mod opening;
 mod visit;
 
+pub use blob::Blob;
 pub use fault::JournalFault;
 pub use frame::Frame;
 pub use journal::Journal;

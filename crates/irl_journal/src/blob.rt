@@ -1,0 +1,105 @@
+ghost use Rattle.std.specs.Prelude.{◌≡◌, ◌↔◌, ◌+◌, ◌≤◌, ◌<◌, ◌++◌, List, ℕ, true};
+ghost use Rattle.std.specs.Prelude.{length as len, take, drop, IfOk, OnOk, OnErr, IsErr};
+ghost use Rattle.std.specs.Option.{ForSome};
+ghost use Rattle.irl_offer.specs.Faults.{HasCause};
+ghost use Rattle.irl_disk.specs.Disk.{Changes, ChangesFile, Holds};
+ghost use Rattle.irl_disk.specs.Images.{LeavesBy, LeavesSame};
+ghost use Rattle.irl_disk.specs.Taken.{TakesOnly};
+ghost use Rattle.irl_journal.specs.Blob.{KeepsFront, IsCommitted};
+
+use irl_disk::{Failed, Store};
+use std::marker::Model;
+
+/// Bytes at the front of a file that only grow. They are committed up to a length; what lies past it means nothing. Contracts
+/// see a blob as a `Front`.
+#[derive(Drop)]
+pub struct Blob {
+    file: u16,
+    length: u64,
+}
+
+impl Model for Blob {
+    ghost use Rattle.std.specs.Prelude.{◌<◌};
+    ghost use Rattle.irl_journal.specs.Blob.{Front};
+
+    ghost Value = { Front };
+
+    ghost view = { λ b. record { file = b.file; length = b.length } };
+
+    ghost invariant = { λ b. b.file < 10000 };
+}
+
+impl Blob {
+    /// A blob of a file of which so many bytes are committed. It touches no file.
+    pub fn at(f: u16, length: u64) -> Blob
+        requires { f < 10000 }
+        ensures { result ≡ record { file = f; length = length } }
+    {
+        Blob { file: f, length }
+    }
+
+    /// Appends bytes behind the committed ones, in two calls of the store: it writes them over whatever lies there, and
+    /// syncs. At `Ok` they are committed. A refusal leaves the blob as it was, to be appended to again. It takes no memory.
+    pub fn append<S: Store>(&mut self, store: &mut S, bytes: &[u8]) -> Result<(), Failed>
+        requires { ForSome (S.snapshot store.old).files (λ files. self.old.length ≤ len (files self.old.file)) }
+        // Each stop from then on leaves what was committed and these bytes behind it.
+        ensures committed { OnOk result ((held : List ℕ) →
+            IsCommitted (S.snapshot store.old).images self.old held →
+            IsCommitted (S.snapshot store.new).images self.new (held ++ bytes.now)) }
+        ensures length { OnOk result (self.new.length ≡ self.old.length + len bytes.now) }
+        ensures kept { OnErr result (self.new ≡ self.old) }
+        ensures file { self.new.file ≡ self.old.file }
+        // What a read gives has the bytes there.
+        ensures bytes { OnOk result (Changes self.old.file (Holds self.old.length bytes.now)
+            (S.snapshot store.old).files (S.snapshot store.new).files) }
+        ensures changes { Changes self.old.file (KeepsFront self.old.length)
+            (S.snapshot store.old).files (S.snapshot store.new).files }
+        // A stop at any moment leaves what was committed, and every other file as it was.
+        ensures stops { LeavesBy (ChangesFile self.old.file (KeepsFront self.old.length))
+            (S.snapshot store.old) (S.snapshot store.new) }
+        ensures taken { S.taken store.new ≡ S.taken store.old }
+        ensures cause { HasCause (IsErr result) (S.faults store.old) (S.faults store.new) }
+    {
+        store.write(self.file, self.length, bytes)?;
+        store.sync(self.file)?;
+        self.length += bytes.len() as u64;
+        Ok(())
+    }
+
+    /// How many bytes are committed.
+    pub fn length(&self) -> u64
+        ensures { result ≡ self.now.length }
+    {
+        self.length
+    }
+
+    /// Takes back what was appended since the blob had this length: it isn't committed after all. It touches no file.
+    pub fn rewind(&mut self, length: u64)
+        requires { length ≤ self.old.length }
+        ensures { self.new ≡ record { file = self.old.file; length = length } }
+    {
+        self.length = length;
+    }
+
+    /// Fills a slice with the file's bytes from a place on, and answers whether the file has as many.
+    pub fn read<S: Store>(&self, store: &mut S, at: u64, into: &mut [u8]) -> Result<bool, Failed>
+        ensures long { IfOk result (λ is_filled. ForSome (S.snapshot store.old).files (λ files.
+            (is_filled ≡ true) ↔ (at + len into.new ≤ len (files self.now.file)))) }
+        ensures bytes { IfOk result (λ is_filled. is_filled ≡ true → ForSome (S.snapshot store.old).files (λ files.
+            into.new ≡ take (len into.new) (drop at (files self.now.file)))) }
+        ensures same { (S.snapshot store.new).files ≡ (S.snapshot store.old).files }
+        ensures stops { LeavesSame (S.snapshot store.old) (S.snapshot store.new) }
+        ensures taken { TakesOnly self.now.file (S.taken store.old) (S.taken store.new) }
+        ensures cause { HasCause (IsErr result) (S.faults store.old) (S.faults store.new) }
+    {
+        let length = store.length(self.file)?;
+        if at > length || into.len() as u64 > length - at {
+            return Ok(false);
+        }
+        let count = store.read(self.file, at, into)?;
+        Ok(count == into.len())
+    }
+}
+
+#[cfg(test)]
+mod tests;
