@@ -1,9 +1,14 @@
 -- The bytes that the method shows are the first of those left, by the view of the fields after `look_ahead`.
-use Rattle.std.proofs.Common.{◌≡◌, ◌+◌, refl, ap, ◌∙◌, arith}
+use Rattle.std.proofs.Common.{◌≡◌, ℕ, ◌+◌, ◌≤◌, refl, ap, ◌∙◌, arith}
 use Rattle.std.specs.List.{slice_range}
+use Rattle.irl_offer.specs.Faults.{HasCause}
 use Rattle.irl_io.specs.Steps.{Progress}
 use Rattle.irl_io.proofs.FeedLemmas.{takes_line, gives_line, refuses_long}
 use Rattle.irl_io.proofs.lines.Lines.next.Goals as goal
+
+-- what was not answered needs no cause
+not_failed : {Answered : Type 0} (before now : ℕ) → before ≤ now → ¬ Answered → HasCause Answered before now
+not_failed before now later not = record { later = later; rose = λ is. absurd (not is) }
 
 pub returns-in-Line : goal.returns-in-Line
 returns-in-Line g c =
@@ -21,7 +26,7 @@ returns-in-Line g c =
       ),
       record {
         limits = (gives_line (left c.look_ahead.new.source) c.look_ahead.new.self.ahead c.deref.result.now a.buffer.items a.start a.end c.in-Line.length c.in-Line.whole c.deref.ensures.value view c.in-Line.ensures.stands, omega (arith, number));
-        cause = record { later = c.look_ahead.ensures.cause.later; rose = λ failed. absurd (cc) };
+        cause = not_failed _ _ c.look_ahead.ensures.cause.later (λ failed. cc);
         after = tt;
       },
     )
@@ -42,7 +47,7 @@ returns-in-Long g c =
       ),
       record {
         limits = ap (λ n. n + 1) number;
-        cause = record { later = c.look_ahead.ensures.cause.later; rose = λ failed. absurd (cc) };
+        cause = not_failed _ _ c.look_ahead.ensures.cause.later (λ failed. cc);
         after = tt;
       },
     )
