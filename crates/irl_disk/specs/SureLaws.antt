@@ -1,10 +1,11 @@
 -- What holds of every store whose writes count at once, and how many bytes its files have together after one of them changed.
-use Rattle.std.specs.Prelude.{◌≡◌, ◌≢◌, ℕ, ◌+◌, suc, List, [], ◌∷◌, length, get_or}
+use Rattle.std.specs.Prelude.{◌≡◌, ◌≢◌, ℕ, ◌+◌, ◌-◌, ◌≤◌, suc, List, [], ◌∷◌, length, get_or}
 use Rattle.std.specs.List.{sum_by}
-use Rattle.std.proofs.Common.{refl, ap, zero, arith}
+use Rattle.std.proofs.Common.{refl, ap, ◌∙◌, zero, arith}
 use Rattle.std.proofs.lemmas.List.Sums.{sum_by-cons}
-use Rattle.irl_disk.specs.Disk.{ChangesFile}
+use Rattle.irl_disk.specs.Disk.{ChangesFile, Holds}
 use Rattle.irl_disk.specs.Images.{IsConsistent}
+use Rattle.irl_disk.specs.ModelLaws.{length-written}
 use Rattle.irl_disk.specs.Sure.{Held, bytes_held, sure_files, sure_snapshot}
 
 pub sure_consistent : (store : Held) → IsConsistent (sure_snapshot store)
@@ -55,3 +56,10 @@ held_after f step old new changes = lengths_change f old.files new.files changes
 -- no file changes
 pub held_same : (old new : Held) → sure_files new ≡ sure_files old → bytes_held new ≡ bytes_held old
 held_same old new same = lengths_same old.files new.files (λ f. ap (λ (files : ℕ → List ℕ). files f) same)
+
+-- bytes were written into a file
+pub held_written : (f at : ℕ) (bytes : List ℕ) (old new : Held) → at ≤ length (sure_files old f) → ChangesFile f (Holds at bytes) (sure_files old) (sure_files new)
+    → bytes_held new ≡ bytes_held old + (at + length bytes - length (sure_files old f))
+held_written f at bytes old new le changes =
+    let long = length_by (sure_files new f) _ changes.changed ∙ length-written at bytes (sure_files old f) le in
+    omega (arith, held_after f (Holds at bytes) old new changes, long)

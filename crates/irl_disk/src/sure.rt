@@ -240,11 +240,13 @@ mod tests {
         Ok(into)
     }
 
-    // A write that has room is proved to succeed.
+    // A write that has room is proved to succeed, and leaves room for the next.
     fn put_surely(store: &mut SureStore, f: u16, bytes: &[u8]) -> Result<(), Failed>
         requires file { f < 10000 }
         requires room { bytes_held store.old + length bytes.now ≤ store.old.room }
-        ensures { IsOk result }
+        ensures ok { IsOk result }
+        ensures held { bytes_held store.new ≤ bytes_held store.old + length bytes.now }
+        ensures room { store.new.room ≡ store.old.room }
     {
         store.write(f, 0, bytes)
     }
@@ -280,7 +282,7 @@ mod tests {
     fn a_write_past_the_room_changes_nothing(rt: HostRuntime) -> Result<(), Fail> {
         let mut store = SureStore::new(rt.alloc(), 6)?;
         put_surely(&mut store, 1, b"abcd")?;
-        put(&mut store, 2, 0, b"x")?;
+        put_surely(&mut store, 2, b"x")?;
         assert_eq!(rt; put(&mut store, 1, 3, b"DEF"), Err(Failed));
         assert_eq!(rt; shown(&mut store, 1)?, *b"abcd\0\0");
         assert_eq!(rt; shown(&mut store, 2)?, *b"x\0\0\0\0\0");
