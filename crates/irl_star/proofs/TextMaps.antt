@@ -1,10 +1,9 @@
 -- What a tree with texts as keys has at a text after one more entry, and its entries as a finite map.
-use Rattle.std.proofs.Common.{◌≡◌, ◌∙◌, ℕ, Bool, true, false, List, [], ◌∷◌, Option, None, Some, cond, refl, sym, ap, subst}
+use Rattle.std.proofs.Common.{◌≡◌, ◌∙◌, ℕ, Bool, true, false, List, [], ◌∷◌, Option, Some, cond, refl, sym, ap}
 use Rattle.std.specs.Prelude.{Vec, bytes_eq}
 use Rattle.std.specs.declared.cmp.Ordering.{Ordering}
 use Rattle.std.specs.declared.cmp.Ordering.TheVariants.{Less, Equal, Greater}
 use Rattle.std.specs.Ordering.{nat_cmp, is_eq, match_ordering}
-use Rattle.std.specs.Cmp.{tied_itself}
 use Rattle.std.specs.Cmp.Lexicographic.{slice_cmp}
 use Rattle.std.specs.BTreeMap.{is_at, insert_entry}
 use Rattle.std.specs.Map.{lookup}
@@ -12,7 +11,7 @@ use Rattle.std.specs.FinMap.{find, from_entries, get, get-from_entries, get-inse
 use Rattle.std.proofs.lemmas.Map.Text.{is_eq-slice_cmp}
 use Rattle.std.proofs.lemmas.Slice.Eq.{bytes_eq-Decides}
 use Rattle.std.proofs.lemmas.Cmp.{nat_list_cmp_total}
-use Rattle.irl_star.specs.Degrees.{texts_of, DegreeMap}
+use Rattle.irl_star.specs.Degrees.{texts_of}
 
 -- what the entries have at a text
 abbrev pub value_at : {A X : Type 0} → List (Vec ℕ A × X) → List ℕ → Option X

@@ -1,5 +1,5 @@
 -- The domains in the order of their ranks, and the map of ranks that budgets are read from.
-use Rattle.std.specs.Prelude.{◌≡◌, ℕ, ◌+◌, ◌<◌, ◌≤◌, ◌*◌, ◌/◌, List, [], map, length, slice_get, Option, None, Some, IsSome, Vec}
+use Rattle.std.specs.Prelude.{◌≡◌, ℕ, ◌<◌, ◌≤◌, List, map, slice_get, Option, None, Some, IsSome, Vec}
 use Rattle.std.proofs.Common.{arith}
 use Rattle.std.specs.Option.{option_map_or, option_map}
 use Rattle.std.specs.declared.cmp.Ordering.{Ordering}

@@ -26,7 +26,8 @@ impl Budgets {
     pub(crate) fn new(settings: &Settings, rank_of: BTreeMap<Vec<u8>, u32>) -> Budgets
         requires { AreValid settings.now }
         ensures { (pld : List ℕ) → ⟦<Budgets as Purse>⟧.budgets result pld
-            ≡ option_map_or (budget_at settings.now.base settings.now.most settings.now.ranks) (rank_in rank_of pld) settings.now.base }
+            ≡ option_map_or (budget_at settings.now.base settings.now.most settings.now.ranks)
+            (rank_in rank_of pld) settings.now.base }
     {
         Budgets {
             base: settings.base,

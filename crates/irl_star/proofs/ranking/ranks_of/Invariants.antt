@@ -1,7 +1,5 @@
-use Rattle.std.proofs.Common.{◌≡◌, ◌<◌, ℕ, Option, Some, List, map}
-use Rattle.std.specs.Prelude.{slice_get, IsSome}
-use Rattle.std.specs.Option.{option_map}
-use Rattle.irl_star.specs.Ranks.{domain_of, rank_in, AreRanks}
+use Rattle.std.proofs.Common.{map}
+use Rattle.irl_star.specs.Ranks.{domain_of, AreRanks}
 use Rattle.irl_star.proofs.ranking.ranks_of.Given as goal
 
 -- the map has the ranks so far

@@ -1,4 +1,4 @@
-use Rattle.std.proofs.Common.{◌≡◌, ◌∙◌, ◌+◌, ℕ, List, ◌∷◌, [], ◌++◌, Some, cond, sym, ap, subst, arith, rules}
+use Rattle.std.proofs.Common.{◌≡◌, ◌∙◌, ◌+◌, ◌∷◌, [], ◌++◌, Some, cond, sym, ap, subst, rules}
 use Rattle.std.specs.Prelude.{bytes_eq}
 use Rattle.std.specs.FinMap.{insert}
 use Rattle.irl_star.specs.Degrees.{DegreeMap, Counts, degree_in}

@@ -1,7 +1,7 @@
-use Rattle.std.proofs.Common.{◌≡◌, ◌∙◌, map, sym, ap}
+use Rattle.std.proofs.Common.{◌∙◌, map, sym, ap}
 use Rattle.std.specs.FinMap.{get}
 use Rattle.irl_star.specs.Degrees.{DegreeMap, texts_of}
-use Rattle.irl_star.specs.Ranks.{domain_of, AreRanks}
+use Rattle.irl_star.specs.Ranks.{domain_of}
 use Rattle.irl_star.proofs.TextMaps.{get-texts}
 use Rattle.irl_star.proofs.RankLemmas.{at_text, distinct_texts, budget_is}
 use Rattle.irl_star.proofs.degrees.Degrees.budgets.Goals as goal

@@ -1,5 +1,3 @@
-use Rattle.std.proofs.Common.{[], sym, ap, subst, ◌∙◌}
-use Rattle.irl_star.specs.Degrees.{Counts, DegreeMap}
 use Rattle.irl_star.proofs.Counting.{counts_none}
 use Rattle.irl_star.proofs.degrees.Degrees.new.Goals as goal
 

@@ -1,0 +1,15 @@
+//! Queues of postponed URLs (Lee, Leonard, Wang and Loguinov, "IRLbot: Scaling to 6 Billion Pages and Beyond", WWW 2008,
+//! section 6: Budget Enforcement with Anti-Spam Tactics), in memory.
+#![tactic(auto)]
+
+mod beast;
+mod counts;
+mod item;
+mod lists;
+mod placing;
+
+pub use beast::Beast;
+pub use item::Item;
+
+#[cfg(test)]
+mod tests;
