@@ -2,7 +2,6 @@
 use Rattle.std.proofs.Common.{◌≡◌, ℕ, List, [], ◌∷◌, refl}
 use Rattle.std.specs.Prelude.{map}
 use Rattle.irl_offer.specs.Purses.{Budget}
-use Rattle.irl_offer.specs.declared.place.Slot.{Slot}
 use Rattle.irl_offer.specs.declared.place.Slot.TheVariants.{Front, Queue, Last}
 use Rattle.irl_beast.specs.declared.item.Item.{Item}
 use Rattle.irl_beast.specs.Lists.{Waiting, delivered}
