@@ -6,7 +6,7 @@ use Rattle.std.proofs.lemmas.Bool.{cases_Bool}
 use Rattle.std.proofs.Math.Bool.{or-false, or_assoc, or_comm}
 use Rattle.irl_robots.specs.declared.rule.PathRule.{PathRule}
 use Rattle.irl_robots.specs.Lines.{Line, Agent, Access, Other}
-use Rattle.irl_robots.specs.Groups.{Entry, Group, opened, outline_of, is_for, rule_of, rules_of}
+use Rattle.irl_robots.specs.Groups.{RuleLine, Group, opened, outline_of, is_for, rule_of, rules_of}
 
 -- ---- whether a group is for an agent
 
@@ -17,7 +17,7 @@ any_agent passes (Agent value ∷ rest) = passes value || any_agent passes rest
 any_agent passes (Access allow value ∷ rest) = any_agent passes rest
 any_agent passes (Other ∷ rest) = any_agent passes rest
 
-any-opened : (passes : List ℕ → Bool) (agent : List ℕ) (before : List Entry) (groups : List Group) → list_any (is_for passes) (opened agent before groups) ≡ (passes agent || list_any (is_for passes) groups)
+any-opened : (passes : List ℕ → Bool) (agent : List ℕ) (before : List RuleLine) (groups : List Group) → list_any (is_for passes) (opened agent before groups) ≡ (passes agent || list_any (is_for passes) groups)
 any-opened passes agent (entry ∷ before) groups = ap (λ b. b || list_any (is_for passes) groups) (or-false (passes agent))
 any-opened passes agent [] [] = ap (λ b. b || false) (or-false (passes agent))
 any-opened passes agent [] (group ∷ groups) = or_assoc (passes agent) (is_for passes group) (list_any (is_for passes) groups)
@@ -46,11 +46,11 @@ abbrev chosen : (List ℕ → Bool) → List Group → List PathRule
 chosen passes groups = flat_map rules_of (filter (is_for passes) groups)
 
 -- within a group that has rules already
-abbrev within : (List ℕ → Bool) → Bool → List Entry → List Group → List PathRule
+abbrev within : (List ℕ → Bool) → Bool → List RuleLine → List Group → List PathRule
 within passes meant before groups = cond meant (flat_map rule_of before) [] ++ chosen passes groups
 
 -- while a group is being opened, of which user-agent lines came
-abbrev joined : (List ℕ → Bool) → Bool → List Entry → List Group → List PathRule
+abbrev joined : (List ℕ → Bool) → Bool → List RuleLine → List Group → List PathRule
 joined passes meant (entry ∷ before) groups = within passes meant (entry ∷ before) groups
 joined passes meant [] [] = []
 joined passes meant [] (group ∷ groups) = cond (meant || is_for passes group) (rules_of group) [] ++ chosen passes groups
@@ -65,7 +65,7 @@ chosen-cons passes group groups = elim (cases_Bool (is_for passes group)) [
   | inr other ↦ rw other refl
 ]
 
-chosen-opened : (passes : List ℕ → Bool) (agent : List ℕ) (before : List Entry) (groups : List Group) → chosen passes (opened agent before groups) ≡ joined passes (passes agent) before groups
+chosen-opened : (passes : List ℕ → Bool) (agent : List ℕ) (before : List RuleLine) (groups : List Group) → chosen passes (opened agent before groups) ≡ joined passes (passes agent) before groups
 chosen-opened passes agent (entry ∷ before) groups =
     chosen-cons passes (record { agents = agent ∷ []; entries = entry ∷ before }) groups
     ∙ ap (λ b. cond b (flat_map rule_of (entry ∷ before)) [] ++ chosen passes groups) (or-false (passes agent))
@@ -74,7 +74,7 @@ chosen-opened passes agent [] [] =
 chosen-opened passes agent [] (group ∷ groups) =
     chosen-cons passes (record { agents = agent ∷ group.agents; entries = group.entries }) groups
 
-joined-opened : (passes : List ℕ → Bool) (meant : Bool) (agent : List ℕ) (before : List Entry) (groups : List Group) → joined passes meant [] (opened agent before groups) ≡ joined passes (passes agent || meant) before groups
+joined-opened : (passes : List ℕ → Bool) (meant : Bool) (agent : List ℕ) (before : List RuleLine) (groups : List Group) → joined passes meant [] (opened agent before groups) ≡ joined passes (passes agent || meant) before groups
 joined-opened passes meant agent (entry ∷ before) groups =
     ap (λ b. cond b (flat_map rule_of (entry ∷ before)) [] ++ chosen passes groups) (ap (λ b. meant || b) (or-false (passes agent)) ∙ or_comm meant (passes agent))
 joined-opened passes meant agent [] [] = cond-nil (meant || (passes agent || false))
@@ -111,7 +111,7 @@ gathered-cons passes n (Agent value ∷ rest) =
 gathered-cons passes n (Access allow value ∷ rest) =
     let later = gathered-cons passes (n + 1) rest in
     let outline = outline_of (n + 1) rest in
-    let entry : Entry = record { line = n; allow = allow; value = value } in
+    let entry : RuleLine = record { line = n; allow = allow; value = value } in
     let here = λ (meant : Bool).
     ap (λ rs. cond meant (rule_of entry) [] ++ rs) (later.inside meant) ∙ joins meant (rule_of entry) (flat_map rule_of outline.before) (chosen passes outline.groups)
     in

@@ -9,7 +9,7 @@ use Rattle.irl_robots.specs.Matching.{is_empty}
 use Rattle.irl_robots.specs.Normal.{normal}
 
 -- an allow (true) or disallow line with its number and its value
-pub record Entry : Type 0 where
+pub record RuleLine : Type 0 where
   pub line : ℕ
   pub allow : Bool
   pub value : List ℕ
@@ -17,20 +17,20 @@ pub record Entry : Type 0 where
 -- the values of user-agent lines, and the allow and disallow lines for them
 pub record Group : Type 0 where
   pub agents : List (List ℕ)
-  pub entries : List Entry
+  pub entries : List RuleLine
 
 -- the allow and disallow lines before the first user-agent line, and the groups from there on
 pub record Outline : Type 0 where
-  pub before : List Entry
+  pub before : List RuleLine
   pub groups : List Group
 
 -- an allow or disallow line comes before the rest
-abbrev pub with_entry : Entry → Outline → Outline
+abbrev pub with_entry : RuleLine → Outline → Outline
 with_entry entry rest = record { before = entry ∷ rest.before; groups = rest.groups }
 
 -- A user-agent line comes before the rest. Where allow and disallow lines follow, it begins a group with them; else it
 -- joins the group that begins next.
-abbrev pub opened : List ℕ → List Entry → List Group → List Group
+abbrev pub opened : List ℕ → List RuleLine → List Group → List Group
 opened agent (entry ∷ entries) groups = record { agents = agent ∷ []; entries = entry ∷ entries } ∷ groups
 opened agent [] [] = record { agents = agent ∷ []; entries = [] } ∷ []
 opened agent [] (group ∷ groups) = record { agents = agent ∷ group.agents; entries = group.entries } ∷ groups
@@ -76,7 +76,7 @@ abbrev pub groups_for : List ℕ → List Group → List Group
 groups_for agent groups = filter (is_for (if list_any (is_for (is_named agent)) groups then is_named agent else is_star)) groups
 
 -- a line with an empty value is no rule
-abbrev pub rule_of : Entry → List PathRule
+abbrev pub rule_of : RuleLine → List PathRule
 rule_of entry =
     if is_empty entry.value then [] else record { line = entry.line; allow = entry.allow; pattern = normal entry.value } ∷ []
 
