@@ -1,5 +1,5 @@
 -- The lines of a journal that was opened.
-use Rattle.std.proofs.Common.{◌≡◌, ◌∙◌, ◌⊎◌, inl, inr, ⊎_elim, ℕ, ◌+◌, ◌≤◌, List, [], ◌∷◌, ◌++◌, length, map, take, drop, get_or, ◌<◌, Option, Some, None, refl, sym, ap, subst, arith, length-append, append_assoc}
+use Rattle.std.proofs.Common.{◌≡◌, ◌∙◌, ◌⊎◌, inl, inr, ⊎_elim, ℕ, ◌+◌, List, [], ◌∷◌, ◌++◌, length, map, take, drop, get_or, ◌<◌, Option, Some, refl, sym, ap, subst, arith, append_assoc}
 use Rattle.std.proofs.lemmas.List.{map-append, length-map, take_more, get_or-map}
 use Rattle.std.specs.List.{AllByRecursion}
 use Rattle.std.specs.FinMap.{empty}
@@ -10,7 +10,7 @@ use Rattle.irl_offer.specs.Tuple.{Tuple}
 use Rattle.irl_disk.specs.Disk.{Files, Changes, ChangesFile}
 use Rattle.irl_journal.proofs.Lists.{one_list, whole_list, record_behind}
 use Rattle.irl_journal.proofs.Opened.{opened_stands}
-use Rattle.irl_journal.specs.Format.{HasRecords, StandsFor, IsPayload, records_text, body_text, open_gate, record_text, placed_from}
+use Rattle.irl_journal.specs.Format.{HasRecords, IsPayload, records_text, body_text, open_gate, record_text, placed_from}
 use Rattle.irl_journal.specs.Visiting.{TakesAll, IsBrokenFor, IsRefusedAt, IsOpened}
 use Rattle.irl_journal.specs.declared.fault.JournalFault.{JournalFault}
 use Rattle.irl_journal.specs.declared.fault.JournalFault.TheVariants.{Failed as JournalFailed, Memory as JournalMemory, Damaged as JournalDamaged}

@@ -3,6 +3,7 @@
 
 mod calls;
 mod changes;
+mod fault;
 mod log;
 mod memory;
 mod store;

@@ -1,8 +1,8 @@
 -- How the calls of an append lead from one state of the store to the next.
-use Rattle.std.proofs.Common.{◌≡◌, inl, ℕ, ◌+◌, ◌≤◌, List, [], ◌∷◌, ◌++◌, length, Option, None, Some, refl, sym, ◌∙◌, subst}
+use Rattle.std.proofs.Common.{◌≡◌, inl, ℕ, ◌+◌, List, [], ◌∷◌, ◌++◌, length, Option, None, Some, refl, sym, ◌∙◌, subst}
 use Rattle.std.specs.Option.{ForSome}
 use Rattle.irl_disk.specs.Disk.{Files, Changes, ChangesFile, Holds, Scribbled}
-use Rattle.irl_disk.specs.Images.{Snapshot, IsConsistent, Follows, Leaves, LeavesBy, LeavesSame}
+use Rattle.irl_disk.specs.Images.{Snapshot, IsConsistent, Follows, LeavesBy, LeavesSame}
 use Rattle.irl_disk.proofs.Frames.{told_from}
 use Rattle.irl_disk.proofs.Stretches.{widens, joins, left_now}
 use Rattle.irl_journal.specs.Format.{body_text, open_gate, record_text, IsPayload}

@@ -1,9 +1,9 @@
 -- What a file begins with, and what an append behind it leaves.
-use Rattle.std.proofs.Common.{◌≡◌, ◌∙◌, ℕ, ◌+◌, ◌≤◌, List, [], ◌∷◌, ◌++◌, length, take, drop, Option, None, Some, Result, Ok, Err, OnOk, OnErr, refl, sym, ap, subst, arith, append_assoc, length-append, length-drop, length-take-le, take-append-drop}
+use Rattle.std.proofs.Common.{◌≡◌, ◌∙◌, ℕ, ◌+◌, ◌≤◌, List, [], ◌++◌, length, take, drop, Option, None, Some, Result, Ok, Err, OnOk, OnErr, refl, sym, ap, subst, arith, append_assoc, length-append, length-drop, length-take-le, take-append-drop}
 use Rattle.std.proofs.lemmas.List.{take_at, take-take, take-append-le, drop-append-le}
 use Rattle.std.specs.Option.{ForSome}
 use Rattle.irl_disk.specs.Disk.{Files, Changes, ChangesFile, Holds, Scribbled, PartlyCut}
-use Rattle.irl_disk.specs.Images.{Snapshot, IsConsistent, Follows, Leaves, LeavesBy, LeavesSame}
+use Rattle.irl_disk.specs.Images.{Snapshot, IsConsistent, Leaves, LeavesBy, LeavesSame}
 use Rattle.irl_disk.proofs.Frames.{told_from}
 use Rattle.irl_disk.proofs.Stretches.{widens, widens_by, reads_on, left_now}
 use Rattle.irl_journal.specs.Blob.{Front, BeginsWith, KeepsFront, IsCommitted}
@@ -112,6 +112,25 @@ stops_committed blob held old new stops committed =
 pub committed_within : (blob : Front) (held : List ℕ) (now : Snapshot) → IsConsistent now → IsCommitted now.images blob held → ForSome now.files (λ files. blob.length ≤ length (files blob.file))
 committed_within blob held now law committed = λ files told.
     omega (arith, committed.size, begins_long (files blob.file) held (committed.each files (law.told files told)))
+
+-- opening commits whatever the file begins with, of that length
+pub opened_committed : (f n : ℕ) (held : List ℕ) (blob : Front) (old new : Snapshot) → IsConsistent new → blob ≡ record { file = f; length = n } → new.files ≡ old.files
+    → ForSome old.files (λ files. IsCommitted new.images blob (take n (files f))) → ForSome old.files (λ files. BeginsWith (files f) held) → length held ≡ n → IsCommitted new.images blob held
+opened_committed f n held blob old new law is same committed begins size = record {
+  size = size ∙ sym (ap (λ (front : Front). front.length) is);
+  each = λ image left.
+      let told = law.tells image left in
+      let was : old.files ≡ Some told.0 = sym same ∙ told.1 in
+      let front : take n (told.0 f) ≡ held = ap (λ (m : ℕ). take m (told.0 f)) (sym size) ∙ begins_take (told.0 f) held (begins told.0 was) in
+      subst (λ (bytes : List ℕ). BeginsWith (image blob.file) bytes) front ((committed told.0 was).each image left);
+}
+
+-- where each image has the file's bytes, those up to a length are committed
+pub synced_committed : (f n : ℕ) (file : List ℕ) (blob : Front) (images : Files → Type 0) → blob ≡ record { file = f; length = n } → n ≤ length file → ((image : Files) → images image → image f ≡ file) → IsCommitted images blob (take n file)
+synced_committed f n file blob images is within durable = subst (λ (front : Front). IsCommitted images front (take n file)) (sym is) record {
+  size = length-take-le n file within;
+  each = λ image left. (drop n file, durable image left ∙ sym (take-append-drop n file));
+}
 
 -- so some bytes are committed after an append, whether it failed or not
 pub committed_after : {T E : Type 0} (result : Result T E) (blob after : Front) (held bytes : List ℕ) (old new : Snapshot) → IsConsistent new → IsCommitted old.images blob held

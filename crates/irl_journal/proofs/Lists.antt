@@ -59,7 +59,7 @@ begins bytes x (y ∷ ys) a r none fits is = none x (body_text y ++ (records_tex
     (is ∙ records-cons x (y ∷ ys) (a ∷ r) ∙ ap (λ (rest : List ℕ). open_gate ∷ body_text x ++ rest) (records-cons y ys (a ∷ r)))
 
 -- records with a closed gate behind them, and records with an open gate whose record is not whole
-not_broken : (xs ys : List (List ℕ)) (a : ℕ) (r s : List ℕ) → a ≢ open_gate → AllByRecursion IsPayload xs → AllByRecursion IsPayload ys → HasNoRecord (open_gate ∷ s) → records_text xs ++ a ∷ r ≡ records_text ys ++ open_gate ∷ s → ⊥
+pub not_broken : (xs ys : List (List ℕ)) (a : ℕ) (r s : List ℕ) → a ≢ open_gate → AllByRecursion IsPayload xs → AllByRecursion IsPayload ys → HasNoRecord (open_gate ∷ s) → records_text xs ++ a ∷ r ≡ records_text ys ++ open_gate ∷ s → ⊥
 not_broken [] [] a r s no_a each_x each_y none same = no_a (first_of_two a open_gate r s same)
 not_broken [] (y ∷ ys) a r s no_a each_x each_y none same = no_a (first_of_two a open_gate r _ (same ∙ records-cons y ys (open_gate ∷ s)))
 not_broken (x ∷ xs) [] a r s no_a each_x each_y none same = begins (open_gate ∷ s) x xs a r none each_x.0 (sym same)
@@ -93,7 +93,7 @@ whole_list file xs at for_x broken = ⊎_elim
     for_x
 
 -- where records have a closed gate behind them, a record behind some of them is one of them
-record_of : (xs ps : List (List ℕ)) (p r s : List ℕ) (a : ℕ) → a ≢ open_gate → AllByRecursion IsPayload xs → AllByRecursion IsPayload ps → IsPayload p
+pub record_of : (xs ps : List (List ℕ)) (p r s : List ℕ) (a : ℕ) → a ≢ open_gate → AllByRecursion IsPayload xs → AllByRecursion IsPayload ps → IsPayload p
     → records_text xs ++ a ∷ r ≡ records_text ps ++ (open_gate ∷ (body_text p ++ s)) → (more : List (List ℕ)) × (xs ≡ ps ++ p ∷ more)
 record_of [] [] p r s a closed each_x each_p fits same = absurd (closed (first_of_two a open_gate r (body_text p ++ s) same))
 record_of [] (q ∷ ps) p r s a closed each_x each_p fits same =

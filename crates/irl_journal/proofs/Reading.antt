@@ -1,13 +1,12 @@
 -- Reading the records of a file piece by piece.
 use Rattle.std.proofs.Common.{◌≡◌, ◌≢◌, ◌∙◌, ◌⊎◌, ⊎_elim, inl, inr, ℕ, ◌+◌, ◌-◌, ◌<◌, ◌≤◌, min, List, [], ◌∷◌, ◌++◌, length, take, drop, Bool, true, false, append_assoc, sym, ap, subst, refl, arith, suc, length-append, length-take, length-take-le, length-drop}
-use Rattle.std.proofs.lemmas.List.{append-nil, drop-drop, take-append-drop, take-append-le, drop-append-le}
+use Rattle.std.proofs.lemmas.List.{drop-drop, take-append-drop, take-append-le, drop-append-le}
 use Rattle.std.proofs.lemmas.Grind.{flat_map-append}
 use Rattle.std.proofs.Math.Seq.{take-add, take-append-add, take-append_seam, drop-append_seam}
 use Rattle.std.specs.List.{AllByRecursion}
 use Rattle.irl_disk.specs.Disk.{Reads}
 use Rattle.irl_journal.specs.Format.{open_gate, body_text, records_text, placed_from, IsPayload, HasNoRecord, record_text}
-use Rattle.irl_journal.specs.Visiting.{TakesAll, HandsOver, RefusesAt, IsRefusedAt, IsBrokenFor}
-use Rattle.irl_journal.specs.Appending.{Ends}
+use Rattle.irl_journal.specs.Visiting.{TookUpTo, TakesAll, HandsOver, StopsAt, RefusesAt}
 use Rattle.irl_journal.proofs.Lists.{length-body, records-cons}
 
 -- the text of records, and behind them more
@@ -23,19 +22,16 @@ each-append (x ∷ xs) ys h k = (h.0, each-append xs ys h.1 k)
 pub length-cons : (x : List ℕ) (xs : List (List ℕ)) → length (records_text (x ∷ xs)) ≡ 5 + length x + length (records_text xs)
 length-cons x xs = omega (arith, length-append (open_gate ∷ body_text x) (records_text xs), length-body x)
 
--- the first byte of bytes that there are
-next_gate : (bytes : List ℕ) → 1 ≤ length bytes → (gate : ℕ) × (rest : List ℕ) × (bytes ≡ gate ∷ rest)
-next_gate [] some = absurd (omega arith)
-next_gate (gate ∷ rest) some = (gate, rest, refl)
+-- only no records take no bytes
+pub no_records : (payloads : List (List ℕ)) → length (records_text payloads) ≡ 0 → payloads ≡ []
+no_records [] none = refl
+no_records (payload ∷ payloads) none = absurd (omega (arith, none, length-cons payload payloads))
 
--- parts of a file put together
-joined : (a b c behind more : List ℕ) (gate : ℕ) (rest : List ℕ) → behind ≡ gate ∷ rest → a ++ (b ++ c ++ behind ++ more) ≡ a ++ b ++ c ++ gate ∷ (rest ++ more)
-joined a b c behind more gate rest is = rw is (simp append_assoc)
-
--- only no records have no bytes
-no_records : (payloads : List (List ℕ)) → records_text payloads ≡ [] → payloads ≡ []
-no_records [] is = refl
-no_records (payload ∷ payloads) is = absurd (omega (arith, length-cons payload payloads, ap length is))
+-- a piece of the bytes from a gate on: as many from this one on as there are, at most as the buffer has
+pub record IsPiece (bytes chunk : List ℕ) (n count : ℕ) : Type 0 where
+  pub is : chunk ≡ take count (drop n bytes)
+  pub most : count ≡ min (min (length bytes) 16777222) (length bytes - n)
+  pub some : 1 ≤ length chunk
 
 module _ {V : Type 0} (takes : V → ℕ → List ℕ → V → Type 0) where
   -- records, and behind them more
@@ -89,115 +85,160 @@ module _ {V : Type 0} (takes : V → ℕ → List ℕ → V → Type 0) where
         );
       }
 
-  -- the first bytes of a file are these records, which the visitor took
-  pub record HasRead (old now : V) (file : List ℕ) (at : ℕ) (payloads : List (List ℕ)) : Type 0 where
+  -- the first bytes of those from a gate on are records that the visitor took, up to this place of the file; of bytes that there
+  -- are they leave at least the next gate
+  pub record HasRead (old now : V) (from at : ℕ) (bytes : List ℕ) : Type 0 where
+    pub payloads : List (List ℕ)
+    pub count : ℕ
+    pub place : at ≡ from + count
     pub each : AllByRecursion IsPayload payloads
-    pub front : take at file ≡ records_text payloads
-    pub within : at < length file
-    pub took : TakesAll takes old (placed_from 0 payloads) now
+    pub within : count ≤ length bytes
+    pub more : 1 ≤ length bytes → count < length bytes
+    pub front : take count bytes ≡ records_text payloads
+    pub took : TakesAll takes old (placed_from from payloads) now
 
-  -- the place behind the records that were read
-  pub place_of : (old now : V) (file : List ℕ) (at : ℕ) (payloads : List (List ℕ)) → HasRead old now file at payloads → at ≡ length (records_text payloads)
-  place_of old now file at payloads so_far = sym (length-take-le at file (omega (arith, so_far.within))) ∙ ap length so_far.front
+  -- records that were taken, whatever the file has: none yet, and more of them
+  pub took-none : (visitor : V) (from : ℕ) → TookUpTo takes visitor visitor from from
+  took-none visitor from = record { payloads = []; place = omega arith; took = refl }
 
-  -- the file's bytes from the first gate of a piece on
-  rest_of : (file chunk : List ℕ) (at count : ℕ) → chunk ≡ take count (drop at file) → drop at file ≡ chunk ++ drop count (drop at file)
-  rest_of file chunk at count is = sym (take-append-drop count (drop at file)) ∙ ap (λ (bs : List ℕ). bs ++ drop count (drop at file)) (sym is)
+  pub took-on : (old now next : V) (from at k : ℕ) (is_closed : Bool) (chunk : List ℕ) → TookUpTo takes old now from at → HandsOver takes now next at k is_closed chunk → TookUpTo takes old next from (at + k)
+  took-on old now next from at k is_closed chunk so_far handed =
+      let long : k ≡ length (records_text handed.payloads) = sym (length-take-le k chunk handed.within) ∙ ap length handed.front in
+      let both = length-append (records_text so_far.payloads) (records_text handed.payloads) in
+      record {
+        payloads = so_far.payloads ++ handed.payloads;
+        place = omega (arith, so_far.place, both, ap length (records-append so_far.payloads handed.payloads));
+        took = takes-append from at old now next so_far.payloads handed.payloads so_far.took so_far.place handed.took;
+      }
+
+  -- no records yet
+  pub reads-none : (visitor : V) (from : ℕ) (bytes : List ℕ) → HasRead visitor visitor from from bytes
+  reads-none visitor from bytes = record { payloads = []; count = 0; place = omega arith; each = tt; within = omega arith; more = λ some. omega arith; front = refl; took = refl }
+
+  -- how many bytes the records take that were read
+  length-read : (old now : V) (from at : ℕ) (bytes : List ℕ) (so_far : HasRead old now from at bytes) → so_far.count ≡ length (records_text so_far.payloads)
+  length-read old now from at bytes so_far = sym (length-take-le so_far.count bytes so_far.within) ∙ ap length so_far.front
+
+  -- what stands behind those that were read, as parts of a piece
+  rest_of : (bytes chunk : List ℕ) (n count : ℕ) → chunk ≡ take count (drop n bytes) → drop n bytes ≡ chunk ++ drop count (drop n bytes)
+  rest_of bytes chunk n count is = sym (take-append-drop count (drop n bytes)) ∙ ap (λ (bs : List ℕ). bs ++ drop count (drop n bytes)) (sym is)
 
   -- what stands behind the records of a piece too
-  behind_of : (file chunk : List ℕ) (at count n : ℕ) → chunk ≡ take count (drop at file) → n ≤ length chunk → (take n (drop at file) ≡ take n chunk) × (drop n (drop at file) ≡ drop n chunk ++ drop count (drop at file))
-  behind_of file chunk at count n is within =
-      let whole = rest_of file chunk at count is in (
-        ap (take n) whole ∙ take-append-le n chunk (drop count (drop at file)) within,
-        ap (drop n) whole ∙ drop-append-le n chunk (drop count (drop at file)) within,
+  behind_of : (bytes chunk : List ℕ) (n count k : ℕ) → chunk ≡ take count (drop n bytes) → k ≤ length chunk → (take k (drop n bytes) ≡ take k chunk) × (drop k (drop n bytes) ≡ drop k chunk ++ drop count (drop n bytes))
+  behind_of bytes chunk n count k is within =
+      let whole = rest_of bytes chunk n count is in (
+        ap (take k) whole ∙ take-append-le k chunk (drop count (drop n bytes)) within,
+        ap (drop k) whole ∙ drop-append-le k chunk (drop count (drop n bytes)) within,
       )
 
   -- the records of one piece more
-  pub reads-on : (old now next : V) (file chunk : List ℕ) (at count n : ℕ) (is_closed : Bool) (payloads : List (List ℕ)) → HasRead old now file at payloads → (handed : HandsOver takes now next at n is_closed chunk) → chunk ≡ take count (drop at file) → 1 ≤ length chunk → HasRead old next file (at + n) (payloads ++ handed.payloads)
-  reads-on old now next file chunk at count n is_closed payloads so_far handed is some =
-      let parts = behind_of file chunk at count n is handed.within in
-      let few : length chunk ≡ min count (length (drop at file)) = ap length is ∙ length-take count (drop at file) in
+  pub reads-on : (old now next : V) (from at : ℕ) (bytes chunk : List ℕ) (count k : ℕ) (is_closed : Bool) (so_far : HasRead old now from at bytes) → HandsOver takes now next at k is_closed chunk → IsPiece bytes chunk so_far.count count → HasRead old next from (at + k) bytes
+  reads-on old now next from at bytes chunk count k is_closed so_far handed piece =
+      let n = so_far.count in
+      let parts = behind_of bytes chunk n count k piece.is handed.within in
+      let few : length chunk ≡ min count (length (drop n bytes)) = ap length piece.is ∙ length-take count (drop n bytes) in
+      let below : n + k < length bytes = omega (arith, few, handed.more piece.some, length-drop n bytes) in
       record {
-        each = each-append payloads handed.payloads so_far.each handed.each;
-        front = take-add at n file ∙ ap (λ (bs : List ℕ). bs ++ take n (drop at file)) so_far.front ∙ ap (λ (bs : List ℕ). records_text payloads ++ bs) (parts.0 ∙ handed.front) ∙ sym (records-append payloads handed.payloads);
-        within = omega (arith, few, handed.more some, length-drop at file);
-        took = takes-append 0 at old now next payloads handed.payloads so_far.took (omega (arith, place_of old now file at payloads so_far)) handed.took;
+        payloads = so_far.payloads ++ handed.payloads;
+        count = n + k;
+        place = omega (arith, so_far.place);
+        each = each-append so_far.payloads handed.payloads so_far.each handed.each;
+        within = omega arith;
+        more = λ some. below;
+        front = take-add n k bytes ∙ ap (λ (bs : List ℕ). bs ++ take k (drop n bytes)) so_far.front ∙ ap (λ (bs : List ℕ). records_text so_far.payloads ++ bs) (parts.0 ∙ handed.front) ∙ sym (records-append so_far.payloads handed.payloads);
+        took = takes-append from at old now next so_far.payloads handed.payloads so_far.took (omega (arith, so_far.place, length-read old now from at bytes so_far)) handed.took;
       }
 
   -- a piece with a closed gate behind its records
-  pub ends-there : (old now next : V) (file chunk : List ℕ) (at count n : ℕ) (payloads : List (List ℕ)) → HasRead old now file at payloads → (handed : HandsOver takes now next at n true chunk) → chunk ≡ take count (drop at file) → 1 ≤ length chunk → Ends (at + n) file (payloads ++ handed.payloads) × TakesAll takes old (placed_from 0 (payloads ++ handed.payloads)) next
-  ends-there old now next file chunk at count n payloads so_far handed is some =
-      let more = reads-on old now next file chunk at count n true payloads so_far handed is some in
-      let parts = behind_of file chunk at count n is handed.within in
+  pub ends-there : (old now next : V) (from at : ℕ) (bytes chunk : List ℕ) (count k : ℕ) (so_far : HasRead old now from at bytes) → HandsOver takes now next at k true chunk → IsPiece bytes chunk so_far.count count → StopsAt takes old next from true bytes (at + k)
+  unfolding reads-on
+  ends-there old now next from at bytes chunk count k so_far handed piece =
+      let n = so_far.count in
+      let read = reads-on old now next from at bytes chunk count k true so_far handed piece in
+      let parts = behind_of bytes chunk n count k piece.is handed.within in
       let closed = handed.ended refl in
-      let behind : drop (at + n) file ≡ closed.0 ∷ closed.1 ++ drop count (drop at file) = sym (drop-drop n at file) ∙ parts.1 ∙ ap (λ (bs : List ℕ). bs ++ drop count (drop at file)) closed.2 in (
-        record {
-          records = record {
-            gate = closed.0;
-            rest = closed.1 ++ drop count (drop at file);
-            bytes = sym (take-append-drop (at + n) file) ∙ ap (λ (bs : List ℕ). bs ++ drop (at + n) file) more.front ∙ ap (λ (bs : List ℕ). records_text (payloads ++ handed.payloads) ++ bs) behind;
-            closed = closed.3;
-            each = more.each;
-          };
-          place = place_of old next file (at + n) (payloads ++ handed.payloads) more;
-        },
-        more.took,
-      )
+      let behind : drop (n + k) bytes ≡ closed.0 ∷ closed.1 ++ drop count (drop n bytes) = sym (drop-drop k n bytes) ∙ parts.1 ∙ ap (λ (bs : List ℕ). bs ++ drop count (drop n bytes)) closed.2 in
+      record {
+        count = n + k;
+        place = read.place;
+        handed = record {
+          payloads = read.payloads;
+          each = read.each;
+          within = read.within;
+          more = read.more;
+          front = read.front;
+          took = read.took;
+          ended = λ is. (closed.0, closed.1 ++ drop count (drop n bytes), behind, closed.3);
+          cut_short = λ is. cc;
+        };
+      }
+
+  -- where no whole record stands, records that were read stop
+  stops-cut : (old now : V) (from at : ℕ) (bytes : List ℕ) (so_far : HasRead old now from at bytes) → HasNoRecord (drop so_far.count bytes) → (drop so_far.count bytes ≡ []) ⊎ ((rest : List ℕ) × (drop so_far.count bytes ≡ open_gate ∷ rest)) → StopsAt takes old now from false bytes at
+  stops-cut old now from at bytes so_far none open_ = record {
+    count = so_far.count;
+    place = so_far.place;
+    handed = record {
+      payloads = so_far.payloads;
+      each = so_far.each;
+      within = so_far.within;
+      more = so_far.more;
+      front = so_far.front;
+      took = so_far.took;
+      ended = λ is. cc;
+      cut_short = λ is. (none, open_);
+    };
+  }
 
   -- a piece that begins with no closed gate and no whole record
-  pub breaks-there : (old now next : V) (file chunk : List ℕ) (at count : ℕ) (payloads : List (List ℕ)) → 1 < length file → HasRead old now file at payloads → HandsOver takes now next at 0 false chunk → chunk ≡ take count (drop at file) → 1 ≤ length chunk → count ≡ min (min (length file) 16777222) (length file - at) → IsBrokenFor takes old next file at
-  breaks-there old now next file chunk at count payloads long so_far handed is some most =
-      let whole = rest_of file chunk at count is in
+  pub breaks-there : (old now next : V) (from at : ℕ) (bytes chunk : List ℕ) (count : ℕ) (so_far : HasRead old now from at bytes) → HandsOver takes now next at 0 false chunk → IsPiece bytes chunk so_far.count count → StopsAt takes old next from false bytes at
+  breaks-there old now next from at bytes chunk count so_far handed piece =
+      let n = so_far.count in
+      let rest = drop n bytes in
+      let whole = rest_of bytes chunk n count piece.is in
       let cut = handed.cut_short refl in
-      let reads = reads-on old now next file chunk at count 0 false payloads so_far handed is some in
-      let all : payloads ++ handed.payloads ≡ payloads = ap (λ (more : List (List ℕ)). payloads ++ more) (no_records handed.payloads (sym handed.front)) ∙ append-nil payloads in
+      let nothing : handed.payloads ≡ [] = no_records handed.payloads (ap length (sym handed.front)) in
+      let same : now ≡ next = sym (subst (λ (ps : List (List ℕ)). TakesAll takes now (placed_from at ps) next) nothing handed.took) in
+      let none : HasNoRecord rest = λ payload more gate fits is.
+      let record_ = open_gate ∷ body_text payload in
+      let size : length record_ ≡ 5 + length payload = omega (arith, length-body payload) in
+      let many : length bytes - n ≡ length record_ + length (gate ∷ more) = sym (length-drop n bytes) ∙ ap length is ∙ length-append record_ (gate ∷ more) in
+      let most = piece.most in
+      let split : count ≡ length record_ + suc (count - length record_ - 1) = omega (arith, fits) in
+      let front : chunk ≡ record_ ++ gate ∷ take (count - length record_ - 1) more =
+      piece.is ∙ ap (take count) is ∙ ap (λ (k : ℕ). take k (record_ ++ gate ∷ more)) split ∙ take-append-add record_ (gate ∷ more) (suc (count - length record_ - 1)) in
+      cut.0 payload (take (count - length record_ - 1) more) gate fits front in
+      let read : HasRead old next from at bytes = subst (λ (v : V). HasRead old v from at bytes) same so_far in
       ⊎_elim
-      (λ (e : chunk ≡ []). absurd (omega (arith, some, ap length e)))
+      (λ (e : chunk ≡ []). absurd (omega (arith, piece.some, ap length e)))
       (λ (begun : (tail : List ℕ) × (chunk ≡ open_gate ∷ tail)).
-      let tail = begun.0 ++ drop count (drop at file) in
-      let begins : drop at file ≡ open_gate ∷ tail = whole ∙ ap (λ (bs : List ℕ). bs ++ drop count (drop at file)) begun.1 in
-      record {
-        broken = record {
-          payloads = payloads;
-          rest = tail;
-          long = long;
-          bytes = sym (take-append-drop at file) ∙ ap (λ (bs : List ℕ). bs ++ drop at file) so_far.front ∙ ap (λ (bs : List ℕ). records_text payloads ++ bs) begins;
-          each = so_far.each;
-          place = place_of old now file at payloads so_far;
-          broken = λ payload rest gate fits same.
-              let record_ = open_gate ∷ body_text payload in
-              let size : length record_ ≡ 5 + length payload = omega (arith, length-body payload) in
-              let there : drop at file ≡ record_ ++ gate ∷ rest = begins ∙ same in
-              let many : length file - at ≡ length record_ + length (gate ∷ rest) = sym (length-drop at file) ∙ ap length there ∙ length-append record_ (gate ∷ rest) in
-              let split : count ≡ length record_ + suc (count - length record_ - 1) = omega (arith, fits) in
-              let front : chunk ≡ record_ ++ gate ∷ take (count - length record_ - 1) rest =
-              is ∙ ap (take count) there ∙ ap (λ (k : ℕ). take k (record_ ++ gate ∷ rest)) split ∙ take-append-add record_ (gate ∷ rest) (suc (count - length record_ - 1)) in
-              cut.0 payload (take (count - length record_ - 1) rest) gate fits front;
-        };
-        took = subst (λ (ps : List (List ℕ)). TakesAll takes old (placed_from 0 ps) next) all reads.took;
-      })
+      let begins : rest ≡ open_gate ∷ begun.0 ++ drop count rest = whole ∙ ap (λ (bs : List ℕ). bs ++ drop count rest) begun.1 in
+      subst (λ (v : V). StopsAt takes old v from false bytes at) same (stops-cut old now from at bytes so_far none (inr (begun.0 ++ drop count rest, begins))))
       cut.1
 
   -- a piece whose records the visitor refuses
-  pub refuses-there : (refuses : V → ℕ → List ℕ → V → Type 0) (old now next : V) (file chunk : List ℕ) (at count place : ℕ) (payloads : List (List ℕ)) → HasRead old now file at payloads → (refusal : RefusesAt takes refuses now next at chunk place) → chunk ≡ take count (drop at file) → IsRefusedAt takes refuses old next file place
-  refuses-there refuses old now next file chunk at count place payloads so_far refusal is =
-      let here = place_of old now file at payloads so_far in
+  pub refuses-there : (refuses : V → ℕ → List ℕ → V → Type 0) (old now next : V) (from at : ℕ) (bytes chunk : List ℕ) (count place : ℕ) (so_far : HasRead old now from at bytes) → RefusesAt takes refuses now next at chunk place → IsPiece bytes chunk so_far.count count → RefusesAt takes refuses old next from bytes place
+  refuses-there refuses old now next from at bytes chunk count place so_far refusal piece =
+      let n = so_far.count in
+      let here = length-read old now from at bytes so_far in
+      let front = records_text so_far.payloads in
       let record_ = open_gate ∷ body_text refusal.payload in
-      let whole : file ≡ records_text payloads ++ (records_text refusal.payloads ++ record_ ++ refusal.behind ++ drop count (drop at file)) =
-      sym (take-append-drop at file) ∙ ap (λ (bs : List ℕ). bs ++ drop at file) so_far.front
-      ∙ ap (λ (bs : List ℕ). records_text payloads ++ bs) (rest_of file chunk at count is ∙ ap (λ (bs : List ℕ). bs ++ drop count (drop at file)) refusal.bytes_are) in
-      let gated = next_gate refusal.behind refusal.more in
+      let more = drop count (drop n bytes) in
+      let whole : bytes ≡ front ++ ((records_text refusal.payloads ++ record_ ++ refusal.behind) ++ more) =
+      sym (take-append-drop n bytes) ∙ ap (λ (bs : List ℕ). bs ++ drop n bytes) so_far.front
+      ∙ ap (λ (bs : List ℕ). front ++ bs) (rest_of bytes chunk n count piece.is ∙ ap (λ (bs : List ℕ). bs ++ more) refusal.bytes_are) in
+      let apart : front ++ ((records_text refusal.payloads ++ record_ ++ refusal.behind) ++ more) ≡ (front ++ records_text refusal.payloads) ++ record_ ++ (refusal.behind ++ more) = simp append_assoc in
       record {
-        payloads = payloads ++ refusal.payloads;
+        payloads = so_far.payloads ++ refusal.payloads;
         payload = refusal.payload;
-        gate = gated.0;
-        rest = gated.1 ++ drop count (drop at file);
-        bytes = whole ∙ joined (records_text payloads) (records_text refusal.payloads) record_ refusal.behind (drop count (drop at file)) gated.0 gated.1 gated.2 ∙ ap (λ (bs : List ℕ). bs ++ record_ ++ gated.0 ∷ (gated.1 ++ drop count (drop at file))) (sym (records-append payloads refusal.payloads));
-        each = each-append payloads refusal.payloads so_far.each refusal.each;
+        behind = refusal.behind ++ more;
+        bytes_are = whole ∙ apart ∙ ap (λ (bs : List ℕ). bs ++ record_ ++ (refusal.behind ++ more)) (sym (records-append so_far.payloads refusal.payloads));
+        more = omega (arith, refusal.more, length-append refusal.behind more);
+        each = each-append so_far.payloads refusal.payloads so_far.each refusal.each;
         fits = refusal.fits;
-        place = refusal.place_is ∙ omega (arith, here, length-append (records_text payloads) (records_text refusal.payloads)) ∙ ap length (sym (records-append payloads refusal.payloads));
+        place_is = omega (arith, refusal.place_is, so_far.place, here, length-append front (records_text refusal.payloads), ap length (records-append so_far.payloads refusal.payloads));
         reached = refusal.reached;
-        took = takes-append 0 at old now refusal.reached payloads refusal.payloads so_far.took (omega (arith, here)) refusal.took;
+        took = takes-append from at old now refusal.reached so_far.payloads refusal.payloads so_far.took (omega (arith, so_far.place, here)) refusal.took;
         refused = refusal.refused;
       }
 
@@ -205,16 +246,14 @@ module _ {V : Type 0} (takes : V → ℕ → List ℕ → V → Type 0) where
 chunk_of : (into more buffer : List ℕ) (len count : ℕ) → buffer ≡ take len (into ++ more) → length into ≡ len → take count buffer ≡ take count into
 chunk_of into more buffer len count is fits = ap (take count) (is ∙ ap (λ (k : ℕ). take k (into ++ more)) (sym fits) ∙ take-append_seam into more)
 
--- a piece of a file: as many bytes from this place as there are, at most as the buffer has
-pub record IsPiece (file chunk : List ℕ) (at count : ℕ) : Type 0 where
-  pub is : chunk ≡ take count (drop at file)
-  pub most : count ≡ min (min (length file) 16777222) (length file - at)
-  pub some : 1 ≤ length chunk
-
 -- a read into a buffer's front gave a piece
-pub piece_read : (into more buffer file : List ℕ) (len at count : ℕ) → buffer ≡ take len (into ++ more) → length into ≡ len → Reads at (length into) count into file → len ≡ min (length file) 16777222 → at < length file → IsPiece file (take count buffer) at count
-piece_read into more buffer file len at count is fits read room within =
-    let chunk : take count buffer ≡ take count (drop at file) = chunk_of into more buffer len count is fits ∙ read.bytes in
-    let most : count ≡ min (min (length file) 16777222) (length file - at) = read.count ∙ ap (λ (k : ℕ). min k (length file - at)) (fits ∙ room) in
-    let few : length (take count buffer) ≡ min count (length (drop at file)) = ap length chunk ∙ length-take count (drop at file) in
-    record { is = chunk; most = most; some = omega (arith, few, most, length-drop at file) }
+pub piece_read : (into more buffer file : List ℕ) (len from at n count : ℕ) → buffer ≡ take len (into ++ more) → length into ≡ len → Reads at (length into) count into file → len ≡ min (length file - from) 16777222 → at < length file → at ≡ from + n → IsPiece (drop from file) (take count buffer) n count
+piece_read into more buffer file len from at n count is fits read room within place =
+    let bytes = drop from file in
+    let size : length bytes ≡ length file - from = length-drop from file in
+    let there : drop at file ≡ drop n bytes = ap (λ (k : ℕ). drop k file) place ∙ sym (drop-drop n from file) in
+    let chunk : take count buffer ≡ take count (drop n bytes) = chunk_of into more buffer len count is fits ∙ read.bytes ∙ ap (take count) there in
+    let some_left : count ≡ min len (length file - at) = read.count ∙ ap (λ (k : ℕ). min k (length file - at)) fits in
+    let most : count ≡ min (min (length bytes) 16777222) (length bytes - n) = omega (arith, some_left, room, size, place) in
+    let few : length (take count buffer) ≡ min count (length (drop n bytes)) = ap length chunk ∙ length-take count (drop n bytes) in
+    record { is = chunk; most = most; some = omega (arith, few, most, length-drop n bytes) }

@@ -8,6 +8,12 @@ abbrev pub TakesAll : {V : Type 0} → (V → ℕ → List ℕ → V → Type 0)
 TakesAll {V} takes old [] new = new ≡ old
 TakesAll {V} takes old (record_ ∷ records) new = (mid : V) × takes old record_.0 record_.1 mid × TakesAll takes mid records new
 
+-- Whatever the file has: the visitor took some records whose first gate stands at `from`, and up to `end`.
+pub record TookUpTo {V : Type 0} (takes : V → ℕ → List ℕ → V → Type 0) (old new : V) (from end : ℕ) : Type 0 where
+  pub payloads : List (List ℕ)
+  pub place : end ≡ from + length (records_text payloads)
+  pub took : TakesAll takes old (placed_from from payloads) new
+
 -- the visitor took the records before this place, and refuses the one there; `after` is the visitor afterwards
 pub record IsRefusedAt {V : Type 0} (takes refuses : V → ℕ → List ℕ → V → Type 0) (visitor after : V) (file : List ℕ) (at : ℕ) : Type 0 where
   pub payloads : List (List ℕ)
@@ -39,6 +45,18 @@ pub record RefusesOneOf {V : Type 0} (takes refuses : V → ℕ → List ℕ →
   pub took : TakesAll takes visitor (placed_from 0 first) reached
   pub refused : refuses reached at payload after
 
+-- of records whose first gate stands at `from`: the visitor took the first of them and refuses the next one, which stands at
+-- this place; `after` is the visitor afterwards
+pub record RefusesOneFrom {V : Type 0} (takes refuses : V → ℕ → List ℕ → V → Type 0) (visitor after : V) (from : ℕ) (payloads : List (List ℕ)) (at : ℕ) : Type 0 where
+  pub first : List (List ℕ)
+  pub payload : List ℕ
+  pub more : List (List ℕ)
+  pub among : payloads ≡ first ++ payload ∷ more
+  pub place : at ≡ from + length (records_text first)
+  pub reached : V
+  pub took : TakesAll takes visitor (placed_from from first) reached
+  pub refused : refuses reached at payload after
+
 -- The first n of the bytes are open records that the visitor took; behind them stands a closed gate, or no whole record.
 -- Of bytes that there are they leave at least the next gate.
 pub record HandsOver {V : Type 0} (takes : V → ℕ → List ℕ → V → Type 0) (old new : V) (at n : ℕ) (is_closed : Bool) (bytes : List ℕ) : Type 0 where
@@ -50,6 +68,13 @@ pub record HandsOver {V : Type 0} (takes : V → ℕ → List ℕ → V → Type
   pub took : TakesAll takes old (placed_from at payloads) new
   pub ended : is_closed ≡ true → (gate : ℕ) × (rest : List ℕ) × (drop n bytes ≡ gate ∷ rest) × (gate ≢ open_gate)
   pub cut_short : is_closed ≡ false → HasNoRecord (drop n bytes) × ((drop n bytes ≡ []) ⊎ ((rest : List ℕ) × (drop n bytes ≡ open_gate ∷ rest)))
+
+-- Of bytes whose first gate stands at `from` in a file: up to this place they are open records that the visitor took; a closed
+-- gate stands there, or no whole record.
+pub record StopsAt {V : Type 0} (takes : V → ℕ → List ℕ → V → Type 0) (old new : V) (from : ℕ) (is_closed : Bool) (bytes : List ℕ) (at : ℕ) : Type 0 where
+  pub count : ℕ
+  pub place : at ≡ from + count
+  pub handed : HandsOver takes old new from count is_closed bytes
 
 -- Of bytes whose first gate stands at this place of a file: the visitor took the records before another place, and refuses
 -- the one there; `after` is the visitor afterwards.

@@ -1,8 +1,8 @@
 ghost use Rattle.std.specs.Prelude.{◌≡◌, ◌↔◌, ◌+◌, ◌≤◌, ◌<◌, ◌++◌, List, ℕ, true};
-ghost use Rattle.std.specs.Prelude.{length as len, take, drop, IfOk, OnOk, OnErr, IsErr};
+ghost use Rattle.std.specs.Prelude.{length as len, take, drop, IfOk, IfSome, IsNone, OnOk, OnErr, IsErr};
 ghost use Rattle.std.specs.Option.{ForSome};
 ghost use Rattle.irl_offer.specs.Faults.{HasCause};
-ghost use Rattle.irl_disk.specs.Disk.{Changes, ChangesFile, Holds};
+ghost use Rattle.irl_disk.specs.Disk.{Files, Changes, ChangesFile, Holds};
 ghost use Rattle.irl_disk.specs.Images.{LeavesBy, LeavesSame};
 ghost use Rattle.irl_disk.specs.Taken.{TakesOnly};
 ghost use Rattle.irl_journal.specs.Blob.{KeepsFront, IsCommitted};
@@ -38,6 +38,32 @@ impl Blob {
         Blob { file: f, length }
     }
 
+    /// A blob of a file of which so many bytes are committed, or none where the file is shorter. It syncs the file
+    /// first, so from then on each stop leaves what a read gives. It changes nothing that a read gives.
+    pub fn open<S: Store>(store: &mut S, f: u16, length: u64) -> Result<Option<Blob>, Failed>
+        requires { f < 10000 }
+        // There is none exactly where the file is shorter.
+        ensures short { IfOk result (λ found. ForSome (S.snapshot store.old).files (λ files.
+            IsNone found ↔ (len (files f) < length))) }
+        ensures blob { IfOk result (λ found. IfSome found (λ blob. blob ≡ record { file = f; length = length })) }
+        // The bytes that the file has up to there are committed.
+        ensures committed { IfOk result (λ found. IfSome found (λ blob. ForSome (S.snapshot store.old).files (λ files.
+            IsCommitted (S.snapshot store.new).images blob (take length (files f))))) }
+        // Each stop from then on leaves what a read gives.
+        ensures durable { OnOk result (ForSome (S.snapshot store.old).files (λ files.
+            (image : Files) → (S.snapshot store.new).images image → image f ≡ files f)) }
+        ensures same { (S.snapshot store.new).files ≡ (S.snapshot store.old).files }
+        ensures stops { LeavesSame (S.snapshot store.old) (S.snapshot store.new) }
+        ensures taken { S.taken store.new ≡ S.taken store.old }
+        ensures cause { HasCause (IsErr result) (S.faults store.old) (S.faults store.new) }
+    {
+        store.sync(f)?;
+        if store.length(f)? < length {
+            return Ok(None);
+        }
+        Ok(Some(Blob::at(f, length)))
+    }
+
     /// Appends bytes behind the committed ones, in two calls of the store: it writes them over whatever lies there, and
     /// syncs. At `Ok` they are committed. A refusal leaves the blob as it was, to be appended to again. It takes no memory.
     pub fn append<S: Store>(&mut self, store: &mut S, bytes: &[u8]) -> Result<(), Failed>
@@ -64,6 +90,14 @@ impl Blob {
         store.sync(self.file)?;
         self.length += bytes.len() as u64;
         Ok(())
+    }
+
+    /// The number of its file.
+    pub fn file(&self) -> u16
+        ensures value { result ≡ self.now.file }
+        ensures limit { result < 10000 }
+    {
+        self.file
     }
 
     /// How many bytes are committed.

@@ -111,6 +111,14 @@ impl Journal {
         Ok(())
     }
 
+    /// The number of its file.
+    pub fn file(&self) -> u16
+        ensures value { result ≡ self.now.file }
+        ensures limit { result < 10000 }
+    {
+        self.file
+    }
+
     /// The place of the closed gate.
     pub fn end(&self) -> u64
         ensures { result ≡ self.now.end }

@@ -1,5 +1,5 @@
-ghost use Rattle.std.specs.Prelude.{◌≡◌, ◌≢◌, ◌⊎◌, ◌<◌, ◌≤◌, ◌+◌, ◌^◌, [], ◌∷◌, List, ℕ, Some, true, false};
-ghost use Rattle.std.specs.Prelude.{length, length as len, IfOk, OnOk, IsErr, IsErrOf, vec_len};
+ghost use Rattle.std.specs.Prelude.{◌≡◌, ◌≢◌, ◌⊎◌, ◌<◌, ◌≤◌, ◌+◌, ◌^◌, ◌++◌, [], ◌∷◌, List, ℕ, Some, true, false};
+ghost use Rattle.std.specs.Prelude.{length, length as len, drop, IfOk, OnOk, IsOk, IsErr, IsErrOf, vec_len};
 ghost use Rattle.std.specs.Option.{ForSome};
 ghost use Rattle.irl_offer.specs.Faults.{HasCause};
 ghost use Rattle.irl_disk.specs.Disk.{Files, Changes, ChangesFile};
@@ -7,7 +7,7 @@ ghost use Rattle.irl_disk.specs.Images.{LeavesBy, LeavesSame};
 ghost use Rattle.irl_disk.specs.Taken.{TakesOnly};
 ghost use Rattle.irl_journal.specs.Format.{records_text, placed_from, StandsFor};
 ghost use Rattle.irl_journal.specs.Visiting.{TakesAll, IsBrokenFor, IsRefusedAt, RefusesOneOf, RefusesAt};
-ghost use Rattle.irl_journal.specs.Visiting.{HandsOver, IsOpened};
+ghost use Rattle.irl_journal.specs.Visiting.{RefusesOneFrom, HandsOver, StopsAt, TookUpTo, IsOpened};
 ghost use Rattle.irl_journal.specs.Appending.{Ends, IsOpen};
 
 use crate::fault::JournalFault;
@@ -36,6 +36,8 @@ impl Journal {
             (payloads : List (List ℕ)) → StandsFor (files f) payloads → (journal.end ≡ length (records_text payloads))
             × TakesAll V.takes visitor.old (placed_from 0 payloads) visitor.new
             × IsOpen (S.snapshot store.new).images journal payloads)) }
+        // Whatever the store tells, the visitor took records up to the journal's end.
+        ensures took { IfOk result (λ journal. TookUpTo V.takes visitor.old visitor.new 0 journal.end) }
         ensures damaged { (at : ℕ) → IsErrOf result (JournalFault.Damaged at) →
             ForSome (S.snapshot store.old).files (λ files.
             IsBrokenFor V.takes visitor.old visitor.new (files f) at
@@ -71,6 +73,53 @@ impl Journal {
             return Ok(Journal::behind(f, 0));
         }
         Ok(Journal::make(store, f)?)
+    }
+
+    /// Hands the records from the one whose gate stands at this place on to a visitor, in order. It opens nothing and
+    /// changes nothing. At the journal's end there are none, and it makes no call of the store.
+    pub fn revisit<S: Store, V: Visit>(
+        &self,
+        alloc: Global,
+        store: &mut S,
+        at: u64,
+        visitor: &mut V,
+    ) -> Result<(), JournalFault>
+        requires { at ≤ self.now.end }
+        // Where the file has these records, the visitor took just those from there on.
+        ensures records { OnOk result (ForSome (S.snapshot store.old).files (λ files. (first more : List (List ℕ)) →
+            Ends self.now.end (files self.now.file) (first ++ more) → at ≡ length (records_text first) →
+            TakesAll V.takes visitor.old (placed_from at more) visitor.new)) }
+        // Whatever the file has, it took whole open records up to the journal's end, where a closed gate stands.
+        ensures found { OnOk result (ForSome (S.snapshot store.old).files (λ files. at < self.now.end →
+            StopsAt V.takes visitor.old visitor.new at true (drop at (files self.now.file)) self.now.end)) }
+        // Where the file has these records, only the visitor can refuse: one of them.
+        ensures refused { (place : ℕ) → IsErrOf result (JournalFault.Damaged place) →
+            ForSome (S.snapshot store.old).files (λ files. (first more : List (List ℕ)) →
+            Ends self.now.end (files self.now.file) (first ++ more) → at ≡ length (records_text first) →
+            RefusesOneFrom V.takes V.refuses visitor.old visitor.new at more place) }
+        // Damage is named only behind whole open records that the visitor took: where no whole record stands, where a
+        // closed gate stands that isn't the journal's end, or at a record that the visitor refuses.
+        ensures damaged { (place : ℕ) → IsErrOf result (JournalFault.Damaged place) →
+            ForSome (S.snapshot store.old).files (λ files.
+            StopsAt V.takes visitor.old visitor.new at false (drop at (files self.now.file)) place
+            ⊎ (StopsAt V.takes visitor.old visitor.new at true (drop at (files self.now.file)) place
+            × (place ≢ self.now.end))
+            ⊎ RefusesAt V.takes V.refuses visitor.old visitor.new at (drop at (files self.now.file)) place) }
+        ensures idle { at ≡ self.now.end → IsOk result × (store.new ≡ store.old) × (visitor.new ≡ visitor.old) }
+        ensures same { (S.snapshot store.new).files ≡ (S.snapshot store.old).files }
+        ensures stops { LeavesSame (S.snapshot store.old) (S.snapshot store.new) }
+        ensures taken { TakesOnly self.now.file (S.taken store.old) (S.taken store.new) }
+        ensures cause { HasCause (IsErrOf result JournalFault.Failed) (S.faults store.old) (S.faults store.new) }
+    {
+        if at == self.end() {
+            return Ok(());
+        }
+        let length = store.length(self.file())?;
+        let end = read_from(alloc, store, self.file(), at, length, visitor)?;
+        if end != self.end() {
+            return Err(JournalFault::Damaged(end));
+        }
+        Ok(())
     }
 }
 
@@ -112,6 +161,7 @@ fn read_records<S: Store, V: Visit>(
     ensures within { IfOk result (λ end. end + 1 < 2 ^ 64) }
     ensures records { IfOk result (λ end. ForSome (S.snapshot store.old).files (λ files. (payloads : List (List ℕ))
         × Ends end (files f) payloads × TakesAll V.takes visitor.old (placed_from 0 payloads) visitor.new)) }
+    ensures took { IfOk result (λ end. TookUpTo V.takes visitor.old visitor.new 0 end) }
     ensures damaged { (at : ℕ) → IsErrOf result (JournalFault.Damaged at) →
         ForSome (S.snapshot store.old).files (λ files.
         IsBrokenFor V.takes visitor.old visitor.new (files f) at
@@ -121,8 +171,37 @@ fn read_records<S: Store, V: Visit>(
     ensures taken { TakesOnly f (S.taken store.old) (S.taken store.new) }
     ensures cause { HasCause (IsErrOf result JournalFault.Failed) (S.faults store.old) (S.faults store.new) }
 {
-    let mut piece = zeros(alloc, length.min(LONGEST as u64) as usize)?;
-    let mut at = 0;
+    read_from(alloc, store, f, 0, length, visitor)
+}
+
+// Reads a journal's file of this length from a gate on, hands over the records from there, and gives the place of the
+// closed gate.
+fn read_from<S: Store, V: Visit>(
+    alloc: Global,
+    store: &mut S,
+    f: u16,
+    from: u64,
+    length: u64,
+    visitor: &mut V,
+) -> Result<u64, JournalFault>
+    requires file { f < 10000 }
+    requires long { ForSome (S.snapshot store.old).files (λ files. length ≡ len (files f)) }
+    ensures within { IfOk result (λ end. end + 1 < 2 ^ 64) }
+    ensures records { IfOk result (λ end. ForSome (S.snapshot store.old).files (λ files.
+        StopsAt V.takes visitor.old visitor.new from true (drop from (files f)) end)) }
+    ensures took { IfOk result (λ end. TookUpTo V.takes visitor.old visitor.new from end) }
+    ensures damaged { (at : ℕ) → IsErrOf result (JournalFault.Damaged at) →
+        ForSome (S.snapshot store.old).files (λ files.
+        StopsAt V.takes visitor.old visitor.new from false (drop from (files f)) at
+        ⊎ RefusesAt V.takes V.refuses visitor.old visitor.new from (drop from (files f)) at) }
+    ensures same { (S.snapshot store.new).files ≡ (S.snapshot store.old).files }
+    ensures stops { LeavesSame (S.snapshot store.old) (S.snapshot store.new) }
+    ensures taken { TakesOnly f (S.taken store.old) (S.taken store.new) }
+    ensures cause { HasCause (IsErrOf result JournalFault.Failed) (S.faults store.old) (S.faults store.new) }
+{
+    let left = length.saturating_sub(from);
+    let mut piece = zeros(alloc, left.min(LONGEST as u64) as usize)?;
+    let mut at = from;
     while at < length {
         let count = store.read(f, at, &mut piece)?;
         let (taken, is_closed) = hand_over(&piece[..count], at, visitor)?;

@@ -1,4 +1,4 @@
-ghost use Rattle.std.specs.Prelude.{◌≡◌, ⊤, List, ℕ, true, IfOk};
+ghost use Rattle.std.specs.Prelude.{◌≡◌, ◌≤◌, ⊤, List, ℕ, length, true, IfOk, OnOk};
 ghost use Rattle.irl_disk.specs.Memory.{snapshot_of};
 ghost use Rattle.irl_journal.specs.Appending.{IsOpen};
 
@@ -80,15 +80,49 @@ fn append_first(alloc: Global, failing: Vec<u64>) -> Result<Kept, Fail>
     })
 }
 
-// Appends a second record, of `cde`, in calls 6 to 9. Its gate stands at 7.
-fn append_second(kept: &mut Kept) -> Result<(), Failed>
+// Appends a record of this payload, in calls 6 to 9 where it is the second.
+fn append_next(kept: &mut Kept, payload: &[u8]) -> Result<(), Failed>
     requires sound { kept.old.journal.is_sound ≡ true }
     requires open { (payloads : List (List ℕ)) × IsOpen (snapshot_of kept.old.store).images kept.old.journal payloads }
     requires room { kept.old.frame.room ≡ 8 }
+    requires short { length payload.now ≤ 8 }
+    ensures sound { OnOk result (kept.new.journal.is_sound ≡ true) }
+    ensures open { OnOk result ((payloads : List (List ℕ)) ×
+        IsOpen (snapshot_of kept.new.store).images kept.new.journal payloads) }
+    ensures room { kept.new.frame.room ≡ 8 }
 {
     kept.frame.clear();
-    kept.frame.put(b"cde");
+    kept.frame.put(payload);
     kept.journal.append(&mut kept.store, &mut kept.frame)
+}
+
+// A journal with records of `ab`, `cde` and `f`, whose gates stand at 0, 7 and 15. It ends at 21.
+fn three_records(alloc: Global) -> Result<Kept, Fail> {
+    let mut kept = append_first(alloc, Vec::new(alloc))?;
+    append_next(&mut kept, b"cde")?;
+    append_next(&mut kept, b"f")?;
+    Ok(kept)
+}
+
+// Revisits the records from a gate on. No gate stands behind the journal's end.
+fn revisited(
+    alloc: Global,
+    kept: &mut Kept,
+    at: u64,
+    keeping: &mut Keeping,
+) -> Result<(), JournalFault> {
+    if at > kept.journal.end() {
+        return Err(JournalFault::Failed);
+    }
+    kept.journal.revisit(alloc, &mut kept.store, at, keeping)
+}
+
+// Writes a byte within file 7.
+fn tear(store: &mut MemStore, at: u64, byte: u8) -> Result<(), Failed> {
+    if at < store.length(7)? {
+        store.write(7, at, &[byte])?;
+    }
+    Ok(())
 }
 
 // The payloads that opening the journal finds after a stop in this call.
@@ -114,7 +148,7 @@ fn a_record_stands_between_two_gates(rt: HostRuntime) -> Result<(), Fail> {
 fn records_are_handed_out_as_they_were_appended(rt: HostRuntime) -> Result<(), Fail> {
     let alloc = rt.alloc();
     let mut kept = append_first(alloc, Vec::new(alloc))?;
-    append_second(&mut kept)?;
+    append_next(&mut kept, b"cde")?;
     let mut keeping = refusing(alloc, 1);
     assert_eq!(rt; opened(alloc, &mut kept.store, &mut keeping), Ok(15));
     assert_eq!(rt; keeping.places.as_slice(), [0, 7].as_slice());
@@ -173,11 +207,11 @@ fn an_append_fails_where_a_call_fails(rt: HostRuntime) -> Result<(), Fail> {
     let alloc = rt.alloc();
     for call in 6..10 {
         let mut kept = append_first(alloc, vec![in alloc; call]?)?;
-        assert_eq!(rt; append_second(&mut kept), Err(Failed), "at {call}");
+        assert_eq!(rt; append_next(&mut kept, b"cde"), Err(Failed), "at {call}");
         assert!(rt; !kept.journal.is_sound(), "at {call}");
     }
     let mut kept = append_first(alloc, Vec::new(alloc))?;
-    assert_eq!(rt; append_second(&mut kept), Ok(()));
+    assert_eq!(rt; append_next(&mut kept, b"cde"), Ok(()));
     assert!(rt; kept.journal.is_sound());
     Ok(())
 }
@@ -206,7 +240,11 @@ fn a_stop_leaves_whole_records(rt: HostRuntime) -> Result<(), Fail> {
             Vec::new(alloc)
         };
         let mut kept = append_first(alloc, failing)?;
-        assert_eq!(rt; append_second(&mut kept).is_err(), is_failing, "at {call}");
+        assert_eq!(rt;
+            append_next(&mut kept, b"cde").is_err(),
+            is_failing,
+            "at {call}"
+        );
         for (part, payloads) in [(Part::Old, old), (Part::New, new), (Part::Torn, torn)] {
             let found = left(alloc, &kept.store, call, part)?;
             assert_eq!(rt;
@@ -215,6 +253,60 @@ fn a_stop_leaves_whole_records(rt: HostRuntime) -> Result<(), Fail> {
                 "{part:?} at {call}, {is_failing}"
             );
         }
+    }
+    Ok(())
+}
+
+#[test]
+fn records_are_revisited_from_a_gate_on(rt: HostRuntime) -> Result<(), Fail> {
+    let alloc = rt.alloc();
+    let mut kept = three_records(alloc)?;
+    let table: [(u64, &[u64], &[u8]); 4] = [
+        (0, &[0, 7, 15], b"ab\ncde\nf\n"),
+        (7, &[7, 15], b"cde\nf\n"),
+        (15, &[15], b"f\n"),
+        // At the end it makes no call of the store.
+        (21, &[], b""),
+    ];
+    for (at, places, payloads) in table {
+        let mut keeping = refusing(alloc, 1);
+        let calls = kept.store.calls();
+        assert_eq!(rt;
+            revisited(alloc, &mut kept, at, &mut keeping),
+            Ok(()),
+            "at {at}"
+        );
+        assert_eq!(rt; keeping.places.as_slice(), places, "at {at}");
+        assert_eq!(rt; keeping.payloads.as_slice(), payloads, "at {at}");
+        assert_eq!(rt; kept.store.calls() == calls, places.is_empty(), "at {at}");
+    }
+    Ok(())
+}
+
+#[test]
+fn damage_is_named_where_it_stands(rt: HostRuntime) -> Result<(), Fail> {
+    let alloc = rt.alloc();
+    // The byte that is written and its place, the record that the visitor refuses, and the place of the damage.
+    let table: [(u8, u64, u64, u64, &[u64]); 4] = [
+        // The visitor refuses the last record.
+        (b'c', 12, 15, 15, &[0, 7]),
+        // The second gate is closed, before the journal's end.
+        (0, 7, 1, 7, &[0]),
+        // The second record passes the file's end.
+        (255, 8, 1, 7, &[0]),
+        // The last gate is open, and no record stands behind it.
+        (b'\xA5', 21, 1, 21, &[0, 7, 15]),
+    ];
+    for (byte, at, refused, place, places) in table {
+        let mut kept = three_records(alloc)?;
+        tear(&mut kept.store, at, byte)?;
+        let mut keeping = refusing(alloc, refused);
+        assert_eq!(rt;
+            revisited(alloc, &mut kept, 0, &mut keeping),
+            Err(JournalFault::Damaged(place)),
+            "at {at}"
+        );
+        assert_eq!(rt; keeping.places.as_slice(), places, "at {at}");
     }
     Ok(())
 }

@@ -11,10 +11,11 @@ use Rattle.irl_offer.specs.declared.offer.Op.{Op}
 use Rattle.irl_offer.specs.declared.offer.Op.TheVariants.{Check, Update, Both}
 use Rattle.irl_offer.specs.declared.offer.Rule.{Rule}
 use Rattle.irl_offer.specs.declared.offer.Verdict.{Verdict}
+use Rattle.irl_offer.specs.declared.receipt.Judged.{Judged}
 use Rattle.irl_offer.specs.Tuple.{Tuple}
 use Rattle.irl_model.specs.Judging.{KeyMap, enters, entered, answer, combined, judgements}
 use Rattle.irl_offer.specs.Buckets.{bucket_of}
-use Rattle.irl_model.specs.Book.{Book, IsBook, Judged, judged_offers, judged_cut, judged_as, is_unique, uniques, gone}
+use Rattle.irl_model.specs.Book.{Book, IsBook, judged_offers, judged_cut, judged_as, is_unique, uniques, gone}
 use Rattle.irl_model.proofs.Stretches.{judged_here_are}
 use Rattle.irl_model.proofs.JudgingLaws.{judged_on, judgements-judged_on}
 

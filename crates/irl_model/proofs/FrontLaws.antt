@@ -6,9 +6,10 @@ use Rattle.std.specs.Prelude.{sum}
 use Rattle.std.specs.List.{filter, enumerate_from}
 use Rattle.irl_offer.specs.declared.offer.Rule.{Rule}
 use Rattle.irl_offer.specs.declared.offer.Verdict.{Verdict}
+use Rattle.irl_offer.specs.declared.receipt.Judged.{Judged}
 use Rattle.irl_offer.specs.Tuple.{Tuple}
 use Rattle.irl_model.specs.Judging.{KeyMap, after, judgements}
-use Rattle.irl_model.specs.Book.{Book, IsBook, IsFront, IsPrefixOf, ArePrefixes, IsBelow, AreCuts, Judged, last_cut, list_lengths, lengths_of, stretch, stretches, judged, judged_as, judged_offers, judged_cut, uniques, is_unique, gone, flushed, flushed_lists, merged}
+use Rattle.irl_model.specs.Book.{Book, IsBook, IsFront, IsPrefixOf, ArePrefixes, IsBelow, AreCuts, last_cut, list_lengths, lengths_of, stretch, stretches, judged, judged_as, judged_offers, judged_cut, uniques, is_unique, gone, flushed, flushed_lists, merged}
 use Rattle.irl_model.proofs.JudgingLaws.{judged_on, judgements-judged_on, judged_on-append}
 use Rattle.irl_model.proofs.Stretches.{below_same, below_both}
 
@@ -65,7 +66,7 @@ stretch_same (first ∷ firsts) (from ∷ froms) (to ∷ tos) (list ∷ lists) (
     ap (λ (os : List Tuple). drop (from - first) os ++ stretch firsts froms tos more) head
     ∙ ap (λ (os : List Tuple). drop (from - first) (take (to - first) list) ++ os) (stretch_same firsts froms tos lists more below.1 h.1)
 
-below_end : (from end : List ℕ) (cuts : List (List ℕ)) → AreCuts from cuts end → IsBelow from end
+pub below_end : (from end : List ℕ) (cuts : List (List ℕ)) → AreCuts from cuts end → IsBelow from end
 below_end from end [] cuts = cuts
 below_end from end (cut ∷ rest) cuts = below_both from cut end cuts.0 (below_end cut end rest cuts.2)
 
@@ -103,7 +104,7 @@ judged_front x y is front =
     let offers = judged_offers_front x y is front in
     rw (front.buckets, front.rule, front.base) (prefix_map (judged_as x.buckets) _ _ (judgements_prefix x.rule x.base (judged_offers x) (judged_offers y) offers))
 
-enumerate-append : (n : ℕ) (xs ys : List Judged) → enumerate_from n (xs ++ ys) ≡ enumerate_from n xs ++ enumerate_from (n + length xs) ys
+pub enumerate-append : (n : ℕ) (xs ys : List Judged) → enumerate_from n (xs ++ ys) ≡ enumerate_from n xs ++ enumerate_from (n + length xs) ys
 enumerate-append n [] ys = ap (λ (k : ℕ). enumerate_from k ys) (omega arith)
 enumerate-append n (x ∷ xs) ys = ap (λ (rest : List (ℕ × Judged)). (n, x) ∷ rest) (enumerate-append (n + 1) xs ys ∙ ap (λ (k : ℕ). enumerate_from (n + 1) xs ++ enumerate_from k ys) (omega arith))
 

@@ -1,5 +1,8 @@
 pub mod BookLaws
+pub mod Flushes
 pub mod FrontLaws
 pub mod JudgingLaws
 pub mod KeyMaps
+pub mod Merges
+pub mod PlainLemmas
 pub mod Stretches

@@ -8,11 +8,11 @@ use Rattle.irl_offer.specs.Tuple.{Tuple}
 use Rattle.irl_offer.specs.Buckets.{bucket_of}
 use Rattle.irl_model.specs.Book.{AreOfBuckets, IsBelow, AreCuts, last_cut, list_lengths, stretch, stretches, Book, IsBook, judged_offers, judged_cut, lengths_of}
 
-nil_take : (n : ℕ) → take {A = Tuple} n [] ≡ []
+pub nil_take : (n : ℕ) → take {A = Tuple} n [] ≡ []
 nil_take zero = refl
 nil_take (suc n) = refl
 
-nil_drop : (n : ℕ) → drop {A = Tuple} n [] ≡ []
+pub nil_drop : (n : ℕ) → drop {A = Tuple} n [] ≡ []
 nil_drop zero = refl
 nil_drop (suc n) = refl
 

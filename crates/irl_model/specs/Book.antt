@@ -1,14 +1,15 @@
 -- The book of a DRUM: what its files stand for, and what its merges have made of it (Lee, Leonard, Wang, Loguinov, "IRLbot:
 -- Scaling to 6 Billion Pages and Beyond", WWW 2008, section 4).
-use Rattle.std.specs.Prelude.{◌≡◌, ◌≢◌, ℕ, zero, suc, ◌+◌, ◌-◌, ◌*◌, ◌/◌, ◌^◌, ◌≤◌, nat_eq, Bool, true, false, List, [], ◌∷◌, ◌++◌, length, map, take, drop, sum, filter, replicate, Option, None, Some}
+use Rattle.std.specs.Prelude.{◌≡◌, ◌≢◌, ℕ, zero, suc, ◌+◌, ◌-◌, ◌≤◌, nat_eq, Bool, true, false, List, [], ◌∷◌, ◌++◌, length, map, take, drop, sum, filter, replicate, Option, None, Some}
 use Rattle.std.specs.List.{AllByRecursion, enumerate_from}
 use Rattle.std.specs.FinMap.{empty}
 use Rattle.irl_offer.specs.declared.offer.Rule.{Rule}
 use Rattle.irl_offer.specs.declared.offer.Verdict.{Verdict}
 use Rattle.irl_offer.specs.declared.offer.Verdict.TheVariants.{Unique, Absent, Known}
+use Rattle.irl_offer.specs.declared.receipt.Judged.{Judged}
 use Rattle.irl_offer.specs.Buckets.{IsBucketCount, bucket_of}
 use Rattle.irl_offer.specs.Tuple.{Tuple}
-use Rattle.irl_model.specs.Judging.{KeyMap, judgements}
+use Rattle.irl_model.specs.Judging.{KeyMap, after, judgements}
 
 -- Offers and cuts of one DRUM. Offers are numbered bucket by bucket, from 0, from the beginning of time, and a cut has a number
 -- for each bucket: the offers below it are judged. The first cuts may be dropped, with the offers below the last of them.
@@ -92,12 +93,6 @@ stretches firsts from (cut ∷ cuts) lists = stretch firsts from cut lists ++ st
 abbrev pub judged_offers : Book → List Tuple
 judged_offers book = stretches book.firsts book.firsts book.cuts book.lists
 
--- a judged offer, with its bucket and its verdict
-pub record Judged : Type 0 where
-  pub bucket : ℕ
-  pub offer : Tuple
-  pub verdict : Option Verdict
-
 -- an offer with its verdict, as it is told
 abbrev pub judged_as : ℕ → Tuple × Option Verdict → Judged
 judged_as buckets p = record { bucket = bucket_of buckets p.0.key; offer = p.0; verdict = p.1 }
@@ -117,9 +112,26 @@ is_unique (Some Unique) = true
 is_unique (Some Absent) = false
 is_unique (Some (Known value)) = false
 
+-- those of a list that were judged Unique, each with its number, where the list begins at this number
+abbrev pub uniques_from : ℕ → List Judged → List (ℕ × Tuple)
+uniques_from number judged = map (λ p. (p.0, p.1.offer)) (filter (λ p. is_unique p.1.verdict) (enumerate_from number judged))
+
 -- the kept offers that were judged Unique, each with its number: its place in the judged order, from the beginning of time
 abbrev pub uniques : Book → List (ℕ × Tuple)
-uniques book = map (λ p. (p.0, p.1.offer)) (filter (λ p. is_unique p.1.verdict) (enumerate_from (gone book) (judged book)))
+uniques book = uniques_from (gone book) (judged book)
+
+-- ---- what is pending
+-- the keys that the judged offers left, with their values
+abbrev pub seen : Book → KeyMap
+seen book = after book.rule book.base (judged_offers book)
+
+-- the offers that are not judged yet, in the order in which a merge judges them: bucket 0 first, each bucket's by number
+abbrev pub pending : Book → List Tuple
+pending book = stretch book.firsts (judged_cut book) (lengths_of book) book.lists
+
+-- what a merge judges: the pending offers, each with the verdict of the set that was asked all before it
+abbrev pub judged_next : Book → List Judged
+judged_next book = map (judged_as book.buckets) (judgements book.rule (seen book) (pending book))
 
 -- ---- one book after another
 -- the first list is a prefix of the second
@@ -165,3 +177,7 @@ flushed b news book = record book { lists = flushed_lists b news book.lists }
 -- a cut at all lists' lengths
 abbrev pub merged : Book → Book
 merged book = record book { cuts = book.cuts ++ lengths_of book ∷ [] }
+
+-- the book as it was when it had only the first of its cuts
+abbrev pub with_cuts : ℕ → Book → Book
+with_cuts n book = record book { cuts = take n book.cuts }

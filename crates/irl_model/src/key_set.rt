@@ -4,7 +4,7 @@ ghost use Rattle.std.specs.FinMap as map;
 ghost use Rattle.irl_model.specs.Judging.{after, answer, combined as combined_of, entered, judgements};
 
 use crate::judging::{answer, combined};
-use irl_offer::{Offer, Op, Rule, Verdict};
+use irl_offer::{Offer, Op, Pair, Rule, Verdict};
 use std::alloc::{AllocError, Global};
 use std::collections::BTreeMap;
 use std::marker::Model;
@@ -52,6 +52,20 @@ impl KeySet {
     {
         self.values.insert(key, value)?;
         Ok(())
+    }
+
+    /// The keys with their values, keys rising.
+    pub fn pairs(&self, alloc: Global) -> Result<Vec<Pair>, AllocError>
+        ensures { IfOk result (λ pairs. list_map (λ p. (p.key, p.value)) pairs.items ≡ map.entries self.now) }
+    {
+        let mut pairs = Vec::new(alloc);
+        for (key, value) in &self.values {
+            pairs.push(Pair {
+                key: *key,
+                value: *value,
+            })?;
+        }
+        Ok(pairs)
     }
 
     /// Enters a value for a key: the key's value is then the two combined. After want of memory the set is as before.

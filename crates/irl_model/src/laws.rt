@@ -1,9 +1,11 @@
-ghost use Rattle.std.specs.Prelude.{◌≡◌, ◌≢◌, ◌-◌, ◌<◌, ◌++◌, ℕ, List, nat_eq, map, filter, take, slice_index, slice_index_or, [], AllPairs};
+ghost use Rattle.std.specs.Prelude.{◌≡◌, ◌≢◌, ◌+◌, ◌-◌, ◌<◌, ◌≤◌, ◌++◌, ℕ, List, nat_eq, map, filter, take, length, sum, slice_index, slice_index_or, [], AllPairs};
+ghost use Rattle.std.specs.List.{AllByRecursion};
 ghost use Rattle.irl_offer.specs.Tuple.{Tuple};
-ghost use Rattle.irl_model.specs.Judging.{judgements};
+ghost use Rattle.irl_model.specs.Judging.{after, judgements};
 ghost use Rattle.irl_offer.specs.Buckets.{bucket_of};
-ghost use Rattle.irl_model.specs.Book.{Book, IsBook, IsFront, IsPrefixOf, judged, judged_cut, judged_offers, lengths_of, uniques};
-ghost use Rattle.irl_model.specs.Book.{flushed, merged, stretch};
+ghost use Rattle.irl_model.specs.Book.{Book, IsBook, IsFront, IsPrefixOf, gone, judged, judged_cut, judged_offers, lengths_of, uniques, uniques_from};
+ghost use Rattle.irl_model.specs.Book.{flushed, judged_next, merged, pending, seen, with_cuts};
+ghost use Rattle.irl_model.specs.Plain.{whole_book};
 
 /// Equal keys share a bucket, so a judged offer's verdict is what its bucket's list alone would give: of the judged offers
 /// those of a bucket are the first of its list, and they were judged as those.
@@ -27,17 +29,53 @@ pub fn fronts_stay()
     ensures uniques { (x y : Book) → IsBook x → IsFront x y → IsPrefixOf (uniques x) (uniques y) }
 {}
 
-/// A flush judges nothing.
+/// A flush judges nothing: it makes one list longer.
 pub fn a_flush_adds_offers()
     ensures front { (b : ℕ) (news : List Tuple) (book : Book) → IsFront book (flushed b news book) }
     ensures judged { (b : ℕ) (news : List Tuple) (book : Book) → IsBook book →
         judged (flushed b news book) ≡ judged book }
+    ensures uniques { (b : ℕ) (news : List Tuple) (book : Book) → IsBook book →
+        uniques (flushed b news book) ≡ uniques book }
+    ensures book { (b : ℕ) (news : List Tuple) (book : Book) → IsBook book →
+        AllByRecursion (λ offer. bucket_of book.buckets offer.key ≡ b) news → IsBook (flushed b news book) }
+    ensures list { (b : ℕ) (news : List Tuple) (book : Book) → b < length book.lists →
+        slice_index_or (flushed b news book).lists b [] ≡ slice_index_or book.lists b [] ++ news }
+    ensures other_lists { (b : ℕ) (news : List Tuple) (book : Book) (c : ℕ) → c ≢ b →
+        slice_index_or (flushed b news book).lists c [] ≡ slice_index_or book.lists c [] }
+    ensures number { (b : ℕ) (news : List Tuple) (book : Book) → IsBook book → b < book.buckets →
+        slice_index (lengths_of (flushed b news book)) b ≡ slice_index (lengths_of book) b + length news }
+    ensures other_numbers { (b : ℕ) (news : List Tuple) (book : Book) (c : ℕ) → IsBook book → c ≢ b →
+        slice_index (lengths_of (flushed b news book)) c ≡ slice_index (lengths_of book) c }
 {}
 
 /// A merge judges all that is pending, bucket 0 first, each bucket's offers by number.
 pub fn a_merge_judges_the_pending()
     ensures front { (book : Book) → IsFront book (merged book) }
-    ensures offers { (book : Book) → judged_offers (merged book)
-        ≡ judged_offers book ++ stretch book.firsts (judged_cut book) (lengths_of book) book.lists }
+    ensures offers { (book : Book) → judged_offers (merged book) ≡ judged_offers book ++ pending book }
     ensures book { (book : Book) → IsBook book → judged_cut book ≢ lengths_of book → IsBook (merged book) }
+    ensures judged { (book : Book) → judged (merged book) ≡ judged book ++ judged_next book }
+    ensures uniques { (book : Book) →
+        uniques (merged book) ≡ uniques book ++ uniques_from (gone book + length (judged book)) (judged_next book) }
+    ensures after { (book : Book) → seen (merged book) ≡ after book.rule (seen book) (pending book) }
+    ensures earlier { (n : ℕ) (book : Book) → n ≤ length book.cuts → with_cuts n (merged book) ≡ with_cuts n book }
+    ensures cut { (book : Book) → judged_cut (merged book) ≡ lengths_of book }
+    ensures lengths { (book : Book) → lengths_of (merged book) ≡ lengths_of book }
+{}
+
+/// The book as it was when it had fewer cuts is a book, and a front of what it became.
+pub fn an_earlier_book()
+    ensures book { (n : ℕ) (book : Book) → IsBook book → IsBook (with_cuts n book) }
+    ensures front { (n : ℕ) (book : Book) → IsFront (with_cuts n book) book }
+    ensures all { (n : ℕ) (book : Book) → length book.cuts ≤ n → with_cuts n book ≡ book }
+{}
+
+/// The numbers of a cut say how many offers were judged up to it.
+pub fn a_cut_counts_the_judged()
+    ensures { (book : Book) → IsBook book → gone book + length (judged book) ≡ sum (judged_cut book) }
+{}
+
+/// A book that has dropped nothing is the one of its lists and its cuts, of which the plain programs tell.
+pub fn a_book_that_dropped_nothing_is_whole()
+    ensures { (book : Book) → IsBook book → book.dropped ≡ 0 →
+        whole_book book.buckets book.rule book.lists book.cuts ≡ book }
 {}

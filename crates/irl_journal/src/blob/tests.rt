@@ -138,3 +138,36 @@ fn a_read_past_the_end_fills_nothing(rt: HostRuntime) -> Result<(), Fail> {
     }
     Ok(())
 }
+
+#[test]
+fn a_blob_is_opened_up_to_its_files_end(rt: HostRuntime) -> Result<(), Fail> {
+    let alloc = rt.alloc();
+    let mut kept = append_first(alloc, Vec::new(alloc))?;
+    for (length, is_found) in [(0, true), (2, true), (3, false)] {
+        let found = Blob::open(&mut kept.store, 7, length)?;
+        assert_eq!(rt; found.is_some(), is_found, "at {length}");
+    }
+    Ok(())
+}
+
+#[test]
+fn opening_commits_what_was_not_synced(rt: HostRuntime) -> Result<(), Fail> {
+    let alloc = rt.alloc();
+    let mut store = MemStore::new(alloc, Vec::new(alloc));
+    store.write(7, 0, b"abcde")?;
+    // Calls 1 and 2 of the store.
+    assert!(rt; Blob::open(&mut store, 7, 4)?.is_some());
+    store.length(7)?;
+    // The call of the stop, and what is left as old.
+    for (call, old) in [
+        (0, b"\0\0\0\0\0\0\0\0"),
+        (2, b"abcde\0\0\0"),
+        (3, b"abcde\0\0\0"),
+    ] {
+        assert_eq!(rt; left(alloc, &store, call, Part::Old)?, *old, "at {call}");
+    }
+    for part in [Part::New, Part::Torn] {
+        assert_eq!(rt; left(alloc, &store, 3, part)?, *b"abcde\0\0\0", "{part:?}");
+    }
+    Ok(())
+}

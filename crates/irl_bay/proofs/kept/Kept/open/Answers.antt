@@ -4,7 +4,7 @@ use Rattle.std.proofs.lemmas.Result.{err_from_is_err_and}
 use Rattle.std.specs.FinMap.{empty}
 use Rattle.irl_offer.specs.declared.offer.Rule.TheVariants.{Keep}
 use Rattle.irl_model.specs.Judging.{after}
-use Rattle.irl_disk.specs.Disk.{Files, ChangesFile}
+use Rattle.irl_disk.specs.Disk.{ChangesFile}
 use Rattle.irl_disk.specs.Images.{LeavesBy}
 use Rattle.irl_disk.proofs.Stretches.{same_by, joins_by}
 use Rattle.irl_journal.specs.Visiting.{IsOpened}

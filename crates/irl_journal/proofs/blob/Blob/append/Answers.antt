@@ -1,5 +1,5 @@
 -- The write is behind the front, so whatever it leaves keeps the front; and once it is synced, each image has the bytes.
-use Rattle.std.proofs.Common.{◌≡◌, ◌≤◌, ◌++◌, length, length-append, sym, subst, arith}
+use Rattle.std.proofs.Common.{◌≡◌, ◌≤◌, length, length-append, sym, subst, arith}
 use Rattle.std.specs.Option.{ForSome}
 use Rattle.irl_disk.specs.Disk.{Holds, Scribbled}
 use Rattle.irl_disk.specs.Images.{Snapshot}

@@ -1,7 +1,6 @@
 -- The sync's images have the file's bytes, and what follows it changes at most a file of at most one byte.
-use Rattle.std.proofs.Common.{◌≡◌, ◌≢◌, ◌∙◌, ◌≤◌, ℕ, List, [], ◌∷◌, length, true, inl, inr, refl, sym, ap, subst, arith, rules}
+use Rattle.std.proofs.Common.{◌≡◌, ◌∙◌, ◌≤◌, ℕ, List, [], ◌∷◌, length, true, inl, inr, refl, sym, ap, subst, arith, rules}
 use Rattle.irl_disk.specs.Disk.{Files}
-use Rattle.irl_disk.specs.Images.{LeavesSame}
 use Rattle.irl_journal.specs.Format.{records_text, placed_from}
 use Rattle.irl_journal.specs.Visiting.{TakesAll}
 use Rattle.irl_journal.specs.Appending.{Ends, Tail, IsOpen}

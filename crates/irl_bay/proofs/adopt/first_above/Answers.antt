@@ -1,0 +1,23 @@
+use Rattle.std.proofs.Common.{◌∙◌, [], map, refl, sym, rules}
+use Rattle.irl_bay.specs.Commits.{commit_bytes}
+use Rattle.irl_bay.proofs.Buckets.{damaged_fault}
+use Rattle.irl_bay.proofs.Reached.{first_refused, all_below}
+use Rattle.irl_bay.proofs.adopt.first_above.Goals as goal
+
+pub returns-in-Ok-clause-damaged : goal.returns-in-Ok-clause-damaged
+returns-in-Ok-clause-damaged g c = λ f at is. (
+  cc,
+  λ files tells.
+      let there = c.requires.above files tells in
+      let took = c.in-Ok.ensures.records files tells [] (map commit_bytes there.0) there.1 refl in
+      absurd (there.3 (all_below c.args.buckets _ c.revisit.new.visitor there.0 refl c.requires.count there.2 took)),
+)
+
+pub returns-clause-damaged : goal.returns-clause-damaged
+returns-clause-damaged g c = λ f at is.
+    let out = damaged_fault c.args.f c.in-Err.fault f at (sym c.fault_in.ensures ∙ is) in (
+      sym out.1,
+      λ files tells commits ends rise.
+          let refused = c.in-Err.ensures.refused at (search rules) files tells [] (map commit_bytes commits) ends refl in
+          first_refused c.args.buckets at _ refused.reached commits refused.first refused.payload refused.more refl rise refused.among refused.place refused.took refused.refused,
+    )

@@ -1,0 +1,34 @@
+-- Which file each part of a bay is: the one table from which code and contracts take their numbers.
+use Rattle.std.specs.Prelude.{◌≡◌, ◌⊎◌, ℕ, ◌+◌, ◌*◌, ◌<◌, ◌≤◌}
+use Rattle.irl_bay.specs.declared.layout.files.BayFile.{BayFile}
+use Rattle.irl_bay.specs.declared.layout.files.BayFile.TheVariants.{Manifest, Cache, Judged, Texts, Journal, Aux}
+
+-- a part's file, of a bay whose first file is `base`. The generation is 0: a bay that dropped none of its first offers.
+abbrev pub file_of : ℕ → ℕ → BayFile → ℕ
+file_of base generation Manifest = base + 5 * generation
+file_of base generation (Cache side) = base + 1 + side
+file_of base generation Judged = base + 3 + 3 * generation
+file_of base generation Texts = base + 4 + 3 * generation
+file_of base generation (Journal b) = base + 10 + 2 * b
+file_of base generation (Aux b) = base + 11 + 2 * b
+
+-- a part that a bay of so many buckets has
+abbrev pub IsPartOf : ℕ → BayFile → Type 0
+IsPartOf buckets Manifest = Unit {0}
+IsPartOf buckets (Cache side) = side ≤ 1
+IsPartOf buckets Judged = Unit {0}
+IsPartOf buckets Texts = Unit {0}
+IsPartOf buckets (Journal b) = b < buckets
+IsPartOf buckets (Aux b) = b < buckets
+
+-- a file of a bay
+abbrev pub IsFileOf : ℕ → ℕ → ℕ → Type 0
+IsFileOf base buckets f = (part : BayFile) × IsPartOf buckets part × (f ≡ file_of base 0 part)
+
+-- the two files of a bucket
+abbrev pub IsBucketFile : ℕ → ℕ → ℕ → Type 0
+IsBucketFile base b f = (f ≡ file_of base 0 (Journal b)) ⊎ (f ≡ file_of base 0 (Aux b))
+
+-- the greatest first file of a bay
+abbrev pub max_base : ℕ
+max_base = 9000

@@ -1,0 +1,163 @@
+-- What opening a bay names as damage: the first place at which its files break the layout. They are read in this order: the
+-- manifest, the parts that its last commit names, each bucket's two files; and then each commit's cut is held against the lists.
+use Rattle.std.specs.Prelude.{◌≡◌, ◌⊎◌, ℕ, ◌*◌, ◌^◌, ◌<◌, ◌≤◌, List, [], ◌∷◌, ◌++◌, map, length, slice_index}
+use Rattle.std.specs.List.{flat_map, sum_by, AllByRecursion}
+use Rattle.irl_offer.specs.Buckets.{bucket_of}
+use Rattle.irl_offer.specs.Entries.{entry_bytes}
+use Rattle.irl_offer.specs.Limits.{max_text}
+use Rattle.irl_offer.specs.declared.entry.Entry.{Entry}
+use Rattle.irl_offer.specs.declared.settings.Settings.{Settings}
+use Rattle.irl_model.specs.Book.{IsBelow}
+use Rattle.irl_disk.specs.Disk.{Files, ChangesAmong}
+use Rattle.irl_journal.specs.Format.{StandsFor, IsBrokenAt, IsPayload, records_text, body_text, open_gate}
+use Rattle.irl_journal.specs.Visiting.{IsOpened}
+use Rattle.irl_bay.specs.BayFiles.{file_of}
+use Rattle.irl_bay.specs.declared.layout.files.BayFile.TheVariants.{Manifest, Cache, Judged, Texts, Journal, Aux}
+use Rattle.irl_bay.specs.Commits.{Commit, IsCommit, HasCommits, commit_bytes, first_commit, last_commit}
+use Rattle.irl_bay.specs.Making.{IsJournalOf}
+
+-- a file is shorter than what is committed of it, and this is where it ends
+pub record IsShort (length_committed : ℕ) (file : List ℕ) (at : ℕ) : Type 0 where
+  pub short : length file < length_committed
+  pub place : at ≡ length file
+
+-- ---- a journal whose payloads have to be good
+-- behind good records there is a broken one
+pub record IsBrokenBehind (AreGood : List (List ℕ) → Type 0) (file : List ℕ) (at : ℕ) : Type 0 where
+  pub broken : IsBrokenAt file at
+  pub before : AreGood broken.payloads
+
+-- behind good records there is a whole one with which they aren't good
+pub record IsBadBehind (AreGood : List (List ℕ) → Type 0) (file : List ℕ) (at : ℕ) : Type 0 where
+  pub payloads : List (List ℕ)
+  pub payload : List ℕ
+  pub gate : ℕ
+  pub rest : List ℕ
+  pub bytes : file ≡ records_text payloads ++ (open_gate ∷ (body_text payload ++ (gate ∷ rest)))
+  pub each : AllByRecursion IsPayload payloads
+  pub fits : IsPayload payload
+  pub place : at ≡ length (records_text payloads)
+  pub before : AreGood payloads
+  pub bad : AreGood (payloads ++ payload ∷ []) → ⊥
+
+-- the gate of the first record that is broken, or with which the payloads aren't good, stands at this place
+abbrev pub IsDamagedJournal : (List (List ℕ) → Type 0) → List ℕ → ℕ → Type 0
+IsDamagedJournal AreGood file at = IsBrokenBehind AreGood file at ⊎ IsBadBehind AreGood file at
+
+-- ---- the manifest
+-- no number of a commit is below that of the one before it
+pub record IsAtOrAbove (old new : Commit) : Type 0 where
+  pub entries : old.entries ≤ new.entries
+  pub judged : old.judged ≤ new.judged
+  pub unique : old.unique ≤ new.unique
+  pub texts : old.texts ≤ new.texts
+  pub cut : IsBelow old.cut new.cut
+
+-- from one commit on each has its room, and none falls
+abbrev pub RiseFrom : ℕ → Commit → List Commit → Type 0
+RiseFrom buckets old [] = Unit {0}
+RiseFrom buckets old (commit ∷ commits) = IsCommit buckets commit × IsAtOrAbove old commit × RiseFrom buckets commit commits
+
+-- payloads that a manifest may have
+abbrev pub AreCommitPayloads : ℕ → List (List ℕ) → Type 0
+AreCommitPayloads buckets payloads = (commits : List Commit) × RiseFrom buckets (first_commit buckets) commits × (payloads ≡ map commit_bytes commits)
+
+-- the manifest has these commits
+pub record HasManifest (base buckets : ℕ) (files : Files) (commits : List Commit) : Type 0 where
+  pub rise : RiseFrom buckets (first_commit buckets) commits
+  pub records : HasCommits base commits files
+
+-- ---- what the last commit names
+-- one of the three files is shorter than what is committed of it, and those before it aren't
+abbrev pub IsDamagedFront : ℕ → Commit → Files → ℕ → ℕ → Type 0
+IsDamagedFront base last files f at =
+    ((f ≡ file_of base 0 (Cache last.side)) × IsShort (16 * last.entries) (files f) at)
+    ⊎ ((16 * last.entries ≤ length (files (file_of base 0 (Cache last.side)))) × (f ≡ file_of base 0 Judged) × IsShort (48 * last.judged) (files f) at)
+    ⊎ ((16 * last.entries ≤ length (files (file_of base 0 (Cache last.side)))) × (48 * last.judged ≤ length (files (file_of base 0 Judged))) × (f ≡ file_of base 0 Texts) × IsShort last.texts (files f) at)
+
+-- none of them is
+pub record HasFronts (base : ℕ) (last : Commit) (files : Files) : Type 0 where
+  pub cache : 16 * last.entries ≤ length (files (file_of base 0 (Cache last.side)))
+  pub judged : 48 * last.judged ≤ length (files (file_of base 0 Judged))
+  pub texts : last.texts ≤ length (files (file_of base 0 Texts))
+
+-- ---- a bucket
+-- an entry of a bucket, whose numbers and text have their room
+pub record IsEntryOf (buckets b : ℕ) (entry : Entry) : Type 0 where
+  pub key : entry.key < 2 ^ 64
+  pub value : entry.value < 2 ^ 64
+  pub from : entry.from < 2 ^ 64
+  pub aux : entry.aux_len ≤ max_text
+  pub bucket : bucket_of buckets entry.key ≡ b
+
+-- a run of a bucket's entries: at least one and at most as many as an array holds
+pub record IsEntryRun (settings : Settings) (b : ℕ) (run : List Entry) : Type 0 where
+  pub some : 1 ≤ length run
+  pub few : length run ≤ settings.array
+  pub each : AllByRecursion (IsEntryOf settings.buckets b) run
+
+-- the payload of a run
+abbrev pub entries_bytes : List Entry → List ℕ
+entries_bytes entries = flat_map entry_bytes entries
+
+-- payloads that a bucket's journal may have
+abbrev pub AreRunPayloads : Settings → ℕ → List (List ℕ) → Type 0
+AreRunPayloads settings b payloads = (runs : List (List Entry)) × AllByRecursion (IsEntryRun settings b) runs × (payloads ≡ map entries_bytes runs)
+
+-- all entries of runs, and how many bytes their texts have
+abbrev pub entries_in : List (List Entry) → List Entry
+entries_in runs = flat_map (λ run. run) runs
+
+abbrev pub text_length : List Entry → ℕ
+text_length entries = sum_by (λ entry. entry.aux_len) entries
+
+-- a bucket's journal has these runs
+pub record HasRuns (base : ℕ) (settings : Settings) (b : ℕ) (files : Files) (runs : List (List Entry)) : Type 0 where
+  pub each : AllByRecursion (IsEntryRun settings b) runs
+  pub records : StandsFor (files (file_of base 0 (Journal b))) (map entries_bytes runs)
+
+-- a bucket whose journal is damaged, or whose texts are shorter than its entries say
+abbrev pub IsDamagedBucket : ℕ → Settings → ℕ → Files → ℕ → ℕ → Type 0
+IsDamagedBucket base settings b files f at =
+    ((f ≡ file_of base 0 (Journal b)) × IsDamagedJournal (AreRunPayloads settings b) (files f) at)
+    ⊎ ((f ≡ file_of base 0 (Aux b)) × ((runs : List (List Entry)) × HasRuns base settings b files runs × IsShort (text_length (entries_in runs)) (files f) at))
+
+-- one that isn't
+abbrev pub IsWholeBucket : ℕ → Settings → Files → ℕ → Type 0
+IsWholeBucket base settings files b = (runs : List (List Entry)) × HasRuns base settings b files runs × (text_length (entries_in runs) ≤ length (files (file_of base 0 (Aux b))))
+
+-- ---- a commit against the lists
+-- each bucket has the offers that a commit says are judged
+abbrev pub IsReached : ℕ → Settings → Files → Commit → Type 0
+IsReached base settings files commit =
+    (b : ℕ) → b < settings.buckets → (runs : List (List Entry)) × HasRuns base settings b files runs × (slice_index commit.cut b ≤ length (entries_in runs))
+
+-- the first of the commits whose cut is above a list has its gate at this place of the manifest
+pub record IsCutAbove (base : ℕ) (settings : Settings) (files : Files) (commits : List Commit) (at : ℕ) : Type 0 where
+  pub before : List Commit
+  pub commit : Commit
+  pub more : List Commit
+  pub among : commits ≡ before ++ commit ∷ more
+  pub place : at ≡ length (records_text (map commit_bytes before))
+  pub reached : AllByRecursion (IsReached base settings files) before
+  pub above : IsReached base settings files commit → ⊥
+
+-- ---- the bay
+-- behind a manifest with these commits: a part that the last of them names, a bucket, or a commit
+abbrev pub IsDamagedBehind : ℕ → Settings → Files → List Commit → ℕ → ℕ → Type 0
+IsDamagedBehind base settings files commits f at =
+    IsDamagedFront base (last_commit (first_commit settings.buckets) commits) files f at
+    ⊎ (HasFronts base (last_commit (first_commit settings.buckets) commits) files
+    × (((b : ℕ) × (b < settings.buckets) × ((c : ℕ) → c < b → IsWholeBucket base settings files c) × IsDamagedBucket base settings b files f at)
+    ⊎ (((c : ℕ) → c < settings.buckets → IsWholeBucket base settings files c) × (f ≡ file_of base 0 Manifest) × IsCutAbove base settings files commits at)))
+
+-- The files of the bay whose first file is `base` are damaged, and this place of this file is what is named of it.
+abbrev pub IsDamagedAt : ℕ → Settings → Files → ℕ → ℕ → Type 0
+IsDamagedAt base settings files f at =
+    ((f ≡ file_of base 0 Manifest) × IsDamagedJournal (AreCommitPayloads settings.buckets) (files f) at)
+    ⊎ ((commits : List Commit) × HasManifest base settings.buckets files commits × IsDamagedBehind base settings files commits f at)
+
+-- ---- what opening does to the files
+-- each journal changes at most as opening one may, and every other file stays
+abbrev pub IsAdopted : ℕ → ℕ → Files → Files → Type 0
+IsAdopted base buckets old new = ChangesAmong (IsJournalOf base buckets) (λ f. IsOpened) old new

@@ -1,0 +1,19 @@
+-- A bay before it is made, and what making it does.
+use Rattle.std.specs.Prelude.{◌≡◌, ◌⊎◌, ℕ, ◌<◌, ◌≤◌, length}
+use Rattle.irl_disk.specs.Disk.{Files}
+use Rattle.irl_bay.specs.BayFiles.{file_of, IsFileOf}
+use Rattle.irl_bay.specs.declared.layout.files.BayFile.TheVariants.{Manifest, Journal}
+use Rattle.irl_bay.specs.Holding.{ChangesOnly}
+
+-- each file of the bay has at most one byte
+abbrev pub IsUnmade : ℕ → ℕ → Files → Type 0
+IsUnmade base buckets files = (f : ℕ) → IsFileOf base buckets f → length (files f) ≤ 1
+
+-- the journals of a bay
+abbrev pub IsJournalOf : ℕ → ℕ → ℕ → Type 0
+IsJournalOf base buckets f = (f ≡ file_of base 0 Manifest) ⊎ ((b : ℕ) × (b < buckets) × (f ≡ file_of base 0 (Journal b)))
+
+-- only journals change, and a bay that wasn't made isn't made yet
+pub record Makes (base buckets : ℕ) (old new : Files) : Type 0 where
+  pub others : ChangesOnly (IsJournalOf base buckets) old new
+  pub unmade : IsUnmade base buckets old → IsUnmade base buckets new

@@ -1,0 +1,102 @@
+-- What a merge writes: the keys that are then judged, the entries of the offers that it judges, and their texts.
+use Rattle.std.specs.Prelude.{◌≡◌, ◌⊎◌, ℕ, ◌+◌, ◌-◌, ◌*◌, ◌%◌, ◌^◌, ◌<◌, ◌≤◌, min, true, List, ◌++◌, map, length, sum}
+use Rattle.std.specs.FinMap.{entries}
+use Rattle.irl_offer.specs.Tuple.{Tuple}
+use Rattle.irl_model.specs.Book.{Book, judged, judged_as, uniques, uniques_from, judged_offers, merged}
+use Rattle.irl_model.specs.Judging.{KeyMap, after, judgements}
+use Rattle.irl_disk.specs.Disk.{Files}
+use Rattle.irl_journal.specs.Appending.{Tail}
+use Rattle.irl_journal.specs.Blob.{Front, KeepsFront, IsCommitted}
+use Rattle.irl_bay.specs.BayFiles.{file_of}
+use Rattle.irl_bay.specs.declared.layout.files.BayFile.TheVariants.{Manifest, Cache, Judged, Texts}
+use Rattle.irl_bay.specs.declared.batch.Batch.{Batch}
+use Rattle.irl_bay.specs.declared.bucket.Bucket.{Bucket}
+use Rattle.irl_bay.specs.declared.judging.Judging.{Judging}
+use Rattle.irl_bay.specs.Drum.{Drum, durables, judged_front, texts_front}
+use Rattle.irl_bay.specs.Runs.{texts_of}
+use Rattle.irl_bay.specs.Commits.{Commit, IsCommit}
+use Rattle.irl_bay.specs.Holding.{ChangesOnly}
+use Rattle.irl_bay.specs.Cache.{pairs_bytes}
+use Rattle.irl_bay.specs.JudgedEntries.{judged_entries}
+
+-- whatever was read, it is as long as it says, and all pending offers are judged
+pub record FitsBatch (drum : Drum) (batch : Batch) : Type 0 where
+  pub pairs : length batch.pairs.items ≡ 16 * batch.entries
+  pub entries : drum.last.entries ≤ batch.entries
+  pub judged : length batch.judged.items ≡ 48 * batch.count
+  pub unique : batch.unique ≤ batch.count
+  pub count : batch.count + sum drum.last.cut ≡ sum (durables drum)
+  pub cut : batch.cut.items ≡ durables drum
+
+-- it is what a merge adds to the files of a book
+pub record IsBatchOf (book : Book) (batch : Batch) : Type 0 where
+  pub pairs : batch.pairs.items ≡ pairs_bytes (entries (after book.rule book.base (judged_offers (merged book))))
+  pub entries_are : batch.entries ≡ length (entries (after book.rule book.base (judged_offers (merged book))))
+  pub judged_are : judged_entries 0 (judged book) ++ batch.judged.items ≡ judged_entries 0 (judged (merged book))
+  pub unique : length (uniques book) + batch.unique ≡ length (uniques (merged book))
+  pub texts : texts_of (judged_offers book) ++ batch.texts.items ≡ texts_of (judged_offers (merged book))
+
+-- These offers are judged: by a set that had these keys, the text of the first at this place.
+pub record HasJudged (keys : KeyMap) (place : ℕ) (offers : List Tuple) (judging : Judging) : Type 0 where
+  pub keys_are : judging.keys ≡ after judging.rule keys offers
+  pub judged_are : judging.judged.items ≡ judged_entries place (map (judged_as judging.buckets) (judgements judging.rule keys offers))
+  pub count_is : judging.count ≡ length offers
+  pub unique_are : judging.unique ≡ length (uniques_from 0 (map (judged_as judging.buckets) (judgements judging.rule keys offers)))
+  pub texts_are : judging.texts.items ≡ texts_of offers
+  pub place_is : judging.place ≡ (place + length (texts_of offers)) % 2 ^ 64
+
+-- ---- what is committed then
+-- the commit of a batch
+abbrev pub next_commit : Drum → Batch → Commit
+next_commit drum batch = record { side = 1 - drum.last.side; entries = batch.entries; judged = drum.last.judged + batch.count; unique = min (drum.last.unique + batch.unique) (2 ^ 64 - 1); texts = drum.last.texts + length batch.texts.items; cut = batch.cut.items }
+
+-- a commit that a bay may have
+pub record HasRoom (buckets : ℕ) (commit : Commit) : Type 0 where
+  pub form : IsCommit buckets commit
+  pub judged : 48 * commit.judged < 2 ^ 64
+  pub entries : 16 * commit.entries < 2 ^ 64
+
+-- a bucket of which all offers are judged
+abbrev pub caught_up : Bucket → Bucket
+caught_up bucket = record { journal = bucket.journal; aux = bucket.aux; durable = bucket.durable; gate = bucket.journal.end; skip = 0; text = bucket.aux.length }
+
+-- a bay after a merge, whose manifest is this one then
+abbrev pub with_commit : Tail → Commit → Drum → Drum
+with_commit manifest commit drum = record { base = drum.base; settings = drum.settings; is_sound = true; manifest = manifest; last = commit; cuts = drum.cuts + 1; buckets = map caught_up drum.buckets }
+
+-- what is committed of the other cache side, of the judged file and of the texts once a batch is written
+abbrev pub next_cache : Drum → Batch → Front
+next_cache drum batch = record { file = file_of drum.base 0 (Cache (1 - drum.last.side)); length = 16 * batch.entries }
+
+abbrev pub next_judged : Drum → Batch → Front
+next_judged drum batch = record { file = file_of drum.base 0 Judged; length = 48 * (drum.last.judged + batch.count) }
+
+abbrev pub next_texts : Drum → Batch → Front
+next_texts drum batch = record { file = file_of drum.base 0 Texts; length = drum.last.texts + length batch.texts.items }
+
+-- from the images of one moment to those of a later one, a batch was written behind what is committed, and synced
+pub record IsWritten (drum : Drum) (batch : Batch) (old new : Files → Type 0) : Type 0 where
+  pub cache : IsCommitted new (next_cache drum batch) batch.pairs.items
+  pub judged : (held : List ℕ) → IsCommitted old (judged_front drum) held → IsCommitted new (next_judged drum batch) (held ++ batch.judged.items)
+  pub texts : (held : List ℕ) → IsCommitted old (texts_front drum) held → IsCommitted new (next_texts drum batch) (held ++ batch.texts.items)
+
+-- the files that it was written to are as long as what is committed of them then
+pub record IsLongBatch (drum : Drum) (batch : Batch) (files : Files) : Type 0 where
+  pub cache : (next_cache drum batch).length ≤ length (files (next_cache drum batch).file)
+  pub judged : (next_judged drum batch).length ≤ length (files (next_judged drum batch).file)
+  pub texts : (next_texts drum batch).length ≤ length (files (next_texts drum batch).file)
+
+-- ---- which files change
+-- those that a batch is written to: the cache side is the one that isn't live
+abbrev pub IsBatchFile : Drum → ℕ → Type 0
+IsBatchFile drum f = (f ≡ file_of drum.base 0 (Cache (1 - drum.last.side))) ⊎ (f ≡ file_of drum.base 0 Judged) ⊎ (f ≡ file_of drum.base 0 Texts)
+
+-- only those change, and what is committed of them stays
+pub record KeepsCommitted (drum : Drum) (old new : Files) : Type 0 where
+  pub others : ChangesOnly (IsBatchFile drum) old new
+  pub judged : KeepsFront (judged_front drum).length (old (judged_front drum).file) (new (judged_front drum).file)
+  pub texts : KeepsFront (texts_front drum).length (old (texts_front drum).file) (new (texts_front drum).file)
+
+-- the files that a merge changes
+abbrev pub IsMergeFile : Drum → ℕ → Type 0
+IsMergeFile drum f = (f ≡ file_of drum.base 0 Manifest) ⊎ IsBatchFile drum f

@@ -1,0 +1,74 @@
+-- What opening the parts of a bay gives.
+use Rattle.std.specs.Prelude.{◌≡◌, ℕ, ◌*◌, ◌<◌, ◌≤◌, true, List, ◌∷◌, ◌++◌, map, length, take}
+use Rattle.std.specs.List.{AllByRecursion}
+use Rattle.irl_offer.specs.Buckets.{bucket_of}
+use Rattle.irl_offer.specs.Tuple.{Tuple}
+use Rattle.irl_offer.specs.declared.entry.Entry.{Entry}
+use Rattle.irl_offer.specs.declared.settings.Settings.{Settings}
+use Rattle.irl_model.specs.Book.{IsBelow}
+use Rattle.irl_disk.specs.Disk.{Files, ChangesAmong}
+use Rattle.irl_disk.specs.Images.{Snapshot, LeavesBy}
+use Rattle.irl_journal.specs.Format.{records_text}
+use Rattle.irl_journal.specs.Blob.{IsCommitted}
+use Rattle.irl_journal.specs.Visiting.{IsOpened}
+use Rattle.irl_bay.specs.BayFiles.{file_of}
+use Rattle.irl_bay.specs.declared.layout.files.BayFile.TheVariants.{Cache, Judged, Texts, Journal, Aux}
+use Rattle.irl_bay.specs.declared.bucket.Bucket.{Bucket}
+use Rattle.irl_bay.specs.Commits.{Commit, commit_bytes}
+use Rattle.irl_bay.specs.Damage.{HasRuns, IsAdopted, entries_in, text_length}
+use Rattle.irl_bay.specs.Holding.{TellsBy}
+use Rattle.irl_bay.specs.Runs.{HasBucket}
+
+-- what a commit names of the three files is committed: the bytes that they have up to there
+pub record AreFronts (images : Files → Type 0) (base : ℕ) (last : Commit) (files : Files) : Type 0 where
+  pub cache : IsCommitted images (record { file = file_of base 0 (Cache last.side); length = 16 * last.entries }) (take (16 * last.entries) (files (file_of base 0 (Cache last.side))))
+  pub judged : IsCommitted images (record { file = file_of base 0 Judged; length = 48 * last.judged }) (take (48 * last.judged) (files (file_of base 0 Judged)))
+  pub texts : IsCommitted images (record { file = file_of base 0 Texts; length = last.texts }) (take last.texts (files (file_of base 0 Texts)))
+
+-- an open bucket has its own files, and its places lie within them
+pub record IsOpenBucket (base b : ℕ) (bucket : Bucket) : Type 0 where
+  pub journal : bucket.journal.file ≡ file_of base 0 (Journal b)
+  pub aux : bucket.aux.file ≡ file_of base 0 (Aux b)
+  pub sound : bucket.journal.is_sound ≡ true
+  pub gate : bucket.gate ≤ bucket.journal.end
+  pub text : bucket.text ≤ bucket.aux.length
+
+-- the files have the offers that the bucket counts, and their texts
+pub record HasWhole (base : ℕ) (settings : Settings) (b : ℕ) (files : Files) (bucket : Bucket) : Type 0 where
+  pub runs : List (List Entry)
+  pub has : HasRuns base settings b files runs
+  pub durable : bucket.durable ≡ length (entries_in runs)
+  pub texts : text_length (entries_in runs) ≤ length (files (file_of base 0 (Aux b)))
+
+-- they are at least as long as what is committed of them
+pub record IsLongBucket (bucket : Bucket) (files : Files) : Type 0 where
+  pub journal : bucket.journal.end < length (files bucket.journal.file)
+  pub aux : bucket.aux.length ≤ length (files bucket.aux.file)
+
+-- a bucket's files have this list, and no more of its offers are judged than there are
+pub record HasListOf (base : ℕ) (settings : Settings) (b cut : ℕ) (list : List Tuple) (files : Files) : Type 0 where
+  pub has : HasBucket settings.array list (files (file_of base 0 (Journal b))) (files (file_of base 0 (Aux b)))
+  pub here : AllByRecursion (λ offer. bucket_of settings.buckets offer.key ≡ b) list
+  pub within : cut ≤ length list
+
+-- the journals of the first buckets, and what opening these does
+abbrev pub IsJournalBelow : ℕ → ℕ → ℕ → Type 0
+IsJournalBelow base n f = (c : ℕ) × (c < n) × (f ≡ file_of base 0 (Journal c))
+
+abbrev pub OpensBelow : ℕ → ℕ → Files → Files → Type 0
+OpensBelow base n old new = ChangesAmong (IsJournalBelow base n) (λ f. IsOpened) old new
+
+-- the first of the commits whose cut is above these lengths has its gate at this place of the manifest
+pub record IsFirstAbove (lengths : List ℕ) (commits : List Commit) (at : ℕ) : Type 0 where
+  pub before : List Commit
+  pub commit : Commit
+  pub more : List Commit
+  pub among : commits ≡ before ++ commit ∷ more
+  pub place : at ≡ length (records_text (map commit_bytes before))
+  pub below : AllByRecursion (λ old. IsBelow old.cut lengths) before
+  pub above : IsBelow commit.cut lengths → ⊥
+
+-- from one snapshot to a later one the files change at most as opening the bay may, for what is told and at each stop
+pub record AdoptsTo (base buckets : ℕ) (old new : Snapshot) : Type 0 where
+  pub files : TellsBy (IsAdopted base buckets) old.files new.files
+  pub stops : LeavesBy (IsAdopted base buckets) old new

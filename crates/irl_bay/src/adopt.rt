@@ -1,0 +1,243 @@
+ghost use Rattle.std.specs.Prelude.{◌≡◌, ◌<◌, ◌≤◌, ◌^◌, ◌*◌, ℕ, List, map, true, length, slice_index, slice_index_or};
+ghost use Rattle.std.specs.Prelude.{IfOk, OnOk, IsErrOf};
+ghost use Rattle.std.specs.Option.{ForSome};
+ghost use Rattle.irl_offer.specs.Faults.{HasCause};
+ghost use Rattle.irl_offer.specs.Settings.{AreValid};
+ghost use Rattle.irl_offer.specs.Tuple.{Tuple};
+ghost use Rattle.irl_offer.specs.declared.receipt.Fault.TheVariants.{Failed as FailedFault, Full as FullFault};
+ghost use Rattle.irl_offer.specs.declared.receipt.Fault.TheVariants.{Damaged as DamagedFault};
+ghost use Rattle.irl_model.specs.Book.{Book, IsBelow};
+ghost use Rattle.irl_disk.specs.Disk.{Files};
+ghost use Rattle.irl_disk.specs.Images.{Leaves, LeavesBy, LeavesSame};
+ghost use Rattle.irl_disk.specs.Taken.{TakesAmong, TakesOnly};
+ghost use Rattle.irl_journal.specs.Appending.{Ends};
+ghost use Rattle.irl_bay.specs.BayFiles.{file_of, max_base};
+ghost use Rattle.irl_bay.specs.declared.layout.files.BayFile.TheVariants.{Manifest as ManifestFile};
+ghost use Rattle.irl_bay.specs.Commits.{Commit as CommitValue, commit_bytes, first_commit, last_commit};
+ghost use Rattle.irl_bay.specs.Damage.{IsDamagedAt, IsAdopted, IsDamagedFront, IsDamagedBucket, IsWholeBucket};
+ghost use Rattle.irl_bay.specs.Damage.{HasFronts, RiseFrom};
+ghost use Rattle.irl_bay.specs.Drum.{IsDrum, no_bucket};
+ghost use Rattle.irl_bay.specs.Holding.{Holds, HoldsBucket, IsLong, TellsBy};
+ghost use Rattle.irl_bay.specs.Making.{IsJournalOf};
+ghost use Rattle.irl_bay.specs.Opening.{AreFronts, IsOpenBucket, HasWhole, IsLongBucket, HasListOf, IsJournalBelow};
+ghost use Rattle.irl_bay.specs.Opening.{OpensBelow, IsFirstAbove, AdoptsTo};
+ghost use Rattle.irl_bay.specs.Standing.{Stands};
+
+use crate::bay::Bay;
+use crate::bucket::Bucket;
+use crate::history::{History, Reaching, is_below};
+use crate::layout::{BayFile, Commit};
+use crate::parts::{fault_in, open_blob};
+use irl_disk::{Failed, Store};
+use irl_journal::Journal;
+use irl_offer::{Fault, Settings};
+use std::alloc::{AllocError, Global};
+
+impl Bay {
+    /// Opens a bay over files that are there. It reads the manifest and each bucket's journal, and no byte of the cache
+    /// and of the texts, of which it asks only the lengths; and it syncs each of them. `Damaged` names the first place
+    /// that breaks the layout, files in ascending number, but that a commit's cut is held against the lists at the end.
+    /// No file changes but a journal of at most one byte, which becomes an empty one; so `Memory` may come after such a
+    /// change.
+    pub fn adopt<S: Store>(
+        alloc: Global,
+        store: &mut S,
+        base: u16,
+        settings: &Settings,
+    ) -> Result<Bay, Fault>
+        requires base { base ≤ max_base }
+        requires settings { AreValid settings.now }
+        ensures base { IfOk result (λ bay. bay.base ≡ base) }
+        ensures settings { IfOk result (λ bay. bay.settings ≡ settings.now) }
+        ensures sound { IfOk result (λ bay. bay.is_sound ≡ true) }
+        ensures drum { IfOk result (λ bay. IsDrum bay) }
+        // Where the files stand for a book, the bay has it, and from then on each stop leaves it.
+        ensures holds { IfOk result (λ bay. ForSome (S.snapshot store.old).files (λ files. (book : Book) →
+            Stands base settings.now book files → Holds (S.snapshot store.new).images bay book)) }
+        ensures long { IfOk result (λ bay. ForSome (S.snapshot store.new).files (λ files. IsLong bay files)) }
+        // Damage is the first by the layout's rules, and never named where the files stand for a book.
+        ensures damaged { (f at : ℕ) → IsErrOf result (Fault.Damaged f at) →
+            ForSome (S.snapshot store.old).files (λ files. IsDamagedAt base settings.now files f at) }
+        ensures whole { (f at : ℕ) → IsErrOf result (Fault.Damaged f at) →
+            ForSome (S.snapshot store.old).files (λ files. (book : Book) → Stands base settings.now book files → ⊥) }
+        // And damage is always named.
+        ensures sane { OnOk result (ForSome (S.snapshot store.old).files (λ files. (f at : ℕ) →
+            IsDamagedAt base settings.now files f at → ⊥)) }
+        ensures full { (n : ℕ) → IsErrOf result (Fault.Full n) → ⊥ }
+        // A stop at any moment leaves each file as it was, but that a journal of at most one byte has at most one; so
+        // it leaves files that stand for a book, where all did before.
+        ensures files { TellsBy (IsAdopted base settings.now.buckets)
+            (S.snapshot store.old).files (S.snapshot store.new).files }
+        ensures stops { LeavesBy (IsAdopted base settings.now.buckets) (S.snapshot store.old) (S.snapshot store.new) }
+        ensures stands_stop { (book : Book) → ((image : Files) → (S.snapshot store.old).images image →
+            Stands base settings.now book image) → Leaves (S.snapshot store.old) (S.snapshot store.new)
+            (λ image. Stands base settings.now book image) }
+        // No byte is read but of journals.
+        ensures taken { TakesAmong (IsJournalOf base settings.now.buckets) (S.taken store.old) (S.taken store.new) }
+        ensures cause { HasCause (IsErrOf result Fault.Failed) (S.faults store.old) (S.faults store.new) }
+    {
+        open_bay(alloc, store, base, settings)
+    }
+}
+
+// The same, whatever the files stand for.
+fn open_bay<S: Store>(
+    alloc: Global,
+    store: &mut S,
+    base: u16,
+    settings: &Settings,
+) -> Result<Bay, Fault>
+    requires base { base ≤ max_base }
+    requires settings { AreValid settings.now }
+    ensures base { IfOk result (λ bay. bay.base ≡ base) }
+    ensures settings { IfOk result (λ bay. bay.settings ≡ settings.now) }
+    ensures sound { IfOk result (λ bay. bay.is_sound ≡ true) }
+    ensures drum { IfOk result (λ bay. IsDrum bay) }
+    ensures holds { IfOk result (λ bay. ForSome (S.snapshot store.old).files (λ files. (book : Book) →
+        Stands base settings.now book files → Holds (S.snapshot store.new).images bay book)) }
+    ensures long { IfOk result (λ bay. ForSome (S.snapshot store.new).files (λ files. IsLong bay files)) }
+    ensures damaged { (f at : ℕ) → IsErrOf result (Fault.Damaged f at) →
+        ForSome (S.snapshot store.old).files (λ files. IsDamagedAt base settings.now files f at) }
+    ensures sane { OnOk result (ForSome (S.snapshot store.old).files (λ files. (f at : ℕ) →
+        IsDamagedAt base settings.now files f at → ⊥)) }
+    ensures full { (n : ℕ) → IsErrOf result (Fault.Full n) → ⊥ }
+    ensures adopts { AdoptsTo base settings.now.buckets (S.snapshot store.old) (S.snapshot store.new) }
+    ensures taken { TakesAmong (IsJournalOf base settings.now.buckets) (S.taken store.old) (S.taken store.new) }
+    ensures cause { HasCause (IsErrOf result Fault.Failed) (S.faults store.old) (S.faults store.new) }
+{
+    let mut history = History::blank(alloc, settings.buckets)?;
+    let f = BayFile::Manifest.number(base);
+    let manifest = match Journal::visit(alloc, store, f, &mut history) {
+        Ok(manifest) => manifest,
+        Err(fault) => return Err(fault_in(f, fault)),
+    };
+    let cuts = history.count.min(manifest.end()); // No more than the manifest has bytes.
+    open_fronts(store, base, &history.last)?;
+    let buckets = open_buckets(alloc, store, base, settings, &history.last.cut)?;
+    let lengths = lengths(alloc, &buckets)?;
+    if !is_below(&history.last.cut, &lengths) {
+        return Err(first_above(alloc, store, &manifest, f, settings.buckets, lengths));
+    }
+    Ok(Bay {
+        alloc,
+        base,
+        settings: *settings,
+        is_sound: true,
+        manifest,
+        last: history.last,
+        cuts,
+        buckets,
+    })
+}
+
+// Syncs what a commit names of the cache, of the judged file and of the texts, and holds their lengths against it.
+fn open_fronts<S: Store>(store: &mut S, base: u16, last: &Commit) -> Result<(), Fault>
+    requires base { base ≤ max_base }
+    requires side { last.now.side ≤ 1 }
+    ensures entries { OnOk result (16 * last.now.entries < 2 ^ 64) }
+    ensures judged { OnOk result (48 * last.now.judged < 2 ^ 64) }
+    ensures has { OnOk result (ForSome (S.snapshot store.old).files (λ files. HasFronts base last.now files)) }
+    ensures committed { OnOk result (ForSome (S.snapshot store.old).files (λ files.
+        AreFronts (S.snapshot store.new).images base last.now files)) }
+    ensures damaged { (f at : ℕ) → IsErrOf result (Fault.Damaged f at) →
+        ForSome (S.snapshot store.old).files (λ files. IsDamagedFront base last.now files f at) }
+    ensures full { (n : ℕ) → IsErrOf result (Fault.Full n) → ⊥ }
+    ensures same { (S.snapshot store.new).files ≡ (S.snapshot store.old).files }
+    ensures stops { LeavesSame (S.snapshot store.old) (S.snapshot store.new) }
+    ensures taken { S.taken store.new ≡ S.taken store.old }
+    ensures cause { HasCause (IsErrOf result Fault.Failed) (S.faults store.old) (S.faults store.new) }
+{
+    let cache = BayFile::Cache(last.side).number(base);
+    open_blob(store, cache, 16 * u128::from(last.entries))?;
+    let judged = BayFile::Judged.number(base);
+    open_blob(store, judged, 48 * u128::from(last.judged))?;
+    let texts = BayFile::Texts.number(base);
+    open_blob(store, texts, u128::from(last.texts))?;
+    Ok(())
+}
+
+// Opens the buckets, of each of which the offers below a number are judged.
+fn open_buckets<S: Store>(
+    alloc: Global,
+    store: &mut S,
+    base: u16,
+    settings: &Settings,
+    cut: &[u64],
+) -> Result<Vec<Bucket>, Fault>
+    requires base { base ≤ max_base }
+    requires settings { AreValid settings.now }
+    requires count { length cut.now ≡ settings.now.buckets }
+    ensures count { IfOk result (λ buckets. length buckets.items ≡ settings.now.buckets) }
+    ensures opened { IfOk result (λ buckets. (b : ℕ) → b < settings.now.buckets →
+        IsOpenBucket base b (slice_index_or buckets.items b no_bucket)) }
+    ensures found { IfOk result (λ buckets. ForSome (S.snapshot store.old).files (λ files. (b : ℕ) →
+        b < settings.now.buckets → HasWhole base settings.now b files (slice_index_or buckets.items b no_bucket))) }
+    ensures long { IfOk result (λ buckets. ForSome (S.snapshot store.new).files (λ files. (b : ℕ) →
+        b < settings.now.buckets → IsLongBucket (slice_index_or buckets.items b no_bucket) files)) }
+    ensures holds { IfOk result (λ buckets. ForSome (S.snapshot store.old).files (λ files. (b : ℕ) (list : List Tuple) →
+        b < settings.now.buckets → HasListOf base settings.now b (slice_index cut.now b) list files →
+        HoldsBucket (S.snapshot store.new).images settings.now.array (slice_index cut.now b)
+        (slice_index_or buckets.items b no_bucket) list)) }
+    ensures damaged { (f at : ℕ) → IsErrOf result (Fault.Damaged f at) → ForSome (S.snapshot store.old).files (λ files.
+        (b : ℕ) × (b < settings.now.buckets) × ((c : ℕ) → c < b → IsWholeBucket base settings.now files c)
+        × IsDamagedBucket base settings.now b files f at) }
+    ensures full { (n : ℕ) → IsErrOf result (Fault.Full n) → ⊥ }
+    ensures files { TellsBy (OpensBelow base settings.now.buckets)
+        (S.snapshot store.old).files (S.snapshot store.new).files }
+    ensures stops { LeavesBy (OpensBelow base settings.now.buckets) (S.snapshot store.old) (S.snapshot store.new) }
+    ensures taken { TakesAmong (IsJournalBelow base settings.now.buckets) (S.taken store.old) (S.taken store.new) }
+    ensures cause { HasCause (IsErrOf result Fault.Failed) (S.faults store.old) (S.faults store.new) }
+{
+    let mut buckets = Vec::with_capacity(alloc, settings.buckets as usize)?;
+    for b in 0..settings.buckets {
+        let bucket = Bucket::adopt(alloc, store, base, settings, b, cut[b as usize])?;
+        buckets.push_reserved(bucket);
+    }
+    Ok(buckets)
+}
+
+// How many offers each bucket has.
+fn lengths(alloc: Global, buckets: &[Bucket]) -> Result<Vec<u64>, AllocError>
+    ensures { IfOk result (λ lengths. lengths.items ≡ map (λ bucket. bucket.durable) buckets.now) }
+{
+    buckets.iter().map(|bucket| bucket.durable).collect(alloc)
+}
+
+// The damage of a manifest with a commit whose cut is above these lengths: at the first of them.
+fn first_above<S: Store>(
+    alloc: Global,
+    store: &mut S,
+    manifest: &Journal,
+    f: u16,
+    buckets: u32,
+    lengths: Vec<u64>,
+) -> Fault
+    requires count { length lengths.items ≡ buckets }
+    // There is such a commit.
+    requires above { ForSome (S.snapshot store.old).files (λ files. (commits : List CommitValue)
+        × Ends manifest.now.end (files manifest.now.file) (map commit_bytes commits)
+        × RiseFrom buckets (first_commit buckets) commits
+        × (IsBelow (last_commit (first_commit buckets) commits).cut lengths.items → ⊥)) }
+    ensures damaged { (g at : ℕ) → result ≡ Fault.Damaged g at → (g ≡ f)
+        × ForSome (S.snapshot store.old).files (λ files. (commits : List CommitValue) →
+        Ends manifest.now.end (files manifest.now.file) (map commit_bytes commits) →
+        RiseFrom buckets (first_commit buckets) commits → IsFirstAbove lengths.items commits at) }
+    ensures full { (n : ℕ) → result ≡ Fault.Full n → ⊥ }
+    ensures same { (S.snapshot store.new).files ≡ (S.snapshot store.old).files }
+    ensures stops { LeavesSame (S.snapshot store.old) (S.snapshot store.new) }
+    ensures taken { TakesOnly manifest.now.file (S.taken store.old) (S.taken store.new) }
+    ensures cause { HasCause (result ≡ Fault.Failed) (S.faults store.old) (S.faults store.new) }
+{
+    let mut reaching = Reaching {
+        alloc,
+        buckets,
+        lengths,
+    };
+    match manifest.revisit(alloc, store, 0, &mut reaching) {
+        Ok(()) => Fault::Damaged(f, 0),
+        Err(fault) => fault_in(f, fault),
+    }
+}
+
+#[cfg(test)]
+mod tests;

@@ -1,0 +1,103 @@
+ghost use Rattle.std.specs.Prelude.{◌≡◌, ◌+◌, ◌-◌, ◌^◌, ◌≤◌, ℕ, List, min, true, IfOk, IsTrue, ◌↔◌, length};
+ghost use Rattle.irl_model.specs.Book.{IsBelow};
+ghost use Rattle.irl_bay.specs.Commits.{Commit as CommitValue, IsCommit, commit_bytes, first_commit};
+ghost use Rattle.irl_bay.specs.Damage.{IsAtOrAbove};
+
+use crate::layout::Commit;
+use irl_journal::Visit;
+use std::alloc::{AllocError, Global};
+
+/// Takes a manifest's commits, and keeps the last and their count.
+#[derive(Drop)]
+pub struct History {
+    alloc: Global,
+    buckets: u32,
+    pub last: Commit,
+    pub count: u64,
+}
+
+impl History {
+    /// What is kept before the first commit.
+    pub fn blank(alloc: Global, buckets: u32) -> Result<History, AllocError>
+        ensures last { IfOk result (λ history. history.last ≡ first_commit buckets) }
+        ensures count { IfOk result (λ history. history.count ≡ 0) }
+        ensures buckets { IfOk result (λ history. history.buckets ≡ buckets) }
+    {
+        Ok(History {
+            alloc,
+            buckets,
+            last: Commit::first(alloc, buckets)?,
+            count: 0,
+        })
+    }
+}
+
+impl Visit for History {
+    ghost takes = { λ old _ payload new. IsCommit old.buckets new.last × (payload ≡ commit_bytes new.last)
+        × IsAtOrAbove old.last new.last × (new.count ≡ min (old.count + 1) (2 ^ 64 - 1))
+        × (new.buckets ≡ old.buckets) };
+
+    ghost refuses = { λ old _ payload _. (commit : CommitValue) → IsCommit old.buckets commit →
+        payload ≡ commit_bytes commit → IsAtOrAbove old.last commit → ⊥ };
+
+    fn take(&mut self, _at: u64, payload: &[u8]) -> Result<bool, AllocError> {
+        let Some(commit) = Commit::decode(self.alloc, payload, self.buckets)? else {
+            return Ok(false);
+        };
+        if !is_at_or_above(&self.last, &commit) {
+            return Ok(false);
+        }
+        self.last = commit;
+        self.count = self.count.saturating_add(1);
+        Ok(true)
+    }
+}
+
+// Whether no number of a commit is below that of the one before it.
+fn is_at_or_above(old: &Commit, new: &Commit) -> bool
+    ensures { IsTrue result ↔ IsAtOrAbove old.now new.now }
+{
+    old.entries <= new.entries
+        && old.judged <= new.judged
+        && old.unique <= new.unique
+        && old.texts <= new.texts
+        && is_below(&old.cut, &new.cut)
+}
+
+/// Whether there are as many numbers in the one list as in the other, and none is above the other's.
+pub fn is_below(xs: &[u64], ys: &[u64]) -> bool
+    ensures { IsTrue result ↔ IsBelow xs.now ys.now }
+{
+    if xs.len() != ys.len() {
+        return false;
+    }
+    for (i, x) in xs.iter().enumerate() {
+        if *x > ys[i] {
+            return false;
+        }
+    }
+    true
+}
+
+/// Takes the commits whose cut is below these lengths of the buckets' lists.
+#[derive(Drop)]
+pub struct Reaching {
+    pub alloc: Global,
+    pub buckets: u32,
+    pub lengths: Vec<u64>,
+}
+
+impl Visit for Reaching {
+    ghost takes = { λ old _ payload new. (commit : CommitValue) × IsCommit old.buckets commit
+        × (payload ≡ commit_bytes commit) × IsBelow commit.cut old.lengths.items × (new ≡ old) };
+
+    ghost refuses = { λ old _ payload _. (commit : CommitValue) → IsCommit old.buckets commit →
+        payload ≡ commit_bytes commit → IsBelow commit.cut old.lengths.items → ⊥ };
+
+    fn take(&mut self, _at: u64, payload: &[u8]) -> Result<bool, AllocError> {
+        let Some(commit) = Commit::decode(self.alloc, payload, self.buckets)? else {
+            return Ok(false);
+        };
+        Ok(is_below(&commit.cut, &self.lengths))
+    }
+}

@@ -1,0 +1,243 @@
+ghost use Rattle.std.specs.Prelude.{◌≡◌, ◌+◌, ◌-◌, ◌*◌, ◌≤◌, ◌<◌, ◌^◌, ℕ, None, Some, min, take, drop, length, true};
+ghost use Rattle.std.specs.Prelude.{IfOk, IfSome, IsErrOf, slice_get};
+ghost use Rattle.std.specs.List.{flat_map, AllByRecursion};
+ghost use Rattle.std.specs.Option.{ForSome};
+ghost use Rattle.irl_offer.specs.Faults.{HasCause};
+ghost use Rattle.irl_offer.specs.Limits.{max_text};
+ghost use Rattle.irl_model.specs.Book.{Book, gone, judged as judged_of};
+ghost use Rattle.irl_disk.specs.Images.{LeavesSame};
+ghost use Rattle.irl_disk.specs.Taken.{TakesAmong, TakesOnly};
+ghost use Rattle.irl_bay.specs.declared.layout.judged_entry.JudgedEntry.{JudgedEntry};
+ghost use Rattle.irl_bay.specs.Drum.{judged_front, texts_front};
+ghost use Rattle.irl_bay.specs.Holding.{Holds, IsLong};
+ghost use Rattle.irl_bay.specs.JudgedEntries.{entry_spelling};
+ghost use Rattle.irl_bay.specs.JudgedEntries.{with_text as judged_with_text, with_texts as judged_with_texts};
+ghost use Rattle.irl_bay.specs.JudgedEntries.{first_place as place_of_first, texts_length as length_of_texts};
+ghost use Rattle.irl_bay.specs.JudgedSpoilt.{FitsBehind, FitEach, NoneFits, IsJudgedSpoiltAt, IsJudgedFile};
+
+use crate::bay::Bay;
+use crate::layout::{BayFile, JudgedEntry};
+use crate::reading::read_part;
+use irl_disk::Store;
+use irl_offer::{Fault, Judged, Offer, Text, bucket_of};
+use std::alloc::{AllocError, Global};
+
+impl Bay {
+    /// So many judged offers, or as many as there are, from the one with this place in the judged order on. It reads
+    /// their entries in one piece and their texts in another. A refusal ends nothing.
+    pub fn judged_from<S: Store>(
+        &self,
+        store: &mut S,
+        i: u64,
+        most: u32,
+    ) -> Result<Vec<Judged>, Fault>
+        requires sound { self.now.is_sound ≡ true }
+        requires place { i < self.now.last.judged }
+        requires long { ForSome (S.snapshot store.old).files (λ files. IsLong self.now files) }
+        ensures count { IfOk result (λ found. length found.items ≡ min most (self.now.last.judged - i)) }
+        // They are those of the book.
+        ensures value { IfOk result (λ found. ForSome (S.snapshot store.old).files (λ _. (book : Book) →
+            Holds (S.snapshot store.old).images self.now book →
+            found.items ≡ take most (drop (i - gone book) (judged_of book)))) }
+        // Damage is named only where it is, and never over files that stand for a book.
+        ensures damaged { (f at : ℕ) → IsErrOf result (Fault.Damaged f at) →
+            ForSome (S.snapshot store.old).files (λ files. IsJudgedSpoiltAt self.now files f at) }
+        ensures whole { (f at : ℕ) → IsErrOf result (Fault.Damaged f at) →
+            ForSome (S.snapshot store.old).files (λ _. (book : Book) →
+            Holds (S.snapshot store.old).images self.now book → ⊥) }
+        ensures full { (n : ℕ) → IsErrOf result (Fault.Full n) → ⊥ }
+        ensures same { (S.snapshot store.new).files ≡ (S.snapshot store.old).files }
+        ensures stops { LeavesSame (S.snapshot store.old) (S.snapshot store.new) }
+        ensures taken { TakesAmong (IsJudgedFile self.now) (S.taken store.old) (S.taken store.new) }
+        ensures cause { HasCause (IsErrOf result Fault.Failed) (S.faults store.old) (S.faults store.new) }
+    {
+        let alloc = self.alloc;
+        let count = u64::from(most).min(self.judged_len() - i);
+        let entries = self.entries_from(store, i, count)?;
+        let texts = self.texts_of(store, &entries)?;
+        Ok(with_texts(alloc, &entries, &texts)?)
+    }
+
+    /// A judged offer, by its place in the judged order.
+    pub fn judged<S: Store>(&self, store: &mut S, i: u64) -> Result<Judged, Fault>
+        requires sound { self.now.is_sound ≡ true }
+        requires place { i < self.now.last.judged }
+        requires long { ForSome (S.snapshot store.old).files (λ files. IsLong self.now files) }
+        // It is that of the book.
+        ensures value { IfOk result (λ found. ForSome (S.snapshot store.old).files (λ _. (book : Book) →
+            Holds (S.snapshot store.old).images self.now book →
+            slice_get (judged_of book) (i - gone book) ≡ Some found)) }
+        // Damage is named only where it is, and never over files that stand for a book.
+        ensures damaged { (f at : ℕ) → IsErrOf result (Fault.Damaged f at) →
+            ForSome (S.snapshot store.old).files (λ files. IsJudgedSpoiltAt self.now files f at) }
+        ensures whole { (f at : ℕ) → IsErrOf result (Fault.Damaged f at) →
+            ForSome (S.snapshot store.old).files (λ _. (book : Book) →
+            Holds (S.snapshot store.old).images self.now book → ⊥) }
+        ensures full { (n : ℕ) → IsErrOf result (Fault.Full n) → ⊥ }
+        ensures same { (S.snapshot store.new).files ≡ (S.snapshot store.old).files }
+        ensures stops { LeavesSame (S.snapshot store.old) (S.snapshot store.new) }
+        ensures taken { TakesAmong (IsJudgedFile self.now) (S.taken store.old) (S.taken store.new) }
+        ensures cause { HasCause (IsErrOf result Fault.Failed) (S.faults store.old) (S.faults store.new) }
+    {
+        let mut found = self.judged_from(store, i, 1)?;
+        Ok(found.swap_remove(0))
+    }
+
+    // The entries of so many judged offers, from the one with this place on.
+    fn entries_from<S: Store>(
+        &self,
+        store: &mut S,
+        i: u64,
+        count: u64,
+    ) -> Result<Vec<JudgedEntry>, Fault>
+        requires within { i + count ≤ self.now.last.judged }
+        requires few { count < 2 ^ 32 }
+        requires long { ForSome (S.snapshot store.old).files (λ files. IsLong self.now files) }
+        ensures count { IfOk result (λ entries. length entries.items ≡ count) }
+        ensures fit { IfOk result (λ entries. FitEach self.now None entries.items) }
+        ensures bytes { IfOk result (λ entries. ForSome (S.snapshot store.old).files (λ files.
+            flat_map entry_spelling entries.items
+            ≡ take (48 * count) (drop (48 * i) (files (judged_front self.now).file)))) }
+        ensures damaged { (f at : ℕ) → IsErrOf result (Fault.Damaged f at) →
+            ForSome (S.snapshot store.old).files (λ files. IsJudgedSpoiltAt self.now files f at) }
+        ensures full { (n : ℕ) → IsErrOf result (Fault.Full n) → ⊥ }
+        ensures same { (S.snapshot store.new).files ≡ (S.snapshot store.old).files }
+        ensures stops { LeavesSame (S.snapshot store.old) (S.snapshot store.new) }
+        ensures taken { TakesOnly (judged_front self.now).file (S.taken store.old) (S.taken store.new) }
+        ensures cause { HasCause (IsErrOf result Fault.Failed) (S.faults store.old) (S.faults store.new) }
+    {
+        let file = BayFile::Judged.number(self.base);
+        let bytes = read_part(self.alloc, store, file, 48 * i, 48 * count)?;
+        self.decode_entries(&bytes, i)
+    }
+
+    // The entries that these bytes of the judged file are, the first of which is that of the judged offer with this
+    // place.
+    fn decode_entries(&self, bytes: &[u8], i: u64) -> Result<Vec<JudgedEntry>, Fault>
+        requires whole { (count : ℕ) × (length bytes.now ≡ 48 * count) × (i + count ≤ self.now.last.judged) }
+        ensures fit { IfOk result (λ entries. FitEach self.now None entries.items) }
+        ensures bytes { IfOk result (λ entries. flat_map entry_spelling entries.items ≡ bytes.now) }
+        ensures damaged { (f at : ℕ) → IsErrOf result (Fault.Damaged f at) → (f ≡ (judged_front self.now).file)
+            × ((j : ℕ) × (48 * (j + 1) ≤ length bytes.now) × (at ≡ 48 * (i + j)) × NoneFits self.now bytes.now j) }
+        ensures full { (n : ℕ) → IsErrOf result (Fault.Full n) → ⊥ }
+        ensures failed { IsErrOf result Fault.Failed → ⊥ }
+    {
+        let mut entries = Vec::with_capacity(self.alloc, bytes.len() / 48)?;
+        let mut before = None;
+        let mut rest = bytes;
+        while let Some((one, behind)) = rest.split_first_chunk::<48>() {
+            match self.decode_behind(before, one) {
+                Some(entry) => {
+                    entries.push_reserved(entry);
+                    before = Some(entry);
+                }
+                None => {
+                    let at = 48 * (i + entries.len() as u64);
+                    return Err(Fault::Damaged(BayFile::Judged.number(self.base), at));
+                }
+            }
+            rest = behind;
+        }
+        Ok(entries)
+    }
+
+    // The entry that these bytes are, if it may stand behind another, where there is one before it.
+    fn decode_behind(&self, before: Option<JudgedEntry>, bytes: &[u8; 48]) -> Option<JudgedEntry>
+        requires { IfSome before (λ one. one.place + one.aux_len < 2 ^ 64) }
+        ensures found { IfSome result (λ entry. entry_spelling entry ≡ bytes.now) }
+        ensures fits { IfSome result (FitsBehind self.now before) }
+        ensures none { result ≡ None → (entry : JudgedEntry) →
+            FitsBehind self.now before entry → entry_spelling entry ≡ bytes.now → ⊥ }
+    {
+        let entry = JudgedEntry::decode(bytes)?;
+        let place = match before {
+            Some(one) => one.place + u64::from(one.aux_len),
+            None => entry.place,
+        };
+        let is_of_bucket = u32::from(entry.bucket) == bucket_of(entry.key, self.settings.buckets);
+        let is_committed = entry.place <= self.last.texts
+            && u64::from(entry.aux_len) <= self.last.texts - entry.place;
+        if is_of_bucket && is_committed && entry.place == place {
+            Some(entry)
+        } else {
+            None
+        }
+    }
+
+    // The texts of entries, in one piece.
+    fn texts_of<S: Store>(&self, store: &mut S, entries: &[JudgedEntry]) -> Result<Vec<u8>, Fault>
+        requires fit { FitEach self.now None entries.now }
+        requires long { ForSome (S.snapshot store.old).files (λ files. IsLong self.now files) }
+        ensures length { IfOk result (λ texts. length texts.items ≡ length_of_texts entries.now) }
+        ensures bytes { IfOk result (λ texts. ForSome (S.snapshot store.old).files (λ files. texts.items
+            ≡ take (length_of_texts entries.now)
+            (drop (place_of_first entries.now) (files (texts_front self.now).file)))) }
+        ensures damaged { (f at : ℕ) → IsErrOf result (Fault.Damaged f at) →
+            ForSome (S.snapshot store.old).files (λ _. ⊥) }
+        ensures full { (n : ℕ) → IsErrOf result (Fault.Full n) → ⊥ }
+        ensures same { (S.snapshot store.new).files ≡ (S.snapshot store.old).files }
+        ensures stops { LeavesSame (S.snapshot store.old) (S.snapshot store.new) }
+        ensures taken { TakesOnly (texts_front self.now).file (S.taken store.old) (S.taken store.new) }
+        ensures cause { HasCause (IsErrOf result Fault.Failed) (S.faults store.old) (S.faults store.new) }
+    {
+        let from = first_place(entries);
+        let file = BayFile::Texts.number(self.base);
+        read_part(self.alloc, store, file, from, texts_length(entries))
+    }
+}
+
+// Where the text of the first entry stands.
+fn first_place(entries: &[JudgedEntry]) -> u64
+    ensures { result ≡ place_of_first entries.now }
+{
+    match entries {
+        [first, ..] => first.place,
+        [] => 0,
+    }
+}
+
+// How many bytes the texts of entries have.
+fn texts_length(entries: &[JudgedEntry]) -> u64
+    requires { length_of_texts entries.now < 2 ^ 64 }
+    ensures { result ≡ length_of_texts entries.now }
+{
+    entries.iter().map(|entry| u64::from(entry.aux_len)).sum()
+}
+
+// The judged offers of entries whose texts stand one behind the other.
+fn with_texts(
+    alloc: Global,
+    entries: &[JudgedEntry],
+    texts: &[u8],
+) -> Result<Vec<Judged>, AllocError>
+    requires length { length texts.now ≡ length_of_texts entries.now }
+    requires each { AllByRecursion (λ entry. entry.aux_len ≤ max_text) entries.now }
+    ensures { IfOk result (λ found. found.items ≡ judged_with_texts entries.now texts.now) }
+{
+    let mut found = Vec::with_capacity(alloc, entries.len())?;
+    let mut rest = texts;
+    for entry in entries {
+        let (text, behind) = rest.split_at(entry.aux_len as usize);
+        found.push_reserved(with_text(alloc, entry, text)?);
+        rest = behind;
+    }
+    Ok(found)
+}
+
+// The judged offer of an entry with this text.
+fn with_text(alloc: Global, entry: &JudgedEntry, text: &[u8]) -> Result<Judged, AllocError>
+    requires { length text.now ≤ max_text }
+    ensures { IfOk result (λ one. one ≡ judged_with_text entry.now text.now) }
+{
+    Ok(Judged {
+        bucket: u32::from(entry.bucket),
+        offer: Offer {
+            op: entry.op,
+            key: entry.key,
+            value: entry.value,
+            from: entry.from,
+            aux: Text::from_bytes(alloc, text)?,
+        },
+        verdict: entry.verdict,
+    })
+}

@@ -1,0 +1,19 @@
+//! The files of a bay: their numbers, and what stands in them.
+
+mod cache;
+mod commit;
+mod decode;
+mod entries;
+mod files;
+mod judged;
+mod judged_entry;
+mod number;
+mod run;
+
+pub use cache::{PAIR_LEN, first_fall, read_keys, write_keys};
+pub use commit::{Commit, commit_len};
+pub use entries::read_run;
+pub use files::BayFile;
+pub use judged::push_judged;
+pub use judged_entry::JudgedEntry;
+pub use run::Run;

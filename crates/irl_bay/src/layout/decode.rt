@@ -1,0 +1,40 @@
+ghost use Rattle.std.specs.Prelude.{◌≡◌, ◌≤◌, ◌+◌, ◌*◌, length, IfOk, IfSome, IsNone};
+ghost use Rattle.irl_bay.specs.Commits.{Commit as CommitValue, IsCommit, commit_bytes, numbers_in};
+
+use crate::layout::Commit;
+use byteorder::{ByteOrder, LittleEndian};
+use std::alloc::{AllocError, Global};
+
+impl Commit {
+    /// The commit of a bay of so many buckets whose record has these bytes, or none where no commit has them.
+    pub fn decode(alloc: Global, bytes: &[u8], buckets: u32) -> Result<Option<Commit>, AllocError>
+        ensures found { IfOk result (λ found. IfSome found (λ commit. IsCommit buckets commit
+            × (bytes.now ≡ commit_bytes commit))) }
+        ensures none { IfOk result (λ found. IsNone found → (commit : CommitValue) → IsCommit buckets commit →
+            bytes.now ≡ commit_bytes commit → ⊥) }
+    {
+        if bytes.len() != 33 + 8 * buckets as usize || bytes[0] > 1 {
+            return Ok(None);
+        }
+        Ok(Some(Commit {
+            side: bytes[0],
+            entries: LittleEndian::read_u64(&bytes[1..]),
+            judged: LittleEndian::read_u64(&bytes[9..]),
+            unique: LittleEndian::read_u64(&bytes[17..]),
+            texts: LittleEndian::read_u64(&bytes[25..]),
+            cut: numbers(alloc, &bytes[33..], buckets)?,
+        }))
+    }
+}
+
+// So many numbers, which stand one behind the other.
+fn numbers(alloc: Global, bytes: &[u8], count: u32) -> Result<Vec<u64>, AllocError>
+    requires { 8 * count ≤ length bytes.now }
+    ensures { IfOk result (λ numbers. numbers.items ≡ numbers_in count bytes.now) }
+{
+    let mut numbers = Vec::new(alloc);
+    for i in 0..count as usize {
+        numbers.push(LittleEndian::read_u64(&bytes[8 * i..]))?;
+    }
+    Ok(numbers)
+}

@@ -1,0 +1,210 @@
+ghost use Rattle.std.specs.Prelude.{◌≡◌, ⊤, true, IsTrue, IfOk, OnOk};
+ghost use Rattle.irl_model.specs.Book.{Book};
+ghost use Rattle.irl_disk.specs.Memory.{snapshot_of};
+ghost use Rattle.irl_bay.specs.Drum.{SomePending};
+ghost use Rattle.irl_bay.specs.Holding.{Holds};
+
+use super::*;
+use crate::tests::{Waiting, flush, made, put, settings_of};
+use irl_disk::{MemStore, Part};
+use irl_journal::{Journal, Visit};
+use std::alloc::{AllocError, Global};
+use std::test::Fail;
+
+// Whether offers wait to be judged.
+fn can_merge(bay: &Bay) -> bool
+    ensures sound { IsTrue result → bay.now.is_sound ≡ true }
+    ensures some { IsTrue result → SomePending bay.now }
+{
+    bay.is_sound && bay.settings.buckets == 1 && bay.pending(0) > 0
+}
+
+// Judges the offers that were flushed.
+fn merge(kept: &mut Waiting) -> Result<u64, Fault>
+    requires { (book : Book) × Holds (snapshot_of kept.old.store).images kept.old.bay book }
+    ensures { OnOk result ((book : Book) × Holds (snapshot_of kept.new.store).images kept.new.bay book) }
+{
+    if !can_merge(&kept.bay) {
+        return Err(Fault::Memory);
+    }
+    kept.bay.merge(&mut kept.store)
+}
+
+// A bay of one bucket with two offers of key 1, which were flushed in calls 4 to 9.
+fn flushed(alloc: Global, failing: Vec<u64>) -> Result<Waiting, Fault>
+    ensures { IfOk result (λ kept. (book : Book) × Holds (snapshot_of kept.store).images kept.bay book) }
+{
+    let mut kept = made(alloc, failing, &settings_of(1, 2, 1_000))?;
+    put(alloc, &mut kept, 1, b"p")?;
+    put(alloc, &mut kept, 1, b"q")?;
+    flush(&mut kept, 0)?;
+    Ok(kept)
+}
+
+// How many calls there are once the offers are judged, the last ten of which write.
+fn calls(alloc: Global) -> Result<u64, Fault> {
+    let mut kept = flushed(alloc, Vec::new(alloc))?;
+    merge(&mut kept)?;
+    Ok(kept.store.calls())
+}
+
+// Counts records.
+#[derive(Drop)]
+struct Counting {
+    records: u64,
+}
+
+impl Visit for Counting {
+    ghost takes = { λ _ _ _ _. ⊤ };
+
+    ghost refuses = { λ _ _ _ _. ⊤ };
+
+    fn take(&mut self, _: u64, _: &[u8]) -> Result<bool, AllocError> {
+        self.records = self.records.saturating_add(1);
+        Ok(true)
+    }
+}
+
+// The key with its value.
+const PAIR: &[u8; 16] = b"\x01\0\0\0\0\0\0\0\x07\0\0\0\0\0\0\0";
+
+// The first judged offer, which is Unique.
+const FIRST: &[u8; 48] = b"\0\x02\x01\0\x01\0\0\0\x01\0\0\0\0\0\0\0\x07\0\0\0\0\0\0\0\
+    \0\0\0\0\0\0\0\0\0\0\0\0\0\0\0\0\0\0\0\0\0\0\0\0";
+
+// The second, of whose key the value is known.
+const SECOND: &[u8; 48] = b"\0\x02\x03\0\x01\0\0\0\x01\0\0\0\0\0\0\0\x07\0\0\0\0\0\0\0\
+    \0\0\0\0\0\0\0\0\x07\0\0\0\0\0\0\0\x01\0\0\0\0\0\0\0";
+
+// Whether the batch stands in the store's files: the second side of the cache, the judged file and the texts.
+fn has_batch(store: &mut MemStore) -> Result<bool, Failed> {
+    let mut pair = [0; 16];
+    store.read(1_002, 0, &mut pair)?;
+    let mut first = [0; 48];
+    store.read(1_003, 0, &mut first)?;
+    let mut second = [0; 48];
+    Blob::at(1_003, 0).read(store, 48, &mut second)?;
+    let mut texts = [0; 2];
+    store.read(1_004, 0, &mut texts)?;
+    Ok(pair == *PAIR && first == *FIRST && second == *SECOND && texts == *b"pq")
+}
+
+// How many records a stop in this call leaves in the manifest, and whether it leaves the batch.
+fn left(alloc: Global, store: &MemStore, call: u64, part: Part) -> Result<(u64, bool), Fail> {
+    let mut counting = Counting { records: 0 };
+    if call >= store.calls() {
+        return Ok((0, false));
+    }
+    let mut image = store.image(alloc, call, part)?;
+    Journal::visit(alloc, &mut image, 1_000, &mut counting)?;
+    Ok((counting.records, has_batch(&mut image)?))
+}
+
+#[test]
+fn a_stop_leaves_the_cut_or_none(rt: HostRuntime) -> Result<(), Fail> {
+    let alloc = rt.alloc();
+    let first = calls(alloc)?.saturating_sub(10);
+    // The call of the stop among the ten that write, whether it failed, and how many cuts are left as old, as new and
+    // torn.
+    let table = [
+        (0, false, [0, 0, 0]),
+        (0, true, [0, 0, 0]),
+        (1, false, [0, 0, 0]),
+        (1, true, [0, 0, 0]),
+        (2, false, [0, 0, 0]),
+        (2, true, [0, 0, 0]),
+        (3, false, [0, 0, 0]),
+        (3, true, [0, 0, 0]),
+        (4, false, [0, 0, 0]),
+        (4, true, [0, 0, 0]),
+        (5, false, [0, 0, 0]),
+        (5, true, [0, 0, 0]),
+        (6, false, [0, 0, 0]),
+        (6, true, [0, 0, 0]),
+        (7, false, [0, 0, 0]),
+        (7, true, [0, 0, 0]),
+        (8, false, [0, 1, 1]),
+        (8, true, [0, 0, 0]),
+        (9, true, [0, 1, 1]),
+        // The merge answered Ok.
+        (9, false, [1, 1, 1]),
+    ];
+    for (call, is_failing, [old, new, torn]) in table {
+        let call = first.saturating_add(call);
+        let failing = if is_failing {
+            vec![in alloc; call]?
+        } else {
+            Vec::new(alloc)
+        };
+        let mut kept = flushed(alloc, failing)?;
+        assert_eq!(rt; merge(&mut kept).is_err(), is_failing, "at {call}");
+        for (part, cuts) in [(Part::Old, old), (Part::New, new), (Part::Torn, torn)] {
+            let (found, has_batch) = left(alloc, &kept.store, call, part)?;
+            assert_eq!(rt; found, cuts, "{part:?} at {call}, {is_failing}");
+            assert!(rt; found == 0 || has_batch, "{part:?} at {call}, {is_failing}");
+        }
+    }
+    Ok(())
+}
+
+#[test]
+fn a_call_that_fails_ends_the_bay(rt: HostRuntime) -> Result<(), Fail> {
+    let alloc = rt.alloc();
+    for call in 10..calls(alloc)? {
+        let mut kept = flushed(alloc, vec![in alloc; call]?)?;
+        assert_eq!(rt; merge(&mut kept), Err(Fault::Failed), "at {call}");
+        assert!(rt; !kept.bay.is_sound(), "at {call}");
+        assert_eq!(rt; kept.bay.cuts(), 0, "at {call}");
+        assert_eq!(rt; kept.bay.judged_len(), 0, "at {call}");
+    }
+    Ok(())
+}
+
+#[test]
+fn a_merge_is_counted(rt: HostRuntime) -> Result<(), Fail> {
+    let alloc = rt.alloc();
+    let mut kept = flushed(alloc, Vec::new(alloc))?;
+    assert_eq!(rt; merge(&mut kept), Ok(1));
+    let bay = &kept.bay;
+    assert_eq!(rt; (bay.cuts(), bay.judged_len(), bay.unique_len()), (1, 2, 1));
+    assert!(rt; bay.is_sound());
+    assert!(rt; has_batch(&mut kept.store)?);
+    Ok(())
+}
+
+#[test]
+fn a_commit_stands_in_a_record(rt: HostRuntime) -> Result<(), Fail> {
+    let alloc = rt.alloc();
+    let mut kept = flushed(alloc, Vec::new(alloc))?;
+    merge(&mut kept)?;
+    let mut bytes = [255; 48];
+    assert_eq!(rt; kept.store.read(1_000, 0, &mut bytes)?, 47);
+    // The gate and the length; the side; the keys, the judged and the unique offers, the texts' length and the cut; and
+    // the next gate.
+    let record = b"\xA5\x29\0\0\0\x01\x01\0\0\0\0\0\0\0\x02\0\0\0\0\0\0\0\x01\0\0\0\0\0\0\0\
+        \x02\0\0\0\0\0\0\0\x02\0\0\0\0\0\0\0\0\xFF";
+    assert_eq!(rt; bytes, *record);
+    Ok(())
+}
+
+#[test]
+fn the_sides_of_the_cache_take_turns(rt: HostRuntime) -> Result<(), Fail> {
+    let alloc = rt.alloc();
+    let mut kept = flushed(alloc, Vec::new(alloc))?;
+    merge(&mut kept)?;
+    put(alloc, &mut kept, 2, b"r")?;
+    flush(&mut kept, 0)?;
+    assert_eq!(rt; merge(&mut kept), Ok(2));
+    assert_eq!(rt; (kept.bay.judged_len(), kept.bay.unique_len()), (3, 2));
+    // The keys of the first side, and the files of what was judged.
+    let mut pair = [0; 16];
+    kept.store.read(1_001, 0, &mut pair)?;
+    assert_eq!(rt; pair, *PAIR);
+    Blob::at(1_001, 0).read(&mut kept.store, 16, &mut pair)?;
+    assert_eq!(rt; pair, *b"\x02\0\0\0\0\0\0\0\x07\0\0\0\0\0\0\0");
+    for (f, length) in [(1_001, 32), (1_002, 16), (1_003, 144), (1_004, 3)] {
+        assert_eq!(rt; kept.store.length(f)?, length, "file {f}");
+    }
+    assert!(rt; has_batch(&mut kept.store)?);
+    Ok(())
+}

@@ -1,0 +1,13 @@
+ghost use Rattle.std.specs.Prelude.{◌≡◌};
+ghost use Rattle.irl_offer.specs.declared.receipt.Fault.TheVariants.{Failed as FailedFault};
+
+use crate::Failed;
+use irl_offer::Fault;
+
+impl From<Failed> for Fault {
+    ghost from_gives = { λ _ e. e ≡ FailedFault };
+
+    fn from(_: Failed) -> Fault {
+        Fault::Failed
+    }
+}
