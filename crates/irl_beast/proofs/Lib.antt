@@ -1,4 +1,3 @@
-pub mod ListLemmas
 pub mod PlaceLemmas
 pub mod Rows
 pub mod TextCounts

@@ -1,12 +1,10 @@
--- Places and lists after one more item.
-use Rattle.std.proofs.Common.{◌≡◌, ◌∙◌, ℕ, ◌+◌, List, [], ◌∷◌, ◌++◌, length, cond, suc, refl, sym, ap, arith, append_assoc}
+-- Places after one more item.
+use Rattle.std.proofs.Common.{◌≡◌, ◌∙◌, ℕ, ◌+◌, List, [], ◌∷◌, ◌++◌, length, cond, suc, refl, sym, ap, append_assoc}
 use Rattle.std.specs.Prelude.{bytes_eq}
 use Rattle.std.proofs.lemmas.List.{append-nil}
 use Rattle.std.proofs.lemmas.List.Sums.{sum_by_push}
 use Rattle.irl_offer.specs.Purses.{Budget}
-use Rattle.irl_offer.specs.declared.place.Place.{Place}
 use Rattle.irl_beast.specs.declared.item.Item.{Item}
-use Rattle.irl_beast.specs.Lists.{put, delivered}
 use Rattle.irl_beast.specs.Places.{count_of, place_behind, places_behind, place}
 
 pub count_of-none : (pld : List ℕ) → count_of [] pld ≡ 0
@@ -40,16 +38,3 @@ module _ (p j : ℕ) (budget : Budget) where
 
   pub length-place : (items : List Item) → length (place p j budget items) ≡ length items
   length-place items = length-places [] items
-
-pub delivered-none : (lists : List (List Item)) (places : List Place) → delivered lists [] places ≡ lists
-unfolding delivered
-delivered-none lists places = refl
-
--- one more item in its place
-pub delivered-more : (lists : List (List Item)) (items : List Item) (places : List Place) (x : Item) (at : Place) → length places ≡ length items → delivered lists (items ++ x ∷ []) (places ++ at ∷ []) ≡ put (delivered lists items places) x at.slot
-unfolding delivered
-delivered-more lists [] [] x at e = refl
-delivered-more lists [] (place ∷ places) x at e = absurd (omega arith)
-delivered-more lists (item ∷ items) [] x at e = absurd (omega arith)
-delivered-more lists (item ∷ items) (place ∷ places) x at e =
-    delivered-more (put lists item place.slot) items places x at (omega arith)

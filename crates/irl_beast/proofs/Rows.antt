@@ -4,9 +4,10 @@ use Rattle.std.specs.Prelude.{map}
 use Rattle.irl_offer.specs.Purses.{Budget}
 use Rattle.irl_offer.specs.declared.place.Slot.TheVariants.{Front, Queue, Last}
 use Rattle.irl_beast.specs.declared.item.Item.{Item}
-use Rattle.irl_beast.specs.Lists.{Waiting, delivered}
+use Rattle.irl_model.specs.Queues.{Waiting, delivered}
 use Rattle.irl_beast.specs.Places.{count_of, place, places_behind}
-use Rattle.irl_beast.specs.Passes.{empty_of, queue_of, last_of, passed}
+use Rattle.irl_model.specs.Queues.{none_waiting, queue_of, last_of}
+use Rattle.irl_beast.specs.Passes.{passed}
 
 abbrev one : Budget
 one = λ _. 1
@@ -17,8 +18,8 @@ item number = record { number = number; pld = 97 ∷ [] }
 abbrev five : List Item
 five = item 0 ∷ item 1 ∷ item 2 ∷ item 3 ∷ item 4 ∷ []
 
-abbrev second : Waiting
-second = passed one (passed one (empty_of 2) five) []
+abbrev second : Waiting Item
+second = passed one (passed one (none_waiting 2) five) []
 
 slots_row : map (λ at. at.slot) (place 0 2 one five) ≡ Front ∷ Queue 2 ∷ Last ∷ Last ∷ Last ∷ []
 unfolding places_behind count_of

@@ -1,7 +1,9 @@
 ghost use Rattle.std.specs.Prelude.{◌≡◌, ◌<◌, ◌≤◌, ◌++◌, ◌+◌, [], IfOk, OnOk, OnErr, slice_index_or, slice_set, vec_len};
-ghost use Rattle.irl_beast.specs.Lists.{lists_of, list_at, delivered, Grown};
+ghost use Rattle.irl_model.specs.Plain.{items_of};
+ghost use Rattle.irl_model.specs.Queues.{list_at, delivered, Grown};
 ghost use Rattle.irl_beast.specs.Places.{place};
-ghost use Rattle.irl_beast.specs.Passes.{empty_of, queue_of, last_of, read_by, passed, round_ended};
+ghost use Rattle.irl_model.specs.Queues.{none_waiting, queue_of, last_of, round_ended};
+ghost use Rattle.irl_beast.specs.Passes.{read_by, passed};
 
 use crate::Item;
 use crate::lists::{LAST, cut_back, lengths, no_items, replaced, taken};
@@ -22,11 +24,13 @@ pub struct Beast {
 
 impl Model for Beast {
     ghost use Rattle.std.specs.Prelude.{◌≡◌, ◌≤◌, ◌<◌, vec_len};
-    ghost use Rattle.irl_beast.specs.Lists.{lists_of, Waiting};
+    ghost use Rattle.irl_model.specs.Plain.{items_of};
+    ghost use Rattle.irl_model.specs.Queues.{Waiting};
+    ghost use Rattle.irl_beast.specs.declared.item.Item.{Item};
 
-    ghost Value = { Waiting };
+    ghost Value = { Waiting Item };
 
-    ghost view = { λ b. record { lists = lists_of b.lists.items; queues = b.queues; passes = b.passes } };
+    ghost view = { λ b. record { lists = items_of b.lists.items; queues = b.queues; passes = b.passes } };
 
     ghost invariant = { λ b. (vec_len b.lists ≡ 65) × (b.queues ≤ 64) × (b.passes < b.queues) };
 }
@@ -36,7 +40,7 @@ impl Beast {
     pub fn new(alloc: Global, queues: u32) -> Result<Beast, AllocError>
         requires least { 1 ≤ queues }
         requires most { queues ≤ 64 }
-        ensures { IfOk result (λ beast. beast ≡ empty_of queues) }
+        ensures { IfOk result (λ beast. beast ≡ none_waiting queues) }
     {
         let lists = no_items(alloc)?;
         Ok(Beast {
@@ -140,11 +144,11 @@ fn read_next<B: Purse>(
     requires most { queues ≤ 64 }
     requires len { vec_len lists.old ≡ 65 }
     ensures places { IfOk result (λ places. places.items
-        ≡ place passes queues (B.budgets purse.now) (list_at (lists_of lists.old.items) passes ++ fresh.items)) }
-    ensures ok { OnOk result (lists_of lists.new.items ≡ delivered (slice_set (lists_of lists.old.items) passes [])
-        (list_at (lists_of lists.old.items) passes ++ fresh.items)
-        (place passes queues (B.budgets purse.now) (list_at (lists_of lists.old.items) passes ++ fresh.items))) }
-    ensures err { OnErr result (Grown (lists_of lists.old.items) (lists_of lists.new.items)) }
+        ≡ place passes queues (B.budgets purse.now) (list_at (items_of lists.old.items) passes ++ fresh.items)) }
+    ensures ok { OnOk result (items_of lists.new.items ≡ delivered (slice_set (items_of lists.old.items) passes [])
+        (list_at (items_of lists.old.items) passes ++ fresh.items)
+        (place passes queues (B.budgets purse.now) (list_at (items_of lists.old.items) passes ++ fresh.items))) }
+    ensures err { OnErr result (Grown (items_of lists.old.items) (items_of lists.new.items)) }
     ensures len { vec_len lists.new ≡ 65 }
 {
     let mut read = taken(alloc, lists, passes as usize);

@@ -1,6 +1,7 @@
 ghost use Rattle.std.specs.Prelude.{◌≡◌, ◌<◌, ◌≤◌, [], ◌∷◌, ◌++◌, ℕ, List, length, take, slice_set, IfOk, OnOk, OnErr, vec_len, Bool};
 ghost use Rattle.std.specs.Prelude.{map as list_map};
-ghost use Rattle.irl_beast.specs.Lists.{lists_of, list_at, put as with_item, with_one, Grown, FitsSlot, empty_lists};
+ghost use Rattle.irl_model.specs.Plain.{items_of};
+ghost use Rattle.irl_model.specs.Queues.{list_at, put as with_item, with_one, Grown, FitsSlot, empty_lists};
 
 use crate::Item;
 use irl_offer::Slot;
@@ -15,7 +16,7 @@ pub const LAST: usize = 64;
 
 /// As many lists as there may be, all empty.
 pub fn no_items(alloc: Global) -> Result<Vec<Vec<Item>>, AllocError>
-    ensures lists { IfOk result (λ lists. lists_of lists.items ≡ empty_lists) }
+    ensures lists { IfOk result (λ lists. items_of lists.items ≡ empty_lists) }
     ensures len { IfOk result (λ lists. vec_len lists ≡ 65) }
 {
     let mut lists = Vec::with_capacity(alloc, LISTS)?;
@@ -28,8 +29,8 @@ pub fn no_items(alloc: Global) -> Result<Vec<Vec<Item>>, AllocError>
 /// Takes a list out. It takes no memory.
 pub fn taken(alloc: Global, lists: &mut Vec<Vec<Item>>, at: usize) -> Vec<Item>
     requires { at < vec_len lists.old }
-    ensures taken { result.items ≡ list_at (lists_of lists.old.items) at }
-    ensures left { lists_of lists.new.items ≡ slice_set (lists_of lists.old.items) at [] }
+    ensures taken { result.items ≡ list_at (items_of lists.old.items) at }
+    ensures left { items_of lists.new.items ≡ slice_set (items_of lists.old.items) at [] }
     ensures len { vec_len lists.new ≡ vec_len lists.old }
 {
     mem::replace(&mut lists[at], Vec::new(alloc))
@@ -38,7 +39,7 @@ pub fn taken(alloc: Global, lists: &mut Vec<Vec<Item>>, at: usize) -> Vec<Item>
 /// Puts a list in place of another.
 pub fn replaced(lists: &mut Vec<Vec<Item>>, at: usize, list: Vec<Item>)
     requires { at < vec_len lists.old }
-    ensures lists { lists_of lists.new.items ≡ slice_set (lists_of lists.old.items) at list.items }
+    ensures lists { items_of lists.new.items ≡ slice_set (items_of lists.old.items) at list.items }
     ensures len { vec_len lists.new ≡ vec_len lists.old }
 {
     lists[at] = list;
@@ -52,8 +53,8 @@ fn push_copy(
     item: &Item,
 ) -> Result<(), AllocError>
     requires { at < vec_len lists.old }
-    ensures ok { OnOk result (lists_of lists.new.items ≡ with_one (lists_of lists.old.items) at item.now) }
-    ensures err { OnErr result (lists_of lists.new.items ≡ lists_of lists.old.items) }
+    ensures ok { OnOk result (items_of lists.new.items ≡ with_one (items_of lists.old.items) at item.now) }
+    ensures err { OnErr result (items_of lists.new.items ≡ items_of lists.old.items) }
     ensures len { vec_len lists.new ≡ vec_len lists.old }
 {
     let copy = Item {
@@ -73,8 +74,8 @@ pub fn put(
 ) -> Result<(), AllocError>
     requires len { vec_len lists.old ≡ 65 }
     requires slot { FitsSlot slot }
-    ensures ok { OnOk result (lists_of lists.new.items ≡ with_item (lists_of lists.old.items) item.now slot) }
-    ensures err { OnErr result (lists_of lists.new.items ≡ lists_of lists.old.items) }
+    ensures ok { OnOk result (items_of lists.new.items ≡ with_item (items_of lists.old.items) item.now slot) }
+    ensures err { OnErr result (items_of lists.new.items ≡ items_of lists.old.items) }
     ensures len { vec_len lists.new ≡ 65 }
 {
     match slot {
@@ -94,8 +95,8 @@ pub fn lengths(alloc: Global, lists: &[Vec<Item>]) -> Result<Vec<usize>, AllocEr
 // Cuts a list to at most so many items.
 fn cut(lists: &mut Vec<Vec<Item>>, at: usize, len: usize)
     requires { at < vec_len lists.old }
-    ensures lists { lists_of lists.new.items
-        ≡ slice_set (lists_of lists.old.items) at (take len (list_at (lists_of lists.old.items) at)) }
+    ensures lists { items_of lists.new.items
+        ≡ slice_set (items_of lists.old.items) at (take len (list_at (items_of lists.old.items) at)) }
     ensures len { vec_len lists.new ≡ vec_len lists.old }
 {
     lists[at].truncate(len);
@@ -104,8 +105,8 @@ fn cut(lists: &mut Vec<Vec<Item>>, at: usize, len: usize)
 /// Cuts lists that have grown back to the lengths that they had.
 pub fn cut_back(lists: &mut Vec<Vec<Item>>, lengths: &[usize])
     requires { length lengths.now ≡ vec_len lists.old }
-    ensures lists { (base : List (List Item)) → Grown base (lists_of lists.old.items) →
-        lengths.now ≡ list_map length base → lists_of lists.new.items ≡ base }
+    ensures lists { (base : List (List Item)) → Grown base (items_of lists.old.items) →
+        lengths.now ≡ list_map length base → items_of lists.new.items ≡ base }
     ensures len { vec_len lists.new ≡ vec_len lists.old }
 {
     for (at, len) in lengths.iter().enumerate() {

@@ -1,6 +1,7 @@
 ghost use Rattle.std.specs.Prelude.{◌≡◌, ◌<◌, ◌≤◌, IfOk, OnOk, vec_len};
 ghost use Rattle.irl_beast.specs.Places.{slot_at, place};
-ghost use Rattle.irl_beast.specs.Lists.{lists_of, delivered, Grown, FitsSlot};
+ghost use Rattle.irl_model.specs.Plain.{items_of};
+ghost use Rattle.irl_model.specs.Queues.{delivered, Grown, FitsSlot};
 
 use crate::Item;
 use crate::counts::counted;
@@ -38,9 +39,9 @@ pub fn placed<B: Purse>(
     requires most { queues ≤ 64 }
     requires len { vec_len lists.old ≡ 65 }
     ensures places { IfOk result (λ places. places.items ≡ place passes queues (B.budgets purse.now) read.now) }
-    ensures lists { OnOk result (lists_of lists.new.items
-        ≡ delivered (lists_of lists.old.items) read.now (place passes queues (B.budgets purse.now) read.now)) }
-    ensures grown { Grown (lists_of lists.old.items) (lists_of lists.new.items) }
+    ensures lists { OnOk result (items_of lists.new.items
+        ≡ delivered (items_of lists.old.items) read.now (place passes queues (B.budgets purse.now) read.now)) }
+    ensures grown { Grown (items_of lists.old.items) (items_of lists.new.items) }
     ensures len { vec_len lists.new ≡ 65 }
 {
     let mut counts = BTreeMap::new(alloc);

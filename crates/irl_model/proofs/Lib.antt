@@ -5,4 +5,5 @@ pub mod JudgingLaws
 pub mod KeyMaps
 pub mod Merges
 pub mod PlainLemmas
+pub mod QueueLemmas
 pub mod Stretches

@@ -1,7 +1,7 @@
 use Rattle.std.proofs.Common.{◌≡◌, ◌<◌, ◌∙◌, ◌++◌, ◌∷◌, [], ℕ, List, length, sym, ap, rules}
 use Rattle.std.specs.Prelude.{Vec}
 use Rattle.irl_beast.specs.declared.item.Item.{Item}
-use Rattle.irl_beast.proofs.ListLemmas.{on_err, set_vec, at_vec, same_vec}
+use Rattle.irl_model.proofs.QueueLemmas.{on_err, set_vec, at_vec, same_vec}
 use Rattle.irl_beast.proofs.lists.push_copy.Goals as goal
 
 pub returns-clause-ok : goal.returns-clause-ok

@@ -1,5 +1,5 @@
 use Rattle.std.proofs.Common.{refl}
-use Rattle.irl_beast.proofs.ListLemmas.{set_vec}
+use Rattle.irl_model.proofs.QueueLemmas.{set_vec}
 use Rattle.irl_beast.proofs.lists.replaced.Goals as goal
 
 pub returns-clause-lists : goal.returns-clause-lists

@@ -1,7 +1,7 @@
 use Rattle.std.proofs.Common.{◌<◌, ◌∙◌, length, sym, ap, rules}
 use Rattle.std.specs.Prelude.{Vec}
 use Rattle.irl_beast.specs.declared.item.Item.{Item}
-use Rattle.irl_beast.proofs.ListLemmas.{set_vec, at_vec}
+use Rattle.irl_model.proofs.QueueLemmas.{set_vec, at_vec}
 use Rattle.irl_beast.proofs.lists.taken.Goals as goal
 
 pub returns-clause-taken : goal.returns-clause-taken

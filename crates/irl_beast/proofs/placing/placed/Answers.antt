@@ -5,10 +5,11 @@ use Rattle.irl_offer.specs.declared.place.Place.{Place}
 use Rattle.irl_offer.specs.declared.place.Slot.{Slot}
 use Rattle.irl_beast.specs.declared.item.Item.{Item}
 use Rattle.irl_beast.specs.Counts.{count_in}
-use Rattle.irl_beast.specs.Lists.{lists_of, put, delivered, Grown}
+use Rattle.irl_model.specs.Plain.{items_of}
+use Rattle.irl_model.specs.Queues.{put, delivered, Grown}
 use Rattle.irl_beast.specs.Places.{count_of, place, place_behind, slot_at}
-use Rattle.irl_beast.proofs.ListLemmas.{grown_same, grown_put}
-use Rattle.irl_beast.proofs.PlaceLemmas.{count_of-none, count_of-more, places-none, places-more, length-place, delivered-none, delivered-more}
+use Rattle.irl_model.proofs.QueueLemmas.{grown_same, grown_put, delivered-none, delivered-more}
+use Rattle.irl_beast.proofs.PlaceLemmas.{count_of-none, count_of-more, places-none, places-more, length-place}
 use Rattle.irl_beast.proofs.placing.placed.Goals as goal
 
 pub loop-item-init : goal.loop-item-init
@@ -17,16 +18,16 @@ loop-item-init g c =
     record {
       counts = λ q. ap (λ es. count_in es q) c.new-counts.ensures.empty ∙ sym (count_of-none q);
       places = c.in_ok-places.ensures.items ∙ sym (places-none c.args.passes c.args.queues budget);
-      lists = sym (delivered-none (lists_of c.args.lists.now.items) (place c.args.passes c.args.queues budget []));
-      grown = grown_same (lists_of c.args.lists.now.items);
+      lists = sym (delivered-none (items_of c.args.lists.now.items) (place c.args.passes c.args.queues budget []));
+      grown = grown_same (items_of c.args.lists.now.items);
       len = c.requires.len;
     }
 
 pub returns-in_err-push-clause-grown : goal.returns-in_err-push-clause-grown
 returns-in_err-push-clause-grown g c =
-    let old = lists_of c.args.lists.now.items in
+    let old = items_of c.args.lists.now.items in
     subst (Grown old) (sym c.in_ok-put.ensures.ok)
-    (grown_put old (lists_of c.loop-item.lists.items) c.item-item.result c.slot_of-slot.result c.loop-item.invariant.grown)
+    (grown_put old (items_of c.loop-item.lists.items) c.item-item.result c.slot_of-slot.result c.loop-item.invariant.grown)
 
 pub loop-item-preserved : goal.loop-item-preserved
 loop-item-preserved g c =
@@ -37,7 +38,7 @@ loop-item-preserved g c =
     let i = c.loop-item.item-index in
     let x : Item = c.item-item.result in
     let before : List Item = take i read in
-    let old = lists_of c.args.lists.now.items in
+    let old = items_of c.args.lists.now.items in
     let places = place p j budget before in
     let at : Place = record { number = x.number; slot = c.slot_of-slot.result } in
     let more : take (i + 1) read ≡ before ++ x ∷ [] =
@@ -50,7 +51,7 @@ loop-item-preserved g c =
     let placed : at ≡ place_behind p j budget before x = ap (λ (s : Slot). record { number = x.number; slot = s }) slot in
     let all : place p j budget (take (i + 1) read) ≡ places ++ at ∷ [] =
     ap (place p j budget) more ∙ places-more p j budget before x ∙ ap (λ (t : Place). places ++ t ∷ []) (sym placed) in
-    let lists : lists_of c.put.new.lists.items ≡ delivered old (take (i + 1) read) (place p j budget (take (i + 1) read)) =
+    let lists : items_of c.put.new.lists.items ≡ delivered old (take (i + 1) read) (place p j budget (take (i + 1) read)) =
     c.in_ok-put.ensures.ok ∙ ap (λ t. put t x c.slot_of-slot.result) c.loop-item.invariant.lists
     ∙ sym (delivered-more old before places x at (length-place p j budget before))
     ∙ ap (λ t. delivered old t (places ++ at ∷ [])) (sym more) ∙ ap (delivered old (take (i + 1) read)) (sym all) in
@@ -63,6 +64,6 @@ loop-item-preserved g c =
       places = c.in_ok-push.ensures.items ∙ ap (λ t. t ++ at ∷ []) c.loop-item.invariant.places ∙ sym all;
       lists = lists;
       grown = subst (Grown old) (sym c.in_ok-put.ensures.ok)
-          (grown_put old (lists_of c.loop-item.lists.items) x c.slot_of-slot.result c.loop-item.invariant.grown);
+          (grown_put old (items_of c.loop-item.lists.items) x c.slot_of-slot.result c.loop-item.invariant.grown);
       len = c.put.ensures.len;
     }

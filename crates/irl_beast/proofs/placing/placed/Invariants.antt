@@ -1,6 +1,7 @@
 use Rattle.std.proofs.Common.{◌≡◌, ℕ, List, take, vec_len}
 use Rattle.irl_beast.specs.Counts.{count_in}
-use Rattle.irl_beast.specs.Lists.{lists_of, delivered, Grown}
+use Rattle.irl_model.specs.Plain.{items_of}
+use Rattle.irl_model.specs.Queues.{delivered, Grown}
 use Rattle.irl_beast.specs.Places.{count_of, place}
 use Rattle.irl_beast.proofs.placing.placed.Given as goal
 
@@ -12,7 +13,7 @@ invariant-loop-item g l =
     record {
       counts : (q : List ℕ) → count_in l.counts.entries q ≡ count_of read q;
       places : l.places.items ≡ place l.passes l.queues budget read;
-      lists : lists_of l.lists.items ≡ delivered (lists_of l.fn.lists.items) read (place l.passes l.queues budget read);
-      grown : Grown (lists_of l.fn.lists.items) (lists_of l.lists.items);
+      lists : items_of l.lists.items ≡ delivered (items_of l.fn.lists.items) read (place l.passes l.queues budget read);
+      grown : Grown (items_of l.fn.lists.items) (items_of l.lists.items);
       len : vec_len l.lists ≡ 65;
     }
