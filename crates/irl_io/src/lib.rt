@@ -1,6 +1,8 @@
-//! What the crawler reads and where it writes, as traits with a meaning, and the lines of an input.
+//! What the crawler reads, where it writes and what tells it the time, as traits with a meaning, and the lines of an input.
 #![tactic(auto)]
 
+mod clock;
+mod jump_clock;
 mod lines;
 mod mem_sink;
 mod mem_source;
@@ -11,6 +13,8 @@ mod source;
 mod tests;
 mod write_sink;
 
+pub use clock::Clock;
+pub use jump_clock::JumpClock;
 pub use lines::{Lines, Step};
 pub use mem_sink::MemSink;
 pub use mem_source::MemSource;

@@ -1,6 +1,8 @@
 ghost use Rattle.std.specs.Prelude.{None};
 
-use crate::{Failed, Lines, MemSink, MemSource, ReadSource, Sink, Source, Step, WriteSink};
+use crate::{
+    Clock, Failed, JumpClock, Lines, MemSink, MemSource, ReadSource, Sink, Source, Step, WriteSink,
+};
 use std::alloc::{AllocError, Global};
 use std::io;
 use std::process::Abort;
@@ -277,4 +279,21 @@ fn writers_of_std_are_passed_on(rt: HostRuntime) {
     check_writes(&rt, &mut WriteSink::new(&mut narrow), &pieces);
     assert_eq!(rt; narrow.bytes.as_slice(), b"0123456789".as_slice());
     assert_eq!(rt; narrow.flushes, 1);
+}
+
+// What is waited for, and the moment then. The clock is used as any clock is.
+fn check_waits<C: Clock>(rt: &impl Abort, clock: &mut C, waits: &[(u64, u64)]) {
+    for (wanted, moment) in waits {
+        clock.wait_till(*wanted);
+        assert_eq!(rt; clock.now(), *moment);
+        assert_eq!(rt; clock.now(), *moment);
+    }
+}
+
+#[test]
+fn a_clock_jumps_and_never_goes_back(rt: HostRuntime) {
+    let mut clock = JumpClock::new();
+    assert_eq!(rt; clock.now(), 0);
+    let waits = [(0, 0), (7, 7), (3, 7), (u64::MAX, u64::MAX), (8, u64::MAX)];
+    check_waits(&rt, &mut clock, &waits);
 }
