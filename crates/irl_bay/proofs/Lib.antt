@@ -10,7 +10,6 @@ pub mod Buckets
 pub mod CommitBytes
 pub mod DrumFiles
 pub mod EntryBytes
-pub mod Extending
 pub mod Finding
 pub mod Flushing
 pub mod Gathered
@@ -21,7 +20,6 @@ pub mod JudgedHeld
 pub mod JudgedMore
 pub mod JudgedReading
 pub mod Keeping
-pub mod Lines
 pub mod MergeFrames
 pub mod Merged
 pub mod Merges

@@ -8,8 +8,6 @@ pub mod Finding
 pub mod Holding
 pub mod JudgedEntries
 pub mod JudgedSpoilt
-pub mod Kept
-pub mod Lines
 pub mod Making
 pub mod Merging
 pub mod Opening

@@ -178,6 +178,13 @@ impl Bay {
         Ok(())
     }
 
+    /// The settings that it was made with.
+    pub fn settings(&self) -> Settings
+        ensures { result ≡ self.now.settings }
+    {
+        self.settings
+    }
+
     /// How many offers a bucket has.
     pub fn durable(&self, b: u32) -> u64
         requires { b < self.now.settings.buckets }
