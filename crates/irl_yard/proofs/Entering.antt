@@ -1,0 +1,368 @@
+-- What entering a store does to its files, and that it keeps the state, or makes the new store's.
+use Rattle.std.proofs.Common.{◌≡◌, ◌≢◌, ◌∙◌, ◌⊎◌, ⊎_elim, inl, inr, ℕ, ◌+◌, ◌*◌, ◌<◌, ◌≤◌, List, [], ◌∷◌, length, refl, sym, ap, subst, arith, Option, None, Some}
+use Rattle.std.specs.Option.{ForSome}
+use Rattle.irl_offer.specs.Settings.{AreValid, settings_of}
+use Rattle.irl_offer.specs.declared.settings.Asked.{Asked}
+use Rattle.irl_offer.specs.declared.settings.Settings.{Settings}
+use Rattle.irl_offer.specs.declared.settings.Kind.TheVariants.{Crawl}
+use Rattle.irl_model.specs.State.{State, blank_state}
+use Rattle.irl_disk.specs.Disk.{Files, Changes, ChangesFile}
+use Rattle.irl_disk.specs.Images.{Snapshot, IsConsistent, Follows, Leaves, LeavesBy, LeavesSame}
+use Rattle.irl_disk.specs.Taken.{TakesAmong, TakesOnly}
+use Rattle.irl_disk.proofs.Before.{below_or_above}
+use Rattle.irl_disk.proofs.Frames.{takes_only}
+use Rattle.irl_disk.proofs.Stretches.{joins, joins_by, widens, widens_by, same_by, left_now}
+use Rattle.irl_journal.specs.Format.{StandsFor}
+use Rattle.irl_journal.specs.Visiting.{IsOpened}
+use Rattle.irl_journal.proofs.Lists.{few_bytes}
+use Rattle.irl_journal.proofs.Opened.{opened_stands}
+use Rattle.irl_bay.specs.BayFiles.{file_of, IsFileOf}
+use Rattle.irl_bay.specs.declared.layout.files.BayFile.TheVariants.{Manifest, Cache, Judged, Texts, Journal, Aux}
+use Rattle.irl_bay.specs.Damage.{IsAdopted}
+use Rattle.irl_bay.specs.Holding.{TellsBy}
+use Rattle.irl_bay.specs.Making.{IsJournalOf, Makes}
+use Rattle.irl_bay.proofs.Adopted.{takes_wider}
+use Rattle.irl_bay.proofs.Apart.{stands_kept, unmade_stands, journal_files, files_within}
+use Rattle.irl_yard.specs.StoreFiles.{head_file, crawl_file, urls_base, IsOtherFile}
+use Rattle.irl_yard.specs.Head.{head_bytes}
+use Rattle.irl_yard.specs.Standing.{IsBlank, IsMade, HasState}
+use Rattle.irl_yard.specs.Holding.{HasOneOf}
+use Rattle.irl_yard.specs.Opening.{new_state, entered_state}
+use Rattle.irl_yard.specs.Entering.{IsRestFile, GainsFirst, IsStoreJournal, OpensStore, MakesStore, Enters, KeepsBlank}
+use Rattle.irl_yard.proofs.Beginning.{same_then, file_stays}
+use Rattle.irl_yard.proofs.Grounds.{blank_has, none_or_one}
+use Rattle.irl_yard.proofs.Rest.{few, pairs_rest, head_no_journal}
+use Rattle.irl_yard.proofs.Making.{urls_other, pairs_other, head_no_urls}
+
+-- ---- the journals of a store
+journal_wider : (buckets f : ℕ) → buckets ≤ 64 → IsJournalOf urls_base buckets f → IsJournalOf urls_base 64 f
+journal_wider buckets f small (inl e) = inl e
+journal_wider buckets f small (inr (b, within, e)) = inr (b, omega (arith, within, small), e)
+
+-- one is the bay's, or none of the bay's files is it
+beyond : (buckets b f : ℕ) → buckets ≤ b → f ≡ urls_base + 10 + 2 * b → IsFileOf urls_base buckets f → ⊥
+beyond buckets b f above is (Manifest, part, e) = omega (arith, is, e)
+beyond buckets b f above is (Cache side, part, e) = omega (arith, is, e, part)
+beyond buckets b f above is (Judged, part, e) = omega (arith, is, e)
+beyond buckets b f above is (Texts, part, e) = omega (arith, is, e)
+beyond buckets b f above is (Journal c, part, e) = omega (arith, is, e, part, above)
+beyond buckets b f above is (Aux c, part, e) = omega (arith, is, e)
+
+journal_or_none : (buckets f : ℕ) → IsJournalOf urls_base 64 f → IsJournalOf urls_base buckets f ⊎ (IsFileOf urls_base buckets f → ⊥)
+journal_or_none buckets f (inl e) = inl (inl e)
+journal_or_none buckets f (inr (b, within, e)) = ⊎_elim (λ below. inl (inr (b, below, e))) (λ above. inr (beyond buckets b f above e)) (below_or_above b buckets)
+
+journal_no_head : (f : ℕ) → IsJournalOf urls_base 64 f → f ≢ head_file
+journal_no_head f is = λ e. head_no_journal 64 (omega arith) (subst (IsJournalOf urls_base 64) e is)
+
+-- the other files of the state are none
+rest_no_journal : (buckets f : ℕ) → buckets ≤ 64 → IsRestFile buckets f → IsStoreJournal f → ⊥
+rest_no_journal buckets f small (inl e) (inl head) = omega (arith, e, head)
+rest_no_journal buckets f small (inr above) (inl head) = omega (arith, above.0, head)
+rest_no_journal buckets f small (inl e) (inr is) = omega (arith, e, (files_within urls_base 64 f (omega arith) (journal_files urls_base 64 f is)).0)
+rest_no_journal buckets f small (inr above) (inr is) = omega (arith, above.0, (files_within urls_base 64 f (omega arith) (journal_files urls_base 64 f is)).1)
+
+-- ---- a step of opening
+opened_twice : (a b c : List ℕ) → IsOpened a b → IsOpened b c → IsOpened a c
+opened_twice a b c (inl e) (inl d) = inl (d ∙ e)
+opened_twice a b c (inl e) (inr s) = inr (rw (← e) s.0, λ is. s.1 (e ∙ is), s.2)
+opened_twice a b c (inr s) (inl d) = inr (s.0, s.1, rw d s.2)
+opened_twice a b c (inr s) (inr t) = inr (s.0, s.1, t.2)
+
+opened_short : (old new : List ℕ) → length old ≤ 1 → IsOpened old new → length new ≤ 1
+opened_short old new short (inl same) = subst (λ (file : List ℕ). length file ≤ 1) (sym same) short
+opened_short old new short (inr s) = s.2
+
+pub opens_none : (files : Files) → OpensStore files files
+opens_none files = record { changed = λ f is. inl refl; others = λ f out. refl }
+
+head_opens : (x y z : Files) → ChangesFile head_file IsOpened x y → OpensStore y z → OpensStore x z
+head_opens x y z first second = record {
+  changed = λ f is. ⊎_elim
+      (λ (e : f ≡ head_file). subst (λ (h : ℕ). IsOpened (x h) (z h)) (sym e) (opened_twice (x head_file) (y head_file) (z head_file) first.changed (second.changed head_file (inl refl))))
+      (λ (journal : IsJournalOf urls_base 64 f). subst (λ (file : List ℕ). IsOpened file (z f)) (first.others f (journal_no_head f journal)) (second.changed f (inr journal)))
+      is;
+  others = λ f out. second.others f out ∙ first.others f (λ e. out (inl e));
+}
+
+-- the bay's journals are opened
+pub adopted_opens : (buckets : ℕ) (old new : Files) → buckets ≤ 64 → IsAdopted urls_base buckets old new → OpensStore old new
+adopted_opens buckets old new small adopted = record {
+  changed = λ f is. ⊎_elim
+      (λ (e : f ≡ head_file). inl (adopted.others f (λ journal. head_no_journal buckets small (subst (IsJournalOf urls_base buckets) e journal))))
+      (λ (journal : IsJournalOf urls_base 64 f). ⊎_elim (λ within. adopted.changed f within) (λ out. inl (adopted.others f (λ within. out (journal_files urls_base buckets f within)))) (journal_or_none buckets f journal))
+      is;
+  others = λ f out. adopted.others f (λ within. out (inr (journal_wider buckets f small within)));
+}
+
+-- ---- a step of making
+pub makes_then : (settings : Settings) (x y z : Files) → settings.buckets ≤ 64 → Makes urls_base settings.buckets x y → ChangesFile head_file (GainsFirst (head_bytes settings)) y z → MakesStore settings x z
+makes_then settings x y z small makes gains = record {
+  others = λ f no out. gains.others f no ∙ makes.others f out;
+  unmade = λ unmade f is. subst (λ (file : List ℕ). length file ≤ 1) (sym (gains.others f (head_no_urls urls_base settings.buckets f refl small is))) (makes.unmade unmade f is);
+  head = λ none. gains.changed (subst (λ (file : List ℕ). StandsFor file []) (sym (makes.others head_file (head_no_journal settings.buckets small))) none);
+}
+
+pub makes_alone : (settings : Settings) (x y : Files) → settings.buckets ≤ 64 → Makes urls_base settings.buckets x y → MakesStore settings x y
+makes_alone settings x y small makes = makes_then settings x y y small makes (file_stays head_file (GainsFirst (head_bytes settings)) (λ file none. inl none) y)
+
+head_makes : (settings : Settings) (x y z : Files) → settings.buckets ≤ 64 → ChangesFile head_file IsOpened x y → MakesStore settings y z → MakesStore settings x z
+head_makes settings x y z small first second = record {
+  others = λ f no out. second.others f no out ∙ first.others f no;
+  unmade = λ unmade. second.unmade (λ f is. subst (λ (file : List ℕ). length file ≤ 1) (sym (first.others f (head_no_urls urls_base settings.buckets f refl small is))) (unmade f is));
+  head = λ none. second.head (opened_stands (x head_file) (y head_file) [] first.changed none);
+}
+
+-- ---- entering behind a look at the head
+head_enters : (asked : Asked) (told : Option Files) (x y z : Files) → ChangesFile head_file IsOpened x y → Enters asked told y z → Enters asked told x z
+head_enters asked told x y z first (inl opens) = inl (head_opens x y z first opens)
+head_enters asked told x y z first (inr (blank, valid, makes)) = inr (blank, valid, head_makes (settings_of asked) x y z (few (settings_of asked) valid) first makes)
+
+pub head_alone : (asked : Asked) (told : Option Files) (old new : Snapshot) → LeavesBy (ChangesFile head_file IsOpened) old new → LeavesBy (Enters asked told) old new
+head_alone asked told old new look = widens_by old new _ _ look (λ x y first. inl (head_opens x y y first (opens_none y)))
+
+pub entered_then : (asked : Asked) (told : Option Files) (old mid new : Snapshot) → IsConsistent mid → LeavesBy (ChangesFile head_file IsOpened) old mid → LeavesBy (Enters asked told) mid new → LeavesBy (Enters asked told) old new
+entered_then asked told old mid new law look enters =
+    joins old mid new (Follows (Enters asked told) old.images) (head_alone asked told old mid look)
+    (widens mid new (Follows (Enters asked told) mid.images) (Follows (Enters asked told) old.images) enters (λ image from.
+    let was = left_now old mid (Follows (ChangesFile head_file IsOpened) old.images) law look from.0 from.1 in
+    (was.0, was.1, head_enters asked told was.0 from.0 image was.2 from.2)))
+
+-- a stretch that changes nothing enters
+pub same_enters : (asked : Asked) (told : Option Files) (old new : Snapshot) → LeavesSame old new → LeavesBy (Enters asked told) old new
+same_enters asked told old new same = same_by old new (Enters asked told) (λ files. inl (opens_none files)) same
+
+pub tells_wider : (step wide : Files → Files → Type 0) (old new : Option Files) → ((x y : Files) → step x y → wide x y) → TellsBy step old new → TellsBy wide old new
+tells_wider step wide None new allows tells = tells
+tells_wider step wide (Some old) new allows tells = (tells.0, tells.1, allows old tells.0 tells.2)
+
+-- ---- making a store
+makes_enters : (asked : Asked) (told : Option Files) (settings : Settings) (x y : Files) → settings ≡ settings_of asked → ForSome told IsBlank → AreValid settings → MakesStore settings x y → Enters asked told x y
+makes_enters asked told settings x y new blank valid makes = inr (blank, subst AreValid new valid, subst (λ (s : Settings). MakesStore s x y) new makes)
+
+-- its bay is made behind calls that change nothing
+pub made_steps : (asked : Asked) (told : Option Files) (settings : Settings) (old mid new : Snapshot) → settings ≡ settings_of asked → ForSome told IsBlank → AreValid settings → IsConsistent mid → LeavesSame old mid → LeavesBy (Makes urls_base settings.buckets) mid new → LeavesBy (Enters asked told) old new
+made_steps asked told settings old mid new is_new blank valid law same makes =
+    same_then old mid new (Enters asked told) law (λ x. inl (opens_none x)) same
+    (widens_by mid new (Makes urls_base settings.buckets) (Enters asked told) makes (λ x y step. makes_enters asked told settings x y is_new blank valid (makes_alone settings x y (few settings valid) step)))
+
+-- and then its head is written
+pub written_steps : (asked : Asked) (told : Option Files) (settings : Settings) (old mid made new : Snapshot) → settings ≡ settings_of asked → ForSome told IsBlank → AreValid settings → IsConsistent mid → IsConsistent made → LeavesSame old mid → LeavesBy (Makes urls_base settings.buckets) mid made
+    → LeavesBy (ChangesFile head_file (GainsFirst (head_bytes settings))) made new → LeavesBy (Enters asked told) old new
+written_steps asked told settings old mid made new is_new blank valid law law_made same makes gains =
+    let small = few settings valid in
+    let stores = joins mid made new (Follows (MakesStore settings) mid.images)
+    (widens_by mid made (Makes urls_base settings.buckets) (MakesStore settings) makes (λ x y step. makes_alone settings x y small step))
+    (widens made new (Follows (ChangesFile head_file (GainsFirst (head_bytes settings))) made.images) (Follows (MakesStore settings) mid.images) gains (λ image from.
+    let was = left_now mid made (Follows (Makes urls_base settings.buckets) mid.images) law_made makes from.0 from.1 in
+    (was.0, was.1, makes_then settings was.0 from.0 image small was.2 from.2))) in
+    same_then old mid new (Enters asked told) law (λ x. inl (opens_none x)) same
+    (widens_by mid new (MakesStore settings) (Enters asked told) stores (λ x y step. makes_enters asked told settings x y is_new blank valid step))
+
+-- the same of what is told
+pub made_told : (asked : Asked) (told : Option Files) (settings : Settings) (old mid new : Option Files) → settings ≡ settings_of asked → ForSome told IsBlank → AreValid settings → mid ≡ old → TellsBy (Makes urls_base settings.buckets) mid new → TellsBy (Enters asked told) old new
+made_told asked told settings old mid new is_new blank valid same makes =
+    subst (λ (from : Option Files). TellsBy (Enters asked told) from new) same
+    (tells_wider (Makes urls_base settings.buckets) (Enters asked told) mid new (λ x y step. makes_enters asked told settings x y is_new blank valid (makes_alone settings x y (few settings valid) step)) makes)
+
+both_told : (settings : Settings) (mid made new : Option Files) → settings.buckets ≤ 64 → TellsBy (Makes urls_base settings.buckets) mid made → Changes head_file (GainsFirst (head_bytes settings)) made new → TellsBy (MakesStore settings) mid new
+both_told settings None made new small makes gains = subst (λ (m : Option Files). Changes head_file (GainsFirst (head_bytes settings)) m new) makes gains
+both_told settings (Some mid) made new small makes gains =
+    let next = subst (λ (m : Option Files). Changes head_file (GainsFirst (head_bytes settings)) m new) makes.1 gains in
+    (next.0, next.1, makes_then settings mid makes.0 next.0 small makes.2 next.2)
+
+pub written_told : (asked : Asked) (told : Option Files) (settings : Settings) (old mid made new : Option Files) → settings ≡ settings_of asked → ForSome told IsBlank → AreValid settings → mid ≡ old → TellsBy (Makes urls_base settings.buckets) mid made → Changes head_file (GainsFirst (head_bytes settings)) made new
+    → TellsBy (Enters asked told) old new
+written_told asked told settings old mid made new is_new blank valid same makes gains =
+    subst (λ (from : Option Files). TellsBy (Enters asked told) from new) same
+    (tells_wider (MakesStore settings) (Enters asked told) mid new (λ x y step. makes_enters asked told settings x y is_new blank valid step) (both_told settings mid made new (few settings valid) makes gains))
+
+-- ---- the state
+opens_blank : (old new : Files) → OpensStore old new → IsBlank old → IsBlank new
+opens_blank old new opens blank = record {
+  head = opened_stands (old head_file) (new head_file) [] (opens.changed head_file (inl refl)) blank.head;
+  others = λ f is. ⊎_elim
+      (λ (short : length (new f) < 2). omega (arith, short))
+      (λ (long : 2 ≤ length (new f)).
+      let no : IsStoreJournal f → ⊥ = λ journal. (let short = opened_short (old f) (new f) (blank.others f is) (opens.changed f journal) in omega (arith, short, long)) in
+      subst (λ (file : List ℕ). length file ≤ 1) (sym (opens.others f no)) (blank.others f is))
+      (below_or_above (length (new f)) 2);
+}
+
+opens_made : (settings : Settings) (state : State) (old new : Files) → OpensStore old new → IsMade settings state old → IsMade settings state new
+opens_made settings state old new opens made = record {
+  settings_are = made.settings_are;
+  valid = made.valid;
+  kind = made.kind;
+  head = opened_stands (old head_file) (new head_file) (head_bytes settings ∷ []) (opens.changed head_file (inl refl)) made.head;
+  urls = stands_kept urls_base settings state.urls old new (record {
+    journals = λ f is payloads. opened_stands (old f) (new f) payloads (opens.changed f (inr (journal_wider settings.buckets f small is)));
+    others = λ f is out. opens.others f (apart f is out);
+  }) made.urls;
+  crawl = stays crawl_file (inl refl) made.crawl;
+  pairs_are = made.pairs_are;
+  pairs = λ f is. stays f (pairs_rest settings.buckets f is) (made.pairs f is);
+}
+  where
+    small : settings.buckets ≤ 64
+    small = few settings made.valid
+
+    apart : (f : ℕ) → IsFileOf urls_base settings.buckets f → (IsJournalOf urls_base settings.buckets f → ⊥) → IsStoreJournal f → ⊥
+    apart f is out (inl e) = head_no_urls urls_base settings.buckets f refl small is e
+    apart f is out (inr journal) = ⊎_elim out (λ none. none is) (journal_or_none settings.buckets f journal)
+
+    stays : (f : ℕ) → IsRestFile settings.buckets f → length (old f) ≤ 1 → length (new f) ≤ 1
+    stays f rest short = subst (λ (file : List ℕ). length file ≤ 1) (sym (opens.others f (rest_no_journal settings.buckets f small rest))) short
+
+-- opening keeps it
+pub opens_keeps : (state : State) (old new : Files) → OpensStore old new → HasState state old → HasState state new
+opens_keeps state old new opens (inl blank) = inl (opens_blank old new opens blank.0, blank.1)
+opens_keeps state old new opens (inr (settings, made)) = inr (settings, opens_made settings state old new opens made)
+
+-- making leaves a store that wasn't made as one, or makes it
+makes_short : (settings : Settings) (old new : Files) → settings.buckets ≤ 64 → MakesStore settings old new → IsBlank old → (f : ℕ) → IsOtherFile f → length (new f) ≤ 1
+makes_short settings old new small makes blank f is = ⊎_elim
+    (λ (short : length (new f) < 2). omega (arith, short))
+    (λ (long : 2 ≤ length (new f)).
+    let unmade = makes.unmade (λ g of. blank.others g (urls_other settings.buckets g small of)) in
+    let no : IsJournalOf urls_base settings.buckets f → ⊥ = λ journal. (let short = unmade f (journal_files urls_base settings.buckets f journal) in omega (arith, short, long)) in
+    subst (λ (file : List ℕ). length file ≤ 1) (sym (makes.others f (λ e. omega (arith, e, is.0)) no)) (blank.others f is))
+    (below_or_above (length (new f)) 2)
+
+pub makes_state : (settings : Settings) (old new : Files) → AreValid settings → settings.kind ≢ Crawl → MakesStore settings old new → IsBlank old → IsBlank new ⊎ HasState (new_state settings) new
+makes_state settings old new valid kind makes blank =
+    let small = few settings valid in
+    let others = makes_short settings old new small makes blank in
+    ⊎_elim
+    (λ none. inl (record { head = none; others = others }))
+    (λ has. inr (inr (
+      settings,
+      record {
+        settings_are = refl;
+        valid = valid;
+        kind = kind;
+        head = inr has;
+        urls = unmade_stands urls_base settings new valid (λ f is. others f (urls_other settings.buckets f small is));
+        crawl = others crawl_file (omega arith, omega arith);
+        pairs_are = refl;
+        pairs = λ f is. others f (pairs_other settings.buckets f small is);
+      },
+    )))
+    (makes.head blank.head)
+
+blank_still : (state : State) (files : Files) → state ≡ blank_state → HasState state files → IsBlank files
+blank_still state files is (inl blank) = blank.0
+blank_still state files is (inr (settings, made)) = let no : None ≡ Some settings = sym (ap (λ (s : State). s.settings) is) ∙ made.settings_are in cc
+
+-- so entering leaves the state, or of a store that wasn't made the new store's
+pub enters_keeps : (asked : Asked) (told : Option Files) (files : Files) (state : State) (old new : Files) → asked.kind ≢ Crawl → told ≡ Some files → HasState state files → HasState state old → Enters asked told old new → HasOneOf state (entered_state asked state) new
+enters_keeps asked told files state old new kind is_told has_told has (inl opens) = inl (opens_keeps state old new opens has)
+enters_keeps asked told files state old new kind is_told has_told has (inr (blank, valid, makes)) =
+    let was = blank files is_told in
+    let same = (blank_has state files was.head has_told).1 in
+    ⊎_elim
+    (λ none. inl (inl (none, same)))
+    (λ made. inr (subst (λ (s : State). HasState (entered_state asked s) new) (sym same) made))
+    (makes_state (settings_of asked) old new valid kind makes (blank_still state old same has))
+
+-- what is told
+pub told_keeps : (asked : Asked) (old new : Option Files) (state : State) → asked.kind ≢ Crawl → TellsBy (Enters asked old) old new → ForSome old (λ files. HasState state files → ForSome new (HasOneOf state (entered_state asked state)))
+told_keeps asked None new state kind tells = λ files told. cc
+told_keeps asked (Some old) new state kind tells = λ files told has after is.
+    let same : old ≡ files = cc in
+    let here : tells.0 ≡ after = cc in
+    let was = subst (HasState state) (sym same) has in
+    subst (HasOneOf state (entered_state asked state)) here (enters_keeps asked (Some old) old state old tells.0 kind refl was was tells.2)
+
+-- and what stops leave
+pub stops_keep : (asked : Asked) (old new : Snapshot) (state : State) → asked.kind ≢ Crawl → IsConsistent old → LeavesBy (Enters asked old.files) old new → ((image : Files) → old.images image → HasState state image) → Leaves old new (HasOneOf state (entered_state asked state))
+stops_keep asked old new state kind law enters has =
+    widens old new (Follows (Enters asked old.files) old.images) (HasOneOf state (entered_state asked state)) enters (λ image from.
+    let told = law.tells from.0 from.1 in
+    enters_keeps asked old.files told.0 state from.0 image kind told.1 (has told.0 (law.told told.0 told.1)) (has from.0 from.1) from.2)
+
+-- ---- a store that wasn't made yet
+-- it stays so while its head is looked at,
+looks_blank : (old new : Files) → ChangesFile head_file IsOpened old new → KeepsBlank old new
+looks_blank old new look = opens_blank old new (head_opens old new new look (opens_none new))
+
+pub looked_blank : (old new : Snapshot) → LeavesBy (ChangesFile head_file IsOpened) old new → LeavesBy KeepsBlank old new
+looked_blank old new look = widens_by old new (ChangesFile head_file IsOpened) KeepsBlank look looks_blank
+
+pub looks_then : (old mid new : Snapshot) → IsConsistent mid → LeavesBy (ChangesFile head_file IsOpened) old mid → LeavesBy KeepsBlank mid new → LeavesBy KeepsBlank old new
+looks_then old mid new law look keeps = joins_by old mid new KeepsBlank law (λ x y z first second blank. second (first blank)) (looked_blank old mid look) keeps
+
+-- while nothing changes,
+pub same_blank : (old new : Snapshot) → LeavesSame old new → LeavesBy KeepsBlank old new
+same_blank old new same = same_by old new KeepsBlank (λ files blank. blank) same
+
+pub told_same : (old new : Option Files) → new ≡ old → TellsBy KeepsBlank old new
+told_same None new same = same
+told_same (Some old) new same = (old, same, λ blank. blank)
+
+-- while its bay is made,
+makes_blank : (settings : Settings) (old new : Files) → settings.buckets ≤ 64 → Makes urls_base settings.buckets old new → KeepsBlank old new
+makes_blank settings old new small makes blank = record {
+  head = subst (λ (file : List ℕ). StandsFor file []) (sym (makes.others head_file (head_no_journal settings.buckets small))) blank.head;
+  others = makes_short settings old new small (makes_alone settings old new small makes) blank;
+}
+
+pub bay_blank : (settings : Settings) (old mid new : Snapshot) → settings.buckets ≤ 64 → IsConsistent mid → LeavesSame old mid → LeavesBy (Makes urls_base settings.buckets) mid new → LeavesBy KeepsBlank old new
+bay_blank settings old mid new small law same makes =
+    same_then old mid new KeepsBlank law (λ x blank. blank) same
+    (widens_by mid new (Makes urls_base settings.buckets) KeepsBlank makes (λ x y step. makes_blank settings x y small step))
+
+pub bay_told : (settings : Settings) (old mid new : Option Files) → settings.buckets ≤ 64 → mid ≡ old → TellsBy (Makes urls_base settings.buckets) mid new → TellsBy KeepsBlank old new
+bay_told settings old mid new small same makes =
+    subst (λ (from : Option Files). TellsBy KeepsBlank from new) same
+    (tells_wider (Makes urls_base settings.buckets) KeepsBlank mid new (λ x y step. makes_blank settings x y small step) makes)
+
+-- and while one is entered that was made
+enters_blank : (asked : Asked) (told : Option Files) (settings : Settings) (files x y : Files) → told ≡ Some files → StandsFor (files head_file) (head_bytes settings ∷ []) → Enters asked told x y → KeepsBlank x y
+enters_blank asked told settings files x y is head (inl opens) = opens_blank x y opens
+enters_blank asked told settings files x y is head (inr (blank, valid, makes)) = absurd (none_or_one (files head_file) (head_bytes settings) (blank files is).head head)
+
+pub opened_blank : (asked : Asked) (settings : Settings) (old new : Snapshot) → IsConsistent old → ForSome old.files (λ files. StandsFor (files head_file) (head_bytes settings ∷ [])) → LeavesBy (Enters asked old.files) old new → LeavesBy KeepsBlank old new
+opened_blank asked settings old new law head enters =
+    widens old new (Follows (Enters asked old.files) old.images) (Follows KeepsBlank old.images) enters (λ image from.
+    let told = law.tells from.0 from.1 in
+    (from.0, from.1, enters_blank asked old.files settings told.0 from.0 image told.1 (head told.0 told.1) from.2))
+
+pub opened_told : (asked : Asked) (settings : Settings) (old new : Option Files) → ForSome old (λ files. StandsFor (files head_file) (head_bytes settings ∷ [])) → TellsBy (Enters asked old) old new → TellsBy KeepsBlank old new
+opened_told asked settings None new head tells = tells
+opened_told asked settings (Some old) new head tells = (tells.0, tells.1, enters_blank asked (Some old) settings old old tells.0 refl (head old refl) tells.2)
+
+-- so it isn't made yet, in what is told and in what stops leave
+pub blank_told : (old new : Option Files) → TellsBy KeepsBlank old new → ForSome old (λ files. IsBlank files → ForSome new IsBlank)
+blank_told None new tells = λ files told. cc
+blank_told (Some old) new tells = λ files told blank after is.
+    let same : old ≡ files = cc in
+    let here : tells.0 ≡ after = cc in
+    subst IsBlank here (tells.2 (subst IsBlank (sym same) blank))
+
+pub blank_stops : (old new : Snapshot) → LeavesBy KeepsBlank old new → ((image : Files) → old.images image → IsBlank image) → Leaves old new IsBlank
+blank_stops old new keeps blank = widens old new (Follows KeepsBlank old.images) IsBlank keeps (λ image from. from.2 (blank from.0 from.1))
+
+-- ---- bytes taken
+pub head_takes : (old new : Option (ℕ → ℕ)) → TakesOnly head_file old new → TakesAmong IsStoreJournal old new
+head_takes old new takes = takes_only IsStoreJournal head_file old new (inl refl) takes
+
+pub adopted_takes : (buckets : ℕ) (old mid new : Option (ℕ → ℕ)) → buckets ≤ 64 → mid ≡ old → TakesAmong (IsJournalOf urls_base buckets) mid new → TakesAmong IsStoreJournal old new
+adopted_takes buckets old mid new small same takes =
+    subst (λ (from : Option (ℕ → ℕ)). TakesAmong IsStoreJournal from new) same (takes_wider (IsJournalOf urls_base buckets) IsStoreJournal mid new (λ f is. inr (journal_wider buckets f small is)) takes)
+
+-- ---- the records of a bucket
+-- entering leaves those of a store with a state, in its files and in each image
+pub enters_records : (asked : Asked) (told : Option Files) (files : Files) (state : State) (old new : Files) (b : ℕ) (payloads : List (List ℕ)) → told ≡ Some files → HasState state files → HasState state old → Enters asked told old new → b < 64
+    → StandsFor (old (file_of urls_base 0 (Journal b))) payloads → StandsFor (new (file_of urls_base 0 (Journal b))) payloads
+enters_records asked told files state old new b payloads is_told has_told has (inl opens) within stands = opened_stands _ _ payloads (opens.changed _ (inr (inr (b, within, refl)))) stands
+enters_records asked told files state old new b payloads is_told has_told has (inr (blank, valid, makes)) within stands =
+    let was = blank files is_told in
+    let same = (blank_has state files was.head has_told).1 in
+    let before = blank_still state old same has in
+    let is : IsOtherFile (file_of urls_base 0 (Journal b)) = (omega (arith, within), omega (arith, within)) in
+    inl (makes_short (settings_of asked) old new (few (settings_of asked) valid) makes before _ is, no_records (old (file_of urls_base 0 (Journal b))) payloads (before.others _ is) stands)
+  where
+    no_records : (file : List ℕ) (ps : List (List ℕ)) → length file ≤ 1 → StandsFor file ps → ps ≡ []
+    no_records file ps short (inl none) = none.1
+    no_records file ps short (inr has) = few_bytes file ps short has

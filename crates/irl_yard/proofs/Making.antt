@@ -1,0 +1,96 @@
+-- A store that wasn't made yet, while it is made.
+use Rattle.std.proofs.Common.{◌≡◌, ℕ, ◌≤◌, List, [], length, refl, sym, subst, arith, Option, None, Some, zero, suc, Result, Ok, Err}
+use Rattle.irl_disk.specs.Disk.{Files}
+use Rattle.irl_journal.specs.Format.{StandsFor}
+use Rattle.irl_bay.specs.BayFiles.{IsFileOf}
+use Rattle.irl_bay.specs.Making.{Makes}
+use Rattle.irl_bay.specs.Holding.{TellsBy}
+use Rattle.irl_offer.specs.Settings.{settings_of}
+use Rattle.irl_offer.specs.declared.settings.Asked.{Asked}
+use Rattle.irl_offer.specs.declared.offer.Rule.{Rule}
+use Rattle.std.specs.Option.{ForSome, option_map}
+use Rattle.std.specs.Prelude.{unwrap_or, IsErrAnd, IfErr, IfOk, OnOk}
+use Rattle.irl_yard.specs.Head.{rule_number}
+use Rattle.irl_yard.specs.Opening.{Agrees}
+use Rattle.irl_bay.proofs.Apart.{files_within}
+use Rattle.irl_yard.specs.StoreFiles.{head_file, crawl_file, urls_base, pairs_base, IsOtherFile}
+use Rattle.irl_yard.specs.Standing.{IsBlank}
+use Rattle.irl_yard.proofs.Rest.{head_no_journal}
+
+-- the files of both bays are files behind the head
+pub urls_other : (buckets f : ℕ) → buckets ≤ 64 → IsFileOf urls_base buckets f → IsOtherFile f
+urls_other buckets f small is = let within = files_within urls_base buckets f small is in (omega (arith, within.0), omega (arith, within.1))
+
+pub pairs_other : (buckets f : ℕ) → buckets ≤ 64 → IsFileOf pairs_base buckets f → IsOtherFile f
+pairs_other buckets f small is = let within = files_within pairs_base buckets f small is in (omega (arith, within.0), omega (arith, within.1))
+
+-- a head without a record, and short files behind it
+pub blank_both : (files : Files) → StandsFor (files head_file) [] → ((f : ℕ) → IsOtherFile f → length (files f) ≤ 1) → IsBlank files
+blank_both files head others = record { head = head; others = others }
+
+-- ---- what is told
+pub no_record_yet : (buckets : ℕ) (old new : Option Files) → buckets ≤ 64 → TellsBy (Makes urls_base buckets) old new → ForSome old (λ files. StandsFor (files head_file) []) → ForSome new (λ files. StandsFor (files head_file) [])
+no_record_yet buckets None new small makes blank = λ files told. cc
+no_record_yet buckets (Some old) new small makes blank = λ files told.
+    let same : makes.0 ≡ files = cc in
+    let head = subst (λ (file : List ℕ). StandsFor file []) (sym (makes.2.others head_file (head_no_journal buckets small))) (blank old refl) in
+    subst (λ (f : Files). StandsFor (f head_file) []) same head
+
+-- ---- a new store is as it was asked for
+given_kind : (x a k : ℕ) → Some (Some x) ≡ Some (Some a) → Some x ≡ Some k → a ≡ k
+given_kind x a k one two = cc
+
+given_both : (o : Option ℕ) (d a k : ℕ) → Some o ≡ Some (Some a) → Some (unwrap_or o d) ≡ Some k → a ≡ k
+given_both None d a k one two = cc
+given_both (Some x) d a k one two = cc
+
+given_rules : (o : Option Rule) (d : Rule) (a k : ℕ) → Some (option_map rule_number o) ≡ Some (Some a) → Some (rule_number (unwrap_or o d)) ≡ Some k → a ≡ k
+given_rules None d a k one two = cc
+given_rules (Some x) d a k one two = cc
+
+pub new_agrees : (asked : Asked) → Agrees asked (settings_of asked)
+new_agrees asked zero a k one two = given_kind _ a k one two
+new_agrees asked (suc zero) a k one two = given_rules asked.rule _ a k one two
+new_agrees asked (suc (suc zero)) a k one two = given_both asked.buckets _ a k one two
+new_agrees asked (suc (suc (suc zero))) a k one two = given_both asked.array _ a k one two
+new_agrees asked (suc (suc (suc (suc zero)))) a k one two = given_both asked.trigger _ a k one two
+new_agrees asked (suc (suc (suc (suc (suc zero))))) a k one two = given_both asked.block _ a k one two
+new_agrees asked (suc (suc (suc (suc (suc (suc zero)))))) a k one two = given_both asked.cap _ a k one two
+new_agrees asked (suc (suc (suc (suc (suc (suc (suc zero))))))) a k one two = given_both asked.queues _ a k one two
+new_agrees asked (suc (suc (suc (suc (suc (suc (suc (suc zero)))))))) a k one two = given_both asked.base _ a k one two
+new_agrees asked (suc (suc (suc (suc (suc (suc (suc (suc (suc zero))))))))) a k one two = given_both asked.most _ a k one two
+new_agrees asked (suc (suc (suc (suc (suc (suc (suc (suc (suc (suc zero)))))))))) a k one two = given_both asked.ranks _ a k one two
+new_agrees asked (suc (suc (suc (suc (suc (suc (suc (suc (suc (suc (suc n))))))))))) a k one two = cc
+
+-- ---- the head is none of the bay's files
+pub head_no_urls : (base buckets f : ℕ) → base ≡ urls_base → buckets ≤ 64 → IsFileOf base buckets f → f ≡ head_file → ⊥
+head_no_urls base buckets f e small is same = omega (arith, e, same, (files_within base buckets f small is).0)
+
+pub crawl_other : IsOtherFile crawl_file
+crawl_other = (omega arith, omega arith)
+
+pub told_on : (step : Files → Files → Type 0) (old new : Option Files) (files : Files) → TellsBy step old new → old ≡ Some files → (after : Files) × (new ≡ Some after)
+told_on step None new files tells told = cc
+told_on step (Some old) new files tells told = (tells.0, tells.1)
+
+-- what is said of an error is so of the one there is
+pub of_err : {T E : Type 0} (result : Result T E) (error : E) (P : E → Type 0) → result ≡ Err error → IfErr result P → P error
+of_err (Ok value) error P is has = cc
+of_err (Err other) error P is has = let same : other ≡ error = cc in subst P same has
+
+pub if_err : {T E : Type 0} (result : Result T E) (error : E) (P : E → Type 0) → IsErrAnd result (λ e. e ≡ error) → P error → IfErr result P
+if_err (Ok value) error P has is = cc
+if_err (Err other) error P has is = subst P (sym has) is
+
+-- what follows from a fact of a result
+pub if_ok_then : {T E : Type 0} (result : Result T E) (P Q : T → Type 0) → ((value : T) → P value → Q value) → IfOk result P → IfOk result Q
+if_ok_then (Ok value) P Q gives has = gives value has
+if_ok_then (Err error) P Q gives has = tt
+
+pub on_ok_then : {T E P Q : Type 0} (result : Result T E) → (P → Q) → OnOk result P → OnOk result Q
+on_ok_then (Ok value) gives has = gives has
+on_ok_then (Err error) gives has = tt
+
+pub if_err_then : {T E : Type 0} (result : Result T E) (P Q : E → Type 0) → ((error : E) → P error → Q error) → IfErr result P → IfErr result Q
+if_err_then (Ok value) P Q gives has = tt
+if_err_then (Err error) P Q gives has = gives error has

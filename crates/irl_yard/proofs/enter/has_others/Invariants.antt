@@ -1,0 +1,16 @@
+use Rattle.std.proofs.Common.{◌≡◌, ◌<◌, ◌≤◌, ℕ, length}
+use Rattle.std.specs.Option.{ForSome}
+use Rattle.irl_disk.specs.Images.{LeavesSame}
+use Rattle.irl_yard.proofs.enter.has_others.Given as goal
+
+-- none so far has more than one byte
+abbrev pub invariant-loop-f : goal.invariant-loop-f
+invariant-loop-f g l =
+    let store = g.S.Store in
+    record {
+      none : ForSome (store.snapshot l.fn.store).files (λ files. (f : ℕ) → 1 ≤ f → f < l.f → length (files f) ≤ 1);
+      same : (store.snapshot l.store).files ≡ (store.snapshot l.fn.store).files;
+      stops : LeavesSame (store.snapshot l.fn.store) (store.snapshot l.store);
+      taken : store.taken l.store ≡ store.taken l.fn.store;
+      later : store.faults l.fn.store ≤ store.faults l.store;
+    }

@@ -1,0 +1,9 @@
+use Rattle.std.proofs.Common.{refl, Some}
+use Rattle.irl_yard.proofs.Entering.{enters_keeps, enters_records}
+use Rattle.irl_yard.proofs.enter.what_entering_keeps.Goals as goal
+
+pub returns-clause-state : goal.returns-clause-state
+returns-clause-state g = λ asked told old new state kind has_told has enters. enters_keeps asked (Some told) told state old new kind refl has_told has enters
+
+pub returns-clause-records : goal.returns-clause-records
+returns-clause-records g = λ asked told old new state b payloads has_told has enters within stands. enters_records asked (Some told) told state old new b payloads refl has_told has enters within stands

@@ -1,0 +1,24 @@
+use Rattle.std.proofs.Common.{◌∙◌, sym}
+use Rattle.std.proofs.lemmas.Result.{IfOk-weaker}
+use Rattle.irl_yard.proofs.Holding.{holds_same, stops_same}
+use Rattle.irl_yard.proofs.yard.Yard.judged.Goals as goal
+
+pub judged-found-requires-clause-long : goal.judged-found-requires-clause-long
+judged-found-requires-clause-long g c = λ files told. c.args.self.now.long c.requires.sound.0 files told
+
+pub invariant_of-self : goal.invariant_of-self
+invariant_of-self g c = record { long = λ sound files told. c.args.self.now.long sound files (sym c.judged-found.ensures.same ∙ told) }
+
+pub returns-clause-value : goal.returns-clause-value
+returns-clause-value g c = IfOk-weaker c.judged-found.result _ _ (λ found gives files told state holds. gives files told state.urls holds.urls_hold) c.judged-found.ensures.value
+
+pub returns-clause-holds : goal.returns-clause-holds
+returns-clause-holds g c = λ state holds.
+    holds_same (g.S.Store.snapshot c.args.self.now.store) (g.S.Store.snapshot c.judged-found.new.store) c.args.self.now.parts.urls state c.is_sound-is_sound.ensures.drum (g.met.S.Store.is_consistent c.judged-found.new.store) c.judged-found.ensures.stops holds
+
+pub returns-clause-whole : goal.returns-clause-whole
+returns-clause-whole g c = λ f at is files told state holds. c.judged-found.ensures.whole f at is files told state.urls holds.urls_hold
+
+pub returns-clause-stops : goal.returns-clause-stops
+returns-clause-stops g c = λ state holds.
+    stops_same (g.S.Store.snapshot c.args.self.now.store) (g.S.Store.snapshot c.judged-found.new.store) c.args.self.now.parts.urls state c.is_sound-is_sound.ensures.drum holds c.judged-found.ensures.stops

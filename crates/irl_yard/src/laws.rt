@@ -1,0 +1,62 @@
+ghost use Rattle.std.specs.Prelude.{◌≡◌, ◌≢◌, ◌<◌, ℕ, List, [], map, slice_index_or, Some};
+ghost use Rattle.irl_offer.specs.Settings.{AreValid};
+ghost use Rattle.irl_offer.specs.Tuple.{Tuple};
+ghost use Rattle.irl_offer.specs.declared.settings.Asked.{Asked};
+ghost use Rattle.irl_offer.specs.declared.settings.Settings.{Settings};
+ghost use Rattle.irl_model.specs.Book.{IsPrefixOf, judged};
+ghost use Rattle.irl_model.specs.State.{State, IsFrontState};
+ghost use Rattle.irl_disk.specs.Disk.{Files};
+ghost use Rattle.irl_bay.specs.BayFiles.{IsBucketFile};
+ghost use Rattle.irl_bay.specs.Drum.{Drum, IsDrum};
+ghost use Rattle.irl_bay.specs.Merging.{IsMergeFile};
+ghost use Rattle.irl_bay.specs.Runs.{AreRuns, run_bytes};
+ghost use Rattle.irl_yard.specs.Head.{head_bytes, IsNoHeadAt};
+ghost use Rattle.irl_yard.specs.Holding.{HoldsState, HasJournal, with_offers, with_cut};
+ghost use Rattle.irl_yard.specs.Opening.{entered_state};
+ghost use Rattle.irl_yard.specs.Standing.{HasState};
+
+use crate::parts::Parts;
+use irl_disk::Store;
+
+/// The head's payload of valid settings is none nowhere, and tells them.
+pub fn a_head_tells_its_settings()
+    ensures whole { (settings : Settings) (at : ℕ) → AreValid settings → IsNoHeadAt (head_bytes settings) at → ⊥ }
+    ensures one { (x y : Settings) → AreValid x → AreValid y → head_bytes x ≡ head_bytes y → x ≡ y }
+{}
+
+/// The files of a store stand for at most one state.
+pub fn one_state()
+    ensures { (x y : State) (files : Files) → HasState x files → HasState y files → x ≡ y }
+{}
+
+/// What a stop now may leave stands for the state that an open store holds, and so does what the store tells. Each
+/// bucket's journal has the bucket's list in its records.
+pub fn what_is_held_has_its_state<S: Store>(store: &S, parts: &Parts)
+    ensures left { (state : State) (image : Files) → IsDrum parts.now.urls →
+        HoldsState (S.snapshot store.now).images parts.now state → (S.snapshot store.now).images image →
+        HasState state image }
+    ensures told { (state : State) (files : Files) → IsDrum parts.now.urls →
+        HoldsState (S.snapshot store.now).images parts.now state → (S.snapshot store.now).files ≡ Some files →
+        HasState state files }
+    ensures records { (state : State) (b : ℕ) → HoldsState (S.snapshot store.now).images parts.now state →
+        b < parts.now.urls.settings.buckets → (runs : List (List Tuple))
+        × AreRuns parts.now.urls.settings.array (slice_index_or state.urls.lists b []) runs
+        × HasJournal (S.snapshot store.now).images parts.now.urls b (map run_bytes runs) }
+{}
+
+/// A state is a front of what opening, flushes and merges make of it, and what was judged of a front stays.
+pub fn states_grow()
+    ensures same { (state : State) → IsFrontState state state }
+    ensures both { (x y z : State) → IsFrontState x y → IsFrontState y z → IsFrontState x z }
+    ensures offers { (b : ℕ) (news : List Tuple) (state : State) → IsFrontState state (with_offers b news state) }
+    ensures cut { (state : State) → IsFrontState state (with_cut state) }
+    ensures entered { (asked : Asked) (state : State) → IsFrontState state (entered_state asked state) }
+    ensures judged { (x y : State) (files : Files) → HasState x files → IsFrontState x y →
+        IsPrefixOf (judged x.urls) (judged y.urls) }
+{}
+
+/// A bucket's files are no other's, and a merge changes none of them.
+pub fn a_buckets_files_are_its_own()
+    ensures bucket { (base b c f : ℕ) → b ≢ c → IsBucketFile base b f → IsBucketFile base c f → ⊥ }
+    ensures merge { (drum : Drum) (b f : ℕ) → IsBucketFile drum.base b f → IsMergeFile drum f → ⊥ }
+{}
