@@ -1,0 +1,306 @@
+-- Calls one after the other: what each keeps, both keep.
+use Rattle.std.proofs.Common.{◌≡◌, ◌∙◌, ◌⊎◌, inl, inr, ℕ, ◌+◌, ◌-◌, ◌<◌, ◌≤◌, max, List, [], ◌∷◌, ◌++◌, nat_eq, Option, None, Some, refl, sym, ap, subst, append_assoc, append-nil, arith}
+use Rattle.std.proofs.lemmas.List.Elements.{filter-append}
+use Rattle.irl_offer.specs.declared.settings.Settings.{Settings}
+use Rattle.irl_offer.specs.Buckets.{bucket_of}
+use Rattle.irl_offer.specs.Tuple.{Tuple}
+use Rattle.irl_array.specs.Waiting.{Waiting}
+use Rattle.irl_model.specs.Book.{Book, judged_cut, last_cut, part}
+use Rattle.irl_model.specs.State.{State, AreFronts}
+use Rattle.irl_model.proofs.FrontLaws.{front_same, front_both}
+use Rattle.irl_disk.specs.Disk.{Files}
+use Rattle.irl_disk.specs.Images.{Snapshot, IsConsistent, Leaves, LeavesBy, LeavesSame}
+use Rattle.irl_disk.proofs.Stretches.{stays, widens, joins, left_now}
+use Rattle.irl_journal.specs.Format.{HasRecords}
+use Rattle.irl_bay.specs.BayFiles.{IsFileOf}
+use Rattle.irl_bay.specs.Drum.{Drum, IsDrum, pending_at}
+use Rattle.irl_bay.specs.Holding.{TellsOnly, ChangesOnly}
+use Rattle.irl_bay.proofs.Staying.{only_wider, tells_same, tells_both, leaves_same, leaves_both}
+use Rattle.irl_yard.specs.Holding.{HoldsUrls, HoldsState, HasBucketRecords}
+use Rattle.irl_yard.proofs.Holding.{held_has}
+use Rattle.irl_intake.specs.Schedule.{early_cuts, HaveRecords, AddsUneven, LeavesUneven, none_more}
+use Rattle.irl_intake.specs.Feeding.{list_at, length_at, handed_in, Grows, Keeps, TakesWaiting, HasBetween, Moment, Stays, Fed, Stranded, Feeds, Strands, HeldNone}
+
+-- ---- fronts
+pub same_fronts : (x : State) → AreFronts x x
+same_fronts x = record { settings = refl; urls = front_same x.urls; pairs = front_same x.pairs }
+
+pub both_fronts : (x y z : State) → AreFronts x y → AreFronts y z → AreFronts x z
+both_fronts x y z first second = record {
+  settings = second.settings ∙ first.settings;
+  urls = front_both x.urls y.urls z.urls first.urls second.urls;
+  pairs = front_both x.pairs y.pairs z.pairs first.pairs second.pairs;
+}
+
+-- ---- a later state
+last_append : (from : List ℕ) (xs ys : List (List ℕ)) → last_cut from (xs ++ ys) ≡ last_cut (last_cut from xs) ys
+last_append from [] ys = refl
+last_append from (cut ∷ xs) ys = last_append cut xs ys
+
+early_append : (trigger : ℕ) (from : List ℕ) (xs ys : List (List ℕ)) → early_cuts trigger from (xs ++ ys) ≡ early_cuts trigger from xs + early_cuts trigger (last_cut from xs) ys
+early_append trigger from [] ys = omega arith
+early_append trigger from (cut ∷ xs) ys = omega (arith, early_append trigger cut xs ys)
+
+judged_later : (x y : Book) (cuts : List (List ℕ)) → y.firsts ≡ x.firsts → y.cuts ≡ x.cuts ++ cuts → judged_cut y ≡ last_cut (judged_cut x) cuts
+judged_later x y cuts firsts are = ap (λ (f : List ℕ). last_cut f y.cuts) firsts ∙ ap (λ (c : List (List ℕ)). last_cut x.firsts c) are ∙ last_append x.firsts x.cuts cuts
+
+same_length : (x y : Book) (b : ℕ) → y.firsts ≡ x.firsts → list_at y b ≡ list_at x b → length_at y b ≡ length_at x b
+same_length x y b firsts list = cc
+
+fits_both : (settings : Settings) (x y z : State) (b : ℕ) → z.urls.firsts ≡ y.urls.firsts → (list_at y.urls b ≡ list_at x.urls b) ⊎ (length_at y.urls b ≤ settings.cap)
+    → (list_at z.urls b ≡ list_at y.urls b) ⊎ (length_at z.urls b ≤ settings.cap) → (list_at z.urls b ≡ list_at x.urls b) ⊎ (length_at z.urls b ≤ settings.cap)
+fits_both settings x y z b firsts first (inr fits) = inr fits
+fits_both settings x y z b firsts (inl same) (inl again) = inl (again ∙ same)
+fits_both settings x y z b firsts (inr fits) (inl again) = inr (subst (λ (n : ℕ). n ≤ settings.cap) (sym (same_length y.urls z.urls b firsts again)) fits)
+
+pub grows_both : (settings : Settings) (e d : ℕ) (x y z : State) → Grows settings e x y → Grows settings d y z → Grows settings (e + d) x z
+grows_both settings e d x y z first second = record {
+  front = both_fronts x y z first.front second.front;
+  fits = λ b within. fits_both settings x y z b second.front.urls.firsts (first.fits b within) (second.fits b within);
+  cuts = first.cuts ++ second.cuts;
+  cuts_are = second.cuts_are ∙ ap (λ (l : List (List ℕ)). l ++ second.cuts) first.cuts_are ∙ append_assoc x.urls.cuts first.cuts second.cuts;
+  early_are =
+      let later = subst (λ (from : List ℕ). early_cuts settings.trigger from second.cuts ≤ d) (judged_later x.urls y.urls first.cuts first.front.urls.firsts first.cuts_are) second.early_are in
+      omega (arith, early_append settings.trigger (judged_cut x.urls) first.cuts second.cuts, first.early_are, later);
+}
+
+pub grows_same : (settings : Settings) (x : State) → Grows settings 0 x x
+grows_same settings x = record { front = same_fronts x; fits = λ b within. inl refl; cuts = []; cuts_are = sym (append-nil x.urls.cuts); early_are = omega arith }
+
+pub grows_more : (settings : Settings) (e d : ℕ) (x y : State) → e ≤ d → Grows settings e x y → Grows settings d x y
+grows_more settings e d x y le grows = record { front = grows.front; fits = grows.fits; cuts = grows.cuts; cuts_are = grows.cuts_are; early_are = omega (arith, le, grows.early_are) }
+
+-- ---- offers that were handed in
+joined : {X : Type 0} (a b c p q r : List X) → b ≡ a ++ p → c ≡ b ++ q → r ≡ p ++ q → c ≡ a ++ r
+joined a b c p q r first second both = second ∙ ap (λ l. l ++ q) first ∙ append_assoc a p q ∙ ap (λ l. a ++ l) (sym both)
+
+part_both : (buckets b : ℕ) (xs ys : List Tuple) → part buckets b (xs ++ ys) ≡ part buckets b xs ++ part buckets b ys
+part_both buckets b xs ys = filter-append (λ (offer : Tuple). nat_eq (bucket_of buckets offer.key) b) xs ys
+
+pub keeps_both : (settings : Settings) (x y z : State) (was mid now : List Waiting) (xs ys : List Tuple) → Keeps settings x was y mid xs → Keeps settings y mid z now ys → Keeps settings x was z now (xs ++ ys)
+keeps_both settings x y z was mid now xs ys first second = λ b within.
+    joined (handed_in x.urls was b) (handed_in y.urls mid b) (handed_in z.urls now b) _ _ _ (first b within) (second b within) (part_both settings.buckets b xs ys)
+
+pub keeps_same : (settings : Settings) (x : State) (was : List Waiting) → Keeps settings x was x was []
+keeps_same settings x was = λ b within. sym (append-nil (handed_in x.urls was b))
+
+pub takes_both : (settings : Settings) (x y z : State) (was mid : List Waiting) (xs ys : List Tuple) → Keeps settings x was y mid xs → TakesWaiting settings y mid z ys → TakesWaiting settings x was z (xs ++ ys)
+takes_both settings x y z was mid xs ys first second = λ b within.
+    let more = part settings.buckets b ys in
+    let whole : handed_in y.urls mid b ++ more ≡ handed_in x.urls was b ++ part settings.buckets b (xs ++ ys) =
+    joined (handed_in x.urls was b) (handed_in y.urls mid b) (handed_in y.urls mid b ++ more) _ _ _ (first b within) refl (part_both settings.buckets b xs ys) in
+    ((second b within).0, sym whole ∙ (second b within).1)
+
+-- ---- stops
+pub stops_both : (old mid new : Snapshot) (x y z : State) → AreFronts x y → AreFronts y z → Leaves old mid (HasBetween x y) → Leaves mid new (HasBetween y z) → Leaves old new (HasBetween x z)
+stops_both old mid new x y z first second before after =
+    joins old mid new (HasBetween x z) (widens old mid (HasBetween x y) (HasBetween x z) before (λ image has. (has.0, has.1, has.2, both_fronts has.0 y z has.3 second)))
+    (widens mid new (HasBetween y z) (HasBetween x z) after (λ image has. (has.0, has.1, both_fronts x y has.0 first has.2, has.3)))
+
+-- ---- records
+-- what is left of a later bay is left of an earlier one
+uneven_before : (u v : ℕ → ℕ) (old mid : Drum) (was between : ℕ → List (List ℕ)) (image : Files) → mid.settings ≡ old.settings → mid.base ≡ old.base
+    → AddsUneven u old.settings.buckets old.settings.array was between → LeavesUneven v mid between image → LeavesUneven (λ b. u b + v b) old was image
+uneven_before u v old mid was between image settings base adds left = (
+  left.0,
+  λ b within. subst (λ (n : ℕ). HasBucketRecords n b (left.0 b) image) base (left.1 b (subst (λ (s : Settings). b < s.buckets) (sym settings) within)),
+  λ b within.
+      let more = subst (λ (s : Settings). AddsUneven v s.buckets s.array between left.0) settings left.2 in
+      omega (arith, adds b within, more b within),
+)
+
+uneven_longer : (u v : ℕ → ℕ) (old : Drum) (was : ℕ → List (List ℕ)) (image : Files) → ((b : ℕ) → u b ≤ v b) → LeavesUneven u old was image → LeavesUneven v old was image
+uneven_longer u v old was image more left = (left.0, left.1, λ b within. omega (arith, more b, left.2 b within))
+
+pub records_stop_both : (u v : ℕ → ℕ) (old mid new : Snapshot) (urls later : Drum) (was between : ℕ → List (List ℕ)) → later.settings ≡ urls.settings → later.base ≡ urls.base
+    → AddsUneven u urls.settings.buckets urls.settings.array was between → Leaves old mid (LeavesUneven u urls was) → Leaves mid new (LeavesUneven v later between) → Leaves old new (LeavesUneven (λ b. u b + v b) urls was)
+records_stop_both u v old mid new urls later was between settings base adds before after =
+    joins old mid new _ (widens old mid (LeavesUneven u urls was) _ before (λ image left. uneven_longer u (λ b. u b + v b) urls was image (λ b. omega arith) left))
+    (widens mid new (LeavesUneven v later between) _ after (λ image left. uneven_before u v urls later was between image settings base adds left))
+
+-- ---- what is told
+pub tells_on : (among : ℕ → Type 0) (old new : Option Files) (files : Files) → TellsOnly among old new → old ≡ Some files → (after : Files) × (new ≡ Some after)
+tells_on among None new files tells told = let no : ⊥ = cc in absurd no
+tells_on among (Some before) new files tells told = (tells.0, tells.1)
+
+pub tells_wider : (among wide : ℕ → Type 0) (old new : Option Files) → ((f : ℕ) → among f → wide f) → TellsOnly among old new → TellsOnly wide old new
+tells_wider among wide None new wider tells = tells
+tells_wider among wide (Some before) new wider tells = (tells.0, tells.1, only_wider among wide before tells.0 wider tells.2)
+
+-- ---- whatever is answered
+pub stays_both : (old mid new : Moment) → IsConsistent mid.store → Stays old mid → Stays mid new → Stays old new
+stays_both old mid new consistent first second =
+    let buckets : mid.parts.urls.settings.buckets ≡ old.parts.urls.settings.buckets = ap (λ (s : Settings). s.buckets) first.settings in
+    record {
+      settings = second.settings ∙ first.settings;
+      base = second.base ∙ first.base;
+      others = tells_both _ _ _ _ first.others (subst (λ (n : ℕ). TellsOnly (IsFileOf n old.parts.urls.settings.buckets) mid.store.files new.store.files) first.base
+          (subst (λ (n : ℕ). TellsOnly (IsFileOf mid.parts.urls.base n) mid.store.files new.store.files) buckets second.others));
+      others_stop = leaves_both _ old.store mid.store new.store consistent first.others_stop (subst (λ (n : ℕ). LeavesBy (ChangesOnly (IsFileOf n old.parts.urls.settings.buckets)) mid.store new.store) first.base
+          (subst (λ (n : ℕ). LeavesBy (ChangesOnly (IsFileOf mid.parts.urls.base n)) mid.store new.store) buckets second.others_stop));
+      bound = λ b within.
+          let later = subst (λ (s : Settings). b < s.buckets → pending_at new.parts.urls b ≤ max (s.trigger + s.array - 1) (pending_at mid.parts.urls b)) first.settings (second.bound b) within in
+          omega (arith, later, first.bound b within);
+    }
+
+-- where only arrays changed
+pub stays_same : (old new : Moment) → IsConsistent old.store → new.store ≡ old.store → new.parts.urls ≡ old.parts.urls → Stays old new
+stays_same old new consistent store urls = record {
+  settings = ap (λ (d : Drum). d.settings) urls;
+  base = ap (λ (d : Drum). d.base) urls;
+  others = tells_same _ _ _ (ap (λ (s : Snapshot). s.files) store);
+  others_stop = subst (λ (s : Snapshot). LeavesBy (ChangesOnly (IsFileOf old.parts.urls.base old.parts.urls.settings.buckets)) old.store s) (sym store)
+      (leaves_same _ old.store old.store (stays old.store old.store.images consistent (λ image left. left)));
+  bound = λ b within. subst (λ (d : Drum). pending_at d b ≤ max (old.parts.urls.settings.trigger + old.parts.urls.settings.array - 1) (pending_at old.parts.urls b)) (sym urls) (omega arith);
+}
+
+-- ---- a state that is fed
+unfoldable pub fed_both : (e d : ℕ) (u v : ℕ → ℕ) (xs ys : List Tuple) (old mid new : Moment) (x : State) → Stays old mid → (first : Fed e u xs old mid x) → Fed d v ys mid new first.state → Fed (e + d) (λ b. u b + v b) (xs ++ ys) old new x
+fed_both e d u v xs ys old mid new x still first second =
+    let y = first.state in
+    let z = second.state in
+    let grows = subst (λ (s : Settings). Grows s d y z) still.settings second.grows in
+    let keeps = subst (λ (s : Settings). Keeps s y mid.arrays z new.arrays ys) still.settings second.keeps in
+    record {
+      state = z;
+      holds = second.holds;
+      grows = grows_both old.parts.urls.settings e d x y z first.grows grows;
+      keeps = keeps_both old.parts.urls.settings x y z old.arrays mid.arrays new.arrays xs ys first.keeps keeps;
+      stops = stops_both old.store mid.store new.store x y z first.grows.front second.grows.front first.stops second.stops;
+      records = λ was have.
+          let between = first.records was have in
+          let now = second.records between.0 between.1 in (
+            now.0,
+            now.1,
+            λ b within.
+                let more = subst (λ (s : Settings). AddsUneven v s.buckets s.array between.0 now.0) still.settings now.2 in
+                omega (arith, between.2 b within, more b within),
+          );
+      records_stop = λ was have.
+          let between = first.records was have in
+          records_stop_both u v old.store mid.store new.store old.parts.urls mid.parts.urls was between.0 still.settings still.base between.2 (first.records_stop was have) (second.records_stop between.0 between.1);
+    }
+
+unfoldable pub stranded_after : (e d : ℕ) (u v : ℕ → ℕ) (xs ys : List Tuple) (old mid new : Moment) (x : State) → Stays old mid → (first : Fed e u xs old mid x) → Stranded d v ys mid new first.state → Stranded (e + d) (λ b. u b + v b) (xs ++ ys) old new x
+stranded_after e d u v xs ys old mid new x still first second =
+    let y = first.state in
+    let grows = subst (λ (s : Settings). Grows s d y second.state) still.settings second.grows in
+    let may_grow = subst (λ (s : Settings). Grows s d y second.most) still.settings second.may_grow in
+    let takes = subst (λ (s : Settings). TakesWaiting s y mid.arrays second.most ys) still.settings second.takes in
+    record {
+      state = second.state;
+      most = second.most;
+      told = second.told;
+      grows = grows_both old.parts.urls.settings e d x y second.state first.grows grows;
+      may_grow = grows_both old.parts.urls.settings e d x y second.most first.grows may_grow;
+      front = second.front;
+      takes = takes_both old.parts.urls.settings x y second.most old.arrays mid.arrays xs ys first.keeps takes;
+      stops = stops_both old.store mid.store new.store x y second.most first.grows.front second.may_grow.front first.stops second.stops;
+      records_stop = λ was have.
+          let between = first.records was have in
+          records_stop_both u v old.store mid.store new.store old.parts.urls mid.parts.urls was between.0 still.settings still.base between.2 (first.records_stop was have) (second.records_stop between.0 between.1);
+    }
+
+-- it may be said with greater numbers
+pub fed_more : (e d : ℕ) (u v : ℕ → ℕ) (xs : List Tuple) (old new : Moment) (x : State) → e ≤ d → ((b : ℕ) → u b ≤ v b) → Fed e u xs old new x → Fed d v xs old new x
+fed_more e d u v xs old new x le more fed = record {
+  state = fed.state;
+  holds = fed.holds;
+  grows = grows_more old.parts.urls.settings e d x fed.state le fed.grows;
+  keeps = fed.keeps;
+  stops = fed.stops;
+  records = λ was have.
+      let now = fed.records was have in
+      (now.0, now.1, λ b within. omega (arith, more b, now.2 b within));
+  records_stop = λ was have. widens old.store new.store (LeavesUneven u old.parts.urls was) _ (fed.records_stop was have) (λ image left. uneven_longer u v old.parts.urls was image more left);
+}
+
+pub stranded_more : (e d : ℕ) (u v : ℕ → ℕ) (xs : List Tuple) (old new : Moment) (x : State) → e ≤ d → ((b : ℕ) → u b ≤ v b) → Stranded e u xs old new x → Stranded d v xs old new x
+stranded_more e d u v xs old new x le more has = record {
+  state = has.state;
+  most = has.most;
+  told = has.told;
+  grows = grows_more old.parts.urls.settings e d x has.state le has.grows;
+  may_grow = grows_more old.parts.urls.settings e d x has.most le has.may_grow;
+  front = has.front;
+  takes = has.takes;
+  stops = has.stops;
+  records_stop = λ was have. widens old.store new.store (LeavesUneven u old.parts.urls was) _ (has.records_stop was have) (λ image left. uneven_longer u v old.parts.urls was image more left);
+}
+
+-- ---- the same of each state that was held
+pub feeds_both : (e d : ℕ) (u v : ℕ → ℕ) (xs ys : List Tuple) (old mid new : Moment) → Stays old mid → Feeds e u xs old mid → Feeds d v ys mid new → Feeds (e + d) (λ b. u b + v b) (xs ++ ys) old new
+feeds_both e d u v xs ys old mid new still first second = λ files told x holds.
+    let one = first files told x holds in
+    let after = tells_on _ old.store.files mid.store.files files still.others told in
+    fed_both e d u v xs ys old mid new x still one (second after.0 after.1 one.state one.holds)
+
+pub strands_after : (e d : ℕ) (u v : ℕ → ℕ) (xs ys : List Tuple) (old mid new : Moment) → Stays old mid → Feeds e u xs old mid → Strands d v ys mid new → Strands (e + d) (λ b. u b + v b) (xs ++ ys) old new
+strands_after e d u v xs ys old mid new still first second = λ files told x holds.
+    let one = first files told x holds in
+    let after = tells_on _ old.store.files mid.store.files files still.others told in
+    stranded_after e d u v xs ys old mid new x still one (second after.0 after.1 one.state one.holds)
+
+pub feeds_more : (e d : ℕ) (u v : ℕ → ℕ) (xs : List Tuple) (old new : Moment) → e ≤ d → ((b : ℕ) → u b ≤ v b) → Feeds e u xs old new → Feeds d v xs old new
+feeds_more e d u v xs old new le more feeds = λ files told x holds. fed_more e d u v xs old new x le more (feeds files told x holds)
+
+pub strands_more : (e d : ℕ) (u v : ℕ → ℕ) (xs : List Tuple) (old new : Moment) → e ≤ d → ((b : ℕ) → u b ≤ v b) → Strands e u xs old new → Strands d v xs old new
+strands_more e d u v xs old new le more strands = λ files told x holds. stranded_more e d u v xs old new x le more (strands files told x holds)
+
+-- ---- where the store wasn't called
+journals_same : (old new : Moment) (was : ℕ → List (List ℕ)) → new.store ≡ old.store → new.parts.urls ≡ old.parts.urls → HaveRecords old.store.images old.parts.urls was → HaveRecords new.store.images new.parts.urls was
+journals_same old new was store urls have =
+    subst (λ (s : Snapshot). HaveRecords s.images new.parts.urls was) (sym store) (subst (λ (d : Drum). HaveRecords old.store.images d was) (sym urls) have)
+
+journals_left : (now : Snapshot) (urls : Drum) (was : ℕ → List (List ℕ)) → IsDrum urls → IsConsistent now → HaveRecords now.images urls was → Leaves now now (LeavesUneven none_more urls was)
+journals_left now urls was law consistent have = stays now _ consistent (λ image left. (
+  was,
+  λ b within. subst (λ (f : ℕ). HasRecords (image f) (was b)) (law.buckets b within).journal (have b within image left).records,
+  λ b within. omega arith,
+))
+
+pub fed_still : (xs : List Tuple) (old new : Moment) (x : State) → IsConsistent old.store → IsDrum old.parts.urls → new.store ≡ old.store → new.parts.urls ≡ old.parts.urls
+    → Keeps old.parts.urls.settings x old.arrays x new.arrays xs → HoldsState old.store.images old.parts x → Fed 0 none_more xs old new x
+fed_still xs old new x consistent law store urls keeps holds = record {
+  state = x;
+  holds = subst (λ (s : Snapshot). HoldsUrls s.images new.parts.urls x) (sym store) (subst (λ (d : Drum). HoldsUrls old.store.images d x) (sym urls) holds);
+  grows = grows_same old.parts.urls.settings x;
+  keeps = keeps;
+  stops = subst (λ (s : Snapshot). Leaves old.store s (HasBetween x x)) (sym store)
+      (stays old.store (HasBetween x x) consistent (λ image left. (x, held_has old.store.images old.parts.urls x image law holds left, same_fronts x, same_fronts x)));
+  records = λ was have. (was, journals_same old new was store urls have, λ b within. omega arith);
+  records_stop = λ was have. subst (λ (s : Snapshot). Leaves old.store s (LeavesUneven none_more old.parts.urls was)) (sym store) (journals_left old.store old.parts.urls was law consistent have);
+}
+
+-- nothing was done
+pub feeds_none : (old new : Moment) → IsConsistent old.store → IsDrum old.parts.urls → new.store ≡ old.store → new.parts.urls ≡ old.parts.urls → new.arrays ≡ old.arrays → Feeds 0 none_more [] old new
+feeds_none old new consistent law store urls arrays = λ files told x holds.
+    fed_still [] old new x consistent law store urls (subst (λ (l : List Waiting). Keeps old.parts.urls.settings x old.arrays x l []) (sym arrays) (keeps_same old.parts.urls.settings x old.arrays)) holds
+
+-- ---- where the store was only read
+pub fed_read : (old new : Moment) (x : State) → IsConsistent new.store → IsDrum old.parts.urls → LeavesSame old.store new.store → new.parts.urls ≡ old.parts.urls → new.arrays ≡ old.arrays
+    → HoldsState old.store.images old.parts x → HoldsState new.store.images new.parts x → Fed 0 none_more [] old new x
+fed_read old new x consistent law same urls arrays holds after = record {
+  state = x;
+  holds = after;
+  grows = grows_same old.parts.urls.settings x;
+  keeps = subst (λ (l : List Waiting). Keeps old.parts.urls.settings x old.arrays x l []) (sym arrays) (keeps_same old.parts.urls.settings x old.arrays);
+  stops = widens old.store new.store old.store.images (HasBetween x x) same (λ image left. (x, held_has old.store.images old.parts.urls x image law holds left, same_fronts x, same_fronts x));
+  records = λ was have. (
+    was,
+    subst (λ (d : Drum). HaveRecords new.store.images d was) (sym urls) (λ b within image left. have b within image (left_now old.store new.store old.store.images consistent same image left)),
+    λ b within. omega arith,
+  );
+  records_stop = λ was have. widens old.store new.store old.store.images (LeavesUneven none_more old.parts.urls was) same (λ image left. (
+    was,
+    λ b within. subst (λ (f : ℕ). HasRecords (image f) (was b)) (law.buckets b within).journal (have b within image left).records,
+    λ b within. omega arith,
+  ));
+}
+
+-- where a later store held no state, an earlier one didn't
+pub none_before : (e : ℕ) (u : ℕ → ℕ) (xs : List Tuple) (old mid : Moment) → Stays old mid → Feeds e u xs old mid → HeldNone mid → HeldNone old
+none_before e u xs old mid still first none = λ files told x holds.
+    let one = first files told x holds in
+    let after = tells_on _ old.store.files mid.store.files files still.others told in
+    none after.0 after.1 one.state one.holds

@@ -1,0 +1,207 @@
+-- What one merge of the store does for the arrays in front of it.
+use Rattle.std.proofs.Common.{◌≡◌, ◌∙◌, ◌⊎◌, inl, inr, ⊎_elim, ℕ, zero, suc, ◌+◌, ◌<◌, ◌≤◌, Bool, true, false, cond, ◌||◌, List, [], ◌∷◌, ◌++◌, length, nat_le, slice_index, Option, None, Some, refl, sym, ap, subst, append-nil, arith}
+use Rattle.std.proofs.Math.Bool.{or-true}
+use Rattle.std.proofs.lemmas.Bool.Decides.{nat_tests}
+use Rattle.std.specs.Option.{ForSome}
+use Rattle.irl_offer.specs.declared.entry.Entry.{Entry}
+use Rattle.irl_offer.specs.declared.settings.Settings.{Settings}
+use Rattle.irl_offer.specs.Tuple.{Tuple}
+use Rattle.irl_array.specs.Waiting.{Waiting}
+use Rattle.irl_model.specs.Book.{lengths_of, judged_cut}
+use Rattle.irl_model.specs.State.{State, AreFronts}
+use Rattle.irl_model.proofs.FrontLaws.{front_same, merged_front}
+use Rattle.irl_disk.specs.Disk.{Files}
+use Rattle.irl_disk.specs.Images.{IsConsistent, Follows, Leaves, LeavesBy}
+use Rattle.irl_disk.proofs.Stretches.{widens}
+use Rattle.irl_bay.specs.declared.bucket.Bucket.{Bucket}
+use Rattle.irl_bay.specs.Drum.{Drum, IsDrum, bucket_at, durables, pending_at}
+use Rattle.irl_bay.specs.Merging.{KeepsCommitted, IsBatchFile}
+use Rattle.irl_bay.specs.Holding.{TellsBy}
+use Rattle.irl_bay.specs.Pending.{IsSpoiltBucket, HasEntries, HasRunsTo}
+use Rattle.irl_bay.specs.Spoilt.{IsSpoiltAt, FallsAt}
+use Rattle.irl_bay.proofs.Apart.{batch_files}
+use Rattle.irl_bay.proofs.MergeFrames.{batch_stays, holds_written}
+use Rattle.irl_yard.specs.Standing.{HasState}
+use Rattle.irl_yard.specs.Holding.{HoldsUrls, HoldsState, HasOneOf, HasJournal, HasBucketRecords, with_cut}
+use Rattle.irl_yard.proofs.Holding.{rest_kept, held_has}
+use Rattle.irl_intake.specs.Schedule.{IsDue, has_enough, early_cuts, HaveRecords, LeavesUneven, none_more}
+use Rattle.irl_intake.specs.Feeding.{waiting_at, handed_in, list_at, Grows, Keeps, HasBetween, Moment, Fed, Stranded}
+use Rattle.irl_intake.proofs.Chains.{same_fronts, grows_same}
+use Rattle.irl_intake.proofs.Counts.{durable_index, length-durables}
+use Rattle.irl_intake.proofs.Steps.{leaves_all, told_these, told_none, told_one}
+
+-- ---- a merge that is due
+or_true : (a b : Bool) → b ≡ true → a || b ≡ true
+or_true a b is = ap (λ (t : Bool). a || t) is ∙ or-true a
+
+enough : (trigger : ℕ) (from to : List ℕ) (b : ℕ) → b < length from → b < length to → slice_index from b + trigger ≤ slice_index to b → has_enough trigger from to ≡ true
+enough trigger [] to b within inside le = absurd (omega (arith, within))
+enough trigger (first ∷ from) [] b within inside le = absurd (omega (arith, inside))
+enough trigger (first ∷ from) (last ∷ to) zero within inside le =
+    let here : nat_le (first + trigger) last ≡ true = grind (arith, nat_tests) in
+    ap (λ (t : Bool). t || has_enough trigger from to) here
+enough trigger (first ∷ from) (last ∷ to) (suc b) within inside le = or_true (nat_le (first + trigger) last) (has_enough trigger from to) (enough trigger from to b (omega (arith, within)) (omega (arith, inside)) le)
+
+due_enough : (images : Files → Type 0) (urls : Drum) (x : State) → IsDrum urls → HoldsUrls images urls x → IsDue urls → has_enough urls.settings.trigger (judged_cut x.urls) (lengths_of x.urls) ≡ true
+due_enough images urls x law holds due =
+    let numbers = holds.urls_hold.numbers in
+    let b = due.0 in
+    let counted : has_enough urls.settings.trigger urls.last.cut (durables urls) ≡ true =
+    enough urls.settings.trigger urls.last.cut (durables urls) b (omega (arith, law.last.count, due.1)) (omega (arith, length-durables urls, law.count, due.1))
+    (omega (arith, durable_index urls b, due.2, law.settings.sizes.trigger)) in
+    subst (λ (from : List ℕ). has_enough urls.settings.trigger from (lengths_of x.urls) ≡ true) numbers.commit.cut
+    (subst (λ (to : List ℕ). has_enough urls.settings.trigger urls.last.cut to ≡ true) numbers.offers counted)
+
+one_cut : (trigger early : ℕ) (from to : List ℕ) (test : Bool) → has_enough trigger from to ≡ test → (test ≡ true) ⊎ (1 ≤ early) → early_cuts trigger from (to ∷ []) ≤ early
+one_cut trigger early from to true is why = let none : early_cuts trigger from (to ∷ []) ≡ 0 = ap (λ (t : Bool). cond t 0 1 + 0) is in omega (arith, none)
+one_cut trigger early from to false is (inl due) = let no : ⊥ = cc in absurd no
+one_cut trigger early from to false is (inr le) = let one : early_cuts trigger from (to ∷ []) ≡ 1 = ap (λ (t : Bool). cond t 0 1 + 0) is in omega (arith, one, le)
+
+cut_front : (x : State) → AreFronts x (with_cut x)
+cut_front x = record { settings = refl; urls = merged_front x.urls; pairs = front_same x.pairs }
+
+cut_grows : (early : ℕ) (images : Files → Type 0) (urls : Drum) (x : State) → IsDrum urls → HoldsUrls images urls x → IsDue urls ⊎ (1 ≤ early) → Grows urls.settings early x (with_cut x)
+cut_grows early images urls x law holds why = record {
+  front = cut_front x;
+  fits = λ b within. inl refl;
+  cuts = lengths_of x.urls ∷ [];
+  cuts_are = refl;
+  early_are = one_cut urls.settings.trigger early (judged_cut x.urls) (lengths_of x.urls) (has_enough urls.settings.trigger (judged_cut x.urls) (lengths_of x.urls)) refl
+      (⊎_elim (λ due. inl (due_enough images urls x law holds due)) (λ le. inr le) why);
+}
+
+-- ---- what a merge says of stops, whatever it answers
+pub record Merging (old new : Moment) : Type 0 where
+  pub later : old.store.moment ≤ new.store.moment
+  pub waiting : new.arrays ≡ old.arrays
+  pub stops : (state : State) → HoldsState old.store.images old.parts state → Leaves old.store new.store (HasOneOf state (with_cut state))
+  pub records_stop : (b : ℕ) (payloads : List (List ℕ)) → b < old.parts.urls.settings.buckets → HasJournal old.store.images old.parts.urls b payloads
+      → Leaves old.store new.store (HasBucketRecords old.parts.urls.base b payloads)
+
+merge_records_stop : (old new : Moment) (was : ℕ → List (List ℕ)) → Merging old new → HaveRecords old.store.images old.parts.urls was → Leaves old.store new.store (LeavesUneven none_more old.parts.urls was)
+merge_records_stop old new was merge have =
+    widens old.store new.store _ _ (leaves_all old.parts.urls.settings.buckets old.store new.store (λ b. HasBucketRecords old.parts.urls.base b (was b)) merge.later (λ b within. merge.records_stop b (was b) within (have b within)))
+    (λ image has. (was, has, λ b within. omega arith))
+
+merge_between : (old new : Moment) (x : State) → Merging old new → HoldsState old.store.images old.parts x → Leaves old.store new.store (HasBetween x (with_cut x))
+merge_between old new x merge holds = widens old.store new.store (HasOneOf x (with_cut x)) (HasBetween x (with_cut x)) (merge.stops x holds)
+    (λ image has. ⊎_elim (λ was. (x, was, same_fronts x, cut_front x)) (λ now. (with_cut x, now, cut_front x, same_fronts (with_cut x))) has)
+
+merge_keeps : (old new : Moment) (x y : State) → new.arrays ≡ old.arrays → ((b : ℕ) → list_at y.urls b ≡ list_at x.urls b) → Keeps old.parts.urls.settings x old.arrays y new.arrays []
+merge_keeps old new x y same lists = λ b within.
+    subst (λ (l : List Waiting). handed_in y.urls l b ≡ handed_in x.urls old.arrays b ++ []) (sym same)
+    (ap (λ (l : List Tuple). l ++ waiting_at old.arrays b) (lists b) ∙ sym (append-nil (handed_in x.urls old.arrays b)))
+
+-- the journals keep their records
+abbrev pub KeepsJournals : State → Moment → Moment → Type 0
+KeepsJournals x old new = (b : ℕ) (payloads : List (List ℕ)) → b < old.parts.urls.settings.buckets → HoldsState old.store.images old.parts x
+    → HasJournal old.store.images old.parts.urls b payloads → HasJournal new.store.images new.parts.urls b payloads
+
+-- a later state
+fed_to : (early : ℕ) (old new : Moment) (x y : State) → Merging old new → new.parts.urls.settings ≡ old.parts.urls.settings → HoldsState old.store.images old.parts x → HoldsState new.store.images new.parts y
+    → Grows old.parts.urls.settings early x y → ((b : ℕ) → list_at y.urls b ≡ list_at x.urls b) → Leaves old.store new.store (HasBetween x y) → KeepsJournals x old new → Fed early none_more [] old new x
+fed_to early old new x y merge settings holds after grows lists stops kept = record {
+  state = y;
+  holds = after;
+  grows = grows;
+  keeps = merge_keeps old new x y merge.waiting lists;
+  stops = stops;
+  records = λ was have. (
+    was,
+    λ b within. let inside : b < old.parts.urls.settings.buckets = subst (λ (s : Settings). b < s.buckets) settings within in kept b (was b) inside holds (have b inside),
+    λ b within. omega arith,
+  );
+  records_stop = λ was have. merge_records_stop old new was merge have;
+}
+
+pub merge_fed : (early : ℕ) (old new : Moment) (x : State) → IsDrum old.parts.urls → Merging old new → new.parts.urls.settings ≡ old.parts.urls.settings → IsDue old.parts.urls ⊎ (1 ≤ early)
+    → HoldsState old.store.images old.parts x → HoldsState new.store.images new.parts (with_cut x) → KeepsJournals x old new → Fed early none_more [] old new x
+merge_fed early old new x law merge settings why holds after kept =
+    fed_to early old new x (with_cut x) merge settings holds after (cut_grows early old.store.images old.parts.urls x law holds why) (λ b. refl) (merge_between old new x merge holds) kept
+
+-- where it adds no cut, each image has the state
+written_has : (old new : Moment) (x : State) → IsDrum old.parts.urls → HoldsState old.store.images old.parts x → LeavesBy (KeepsCommitted old.parts.urls) old.store new.store → Leaves old.store new.store (HasBetween x x)
+written_has old new x law holds stops =
+    let urls = old.parts.urls in
+    widens old.store new.store (Follows (KeepsCommitted urls) old.store.images) (HasBetween x x) stops (λ image from.
+    (x, held_has (Follows (KeepsCommitted urls) old.store.images) urls x image law (held urls) from, same_fronts x, same_fronts x))
+  where
+    held : (urls : Drum) → HoldsUrls (Follows (KeepsCommitted old.parts.urls) old.store.images) old.parts.urls x
+    held urls = record {
+      settings = holds.settings;
+      base = holds.base;
+      kind = holds.kind;
+      urls_hold = holds_written old.store.images (Follows (KeepsCommitted old.parts.urls) old.store.images) old.parts.urls x.urls law (λ image from. from) holds.urls_hold;
+      pairs_are = holds.pairs_are;
+      rest = λ image from. rest_kept (IsBatchFile old.parts.urls) old.parts.urls from.0 image law holds.base (batch_files old.parts.urls) from.2.others (holds.rest from.0 from.1);
+    }
+
+pub unmerged_fed : (early : ℕ) (old new : Moment) (x : State) → IsDrum old.parts.urls → Merging old new → new.parts.urls ≡ old.parts.urls → LeavesBy (KeepsCommitted old.parts.urls) old.store new.store
+    → HoldsState old.store.images old.parts x → HoldsState new.store.images new.parts x → KeepsJournals x old new → Fed early none_more [] old new x
+unmerged_fed early old new x law merge same stops holds after kept =
+    fed_to early old new x x merge (ap (λ (d : Drum). d.settings) same) holds after (grows_any early old.parts.urls.settings x) (λ b. refl) (written_has old new x law holds stops) kept
+  where
+    grows_any : (early : ℕ) (settings : Settings) (x : State) → Grows settings early x x
+    grows_any early settings x = let same = grows_same settings x in record { front = same.front; fits = same.fits; cuts = same.cuts; cuts_are = same.cuts_are; early_are = omega (arith, same.early_are) }
+
+-- ---- where the store failed
+merge_strand : (early : ℕ) (old new : Moment) (x s : State) → IsDrum old.parts.urls → Merging old new → IsDue old.parts.urls ⊎ (1 ≤ early) → HoldsState old.store.images old.parts x → ForSome new.store.files (HasState s)
+    → Grows old.parts.urls.settings early x s → AreFronts s (with_cut x) → Stranded early none_more [] old new x
+merge_strand early old new x s law merge why holds told grows front = record {
+  state = s;
+  most = with_cut x;
+  told = told;
+  grows = grows;
+  may_grow = cut_grows early old.store.images old.parts.urls x law holds why;
+  front = front;
+  takes = λ b within. (waiting_at old.arrays b, append-nil (handed_in x.urls old.arrays b));
+  stops = merge_between old new x merge holds;
+  records_stop = λ was have. merge_records_stop old new was merge have;
+}
+
+pub merge_stranded : (early : ℕ) (old new : Moment) (x : State) → IsConsistent new.store → IsDrum old.parts.urls → Merging old new → IsDue old.parts.urls ⊎ (1 ≤ early) → HoldsState old.store.images old.parts x
+    → Stranded early none_more [] old new x
+merge_stranded early old new x consistent law merge why holds = by_told new.store.files refl
+  where
+    before : ForSome new.store.files (HasState x) → Stranded early none_more [] old new x
+    before told = let same = grows_same old.parts.urls.settings x in
+        merge_strand early old new x x law merge why holds told (record { front = same.front; fits = same.fits; cuts = same.cuts; cuts_are = same.cuts_are; early_are = omega (arith, same.early_are) }) (cut_front x)
+
+    after : ForSome new.store.files (HasState (with_cut x)) → Stranded early none_more [] old new x
+    after told = merge_strand early old new x (with_cut x) law merge why holds told (cut_grows early old.store.images old.parts.urls x law holds why) (same_fronts (with_cut x))
+
+    by_told : (told : Option Files) → new.store.files ≡ told → Stranded early none_more [] old new x
+    by_told None is = before (told_none new.store.files x is)
+    by_told (Some files) is = ⊎_elim (λ was. before (told_these new.store.files files x is was)) (λ now. after (told_these new.store.files files (with_cut x) is now))
+        (told_one x (with_cut x) old.store new.store files consistent (merge.stops x holds) is)
+
+-- ---- damage
+-- it is still there
+runs_kept : (settings : Settings) (b from : ℕ) (old new : List ℕ) (runs : List (List Entry)) (at : ℕ) (behind : List ℕ) → new ≡ old → HasRunsTo settings b from old runs at behind → HasRunsTo settings b from new runs at behind
+runs_kept settings b from old new runs at behind same has = subst (λ (file : List ℕ). HasRunsTo settings b from file runs at behind) (sym same) has
+
+entries_kept : (settings : Settings) (b : ℕ) (bucket : Bucket) (old new : Files) (entries : List Entry) → new bucket.journal.file ≡ old bucket.journal.file → HasEntries settings b bucket old entries → HasEntries settings b bucket new entries
+entries_kept settings b bucket old new entries same has = record { runs = has.runs; behind = has.behind; has = runs_kept settings b bucket.gate _ _ has.runs bucket.journal.end has.behind same has.has; joined = has.joined }
+
+bucket_spoilt : (settings : Settings) (b : ℕ) (bucket : Bucket) (pending : ℕ) (old new : Files) (f at : ℕ) → new bucket.journal.file ≡ old bucket.journal.file → IsSpoiltBucket settings b bucket pending old f at → IsSpoiltBucket settings b bucket pending new f at
+bucket_spoilt settings b bucket pending old new f at same (inl journal) = inl (journal.0, record { runs = journal.1.runs; behind = journal.1.behind; has = runs_kept settings b bucket.gate _ _ journal.1.runs at journal.1.behind same journal.1.has; why = journal.1.why })
+bucket_spoilt settings b bucket pending old new f at same (inr (inl counts)) =
+    inr (inl (counts.0, counts.1, record { entries = counts.2.entries; has = entries_kept settings b bucket old new counts.2.entries same counts.2.has; other = counts.2.other }))
+bucket_spoilt settings b bucket pending old new f at same (inr (inr text)) =
+    inr (inr (text.0, text.1, record { entries = text.2.entries; has = entries_kept settings b bucket old new text.2.entries same text.2.has; other = text.2.other }))
+
+pub spoilt_kept : (urls : Drum) (old new : Files) (f at : ℕ) → IsDrum urls → KeepsCommitted urls old new → IsSpoiltAt urls old f at → IsSpoiltAt urls new f at
+spoilt_kept urls old new f at law keeps (inl cache) =
+    inl (cache.0, subst (λ (file : List ℕ). FallsAt urls.last.entries file at) (ap old cache.0 ∙ sym (batch_stays urls old new law keeps).cache ∙ ap new (sym cache.0)) cache.1)
+spoilt_kept urls old new f at law keeps (inr bucket) =
+    inr (bucket.0, bucket.1, bucket_spoilt urls.settings bucket.0 (bucket_at urls bucket.0) (pending_at urls bucket.0) old new f at ((batch_stays urls old new law keeps).journals bucket.0 bucket.1) bucket.2)
+
+-- what is told of it
+pub spoilt_told : (urls : Drum) (old new : Option Files) (f at : ℕ) → IsDrum urls → TellsBy (KeepsCommitted urls) old new → ForSome old (λ files. IsSpoiltAt urls files f at) → ForSome new (λ files. IsSpoiltAt urls files f at)
+spoilt_told urls None new f at law tells spoilt = λ files told. let no : ⊥ = cc in absurd no
+spoilt_told urls (Some before) new f at law tells spoilt = λ files told.
+    let same : tells.0 ≡ files = some_same _ _ (sym tells.1 ∙ told) in
+    subst (λ (fs : Files). IsSpoiltAt urls fs f at) same (spoilt_kept urls before tells.0 f at law tells.2 (spoilt before refl))
+  where
+    some_same : (x y : Files) → Some x ≡ Some y → x ≡ y
+    some_same x y same = cc
