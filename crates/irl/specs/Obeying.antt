@@ -3,10 +3,10 @@ use Rattle.std.specs.Prelude.{◌≡◌, ◌≢◌, ℕ, List, drop, Option}
 use Rattle.std.specs.Io.KnownBytes.{Appends}
 use Rattle.irl_offer.specs.Faults.{Rose}
 use Rattle.irl_disk.specs.Images.{silent}
-use Rattle.irl_top.specs.Message.{Says, message}
-use Rattle.irl_top.specs.Run.{Outside, Runs}
+use Rattle.irl_top.specs.Message.{Says, refusal}
+use Rattle.irl_top.specs.Outside.{Outside}
+use Rattle.irl_top.specs.Run.{Runs}
 use Rattle.irl_top.specs.Stream.{Stream}
-use Rattle.irl_top.specs.declared.ending.Ending.TheVariants.{WordsRefused}
 use Rattle.irl.specs.Words.{refusing_word}
 use Rattle.irl.specs.declared.words.Request.{Request}
 use Rattle.irl.specs.declared.words.Request.TheVariants.{Help, Version, SeenHelp, Refused, Run}
@@ -42,7 +42,7 @@ pub record Shows (text : List ℕ) (before after : Streams) (status : ℕ) : Typ
 -- the words were refused by this one: the error stream was given the line that a run gives it, and no other was called
 pub record Refuses (word : List ℕ) (before after : Streams) (status : ℕ) : Type 0 where
   pub status_is : status ≡ 1
-  pub says : Says (message word WordsRefused) before.errors after.errors
+  pub says : Says (refusal word) before.errors after.errors
   pub input : after.input ≡ before.input
   pub output : after.output ≡ before.output
 

@@ -7,8 +7,7 @@ ghost use Rattle.irl_offer.specs.Faults.{Rose, HasCause};
 ghost use Rattle.irl_io.specs.Written.{AppendsPrefix};
 ghost use Rattle.irl_files.specs.FileStore.{fault_count, folder_path};
 ghost use Rattle.irl_files.specs.Folder.{named_folder};
-ghost use Rattle.irl_top.specs.Message.{Says, message};
-ghost use Rattle.irl_top.specs.declared.ending.Ending.TheVariants.{WordsRefused};
+ghost use Rattle.irl_top.specs.Message.{Says, refusal};
 ghost use Rattle.irl.specs.Words.{asked, folder_in};
 ghost use Rattle.irl.specs.Obeying.{RunsOverFiles, Obeys, streams};
 
@@ -44,14 +43,16 @@ const SEEN_HELP: &str = "\
 Usage: irl DIR seen
 
 Keeps the lines of standard input in the folder DIR, and prints each line that is
-new, in order. A line has at most 2,048 bytes, and empty lines are passed over.
-Each line is synced to the disk before it is printed.
+new. A line has at most 2,048 bytes, and empty lines are passed over. Lines are
+judged many at once, bucket by bucket, and synced to the disk before they are
+printed.
 
 Options:
   -h, --help  prints this text
 
-Exit status: 0 done, 1 words refused, 2 a line refused, 3 not a store or damaged,
-4 disk fault, 5 input fault, 6 output fault, 7 no memory.
+Exit status: 0 done, 1 words refused, 2 a line refused, 3 not a store, damaged or
+made with other settings, 4 disk fault, 5 input fault, 6 output fault,
+7 no memory, 8 a bucket full.
 ";
 
 const VERSION: &str = "irl 0.1.0\n";
@@ -88,7 +89,7 @@ fn show<O: Sink, E: Sink>(output: &mut O, errors: &mut E, text: &str) -> u8
 /// Refuses the words by one of them, and gives the exit status.
 fn refuse<E: Sink>(errors: &mut E, word: &str) -> u8
     ensures status { result ≡ WORDS_REFUSED }
-    ensures says { Says (message word.now WordsRefused)
+    ensures says { Says (refusal word.now)
         (record { bytes = E.written errors.old; faults = E.faults errors.old })
         (record { bytes = E.written errors.new; faults = E.faults errors.new }) }
 {
@@ -99,9 +100,9 @@ fn refuse<E: Sink>(errors: &mut E, word: &str) -> u8
 /// Writes the line of refused words, up to the first piece that fails.
 fn write_refusal<E: Sink>(errors: &mut E, word: &str) -> Result<(), Failed>
     ensures ok { OnOk result
-        (Appends (E.written errors.old) (E.written errors.new) (message word.now WordsRefused)) }
+        (Appends (E.written errors.old) (E.written errors.new) (refusal word.now)) }
     ensures err { OnErr result
-        (AppendsPrefix (E.written errors.old) (E.written errors.new) (message word.now WordsRefused)) }
+        (AppendsPrefix (E.written errors.old) (E.written errors.new) (refusal word.now)) }
     ensures cause { HasCause (IsErr result) (E.faults errors.old) (E.faults errors.new) }
 {
     errors.write(b"words refused: ")?;

@@ -1,8 +1,8 @@
-pub mod AddedLines
-pub mod Committing
+pub mod Calls
+pub mod Closed
 pub mod Deciding
-pub mod Images
-pub mod Reading
-pub mod Running
+pub mod Going
+pub mod Growing
+pub mod InputLines
+pub mod Opened
 pub mod Sinks
-pub mod Stopping

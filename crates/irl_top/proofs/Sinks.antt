@@ -1,6 +1,9 @@
 -- Pieces written one after another.
-use Rattle.std.proofs.Common.{◌≡◌, ◌∙◌, ℕ, ◌+◌, min, List, ◌++◌, length, take, Option, Some, None, sym, ap, subst, arith, append_assoc}
-use Rattle.std.proofs.Math.Seq.{take-append-add}
+use Rattle.std.proofs.Common.{◌≡◌, ◌∙◌, ℕ, suc, ◌+◌, ◌<◌, min, List, ◌∷◌, ◌++◌, length, take, drop, get_or, Option, Some, None, sym, ap, subst, arith, append_assoc}
+use Rattle.std.proofs.lemmas.Grind.{flat_map-append}
+use Rattle.std.proofs.lemmas.List.Concat.{flat_map-cons}
+use Rattle.std.proofs.Math.Seq.{take-append-add, split_at}
+use Rattle.std.specs.List.{flat_map}
 use Rattle.std.proofs.lemmas.List.{take_min, take-append-le}
 use Rattle.std.specs.Io.KnownBytes.{Appends}
 use Rattle.std.specs.Prelude.{Result, Ok, Err, OnErr}
@@ -27,3 +30,11 @@ then_prefix a b c xs ys h k = (length xs + k.0, subst (λ (piece : List ℕ). Ap
 pub on_err_always : {T E : Type 0} (r : Result T E) (P : Type 0) → P → OnErr r P
 on_err_always (Ok x) P h = tt
 on_err_always (Err e) P h = h
+
+-- the pieces before this one, and a prefix of it
+pub pieces_part : {X : Type 0} (f : X → List ℕ) (pieces : List X) (i : ℕ) (d : X) (a b c : Option (List ℕ)) → i < length pieces → Appends a b (flat_map f (take i pieces)) → AppendsPrefix b c (f (get_or pieces i d)) → AppendsPrefix a c (flat_map f pieces)
+pieces_part f pieces i d a b c within before part =
+    let rest = drop (suc i) pieces in
+    let whole : flat_map f pieces ≡ flat_map f (take i pieces) ++ (f (get_or pieces i d) ++ flat_map f rest) =
+    ap (λ l. flat_map f l) (split_at pieces i d within) ∙ flat_map-append f (take i pieces) (get_or pieces i d ∷ rest) ∙ ap (λ (l : List ℕ). flat_map f (take i pieces) ++ l) (flat_map-cons f (get_or pieces i d) rest) in
+    subst (λ (l : List ℕ). AppendsPrefix a c l) (sym whole) (then_prefix a b c _ _ before (prefix_more b c _ _ part))

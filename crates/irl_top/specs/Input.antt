@@ -1,7 +1,10 @@
 -- What an input of lines offers.
-use Rattle.std.specs.Prelude.{◌≡◌, ℕ, ◌+◌, ◌||◌, nat_lt, if◌then◌else◌, Bool, List, [], ◌∷◌, ◌++◌, length, filter, Option, None, Some}
+use Rattle.std.specs.Prelude.{ℕ, ◌+◌, ◌||◌, nat_lt, if◌then◌else◌, Bool, List, [], ◌∷◌, length, filter, map, Option, None, Some}
+use Rattle.irl_offer.specs.declared.offer.Op.TheVariants.{Both}
 use Rattle.irl_offer.specs.Limits.{max_text}
+use Rattle.irl_offer.specs.Tuple.{Tuple}
 use Rattle.irl_io.specs.Lines.{lines, most_lines}
+use Rattle.irl_key.specs.Key.{key_of}
 
 -- whether the line of this number, from 1, is refused: it is too long, or there were lines enough
 abbrev pub is_refused : ℕ → List ℕ → Bool
@@ -25,15 +28,14 @@ refused input = refused_from 1 (lines input)
 abbrev pub is_some_line : List ℕ → Bool
 is_some_line line = nat_lt 0 (length line)
 
--- the lines that are offered where the first line has this number: of those before the first that is refused, the ones
--- that aren't empty
-abbrev pub offered_from : ℕ → List ℕ → List (List ℕ)
-offered_from number input = filter is_some_line (accepted_from number (lines input))
+-- the offer of a line
+abbrev pub line_tuple : List ℕ → Tuple
+line_tuple line = record { op = Both; key = key_of line; value = 0; from = 0; aux = line }
 
--- the lines that the input offers
-abbrev pub offered : List ℕ → List (List ℕ)
-offered input = offered_from 1 input
+-- the offers of lines, the first of which has this number: of those before the first that is refused, the ones that aren't empty
+abbrev pub offered_from : ℕ → List (List ℕ) → List Tuple
+offered_from number lines = map line_tuple (filter is_some_line (accepted_from number lines))
 
--- the first elements of a list, up to some place
-abbrev pub IsPrefixOf : {X : Type 0} → List X → List X → Type 0
-IsPrefixOf {X} prefix whole = (rest : List X) × (whole ≡ prefix ++ rest)
+-- the offers of an input
+abbrev pub offered : List ℕ → List Tuple
+offered input = offered_from 1 (lines input)

@@ -1,6 +1,9 @@
-pub mod Batch
+pub mod Command
 pub mod Input
 pub mod Message
+pub mod Outside
 pub mod Printed
+pub mod Records
 pub mod Run
+pub mod Session
 pub mod Stream

@@ -1,178 +1,194 @@
--- What a run of `seen` does, by what the store, the source and the two sinks tell before it and after it, and by what a
--- stop at any moment leaves of the store.
-use Rattle.std.specs.Prelude.{◌≡◌, ◌≢◌, ◌+◌, ◌<◌, ◌≤◌, ◌⊎◌, ℕ, List, [], ◌++◌, length, take, Bool, true, false, IsTrue, Option, None, Some, unwrap_or, ◌↔◌}
-use Rattle.std.specs.Option.{IsSome, ForSome}
+-- What one run of the program does, by what the store, the source and the two sinks tell before it and after it, and by what a stop at
+-- any moment leaves of the store. Each command adds its task: what it asks of a store, what its input offers, and what it prints.
+use Rattle.std.specs.Prelude.{◌≡◌, ◌≢◌, ◌⊎◌, ◌↔◌, ℕ, ◌+◌, ◌<◌, ◌≤◌, List, [], ◌++◌, length, map, Option, None, Some, Result, Ok, Err, unwrap_or, slice_index, ⊤}
+use Rattle.std.specs.Option.{ForSome}
 use Rattle.std.specs.Io.KnownBytes.{Appends}
-use Rattle.irl_offer.specs.Faults.{Rose}
-use Rattle.irl_disk.specs.Disk.{Files, Changes, ChangesFile}
-use Rattle.irl_disk.specs.Images.{Snapshot, Follows, Leaves}
-use Rattle.irl_journal.specs.Visiting.{IsOpened}
-use Rattle.irl_bay.specs.Lines.{line_file, other_file, HasLines, IsDamagedAt}
+use Rattle.irl_offer.specs.Faults.{Rose, HasCause}
+use Rattle.irl_offer.specs.Settings.{AreValid, settings_of}
+use Rattle.irl_offer.specs.Tuple.{Tuple}
+use Rattle.irl_offer.specs.declared.settings.Asked.{Asked}
+use Rattle.irl_offer.specs.declared.settings.Settings.{Settings}
+use Rattle.irl_model.specs.Book.{Book, judged_cut, lengths_of, part, IsPrefixOf}
+use Rattle.irl_model.specs.State.{State, AreFronts, IsFrontState}
+use Rattle.irl_disk.specs.Disk.{Files}
+use Rattle.irl_disk.specs.Images.{Leaves, LeavesBy}
+use Rattle.irl_bay.specs.BayFiles.{IsFileOf}
+use Rattle.irl_bay.specs.Drum.{Drum, IsDrum}
+use Rattle.irl_bay.specs.Holding.{TellsOnly, TellsBy, ChangesOnly}
+use Rattle.irl_bay.specs.Spoilt.{IsSpoiltAt}
+use Rattle.irl_bay.specs.JudgedSpoilt.{IsJudgedSpoiltAt}
+use Rattle.irl_yard.specs.StoreFiles.{head_file, urls_base}
+use Rattle.irl_yard.specs.Standing.{HasState}
+use Rattle.irl_yard.specs.Entering.{Enters}
+use Rattle.irl_yard.specs.Opening.{Agrees, HasSettings, entered_state, IsNotOursAt, IsKeptOtherwise, IsBadStore, IsStoreDamagedAt}
+use Rattle.irl_intake.specs.Feeding.{Grows, list_at, length_at}
+use Rattle.irl_top.specs.declared.command.Command.{Command}
+use Rattle.irl_top.specs.declared.command.Command.TheVariants.{Seen}
 use Rattle.irl_top.specs.declared.ending.Ending.{Ending}
-use Rattle.irl_top.specs.declared.ending.Ending.TheVariants.{Done, WordsRefused, LineRefused, NotOurs, Damaged, DiskFault, InputFault, OutputFault, NoMemory}
-use Rattle.irl_top.specs.Input.{refused, offered, IsPrefixOf}
-use Rattle.irl_top.specs.Message.{Says, message, refused_word, status_of}
+use Rattle.irl_top.specs.declared.ending.Ending.TheVariants.{Done, BadSettings, LineRefused, NotOurs, Damaged, OtherSettings, DiskFault, InputFault, OutputFault, NoMemory, Full}
+use Rattle.irl_top.specs.Command.{command_of}
+use Rattle.irl_top.specs.Input.{refused, offered}
+use Rattle.irl_top.specs.Message.{Says, message, refusal, status_of, refused_status, IsAllPrinted, IsUnopened}
+use Rattle.irl_top.specs.Outside.{Lent, Outside, IsUntouched}
 use Rattle.irl_top.specs.Printed.{added}
-use Rattle.irl_top.specs.Stream.{Stream}
+use Rattle.irl_top.specs.Records.{AddsUnevenRecords}
 
--- what a command is lent tells at one moment, how often each has failed, and what a stop leaves of the store
-pub record Lent : Type 1 where
-  pub store : Snapshot
-  pub disk_faults : ℕ
-  pub input : Stream
-  pub output : Stream
+-- ---- what a command does
+pub record Task : Type 0 where
+  -- what it asks of a store
+  pub asked : Asked
+  -- the number of the first line of an input that is refused, and the offers of the lines before it
+  pub refuses : List ℕ → Option ℕ
+  pub offers : List ℕ → List Tuple
+  -- what it prints where one book becomes another
+  pub prints : Book → Book → List ℕ
 
--- and of all that a run is handed, the error sink with it
-pub record Outside : Type 1 where
-  pub lent : Lent
-  pub errors : Stream
+abbrev pub task_of : Command → Task
+task_of (Seen asked) = record { asked = asked; refuses = refused; offers = offered; prints = added }
 
--- what these objects tell
-abbrev pub lent : {S I O : Type 0} → (S → Snapshot) → (S → ℕ) → (I → Option (List ℕ)) → (I → ℕ) → (O → Option (List ℕ)) → (O → ℕ) → S → I → O → Lent
-lent snapshot faults left input_faults written output_faults store input output =
-    record {
-      store = snapshot store;
-      disk_faults = faults store;
-      input = record { bytes = left input; faults = input_faults input };
-      output = record { bytes = written output; faults = output_faults output };
-    }
+-- ---- states
+-- the settings of a store that stands for a state, or those that it will be made with
+abbrev pub settings_in : Asked → State → Settings
+settings_in asked state = unwrap_or state.settings (settings_of asked)
 
-abbrev pub outside : {S I O E : Type 0} → (S → Snapshot) → (S → ℕ) → (I → Option (List ℕ)) → (I → ℕ) → (O → Option (List ℕ)) → (O → ℕ) → (E → Option (List ℕ)) → (E → ℕ) → S → I → O → E → Outside
-outside snapshot faults left input_faults written output_faults said error_faults store input output errors =
-    record {
-      lent = lent snapshot faults left input_faults written output_faults store input output;
-      errors = record { bytes = said errors; faults = error_faults errors };
-    }
+-- A state that a run over this one may leave: it itself, or one that comes of it once it is opened. One that wasn't made is made as
+-- was asked; each list that has grown is within the cap, and at most one cut was made before a bucket had enough new offers.
+abbrev pub Reaches : Asked → State → State → Type 0
+Reaches asked x y = (y ≡ x) ⊎ Grows (settings_in asked x) 1 (entered_state asked x) y
 
--- an ending before anything was read of the input
-abbrev pub IsEarly : Ending → Type 0
-IsEarly ending = (ending ≡ WordsRefused) ⊎ ((n : ℕ) × (ending ≡ NotOurs n)) ⊎ ((n : ℕ) × (ending ≡ Damaged n))
+-- the lists of a state are those of another, and behind each a prefix of its part of some offers, or all of it
+abbrev pub AddsSome : Asked → State → State → List Tuple → Type 0
+AddsSome asked x y offers = (b : ℕ) → b < (settings_in asked x).buckets → (news : List Tuple) × (list_at y.urls b ≡ list_at x.urls b ++ news) × IsPrefixOf news (part (settings_in asked x).buckets b offers)
+
+abbrev pub AddsAll : Asked → State → State → List Tuple → Type 0
+AddsAll asked x y offers = (b : ℕ) → b < (settings_in asked x).buckets → list_at y.urls b ≡ list_at x.urls b ++ part (settings_in asked x).buckets b offers
+
+-- a joint image stands for a state that a run over the first may leave, at or below the last
+abbrev pub HasReached : Asked → State → State → Files → Type 0
+HasReached asked x most image = (z : State) × HasState z image × Reaches asked x z × IsFrontState z most
+
+-- no bucket's list would pass the cap with its part of some offers
+abbrev pub FitsCap : Asked → State → List Tuple → Type 0
+FitsCap asked x offers = (b : ℕ) → b < (settings_in asked x).buckets → length_at (entered_state asked x).urls b + length (part (settings_in asked x).buckets b offers) ≤ (settings_in asked x).cap
+
+-- ---- what a run leaves
+-- What a run leaves of a store whose files stood for a state, whatever ends it.
+pub record Extends (task : Task) (before after : Lent) (ending : Ending) (x : State) : Type 0 where
+  -- the state whose files were acknowledged, the one that the files stand for, and the greatest that a stop left
+  pub kept : State
+  pub state : State
+  pub most : State
+  pub told : ForSome after.store.files (HasState state)
+  pub reaches : Reaches task.asked x kept × Reaches task.asked x state × Reaches task.asked x most
+  pub fronts : IsFrontState kept state × IsFrontState state most
+  -- they differ only after a fault of the store
+  pub settled : (Rose before.disk_faults after.disk_faults → ⊥) → (state ≡ kept) × (most ≡ kept)
+  -- each list has grown by a prefix of its part of what the input offers, and at Done by all of it, and all is judged
+  pub lists : ForSome before.input.bytes (λ input. AddsSome task.asked x most (task.offers input))
+  pub all : ending ≡ Done → (state ≡ kept) × (most ≡ kept) × ForSome before.input.bytes (λ input. AddsAll task.asked x state (task.offers input)) × (judged_cut state.urls ≡ lengths_of state.urls)
+  -- what is written is of acknowledged offers: a prefix of the text, and all of it where the store, the output and memory never failed
+  pub text : List ℕ
+  pub written : Appends before.output.bytes after.output.bytes text
+  pub prints : IsPrefixOf text (task.prints x.urls kept.urls)
+  pub prints_all : IsAllPrinted ending → text ≡ task.prints x.urls kept.urls
+  -- each record but one of a bucket is a whole array
+  pub records : ForSome before.store.files (λ old. ForSome after.store.files (AddsUnevenRecords 1 (settings_in task.asked x).buckets (settings_in task.asked x).array old))
+  -- Where each joint image stood for the state, a stop at any moment leaves one that the run reached,
+  pub stops : ((image : Files) → before.store.images image → HasState x image) → Leaves before.store after.store (HasReached task.asked x most)
+  pub records_stop : ((image : Files) → before.store.images image → HasState x image) → LeavesBy (AddsUnevenRecords 1 (settings_in task.asked x).buckets (settings_in task.asked x).array) before.store after.store
+  -- and a stop from now on one that is acknowledged.
+  pub now : ((image : Files) → before.store.images image → HasState x image) → (image : Files) → after.store.images image → (z : State) × HasState z image × IsFrontState kept z × IsFrontState z most
+  -- a bucket is full only where its list would pass the cap with an array, and with its part of what the input offers
+  pub full : (b : ℕ) → ending ≡ Full b → (b < (settings_in task.asked x).buckets) × ((settings_in task.asked x).cap < length_at state.urls b + (settings_in task.asked x).array)
+      × ForSome before.input.bytes (λ input. (settings_in task.asked x).cap < length_at (entered_state task.asked x).urls b + length (part (settings_in task.asked x).buckets b (task.offers input)))
 
 -- an ending that comes only once the store is opened
-abbrev pub is_late : Ending → Bool
-is_late Done = true
-is_late WordsRefused = false
-is_late (LineRefused n) = true
-is_late (NotOurs n) = false
-is_late (Damaged n) = false
-is_late DiskFault = false
-is_late InputFault = true
-is_late OutputFault = true
-is_late NoMemory = false
+abbrev pub IsLate : Ending → Type 0
+IsLate ending = (ending ≡ Done) ⊎ ((n : ℕ) × (ending ≡ LineRefused n)) ⊎ (ending ≡ InputFault) ⊎ (ending ≡ OutputFault) ⊎ ((b : ℕ) × (ending ≡ Full b))
 
--- an ending at which all that is to be printed of the kept lines is written
-abbrev pub prints_all : Ending → Bool
-prints_all Done = true
-prints_all WordsRefused = false
-prints_all (LineRefused n) = true
-prints_all (NotOurs n) = false
-prints_all (Damaged n) = false
-prints_all DiskFault = false
-prints_all InputFault = true
-prints_all OutputFault = false
-prints_all NoMemory = false
+-- the files of a store of lines or tuples
+abbrev pub IsStoreFile : ℕ → Type 0
+IsStoreFile f = (f ≡ head_file) ⊎ IsFileOf urls_base 64 f
 
--- nothing was called: what is told is as it was, and the clock stands
-pub record IsUntouched (before after : Lent) : Type 0 where
-  pub files : after.store.files ≡ before.store.files
-  pub moment : after.store.moment ≡ before.store.moment
-  pub disk_faults : after.disk_faults ≡ before.disk_faults
+-- a store that is opened: it is of our make and shows no damage, and it was made as is asked, or it wasn't made yet and can be
+pub record IsOpenable (asked : Asked) (files : Files) : Type 0 where
+  pub settings : Settings
+  pub has : HasSettings asked files settings
+  pub valid : AreValid settings
+  pub agrees : Agrees asked settings
+  pub ours : (at : ℕ) → IsNotOursAt files at → ⊥
+  pub undamaged : (f at : ℕ) → IsStoreDamagedAt asked files f at → ⊥
+
+-- One that isn't: it is entered at most, which a store that is of another make or damaged bears, and nothing is read or written.
+pub record StaysClosed (asked : Asked) (before after : Lent) (ending : Ending) : Type 0 where
+  pub files : TellsBy (Enters asked before.store.files) before.store.files after.store.files
+  pub steps : LeavesBy (Enters asked before.store.files) before.store after.store
   pub input : after.input ≡ before.input
   pub output : after.output ≡ before.output
+  pub late : IsLate ending → ⊥
 
--- a store with the old lines, and the first n of the new ones
-abbrev pub HasPrefix : List (List ℕ) → List (List ℕ) → ℕ → Files → Type 0
-HasPrefix old news n files = HasLines files (old ++ take n news)
+-- what is told of an open bay breaks its form at this place
+pub record IsBrokenBay (asked : Asked) (old : Option Files) (f at : ℕ) (files : Files) : Type 0 where
+  pub urls : Drum
+  pub drum : IsDrum urls
+  pub base : urls.base ≡ urls_base
+  pub settings : ForSome old (λ told. HasSettings asked told urls.settings)
+  pub broken : IsSpoiltAt urls files f at ⊎ IsJudgedSpoiltAt urls files f at
 
--- a stop at any moment between two leaves a joint image that has P
-abbrev pub LeavesOnly : Lent → Lent → (Files → Type 0) → Type 0
-LeavesOnly before after P = Leaves before.store after.store P
-
--- This image goes on from one that a stop before the run could leave: every other file is as it was there; and if the old
--- lines were there, they are here, and then at least so many of the new ones, in order.
-pub record Continues (before : Lent) (old news : List (List ℕ)) (least : ℕ) (image : Files) : Type 0 where
-  pub was : Files
-  pub left : before.store.images was
-  pub others : (f : ℕ) → f ≢ line_file → image f ≡ was f
-  pub lines : HasLines was old → (n : ℕ) × (least ≤ n) × (n ≤ length news) × HasPrefix old news n image
-
--- What a run leaves of a store with these lines, whatever ends it. `news` are all the new lines that stand anywhere after it,
--- `kept` of them are acknowledged, and `told` stand in the files.
-pub record Gains (before after : Lent) (ending : Ending) (old : List (List ℕ)) : Type 0 where
-  pub news : List (List ℕ)
-  pub kept : ℕ
-  pub told : ℕ
-  pub new : Files
-  pub text : List ℕ
-  pub acknowledged : kept ≤ told
-  pub no_more : told ≤ length news
-  -- one line at most is in doubt, and none but after a disk fault
-  pub one : length news ≤ kept + 1
-  pub settled : ending ≢ DiskFault → kept ≡ length news
-  -- the files have the old lines and then new ones
-  pub tells : after.store.files ≡ Some new
-  pub lines : HasPrefix old news told new
-  -- the new lines are a prefix of those that the input offers, and all of them at Done
-  pub offers : ForSome before.input.bytes (λ input. IsPrefixOf news (offered input) × (ending ≡ Done → news ≡ offered input))
-  -- what is written is of acknowledged lines: of those that are judged Unique a prefix, and all of them where the input ended
-  -- the run
-  pub written : Appends before.output.bytes after.output.bytes text
-  pub printed : IsPrefixOf text (added old (take kept news))
-  pub whole : IsTrue (prints_all ending) → text ≡ added old news
-  -- a stop at any moment leaves what goes on from before the run: the old lines and then some of the new ones
-  pub stops : LeavesOnly before after (Continues before old news 0)
-  -- and a stop from now on leaves each acknowledged one
-  pub now : (image : Files) → after.store.images image → Continues before old news kept image
-
--- What a run leaves of a store without a list of lines: its files as they were, but that a line file of at most one byte may
--- have had its gate written; nothing is read or written.
-pub record Spares (before after : Lent) : Type 0 where
-  pub files : Changes line_file IsOpened before.store.files after.store.files
-  pub stops : LeavesOnly before after (Follows (ChangesFile line_file IsOpened) before.store.images)
-  pub input : after.input.bytes ≡ before.input.bytes
-  pub output : after.output.bytes ≡ before.output.bytes
-
--- One run of `seen`, between what is told before it and after it.
-pub record Ran (before after : Lent) (ending : Ending) : Type 0 where
-  -- over a store with these lines
-  pub gains : (files : Files) (old : List (List ℕ)) → before.store.files ≡ Some files → HasLines files old → Gains before after ending old
-  -- over any other
-  pub spares : ForSome before.store.files (λ files. ((old : List (List ℕ)) → HasLines files old → ⊥) → Spares before after)
-  -- no other file is changed, and a store that tells goes on telling
-  pub others : ForSome before.store.files (λ files. (new : Files) × (after.store.files ≡ Some new) × ((f : ℕ) → f ≢ line_file → new f ≡ files f))
-  -- an early ending changes no file, reads nothing and writes nothing
-  pub early : IsEarly ending → (after.store.files ≡ before.store.files) × (after.input.bytes ≡ before.input.bytes) × (after.output.bytes ≡ before.output.bytes)
-  -- where the words are refused nothing is called
-  pub untouched : ending ≡ WordsRefused → IsUntouched before after
-  -- a late ending is that of a store with a list of lines
-  pub opened : IsTrue (is_late ending) → ForSome before.store.files (λ files. (old : List (List ℕ)) × HasLines files old)
+-- one run of a command, between what is told before it and after it
+pub record Ran (task : Task) (before after : Lent) (ending : Ending) : Type 0 where
+  -- over a store that stands for a state
+  pub extends : ForSome before.store.files (λ files. (x : State) → HasState x files → Extends task before after ending x)
+  -- over any: no other file changes, and a store that tells goes on telling
+  pub others : TellsOnly IsStoreFile before.store.files after.store.files
+  pub others_stop : LeavesBy (ChangesOnly IsStoreFile) before.store after.store
+  -- it is opened, or it stays closed
+  pub opened : ForSome before.store.files (IsOpenable task.asked) ⊎ StaysClosed task.asked before after ending
+  -- a store that is refused keeps its files, and nothing is read or written
+  pub unopened : IsUnopened ending → (after.store.files ≡ before.store.files) × (after.input.bytes ≡ before.input.bytes) × (after.output.bytes ≡ before.output.bytes)
   -- at Done the input was read to its end, and no line of it is refused
-  pub read : ending ≡ Done → ForSome before.input.bytes (λ input. (after.input.bytes ≡ Some []) × (refused input ≡ None))
-  -- the cause of each other ending
-  pub line : (n : ℕ) → ending ≡ LineRefused n → ForSome before.input.bytes (λ input. refused input ≡ Some n)
-  pub not_ours : (n : ℕ) → ending ≡ NotOurs n → (n ≡ 0) × ForSome before.store.files (λ files. 1 < length (files other_file))
-  pub damaged : (n : ℕ) → ending ≡ Damaged n → ForSome before.store.files (λ files. (length (files other_file) ≤ 1) × IsDamagedAt (files line_file) n)
-  pub disk : ending ≡ DiskFault → Rose before.disk_faults after.disk_faults
-  pub input : ending ≡ InputFault → Rose before.input.faults after.input.faults
-  pub output : ending ≡ OutputFault → Rose before.output.faults after.output.faults
-  -- the counts of faults never fall
-  pub disk_later : before.disk_faults ≤ after.disk_faults
-  pub input_later : before.input.faults ≤ after.input.faults
-  pub output_later : before.output.faults ≤ after.output.faults
+  pub read : ending ≡ Done → ForSome before.input.bytes (λ input. (after.input.bytes ≡ Some []) × (task.refuses input ≡ None))
+  -- the cause of each other ending; want of memory alone has none
+  pub bad : (n : ℕ) → ending ≡ BadSettings n → ForSome before.store.files (λ files. IsBadStore task.asked files n)
+  pub line : (n : ℕ) → ending ≡ LineRefused n → ForSome before.input.bytes (λ input. task.refuses input ≡ Some n)
+  pub not_ours : (at : ℕ) → ending ≡ NotOurs at → ForSome before.store.files (λ files. IsNotOursAt files at)
+  pub other : (n kept wanted : ℕ) → ending ≡ OtherSettings n kept wanted → ForSome before.store.files (λ files. IsKeptOtherwise task.asked files n kept wanted)
+  pub damaged : (f at : ℕ) → ending ≡ Damaged f at → ForSome before.store.files (λ files. IsStoreDamagedAt task.asked files f at) ⊎ ForSome after.store.files (IsBrokenBay task.asked before.store.files f at)
+  pub whole : (f at : ℕ) → ending ≡ Damaged f at → ForSome before.store.files (λ files. (x : State) → HasState x files → ⊥)
+  pub whole_ours : (at : ℕ) → ending ≡ NotOurs at → ForSome before.store.files (λ files. (x : State) → HasState x files → ⊥)
+  pub disk : HasCause (ending ≡ DiskFault) before.disk_faults after.disk_faults
+  pub input : HasCause (ending ≡ InputFault) before.input.faults after.input.faults
+  pub output : HasCause (ending ≡ OutputFault) before.output.faults after.output.faults
 
--- what a run of an accepted command ends in where nothing failed: want of memory, or as the input says
+-- what a run ends in where nothing failed and nothing was refused but a line: want of memory, or as the input says
 abbrev pub EndsWell : Ending → Option ℕ → Type 0
 EndsWell ending refusal = (ending ≡ NoMemory) ⊎ ((ending ≡ Done) × (refusal ≡ None)) ⊎ ((n : ℕ) × (ending ≡ LineRefused n) × (refusal ≡ Some n))
 
--- One call of the program with these words.
-pub record Runs (words : List (List ℕ)) (before after : Outside) (status : ℕ) : Type 0 where
+-- Over a store that stands for a state and was made, or can be made, as is asked, over a source that tells, with nothing that fails and
+-- no list that passes the cap, a run ends as the input says.
+abbrev pub Completes : Task → Lent → Lent → Ending → Type 0
+Completes task before after ending = (files : Files) (x : State) (input : List ℕ) → before.store.files ≡ Some files → HasState x files → before.input.bytes ≡ Some input → Agrees task.asked (settings_in task.asked x) → AreValid (settings_in task.asked x)
+    → FitsCap task.asked x (task.offers input) → (Rose before.disk_faults after.disk_faults → ⊥) → (Rose before.input.faults after.input.faults → ⊥) → (Rose before.output.faults after.output.faults → ⊥) → EndsWell ending (task.refuses input)
+
+-- a command was carried out
+pub record Obeys (task : Task) (before after : Outside) (status : ℕ) : Type 0 where
   pub ending : Ending
   pub status_is : status ≡ status_of ending
-  -- the words are refused exactly where they are not those of a command
-  pub words_refused : (ending ≡ WordsRefused) ↔ IsSome (refused_word words)
-  pub ran : Ran before.lent after.lent ending
+  pub ran : Ran task before.lent after.lent ending
+  pub completes : Completes task before.lent after.lent ending
   -- the error sink is given the ending's line, or a prefix of it where the sink failed
-  pub says : Says (message (unwrap_or (refused_word words) []) ending) before.errors after.errors
-  -- over a store with a list of lines, a source that tells and nothing that fails, the ending is that of the input
-  pub completes : (files : Files) (old : List (List ℕ)) (input : List ℕ) → refused_word words ≡ None → before.lent.store.files ≡ Some files → HasLines files old → before.lent.input.bytes ≡ Some input → ¬ Rose before.lent.disk_faults after.lent.disk_faults
-      → ¬ Rose before.lent.input.faults after.lent.input.faults → ¬ Rose before.lent.output.faults after.lent.output.faults → EndsWell ending (refused input)
+  pub says : Says (message ending) before.errors after.errors
+
+-- the words are refused, and nothing is called but the error sink
+pub record Refuses (word : List ℕ) (before after : Outside) (status : ℕ) : Type 0 where
+  pub status_is : status ≡ refused_status
+  pub untouched : IsUntouched before.lent after.lent
+  pub says : Says (refusal word) before.errors after.errors
+
+-- one call of the program, whose words are a command or are refused
+abbrev pub Answers : Result Command (List ℕ) → Outside → Outside → ℕ → Type 0
+Answers (Ok command) before after status = Obeys (task_of command) before after status
+Answers (Err word) before after status = Refuses word before after status
+
+abbrev pub Runs : List (List ℕ) → Outside → Outside → ℕ → Type 0
+Runs words before after status = Answers (command_of words) before after status

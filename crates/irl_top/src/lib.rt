@@ -1,14 +1,15 @@
 //! The top call: one run of the program.
 #![tactic(auto)]
 
-mod batch;
-mod commit;
+mod command;
 mod ending;
+mod line;
 mod printing;
 mod program;
+mod reading;
 mod seen;
+mod session;
 mod telling;
-mod words;
 
 pub use ending::Ending;
 pub use program::run;

@@ -1,22 +1,16 @@
-ghost use Rattle.std.specs.Prelude.{◌≡◌, ◌++◌, length, IfOk, OnOk};
-ghost use Rattle.std.specs.List.{zip};
-ghost use Rattle.irl_top.specs.Printed.{printed, line_if_unique};
+ghost use Rattle.std.specs.Prelude.{◌≡◌, ◌++◌, IfOk, OnOk};
+ghost use Rattle.irl_top.specs.Printed.{unique_lines, line_if_unique};
 
-use irl_offer::{Offer, Verdict};
+use irl_offer::{Judged, Verdict};
 use std::alloc::{AllocError, Global};
 
-/// The lines of the offers that were judged Unique, each followed by LF.
-pub fn printed_text(
-    alloc: Global,
-    offers: &[Offer],
-    verdicts: &[Option<Verdict>],
-) -> Result<Vec<u8>, AllocError>
-    requires { length verdicts.now ≡ length offers.now }
-    ensures { IfOk result (λ text. text.items ≡ printed (zip offers.now verdicts.now)) }
+/// The texts of those that were judged Unique, each followed by LF.
+pub fn unique_text(alloc: Global, judged: &[Judged]) -> Result<Vec<u8>, AllocError>
+    ensures { IfOk result (λ text. text.items ≡ unique_lines judged.now) }
 {
     let mut text = Vec::new(alloc);
-    for (i, offer) in offers.iter().enumerate() {
-        print_if_unique(&mut text, offer.aux.bytes(), verdicts[i])?;
+    for one in judged {
+        print_if_unique(&mut text, one.offer.aux.bytes(), one.verdict)?;
     }
     Ok(text)
 }

@@ -1,11 +1,13 @@
-ghost use Rattle.std.specs.Prelude.{◌≡◌, ◌↔◌, IsTrue, map};
-ghost use Rattle.irl_top.specs.Run.{Ran, Runs, lent, outside};
-ghost use Rattle.irl_top.specs.declared.ending.Ending.TheVariants.{WordsRefused};
+ghost use Rattle.std.specs.Prelude.{◌≢◌, map};
+ghost use Rattle.irl_offer.specs.declared.settings.Kind.TheVariants.{Crawl};
+ghost use Rattle.irl_top.specs.Outside.{outside, lent};
+ghost use Rattle.irl_top.specs.Run.{Runs, Ran, task_of};
 
 use crate::Ending;
+use crate::command::{Command, read_words};
+use crate::ending::REFUSED;
 use crate::seen::seen;
-use crate::telling::tell;
-use crate::words::refused_word;
+use crate::telling::{tell, tell_refused};
 use irl_disk::Store;
 use irl_io::{Sink, Source};
 use std::alloc::Global;
@@ -35,30 +37,32 @@ where
         Runs (map (λ word. word.now) words.now)
         (tells store input.old output.old errors.old) (tells result.1 input.new output.new errors.new) result.0 }
 {
-    let mut store = store;
-    let refused = refused_word(words);
-    let ending = carry_out(alloc, refused.is_some(), input, output, &mut store);
-    let _ = tell(errors, refused.unwrap_or(""), ending);
-    (ending.status(), store)
+    match read_words(words) {
+        Ok(command) => {
+            let (ending, store) = carry_out(alloc, &command, input, output, store);
+            let _ = tell(errors, ending);
+            (ending.status(), store)
+        }
+        Err(word) => {
+            let _ = tell_refused(errors, word);
+            (REFUSED, store)
+        }
+    }
 }
 
-/// Carries out the command, unless its words are refused.
+// Carries out a command.
 fn carry_out<I: Source, O: Sink, S: Store>(
     alloc: Global,
-    is_refused: bool,
+    command: &Command,
     input: &mut I,
     output: &mut O,
-    store: &mut S,
-) -> Ending
-    ensures words { (result ≡ WordsRefused) ↔ IsTrue is_refused }
-    ensures ran { let tells = lent S.snapshot S.faults I.left I.faults O.written O.faults in
-        Ran (tells store.old input.old output.old) (tells store.new input.new output.new) result }
+    store: S,
+) -> (Ending, S)
+    requires kind { (task_of command.now).asked.kind ≢ Crawl }
+    ensures { let tells = lent S.snapshot S.faults I.left I.faults O.written O.faults in
+        Ran (task_of command.now) (tells store input.old output.old) (tells result.1 input.new output.new) result.0 }
 {
-    if is_refused {
-        return Ending::WordsRefused;
-    }
-    match seen(alloc, input, output, store) {
-        Ok(()) => Ending::Done,
-        Err(ending) => ending,
+    match command {
+        Command::Seen(_) => seen(alloc, &command.asked(), input, output, store),
     }
 }

@@ -1,79 +1,80 @@
-ghost use Rattle.std.specs.Prelude.{◌≡◌, ◌≢◌};
-ghost use Rattle.irl_top.specs.Message.{ending_of, ending_of_open, ending_of_read, ending_of_commit};
-ghost use Rattle.irl_top.specs.Run.{Ran, lent};
-ghost use Rattle.irl_top.specs.declared.ending.Ending.TheVariants.{NoMemory, WordsRefused};
+ghost use Rattle.std.specs.Prelude.{◌≡◌, ◌≢◌, ◌+◌, ◌≤◌, List, ℕ, []};
+ghost use Rattle.std.specs.Option.{ForSome};
+ghost use Rattle.irl_offer.specs.Faults.{HasCause};
+ghost use Rattle.irl_offer.specs.Tuple.{Tuple};
+ghost use Rattle.irl_model.specs.Book.{IsPrefixOf};
+ghost use Rattle.irl_yard.specs.Holding.{IsSound};
+ghost use Rattle.irl_intake.specs.Schedule.{one_more};
+ghost use Rattle.irl_top.specs.Message.{ending_of};
+ghost use Rattle.irl_top.specs.Input.{offered};
+ghost use Rattle.irl_offer.specs.declared.settings.Kind.TheVariants.{Crawl};
+ghost use Rattle.irl_top.specs.Outside.{lent};
+ghost use Rattle.irl_top.specs.Run.{Ran, task_of};
+ghost use Rattle.irl_top.specs.declared.command.Command.TheVariants.{Seen};
+ghost use Rattle.irl_top.specs.Session.{place, EndsWith, HasReason, HasRead};
 
 use crate::Ending;
-use crate::batch::{ReadFault, read_batch};
-use crate::commit::{CommitFault, commit};
-use irl_bay::{Kept, OpenFault};
+use crate::reading::next_offer;
+use crate::session::{end_input, take_offer};
 use irl_disk::Store;
+use irl_intake::Intake;
 use irl_io::{Lines, Sink, Source};
-use std::alloc::{AllocError, Global};
+use irl_offer::Asked;
+use irl_yard::Yard;
+use std::alloc::Global;
 
-impl From<AllocError> for Ending {
-    ghost from_gives = { λ _ e. e ≡ NoMemory };
-
-    fn from(_: AllocError) -> Ending {
-        Ending::NoMemory
-    }
-}
-
-impl From<OpenFault> for Ending {
-    ghost from_gives = { λ fault e. e ≡ ending_of_open fault };
-
-    fn from(fault: OpenFault) -> Ending {
-        match fault {
-            OpenFault::NotOurs(at) => Ending::NotOurs(at),
-            OpenFault::Damaged(at) => Ending::Damaged(at),
-            OpenFault::Failed => Ending::DiskFault,
-            OpenFault::Memory => Ending::NoMemory,
-        }
-    }
-}
-
-impl From<ReadFault> for Ending {
-    ghost from_gives = { λ fault e. e ≡ ending_of_read fault };
-
-    fn from(fault: ReadFault) -> Ending {
-        match fault {
-            ReadFault::LineRefused(n) => Ending::LineRefused(n),
-            ReadFault::Failed => Ending::InputFault,
-            ReadFault::Memory => Ending::NoMemory,
-        }
-    }
-}
-
-impl From<CommitFault> for Ending {
-    ghost from_gives = { λ fault e. e ≡ ending_of_commit fault };
-
-    fn from(fault: CommitFault) -> Ending {
-        match fault {
-            CommitFault::Disk => Ending::DiskFault,
-            CommitFault::Output => Ending::OutputFault,
-            CommitFault::Memory => Ending::NoMemory,
-        }
-    }
-}
-
-/// Keeps the lines of the input, and writes those that are judged Unique: the command `seen`.
+/// Keeps the lines of the input that aren't empty, and writes those that are judged Unique: the command `seen`.
 pub fn seen<I: Source, O: Sink, S: Store>(
     alloc: Global,
+    asked: &Asked,
     input: &mut I,
     output: &mut O,
-    store: &mut S,
-) -> Result<(), Ending>
-    ensures accepted { ending_of result ≢ WordsRefused }
-    ensures ran { let tells = lent S.snapshot S.faults I.left I.faults O.written O.faults in
-        Ran (tells store.old input.old output.old) (tells store.new input.new output.new) (ending_of result) }
+    store: S,
+) -> (Ending, S)
+    requires kind { asked.now.kind ≢ Crawl }
+    ensures { let tells = lent S.snapshot S.faults I.left I.faults O.written O.faults in
+        Ran (task_of (Seen asked.now)) (tells store input.old output.old) (tells result.1 input.new output.new) result.0 }
 {
-    let mut kept = Kept::open(alloc, store)?;
+    let yard = match Yard::enter(alloc, store, asked) {
+        Ok(yard) => yard,
+        Err((fault, store)) => return (fault.into(), store),
+    };
+    let mut printed = yard.judged_len();
+    let mut intake = match Intake::new(alloc, yard) {
+        Ok(intake) => intake,
+        Err(yard) => return (Ending::NoMemory, yard.into_store()),
+    };
+    let taken = take_in(alloc, &mut intake, &mut printed, input, output);
+    let _is_sound = intake.is_sound();
+    (Ending::of(taken), intake.into_store())
+}
+
+// Takes in the lines of an input, and prints what is judged Unique; so many judged offers were printed before.
+fn take_in<I: Source, O: Sink, S: Store>(
+    alloc: Global,
+    intake: &mut Intake<S>,
+    printed: &mut u64,
+    input: &mut I,
+    output: &mut O,
+) -> Result<(), Ending>
+    requires sound { IsSound intake.old.yard.parts }
+    requires whole { intake.old.yard.parts.urls.last.judged ≤ printed.old }
+    ensures ends { let at = place S.snapshot S.faults O.written O.faults in (news : List Tuple)
+        × HasRead news (I.left input.old) (I.left input.new) (ending_of result)
+        × EndsWith 1 one_more news (at intake.old.yard.store intake.old.yard.parts intake.old.arrays.items output.old printed.old)
+        (at intake.new.yard.store intake.new.yard.parts intake.new.arrays.items output.new printed.new) (ending_of result) }
+    ensures reason { let at = place S.snapshot S.faults O.written O.faults in
+        HasReason (at intake.old.yard.store intake.old.yard.parts intake.old.arrays.items output.old printed.old)
+        (at intake.new.yard.store intake.new.yard.parts intake.new.arrays.items output.new printed.new) (ending_of result) }
+    ensures cause { HasCause (ending_of result ≡ Ending.InputFault) (I.faults input.old) (I.faults input.new) }
+{
+    let _is_sound = intake.is_sound();
     let mut lines = Lines::new(alloc)?;
-    'batches: loop {
-        let batch = read_batch(alloc, &mut lines, input)?;
-        commit(alloc, &mut kept, store, output, &batch.offers)?;
-        if batch.is_last {
-            return Ok(());
+    'offers: loop {
+        let _is_sound = intake.is_sound();
+        match next_offer(alloc, &mut lines, input)? {
+            Some(offer) => take_offer(alloc, intake, printed, output, offer)?,
+            None => return end_input(alloc, intake, printed, output),
         }
     }
 }

@@ -1,25 +1,24 @@
-use Rattle.std.proofs.Common.{◌≡◌, ◌∙◌, ℕ, List, [], Bor, Option, sym, ap, map}
-use Rattle.std.specs.Prelude.{is_some, unwrap_or}
-use Rattle.std.specs.Option.{option_map}
-use Rattle.irl_top.specs.Message.{refused_word}
-use Rattle.irl_top.proofs.Deciding.{ends_well, says_of, is_some-map, unwrap_or-map, not_some}
+use Rattle.std.proofs.Common.{◌≡◌, ◌∙◌, ℕ, Bor, List, sym, ap, subst, map}
+use Rattle.std.specs.Prelude.{Result, Ok, Err}
+use Rattle.std.specs.Result.{result_map_both}
+use Rattle.irl_top.specs.Command.{command_of}
+use Rattle.irl_top.specs.Outside.{Outside, outside}
+use Rattle.irl_top.specs.Run.{Answers}
+use Rattle.irl_top.specs.declared.command.Command.{Command}
+use Rattle.irl_top.proofs.Deciding.{completes, says_of}
 use Rattle.irl_top.proofs.program.run.Goals as goal
 
-pub returns : goal.returns
-returns g c =
-    let now : Bor (List ℕ) → List ℕ = λ word. word.now in
-    let refusal = refused_word (map now c.args.words.now) in
-    let named : option_map now c.refused_word-refused.result ≡ refusal = c.refused_word-refused.ensures in
-    let some : c.is_some.result ≡ is_some refusal = c.is_some.ensures ∙ sym (is_some-map now c.refused_word-refused.result) ∙ ap (λ (o : Option (List ℕ)). is_some o) named in
-    let word : c.unwrap_or.result.now ≡ unwrap_or refusal [] = ap now c.unwrap_or.ensures ∙ unwrap_or-map now c.refused_word-refused.result _ ∙ ap (λ (o : Option (List ℕ)). unwrap_or o []) named in
-    let ran = c.carry_out-ending.ensures.ran in
-    let words = c.carry_out-ending.ensures.words in
-    record {
-      ending = c.carry_out-ending.result;
+pub returns-in-Ok : goal.returns-in-Ok
+returns-in-Ok g c =
+    let words = map (λ (word : Bor (List ℕ)). word.now) c.args.words.now in
+    let is : command_of words ≡ Ok c.in-Ok.command = sym c.read_words.ensures.value ∙ ap (λ (r : Result Command (Bor (List ℕ))). result_map_both (λ command. command) (λ word. word.now) r) c.in-Ok.is in
+    let tells = outside g.S.Store.snapshot g.S.Store.faults g.I.Source.left g.I.Source.faults g.O.Sink.written g.O.Sink.faults g.E.Sink.written g.E.Sink.faults in
+    let before = tells c.args.store c.args.input.now c.args.output.now c.args.errors.now in
+    let after = tells c.carry_out-ending.result.1 c.carry_out-ending.new.input c.carry_out-ending.new.output c.tell.new.errors in
+    subst (λ (r : Result Command (List ℕ)). Answers r before after c.status.result) (sym is) (record {
+      ending = c.carry_out-ending.result.0;
       status_is = c.status.ensures;
-      words_refused = (λ e. sym some ∙ words.0 e, λ e. words.1 (some ∙ e));
-      ran = ran;
-      says = rw (← word) (says_of c.tell.result _ _ _ c.tell.ensures.ok c.tell.ensures.err c.tell.ensures.cause);
-      completes = λ files old input taken tells has known disk source output.
-          ends_well _ _ c.carry_out-ending.result files old input ran (λ e. not_some refusal taken (sym some ∙ words.0 e)) tells has known disk source output;
-    }
+      ran = c.carry_out-ending.ensures;
+      completes = completes _ _ _ c.carry_out-ending.result.0 c.carry_out-ending.ensures;
+      says = says_of c.tell.result _ _ _ c.tell.ensures.ok c.tell.ensures.err c.tell.ensures.cause;
+    })

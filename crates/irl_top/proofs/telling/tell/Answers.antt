@@ -10,7 +10,7 @@ pub returns-in-NotOurs-clause-err : goal.returns-in-NotOurs-clause-err
 returns-in-NotOurs-clause-err g c = rw (c.in-NotOurs.is, ← c.format-in-NotOurs.ensures.text, ← c.as_bytes-in-NotOurs.ensures.value) c.say-in-NotOurs.ensures.err
 
 pub returns-in-Damaged-clause-ok : goal.returns-in-Damaged-clause-ok
-returns-in-Damaged-clause-ok g c = rw (c.in-Damaged.is, ← c.format-in-Damaged.ensures.text, ← c.as_bytes-in-Damaged.ensures.value) c.say-in-Damaged.ensures.ok
+returns-in-Damaged-clause-ok g c = rw (c.in-Damaged.is, ← c.format-in-Damaged.ensures.text, ← c.as_bytes-in-Damaged.ensures.value) (rw c.file_name.ensures at c.say-in-Damaged.ensures.ok)
 
 pub returns-in-Damaged-clause-err : goal.returns-in-Damaged-clause-err
-returns-in-Damaged-clause-err g c = rw (c.in-Damaged.is, ← c.format-in-Damaged.ensures.text, ← c.as_bytes-in-Damaged.ensures.value) c.say-in-Damaged.ensures.err
+returns-in-Damaged-clause-err g c = rw (c.in-Damaged.is, ← c.format-in-Damaged.ensures.text, ← c.as_bytes-in-Damaged.ensures.value) (rw c.file_name.ensures at c.say-in-Damaged.ensures.err)

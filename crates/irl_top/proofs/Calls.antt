@@ -1,0 +1,454 @@
+-- What a call on an open store, and a piece that is printed, do to a run.
+use Rattle.std.proofs.Common.{◌≡◌, ◌≢◌, ◌∙◌, ◌⊎◌, ◌↔◌, inl, inr, ⊎_elim, ℕ, zero, suc, ◌+◌, ◌-◌, ◌<◌, ◌≤◌, min, List, [], ◌∷◌, ◌++◌, length, map, sum, replicate, take, drop, get_or, slice_index, slice_index_or, true, Option, None, Some, refl, sym, ap, subst, append_assoc, append-nil, length-append, length-take, length-drop, arith}
+use Rattle.std.proofs.KnownBytes.{Appends-nil}
+use Rattle.std.proofs.lemmas.List.{take-append-drop, drop-drop, drop_all, length-map}
+use Rattle.std.specs.Prelude.{Result, Ok, Err, IfErr, IsErrOf}
+use Rattle.std.specs.Result.{IsErrAnd}
+use Rattle.std.proofs.lemmas.Result.{err_from_is_err_and}
+use Rattle.std.proofs.Math.Seq.{drop-append_seam}
+use Rattle.std.specs.Option.{ForSome}
+use Rattle.std.specs.Io.KnownBytes.{Appends}
+use Rattle.irl_array.specs.Waiting.{Waiting}
+use Rattle.irl_offer.specs.Faults.{HasCause, Rose}
+use Rattle.irl_offer.specs.Tuple.{Tuple}
+use Rattle.irl_offer.specs.declared.settings.Settings.{Settings}
+use Rattle.irl_offer.specs.declared.receipt.Judged.{Judged}
+use Rattle.irl_offer.specs.declared.receipt.Fault.{Fault}
+use Rattle.irl_offer.specs.declared.receipt.Fault.TheVariants.{Failed as StoreFailed, Memory as StoreMemory, Full as StoreFull, Damaged as StoreDamaged}
+use Rattle.irl_model.specs.Book.{Book, IsBook, IsFront, gone, judged, judged_cut, lengths_of, part, IsPrefixOf}
+use Rattle.irl_model.specs.State.{State, AreFronts}
+use Rattle.irl_disk.specs.Images.{Snapshot, IsConsistent}
+use Rattle.irl_bay.specs.Standing.{IsBookOf}
+use Rattle.irl_bay.specs.declared.bucket.Bucket.{Bucket}
+use Rattle.irl_bay.specs.Drum.{Drum, IsDrum, HasNumbers, durable_at, durables, pending_at, judged_at, SomePending}
+use Rattle.irl_bay.specs.Spoilt.{IsSpoiltAt}
+use Rattle.irl_bay.specs.JudgedSpoilt.{IsJudgedSpoiltAt}
+use Rattle.irl_bay.proofs.Merged.{durable_is}
+use Rattle.irl_bay.proofs.AdoptedBook.{lengths_are}
+use Rattle.irl_yard.specs.declared.parts.Parts.{Parts}
+use Rattle.irl_yard.specs.Holding.{HoldsState}
+use Rattle.irl_intake.specs.Schedule.{none_more, one_more}
+use Rattle.irl_intake.specs.Feeding.{AreArrays, Moment, Stays, Fed, Stranded, Feeds, Strands, HeldNone, handed_in, list_at, length_at, waiting_at}
+use Rattle.irl_intake.proofs.Chains.{stays_same, fed_still, keeps_same, feeds_more, feeds_none}
+use Rattle.irl_io.specs.Written.{AppendsPrefix}
+use Rattle.irl_top.specs.Message.{ending_of, ending_of_store, IsAllPrinted, IsEndOfInput, IsUnopened}
+use Rattle.irl_top.specs.Printed.{unique_lines, judged_count}
+use Rattle.irl_top.specs.Session.{Place, unprinted, Goes, Ends, GoesOn, EndsWith, HoldsNone, HasReason}
+use Rattle.irl_top.specs.Stream.{Stream}
+use Rattle.irl_top.specs.declared.ending.Ending.{Ending}
+use Rattle.irl_top.specs.declared.ending.Ending.TheVariants.{Done, BadSettings, LineRefused, NotOurs, Damaged, OtherSettings, DiskFault, InputFault, OutputFault, NoMemory, Full}
+use Rattle.irl_top.proofs.Going.{goes_on_ends, Closes, IsPlain, closes_plain, ends_fed, ends_stranded, goes_fed, judged_later, lines-append, printed_later, unprinted_more}
+
+-- ---- numbers
+sum-zeros : (n : ℕ) → sum (replicate n 0) ≡ 0
+sum-zeros zero = refl
+sum-zeros (suc n) = sum-zeros n
+
+-- no judged offer is dropped
+pub gone_none : (settings : Settings) (book : Book) → IsBookOf settings book → gone book ≡ 0
+gone_none settings book is = ap sum (is.is_book.none is.dropped).1 ∙ sum-zeros book.buckets
+
+length-at : (lists : List (List Tuple)) (b : ℕ) → get_or (map (λ (list : List Tuple). length list) lists) b 0 ≡ length (get_or lists b [])
+length-at [] b = refl
+length-at (list ∷ lists) zero = refl
+length-at (list ∷ lists) (suc b) = length-at lists b
+
+-- what a bucket has is what its list has
+pub durable_length : (images : Snapshot) (parts : Parts) (state : State) (b : ℕ) → HoldsState images.images parts state → durable_at parts.urls b ≡ length (list_at state.urls b)
+durable_length images parts state b holds =
+    sym (durable_is parts.urls b) ∙ ap (λ (l : List ℕ). get_or l b 0) (holds.urls_hold.numbers.offers ∙ lengths_are parts.urls.settings state.urls holds.urls_hold.book_is) ∙ length-at state.urls.lists b
+
+-- how many are judged
+pub judged_number : (images : Snapshot) (parts : Parts) (state : State) → HoldsState images.images parts state → parts.urls.last.judged ≡ judged_count state.urls
+judged_number images parts state holds = omega (arith, holds.urls_hold.numbers.commit.judged, gone_none parts.urls.settings state.urls holds.urls_hold.book_is)
+
+-- ---- endings
+-- what an intake's refusal ends a run with
+store_unopened : (fault : Fault) → IsUnopened (ending_of_store fault) → ⊥
+store_unopened StoreFailed is = elim is [ inl bad ↦ let e = bad.1 in let no : ⊥ = cc in absurd no | inr rest ↦ elim rest [ inl ours ↦ let e = ours.1 in let no : ⊥ = cc in absurd no | inr other ↦ let e = other.3 in let no : ⊥ = cc in absurd no ] ]
+store_unopened StoreMemory is = elim is [ inl bad ↦ let e = bad.1 in let no : ⊥ = cc in absurd no | inr rest ↦ elim rest [ inl ours ↦ let e = ours.1 in let no : ⊥ = cc in absurd no | inr other ↦ let e = other.3 in let no : ⊥ = cc in absurd no ] ]
+store_unopened (StoreFull b) is = elim is [ inl bad ↦ let e = bad.1 in let no : ⊥ = cc in absurd no | inr rest ↦ elim rest [ inl ours ↦ let e = ours.1 in let no : ⊥ = cc in absurd no | inr other ↦ let e = other.3 in let no : ⊥ = cc in absurd no ] ]
+store_unopened (StoreDamaged f at) is = elim is [ inl bad ↦ let e = bad.1 in let no : ⊥ = cc in absurd no | inr rest ↦ elim rest [ inl ours ↦ let e = ours.1 in let no : ⊥ = cc in absurd no | inr other ↦ let e = other.3 in let no : ⊥ = cc in absurd no ] ]
+
+store_disk : (fault : Fault) → ending_of_store fault ≡ DiskFault → fault ≡ StoreFailed
+store_disk StoreFailed is = refl
+store_disk StoreMemory is = let no : ⊥ = cc in absurd no
+store_disk (StoreFull b) is = let no : ⊥ = cc in absurd no
+store_disk (StoreDamaged f at) is = let no : ⊥ = cc in absurd no
+
+store_output : (fault : Fault) → ending_of_store fault ≡ OutputFault → ⊥
+store_output StoreFailed is = cc
+store_output StoreMemory is = cc
+store_output (StoreFull b) is = cc
+store_output (StoreDamaged f at) is = cc
+
+store_damaged : (fault : Fault) (f at : ℕ) → ending_of_store fault ≡ Damaged f at → fault ≡ StoreDamaged f at
+store_damaged StoreFailed f at is = let no : ⊥ = cc in absurd no
+store_damaged StoreMemory f at is = let no : ⊥ = cc in absurd no
+store_damaged (StoreFull b) f at is = let no : ⊥ = cc in absurd no
+store_damaged (StoreDamaged g place) f at is = let one : g ≡ f = cc in let two : place ≡ at = cc in cc
+
+store_full : (fault : Fault) (b : ℕ) → ending_of_store fault ≡ Full b → fault ≡ StoreFull b
+store_full StoreFailed b is = let no : ⊥ = cc in absurd no
+store_full StoreMemory b is = let no : ⊥ = cc in absurd no
+store_full (StoreFull c) b is = let one : c ≡ b = cc in cc
+store_full (StoreDamaged g place) b is = let no : ⊥ = cc in absurd no
+
+pub store_input : (fault : Fault) → IsEndOfInput (ending_of_store fault) → ⊥
+store_input StoreFailed is = elim is [ inl done ↦ let no : ⊥ = cc in absurd no | inr rest ↦ elim rest [ inl line ↦ let e = line.1 in let no : ⊥ = cc in absurd no | inr input ↦ let no : ⊥ = cc in absurd no ] ]
+store_input StoreMemory is = elim is [ inl done ↦ let no : ⊥ = cc in absurd no | inr rest ↦ elim rest [ inl line ↦ let e = line.1 in let no : ⊥ = cc in absurd no | inr input ↦ let no : ⊥ = cc in absurd no ] ]
+store_input (StoreFull b) is = elim is [ inl done ↦ let no : ⊥ = cc in absurd no | inr rest ↦ elim rest [ inl line ↦ let e = line.1 in let no : ⊥ = cc in absurd no | inr input ↦ let no : ⊥ = cc in absurd no ] ]
+store_input (StoreDamaged f at) is = elim is [ inl done ↦ let no : ⊥ = cc in absurd no | inr rest ↦ elim rest [ inl line ↦ let e = line.1 in let no : ⊥ = cc in absurd no | inr input ↦ let no : ⊥ = cc in absurd no ] ]
+
+store_done : (fault : Fault) → ending_of_store fault ≡ Done → ⊥
+store_done StoreFailed is = cc
+store_done StoreMemory is = cc
+store_done (StoreFull b) is = cc
+store_done (StoreDamaged f at) is = cc
+
+-- ---- ends
+-- the offers that wait of a bucket don't fit
+abbrev pub IsOver : Place → Place → ℕ → Type 0
+IsOver old new b = (b < old.moment.parts.urls.settings.buckets) × (old.moment.parts.urls.settings.cap < durable_at new.moment.parts.urls b + length (waiting_at new.moment.arrays b))
+
+-- so the lists that would come of them pass the cap
+over_full : (e : ℕ) (u : ℕ → ℕ) (xs : List Tuple) (old new : Place) (x : State) (b : ℕ) → Stays old.moment new.moment → AreArrays new.moment.parts.urls.settings new.moment.arrays → (fed : Fed e u xs old.moment new.moment x) → IsOver old new b
+    → (b < old.moment.parts.urls.settings.buckets) × (old.moment.parts.urls.settings.cap < length_at fed.state.urls b + old.moment.parts.urls.settings.array)
+    × (old.moment.parts.urls.settings.cap < slice_index x.urls.firsts b + length (handed_in x.urls old.moment.arrays b ++ part old.moment.parts.urls.settings.buckets b xs))
+over_full e u xs old new x b still arrays fed over =
+    let long = durable_length new.moment.store new.moment.parts fed.state b fed.holds in
+    let few : length (waiting_at new.moment.arrays b) ≤ old.moment.parts.urls.settings.array =
+    subst (λ (s : Settings). b < s.buckets → length (waiting_at new.moment.arrays b) ≤ s.array) still.settings (λ within. (arrays.each b within).few) over.0 in
+    let kept = ap (λ (l : List Tuple). length l) (fed.keeps b over.0) in
+    let both = length-append (list_at fed.state.urls b) (waiting_at new.moment.arrays b) in
+    (over.0, omega (arith, over.1, long, few), omega (arith, over.1, long, kept, both))
+
+-- nothing waits and nothing is unjudged
+pub record IsFinished (new : Place) : Type 0 where
+  pub empty : (b : ℕ) → waiting_at new.moment.arrays b ≡ []
+  pub judged : SomePending new.moment.parts.urls → ⊥
+
+same_numbers : (xs ys : List ℕ) (n : ℕ) → length xs ≡ n → length ys ≡ n → ((b : ℕ) → b < n → get_or xs b 0 ≡ get_or ys b 0) → xs ≡ ys
+same_numbers [] [] n one two each = refl
+same_numbers [] (y ∷ ys) n one two each = absurd (omega (arith, one, two))
+same_numbers (x ∷ xs) [] n one two each = absurd (omega (arith, one, two))
+same_numbers (x ∷ xs) (y ∷ ys) zero one two each = absurd (omega (arith, one))
+same_numbers (x ∷ xs) (y ∷ ys) (suc n) one two each =
+    let first : x ≡ y = each 0 (omega arith) in
+    let rest : xs ≡ ys = same_numbers xs ys n (omega (arith, one)) (omega (arith, two)) (λ b within. each (suc b) (omega (arith, within))) in
+    cc
+
+no_more : (n : ℕ) → (0 < n → ⊥) → n ≡ 0
+no_more zero not = refl
+no_more (suc n) not = absurd (not (omega arith))
+
+-- so the last cut is at the lists' ends
+all_judged : (images : Snapshot) (parts : Parts) (state : State) → IsDrum parts.urls → HoldsState images.images parts state → (SomePending parts.urls → ⊥) → judged_cut state.urls ≡ lengths_of state.urls
+all_judged images parts state law holds none =
+    let numbers = holds.urls_hold.numbers in
+    let same : parts.urls.last.cut ≡ durables parts.urls =
+    same_numbers parts.urls.last.cut (durables parts.urls) parts.urls.settings.buckets law.last.count (length-map parts.urls.buckets (λ (bucket : Bucket). bucket.durable) ∙ law.count) (λ b within.
+    let at = durable_is parts.urls b in
+    let judged = (law.buckets b within).judged in
+    let waits : pending_at parts.urls b ≡ 0 = no_more (pending_at parts.urls b) (λ some. none (b, within, some)) in
+    omega (arith, at, judged, waits)) in
+    sym numbers.commit.cut ∙ same ∙ numbers.offers
+
+-- all that was judged is printed
+pub printed_all : (images : Snapshot) (parts : Parts) (state : State) (printed : ℕ) → HoldsState images.images parts state → parts.urls.last.judged ≤ printed → unprinted printed state.urls ≡ []
+printed_all images parts state printed holds whole =
+    ap unique_lines (drop_all (printed - gone state.urls) (judged state.urls) (omega (arith, whole, judged_number images parts state holds)))
+
+-- what a run adds to a part that goes on, when it ends
+pub record Last (old new : Place) (ending : Ending) : Type 0 where
+  pub printed : IsAllPrinted ending → new.moment.parts.urls.last.judged ≤ new.printed
+  pub full : (b : ℕ) → ending ≡ Full b → IsOver old new b
+  pub done : ending ≡ Done → IsFinished new
+
+pub ends_goes : (e : ℕ) (u : ℕ → ℕ) (xs : List Tuple) (old new : Place) (ending : Ending) (x : State) → IsConsistent new.moment.store → IsDrum new.moment.parts.urls → AreArrays new.moment.parts.urls.settings new.moment.arrays → Stays old.moment new.moment
+    → Last old new ending → Goes e u xs old new x → Ends e u xs old new ending x
+ends_goes e u xs old new ending x law drum arrays still last goes =
+    let y = goes.fed.state in
+    ends_fed e u xs old new ending x law drum goes.fed (record {
+      text = goes.text;
+      written = goes.written;
+      prints = (unprinted new.printed y.urls, sym goes.prints);
+      prints_all = λ all. sym (append-nil goes.text) ∙ ap (λ (l : List ℕ). goes.text ++ l) (sym (printed_all new.moment.store new.moment.parts y new.printed goes.fed.holds (last.printed all))) ∙ goes.prints;
+      full = λ b is. over_full e u xs old new x b still arrays goes.fed (last.full b is);
+      all = λ is.
+          let finished = last.done is in (
+            λ b within. sym (append-nil (list_at y.urls b)) ∙ ap (λ (l : List Tuple). list_at y.urls b ++ l) (sym (finished.empty b)) ∙ goes.fed.keeps b within,
+            all_judged new.moment.store new.moment.parts y drum goes.fed.holds finished.judged,
+          );
+    })
+
+pub ends_on : (e : ℕ) (u : ℕ → ℕ) (xs : List Tuple) (old new : Place) (ending : Ending) → IsConsistent new.moment.store → IsDrum new.moment.parts.urls → AreArrays new.moment.parts.urls.settings new.moment.arrays → Stays old.moment new.moment
+    → Last old new ending → GoesOn e u xs old new → EndsWith e u xs old new ending
+ends_on e u xs old new ending law drum arrays still last goes = λ files told x holds few. ends_goes e u xs old new ending x law drum arrays still last (goes files told x holds few)
+
+-- ---- an intake's call
+pub goes_call : (e : ℕ) (u : ℕ → ℕ) (xs : List Tuple) (old new : Place) → new.output.bytes ≡ old.output.bytes → new.printed ≡ old.printed → Feeds e u xs old.moment new.moment → GoesOn e u xs old new
+goes_call e u xs old new output printed feeds = λ files told x holds few. goes_fed e u xs old new x holds few output printed (feeds files told x holds)
+
+pub last_of_store : (old new : Place) (fault : Fault) → ((n : ℕ) → fault ≡ StoreFull n → IsOver old new n) → ((n : ℕ) → fault ≡ StoreFull n → new.moment.parts.urls.last.judged ≤ new.printed) → Last old new (ending_of_store fault)
+last_of_store old new fault full whole = record {
+  printed = λ is. ⊎_elim (λ input. absurd (store_input fault input)) (λ over. whole over.0 (store_full fault over.0 over.1)) is;
+  full = λ b is. full b (store_full fault b is);
+  done = λ is. absurd (store_done fault is);
+}
+
+-- a call that is refused
+pub ends_call : (e : ℕ) (u : ℕ → ℕ) (xs : List Tuple) (old new : Place) (fault : Fault) → IsConsistent new.moment.store → IsDrum new.moment.parts.urls → AreArrays new.moment.parts.urls.settings new.moment.arrays → Stays old.moment new.moment
+    → new.output.bytes ≡ old.output.bytes → new.printed ≡ old.printed → ((fault ≡ StoreFailed → ⊥) → Feeds e u xs old.moment new.moment) → (fault ≡ StoreFailed → Strands e u xs old.moment new.moment) → ((n : ℕ) → fault ≡ StoreFull n → IsOver old new n) → ((n : ℕ) → fault ≡ StoreFull n → new.moment.parts.urls.last.judged ≤ new.printed) → EndsWith e u xs old new (ending_of_store fault)
+ends_call e u xs old new StoreFailed law drum arrays still output printed feeds strands full whole = λ files told x holds few. ends_stranded e u xs old new x law output (strands refl files told x holds)
+ends_call e u xs old new StoreMemory law drum arrays still output printed feeds strands full whole =
+    ends_on e u xs old new (ending_of_store StoreMemory) law drum arrays still (last_of_store old new StoreMemory full whole) (goes_call e u xs old new output printed (feeds (λ is. cc)))
+ends_call e u xs old new (StoreFull b) law drum arrays still output printed feeds strands full whole =
+    ends_on e u xs old new (ending_of_store (StoreFull b)) law drum arrays still (last_of_store old new (StoreFull b) full whole) (goes_call e u xs old new output printed (feeds (λ is. cc)))
+ends_call e u xs old new (StoreDamaged f at) law drum arrays still output printed feeds strands full whole =
+    ends_on e u xs old new (ending_of_store (StoreDamaged f at)) law drum arrays still (last_of_store old new (StoreDamaged f at) full whole) (goes_call e u xs old new output printed (feeds (λ is. cc)))
+
+-- why it is
+pub reason_call : (old new : Place) (fault : Fault) → Stays old.moment new.moment → HasCause (fault ≡ StoreFailed) old.disk_faults new.disk_faults → new.output ≡ old.output
+    → ((f at : ℕ) → fault ≡ StoreDamaged f at → ForSome new.moment.store.files (λ files. IsSpoiltAt new.moment.parts.urls files f at ⊎ IsJudgedSpoiltAt new.moment.parts.urls files f at))
+    → ((f at : ℕ) → fault ≡ StoreDamaged f at → HeldNone old.moment) → HasReason old new (ending_of_store fault)
+reason_call old new fault still cause output damaged whole = record {
+  stays = still;
+  disk = record { later = cause.later; rose = λ is. cause.rose (store_disk fault is) };
+  output = record { later = omega (arith, ap (λ (s : Stream). s.faults) output); rose = λ is. absurd (store_output fault is) };
+  opened = store_unopened fault;
+  damaged = λ f at is. damaged f at (store_damaged fault f at is);
+  whole = λ f at is files told x holds few. whole f at (store_damaged fault f at is) files told x holds;
+}
+
+-- a call that isn't
+pub reason_went : (old new : Place) → Stays old.moment new.moment → old.disk_faults ≤ new.disk_faults → old.output.faults ≤ new.output.faults → HasReason old new Done
+reason_went old new still disk output = record {
+  stays = still;
+  disk = record { later = disk; rose = λ is. let no : ⊥ = cc in absurd no };
+  output = record { later = output; rose = λ is. let no : ⊥ = cc in absurd no };
+  opened = λ is. elim is [ inl bad ↦ let e = bad.1 in let no : ⊥ = cc in absurd no | inr rest ↦ elim rest [ inl ours ↦ let e = ours.1 in let no : ⊥ = cc in absurd no | inr other ↦ let e = other.3 in let no : ⊥ = cc in absurd no ] ];
+  damaged = λ f at is. let no : ⊥ = cc in absurd no;
+  whole = λ f at is. let no : ⊥ = cc in absurd no;
+}
+
+-- no call was made
+pub reason_same : (old : Place) → IsConsistent old.moment.store → HasReason old old Done
+reason_same old law = reason_went old old (stays_same old.moment old.moment law refl refl) (omega arith) (omega arith)
+
+pub goes_same : (old : Place) → IsConsistent old.moment.store → IsDrum old.moment.parts.urls → GoesOn 0 none_more [] old old
+goes_same old law drum = λ files told x holds few.
+    goes_fed 0 none_more [] old old x holds few refl refl (fed_still [] old.moment old.moment x law drum refl refl (keeps_same old.moment.parts.urls.settings x old.moment.arrays) holds)
+
+-- ---- a piece that is printed
+-- some judged offers from one on, and those behind them
+piece_lines : (n most : ℕ) (all found : List Judged) → found ≡ take most (drop n all) → unique_lines found ++ unique_lines (drop (n + length found) all) ≡ unique_lines (drop n all)
+piece_lines n most all found is =
+    let rest = drop most (drop n all) in
+    let whole : found ++ rest ≡ drop n all = ap (λ (l : List Judged). l ++ rest) is ∙ take-append-drop most (drop n all) in
+    let behind : drop (n + length found) all ≡ rest = sym (drop-drop (length found) n all) ∙ ap (λ (l : List Judged). drop (length found) l) (sym whole) ∙ drop-append_seam found rest in
+    ap (λ (l : List Judged). unique_lines found ++ unique_lines l) behind ∙ sym (lines-append found rest) ∙ ap unique_lines whole
+
+-- the same of a book, of which no judged offer is dropped
+piece_of : (settings : Settings) (book : Book) (printed next most : ℕ) (found : List Judged) → IsBookOf settings book → found ≡ take most (drop (printed - gone book) (judged book)) → next ≡ printed + length found → unique_lines found ++ unprinted next book ≡ unprinted printed book
+piece_of settings book printed next most found is pieces next_is =
+    let none = gone_none settings book is in
+    let at : next - gone book ≡ (printed - gone book) + length found = omega (arith, none, next_is) in
+    ap (λ (n : ℕ). unique_lines found ++ unique_lines (drop n (judged book))) at ∙ piece_lines (printed - gone book) most (judged book) found pieces
+
+piece_within : (settings : Settings) (book : Book) (printed next most : ℕ) (found : List Judged) → IsBookOf settings book → found ≡ take most (drop (printed - gone book) (judged book)) → next ≡ printed + length found → printed ≤ judged_count book → next ≤ judged_count book
+piece_within settings book printed next most found is pieces next_is few =
+    omega (arith, gone_none settings book is, next_is, few, ap (λ (l : List Judged). length l) pieces, length-take most (drop (printed - gone book) (judged book)), length-drop (printed - gone book) (judged book))
+
+-- what is found of the judged offers of each state that the store holds
+abbrev pub Finds : Place → ℕ → List Judged → Type 0
+Finds old most found = ForSome old.moment.store.files (λ _. (state : State) → HoldsState old.moment.store.images old.moment.parts state → found ≡ take most (drop (old.printed - gone state.urls) (judged state.urls)))
+
+goes_piece : (old new : Place) (most : ℕ) (found : List Judged) (x : State) → HoldsState old.moment.store.images old.moment.parts x → old.printed ≤ judged_count x.urls → Fed 0 none_more [] old.moment new.moment x → found ≡ take most (drop (old.printed - gone x.urls) (judged x.urls))
+    → new.printed ≡ old.printed + length found → Appends old.output.bytes new.output.bytes (unique_lines found) → Goes 0 none_more [] old new x
+goes_piece old new most found x holds few fed pieces next written =
+    let is = holds.urls_hold.book_is in
+    let within = piece_within old.moment.parts.urls.settings x.urls old.printed new.printed most found is pieces next few in
+    record {
+      fed = fed;
+      later = omega (arith, next);
+      ahead = omega (arith, within, judged_later x.urls fed.state.urls is.is_book fed.grows.front.urls);
+      text = unique_lines found;
+      written = written;
+      prints = printed_later x.urls fed.state.urls old.printed new.printed (unique_lines found) is.is_book fed.grows.front.urls (omega (arith, next)) within (piece_of old.moment.parts.urls.settings x.urls old.printed new.printed most found is pieces next);
+    }
+
+pub goes_on_piece : (old new : Place) (most : ℕ) (found : List Judged) → Feeds 0 none_more [] old.moment new.moment → Finds old most found → new.printed ≡ old.printed + length found → Appends old.output.bytes new.output.bytes (unique_lines found) → GoesOn 0 none_more [] old new
+goes_on_piece old new most found feeds finds next written = λ files told x holds few. goes_piece old new most found x holds few (feeds files told x holds) (finds files told x holds) next written
+
+-- a piece of which a prefix is printed
+pub ends_piece : (old new : Place) (most : ℕ) (found : List Judged) (ending : Ending) → IsConsistent new.moment.store → IsDrum new.moment.parts.urls → IsPlain ending → Feeds 0 none_more [] old.moment new.moment → Finds old most found → AppendsPrefix old.output.bytes new.output.bytes (unique_lines found)
+    → EndsWith 0 none_more [] old new ending
+ends_piece old new most found ending law drum plain feeds finds part = λ files told x holds few.
+    let fed = feeds files told x holds in
+    let pieces = finds files told x holds in
+    let is = holds.urls_hold.book_is in
+    let text = take part.0 (unique_lines found) in
+    let rest = drop part.0 (unique_lines found) in
+    let more = unprinted_more x.urls fed.state.urls is.is_book fed.grows.front.urls in
+    let behind = unprinted (old.printed + length found) x.urls in
+    let whole : unprinted old.printed fed.state.urls ≡ text ++ (rest ++ (behind ++ more.0)) =
+    more.1 old.printed few ∙ ap (λ (l : List ℕ). l ++ more.0) (sym (piece_of old.moment.parts.urls.settings x.urls old.printed (old.printed + length found) most found is pieces refl))
+    ∙ append_assoc (unique_lines found) behind more.0 ∙ ap (λ (l : List ℕ). l ++ (behind ++ more.0)) (sym (take-append-drop part.0 (unique_lines found))) ∙ append_assoc text rest (behind ++ more.0) in
+    ends_fed 0 none_more [] old new ending x law drum fed (record {
+      text = text;
+      written = part.1;
+      prints = (rest ++ (behind ++ more.0), whole);
+      prints_all = λ all. absurd (plain.printed all);
+      full = λ b e. absurd (plain.full b e);
+      all = λ e. absurd (plain.done e);
+    })
+
+memory_no_input : IsEndOfInput NoMemory → ⊥
+memory_no_input is = elim is [ inl done ↦ let no : ⊥ = cc in absurd no | inr rest ↦ elim rest [ inl line ↦ let e = line.1 in let no : ⊥ = cc in absurd no | inr input ↦ let no : ⊥ = cc in absurd no ] ]
+
+pub memory_plain : IsPlain NoMemory
+memory_plain = record {
+  printed = λ is. elim is [ inl of_input ↦ memory_no_input of_input | inr over ↦ let e = over.1 in let no : ⊥ = cc in absurd no ];
+  full = λ b is. cc;
+  done = λ is. cc;
+}
+
+output_no_input : IsEndOfInput OutputFault → ⊥
+output_no_input is = elim is [ inl done ↦ let no : ⊥ = cc in absurd no | inr rest ↦ elim rest [ inl line ↦ let e = line.1 in let no : ⊥ = cc in absurd no | inr input ↦ let no : ⊥ = cc in absurd no ] ]
+
+pub output_plain : IsPlain OutputFault
+output_plain = record {
+  printed = λ is. elim is [ inl of_input ↦ output_no_input of_input | inr over ↦ let e = over.1 in let no : ⊥ = cc in absurd no ];
+  full = λ b is. cc;
+  done = λ is. cc;
+}
+
+-- an ending that is one of these two
+abbrev pub IsOfPiece : Ending → Type 0
+IsOfPiece ending = (ending ≡ NoMemory) ⊎ (ending ≡ OutputFault)
+
+pub piece_plain : (ending : Ending) → IsOfPiece ending → IsPlain ending
+piece_plain ending (inl memory) = subst IsPlain (sym memory) memory_plain
+piece_plain ending (inr output) = subst IsPlain (sym output) output_plain
+
+memory_unopened : IsUnopened NoMemory → ⊥
+memory_unopened is = elim is [ inl bad ↦ let e = bad.1 in let no : ⊥ = cc in absurd no | inr rest ↦ elim rest [ inl ours ↦ let e = ours.1 in let no : ⊥ = cc in absurd no | inr other ↦ let e = other.3 in let no : ⊥ = cc in absurd no ] ]
+
+output_unopened : IsUnopened OutputFault → ⊥
+output_unopened is = elim is [ inl bad ↦ let e = bad.1 in let no : ⊥ = cc in absurd no | inr rest ↦ elim rest [ inl ours ↦ let e = ours.1 in let no : ⊥ = cc in absurd no | inr other ↦ let e = other.3 in let no : ⊥ = cc in absurd no ] ]
+
+pub reason_piece : (old new : Place) (ending : Ending) → IsOfPiece ending → Stays old.moment new.moment → old.disk_faults ≤ new.disk_faults → HasCause (ending ≡ OutputFault) old.output.faults new.output.faults → HasReason old new ending
+reason_piece old new ending (inl memory) still disk output = subst (HasReason old new) (sym memory) (record {
+  stays = still;
+  disk = record { later = disk; rose = λ is. let no : ⊥ = cc in absurd no };
+  output = record { later = output.later; rose = λ is. let no : ⊥ = cc in absurd no };
+  opened = memory_unopened;
+  damaged = λ f at is. let no : ⊥ = cc in absurd no;
+  whole = λ f at is. let no : ⊥ = cc in absurd no;
+})
+reason_piece old new ending (inr failed) still disk output = subst (HasReason old new) (sym failed) (record {
+  stays = still;
+  disk = record { later = disk; rose = λ is. let no : ⊥ = cc in absurd no };
+  output = record { later = output.later; rose = λ is. output.rose failed };
+  opened = output_unopened;
+  damaged = λ f at is. let no : ⊥ = cc in absurd no;
+  whole = λ f at is. let no : ⊥ = cc in absurd no;
+})
+
+-- ---- what a `?` answers
+pub err_is : {T E : Type 0} (r : Result T E) (e : E) → IsErrAnd r (λ y. y ≡ e) → r ≡ Err e
+err_is r e h = let out = err_from_is_err_and r h in out.1 ∙ ap Err out.2
+
+-- ---- the end of an input
+-- what is printed last changes nothing
+pub last_finished : (old mid new : Place) → new.moment.parts.urls ≡ mid.moment.parts.urls → new.moment.arrays ≡ mid.moment.arrays → new.moment.parts.urls.last.judged ≤ new.printed → ((b : ℕ) → waiting_at mid.moment.arrays b ≡ []) → (SomePending mid.moment.parts.urls → ⊥) → Last old new Done
+last_finished old mid new urls arrays whole empty judged = record {
+  printed = λ all. whole;
+  full = λ b is. let no : ⊥ = cc in absurd no;
+  done = λ is. record {
+    empty = λ b. subst (λ (l : List Waiting). waiting_at l b ≡ []) (sym arrays) (empty b);
+    judged = λ some. judged (subst SomePending urls some);
+  };
+}
+
+-- what holds of every answer of a call that reads nothing
+pub no_line : {T : Type 0} (r : Result T Ending) → IfErr r (λ ending. IsEndOfInput ending → ⊥) → (n : ℕ) → IsErrOf r (LineRefused n) → ⊥
+no_line (Ok x) kinds n is = let no : ⊥ = cc in absurd no
+no_line (Err e) kinds n is = kinds (inr (inl (n, cc)))
+
+pub no_line_of : (r : Result (Unit {0}) Ending) → IfErr r (λ ending. IsEndOfInput ending → ⊥) → (n : ℕ) → ending_of r ≡ LineRefused n → ⊥
+no_line_of (Ok x) kinds n is = let no : ⊥ = cc in absurd no
+no_line_of (Err e) kinds n is = kinds (inr (inl (n, is)))
+
+pub no_input_of : (r : Result (Unit {0}) Ending) → IfErr r (λ ending. IsEndOfInput ending → ⊥) → ending_of r ≡ InputFault → ⊥
+no_input_of (Ok x) kinds is = let no : ⊥ = cc in absurd no
+no_input_of (Err e) kinds is = kinds (inr (inr is))
+
+-- the run ends where it stands
+pub stop_here : (old : Place) (ending : Ending) → IsConsistent old.moment.store → IsDrum old.moment.parts.urls → AreArrays old.moment.parts.urls.settings old.moment.arrays → (ending ≢ Done) → ((b : ℕ) → ending ≢ Full b) → (IsAllPrinted ending → old.moment.parts.urls.last.judged ≤ old.printed)
+    → EndsWith 1 one_more [] old old ending
+stop_here old ending law drum arrays not_done not_full whole =
+    ends_on 1 one_more [] old old ending law drum arrays (stays_same old.moment old.moment law refl refl) (record { printed = whole; full = λ b is. absurd (not_full b is); done = λ is. absurd (not_done is) })
+    (goes_call 1 one_more [] old old refl refl (feeds_more 0 1 none_more one_more [] old.moment old.moment (omega arith) (λ b. omega arith) (feeds_none old.moment old.moment law drum refl refl refl)))
+
+-- what a step of the input can end a run with
+abbrev pub IsOfInput : Ending → Type 0
+IsOfInput ending = (ending ≡ NoMemory) ⊎ (ending ≡ InputFault) ⊎ ((n : ℕ) × (ending ≡ LineRefused n))
+
+pub input_done : (ending : Ending) → IsOfInput ending → ending ≢ Done
+input_done ending (inl memory) = λ is. let no : ⊥ = cc in absurd no
+input_done ending (inr (inl input)) = λ is. let no : ⊥ = cc in absurd no
+input_done ending (inr (inr line)) = λ is. let e = line.1 in let no : ⊥ = cc in absurd no
+
+pub input_full : (ending : Ending) → IsOfInput ending → (b : ℕ) → ending ≢ Full b
+input_full ending (inl memory) b = λ is. let no : ⊥ = cc in absurd no
+input_full ending (inr (inl input)) b = λ is. let no : ⊥ = cc in absurd no
+input_full ending (inr (inr line)) b = λ is. let e = line.1 in let no : ⊥ = cc in absurd no
+
+line_unopened : (n : ℕ) → IsUnopened (LineRefused n) → ⊥
+line_unopened n is = elim is [ inl bad ↦ let e = bad.1 in let no : ⊥ = cc in absurd no | inr rest ↦ elim rest [ inl ours ↦ let e = ours.1 in let no : ⊥ = cc in absurd no | inr other ↦ let e = other.3 in let no : ⊥ = cc in absurd no ] ]
+
+input_unopened : IsUnopened InputFault → ⊥
+input_unopened is = elim is [ inl bad ↦ let e = bad.1 in let no : ⊥ = cc in absurd no | inr rest ↦ elim rest [ inl ours ↦ let e = ours.1 in let no : ⊥ = cc in absurd no | inr other ↦ let e = other.3 in let no : ⊥ = cc in absurd no ] ]
+
+pub reason_input : (old : Place) (ending : Ending) → IsConsistent old.moment.store → IsOfInput ending → HasReason old old ending
+reason_input old ending law (inl memory) = subst (HasReason old old) (sym memory) (record {
+  stays = stays_same old.moment old.moment law refl refl;
+  disk = record { later = omega arith; rose = λ is. let no : ⊥ = cc in absurd no };
+  output = record { later = omega arith; rose = λ is. let no : ⊥ = cc in absurd no };
+  opened = memory_unopened;
+  damaged = λ f at is. let no : ⊥ = cc in absurd no;
+  whole = λ f at is. let no : ⊥ = cc in absurd no;
+})
+reason_input old ending law (inr (inl input)) = subst (HasReason old old) (sym input) (record {
+  stays = stays_same old.moment old.moment law refl refl;
+  disk = record { later = omega arith; rose = λ is. let no : ⊥ = cc in absurd no };
+  output = record { later = omega arith; rose = λ is. let no : ⊥ = cc in absurd no };
+  opened = input_unopened;
+  damaged = λ f at is. let no : ⊥ = cc in absurd no;
+  whole = λ f at is. let no : ⊥ = cc in absurd no;
+})
+reason_input old ending law (inr (inr line)) = subst (HasReason old old) (sym line.1) (record {
+  stays = stays_same old.moment old.moment law refl refl;
+  disk = record { later = omega arith; rose = λ is. let no : ⊥ = cc in absurd no };
+  output = record { later = omega arith; rose = λ is. let no : ⊥ = cc in absurd no };
+  opened = line_unopened line.0;
+  damaged = λ f at is. let no : ⊥ = cc in absurd no;
+  whole = λ f at is. let no : ⊥ = cc in absurd no;
+})
+
+-- the same numbers for the whole of an input
+lifts_goes : (old : Place) → IsConsistent old.moment.store → IsDrum old.moment.parts.urls → GoesOn 1 one_more [] old old
+lifts_goes old law drum = goes_call 1 one_more [] old old refl refl (feeds_more 0 1 none_more one_more [] old.moment old.moment (omega arith) (λ b. omega arith) (feeds_none old.moment old.moment law drum refl refl refl))
+
+pub ends_lifted : (news : List Tuple) (old mid new : Place) (ending : Ending) → IsConsistent mid.moment.store → IsDrum mid.moment.parts.urls → Stays old.moment mid.moment → GoesOn 0 none_more news old mid → EndsWith 0 none_more [] mid new ending → EndsWith 1 one_more (news ++ []) old new ending
+ends_lifted news old mid new ending law drum still goes ends =
+    goes_on_ends 0 1 none_more one_more news [] old mid new ending still goes
+    (goes_on_ends 1 0 one_more none_more [] [] mid mid new ending (stays_same mid.moment mid.moment law refl refl) (lifts_goes mid law drum) ends)
+
+-- nothing waits yet, and memory runs out
+pub stop_plain : (old : Place) → IsConsistent old.moment.store → IsDrum old.moment.parts.urls → EndsWith 1 one_more [] old old NoMemory
+stop_plain old law drum = λ files told x holds few.
+    let fed = feeds_more 0 1 none_more one_more [] old.moment old.moment (omega arith) (λ b. omega arith) (feeds_none old.moment old.moment law drum refl refl refl) files told x holds in
+    ends_fed 1 one_more [] old old NoMemory x law drum fed (closes_plain [] old old NoMemory x fed.state memory_plain refl)

@@ -1,0 +1,259 @@
+-- A part of a run after another.
+use Rattle.std.proofs.Common.{◌≡◌, ◌≢◌, ◌∙◌, ◌⊎◌, inl, inr, ℕ, ◌+◌, ◌-◌, ◌<◌, ◌≤◌, List, [], ◌∷◌, ◌++◌, length, filter, drop, nat_eq, slice_index, Option, None, Some, refl, sym, ap, subst, append_assoc, append-nil, length-append, arith}
+use Rattle.std.proofs.KnownBytes.{Appends-nil}
+use Rattle.std.proofs.lemmas.List.{drop-append-le}
+use Rattle.std.proofs.lemmas.List.Elements.{filter-append}
+use Rattle.std.proofs.lemmas.Grind.{flat_map-append}
+use Rattle.std.specs.Option.{ForSome}
+use Rattle.std.specs.Io.KnownBytes.{Appends}
+use Rattle.irl_offer.specs.declared.settings.Settings.{Settings}
+use Rattle.irl_offer.specs.declared.receipt.Judged.{Judged}
+use Rattle.irl_offer.specs.Buckets.{bucket_of}
+use Rattle.irl_offer.specs.Tuple.{Tuple}
+use Rattle.irl_model.specs.Book.{Book, IsBook, IsFront, gone, judged, judged_cut, lengths_of, part, IsPrefixOf}
+use Rattle.irl_model.specs.State.{State, AreFronts}
+use Rattle.irl_model.proofs.FrontLaws.{judged_front, prefix_same, prefix_both}
+use Rattle.irl_disk.specs.Disk.{Files}
+use Rattle.irl_disk.specs.Images.{Snapshot, IsConsistent, Leaves}
+use Rattle.irl_disk.proofs.Stretches.{left_now}
+use Rattle.irl_bay.specs.Drum.{IsDrum}
+use Rattle.irl_yard.specs.declared.parts.Parts.{Parts}
+use Rattle.irl_yard.specs.Standing.{HasState}
+use Rattle.irl_yard.specs.Holding.{HoldsState}
+use Rattle.irl_yard.proofs.Holding.{held_has}
+use Rattle.irl_intake.specs.Feeding.{Moment, Stays, Fed, Stranded, Grows, HasBetween, handed_in, list_at, length_at, waiting_at}
+use Rattle.irl_intake.proofs.Chains.{same_fronts, both_fronts, grows_both, grows_same, grows_more, fed_both, stranded_after, tells_on, stays_both}
+use Rattle.irl_top.specs.Message.{IsAllPrinted, IsEndOfInput, IsUnopened}
+use Rattle.irl_top.specs.Printed.{unique_lines, judged_count, line_if_unique}
+use Rattle.irl_top.specs.Session.{Place, unprinted, Goes, Ends, GoesOn, EndsWith, HoldsNone, HasReason}
+use Rattle.irl_top.specs.declared.ending.Ending.{Ending}
+use Rattle.irl_top.specs.declared.ending.Ending.TheVariants.{Done, DiskFault, Full}
+use Rattle.irl_top.proofs.Sinks.{appends_both}
+
+-- ---- what is printed
+pub lines-append : (xs ys : List Judged) → unique_lines (xs ++ ys) ≡ unique_lines xs ++ unique_lines ys
+lines-append xs ys = flat_map-append (λ (one : Judged). line_if_unique one.offer.aux one.verdict) xs ys
+
+drop-more : (n : ℕ) (xs ys zs : List Judged) → zs ≡ xs ++ ys → n ≤ length xs → unique_lines (drop n zs) ≡ unique_lines (drop n xs) ++ unique_lines ys
+drop-more n xs ys zs is within = ap (λ (l : List Judged). unique_lines (drop n l)) is ∙ ap unique_lines (drop-append-le n xs ys within) ∙ lines-append (drop n xs) ys
+
+-- what is judged later is printed behind what is judged
+pub unprinted_more : (x y : Book) → IsBook x → IsFront x y → (more : List ℕ) × ((p : ℕ) → p ≤ judged_count x → unprinted p y ≡ unprinted p x ++ more)
+unprinted_more x y book front =
+    let prefix = judged_front x y book front in
+    let same : gone y ≡ gone x = ap (λ (l : List ℕ). gone (record x { firsts = l })) front.firsts in (
+      unique_lines prefix.0,
+      λ p within. ap (λ (n : ℕ). unique_lines (drop (p - n) (judged y))) same ∙ drop-more (p - gone x) (judged x) prefix.0 (judged y) prefix.1 (omega (arith, within)),
+    )
+
+-- no less is judged later
+pub judged_later : (x y : Book) → IsBook x → IsFront x y → judged_count x ≤ judged_count y
+judged_later x y book front =
+    let prefix = judged_front x y book front in
+    let same : gone y ≡ gone x = ap (λ (l : List ℕ). gone (record x { firsts = l })) front.firsts in
+    omega (arith, same, ap (λ (l : List Judged). length l) prefix.1, length-append (judged x) prefix.0)
+
+printed_then : (one two old mid new : List ℕ) → one ++ mid ≡ old → two ++ new ≡ mid → (one ++ two) ++ new ≡ old
+printed_then one two old mid new first second = append_assoc one two new ∙ ap (λ (l : List ℕ). one ++ l) second ∙ first
+
+-- what was printed by then, seen from a later book
+pub printed_later : (x y : Book) (p q : ℕ) (text : List ℕ) → IsBook x → IsFront x y → p ≤ q → q ≤ judged_count x → text ++ unprinted q x ≡ unprinted p x → text ++ unprinted q y ≡ unprinted p y
+printed_later x y p q text book front le within prints =
+    let more = unprinted_more x y book front in
+    ap (λ (l : List ℕ). text ++ l) (more.1 q within) ∙ sym (append_assoc text (unprinted q x) more.0) ∙ ap (λ (l : List ℕ). l ++ more.0) prints ∙ sym (more.1 p (omega (arith, le, within)))
+
+-- a prefix of what is unprinted, behind what was printed
+prefix_then : (one two old mid : List ℕ) → one ++ mid ≡ old → IsPrefixOf two mid → IsPrefixOf (one ++ two) old
+prefix_then one two old mid first part = (part.0, sym first ∙ ap (λ (l : List ℕ). one ++ l) part.1 ∙ sym (append_assoc one two part.0))
+
+-- ---- offers that were handed in
+handed_more : (settings : Settings) (b : ℕ) (xs ys : List Tuple) (first mid : List Tuple) → mid ≡ first ++ part settings.buckets b xs → mid ++ part settings.buckets b ys ≡ first ++ part settings.buckets b (xs ++ ys)
+handed_more settings b xs ys first mid is =
+    ap (λ (l : List Tuple). l ++ part settings.buckets b ys) is ∙ append_assoc first (part settings.buckets b xs) (part settings.buckets b ys)
+    ∙ ap (λ (l : List Tuple). first ++ l) (sym (filter-append (λ (offer : Tuple). nat_eq (bucket_of settings.buckets offer.key) b) xs ys))
+
+-- ---- one part after another
+pub goes_both : (e d : ℕ) (u v : ℕ → ℕ) (xs ys : List Tuple) (old mid new : Place) (x : State) → Stays old.moment mid.moment → (first : Goes e u xs old mid x) → Goes d v ys mid new first.fed.state → Goes (e + d) (λ b. u b + v b) (xs ++ ys) old new x
+unfolding fed_both
+goes_both e d u v xs ys old mid new x still first second =
+    let book = first.fed.holds.urls_hold.book_is.is_book in
+    let y = first.fed.state.urls in
+    let z = second.fed.state.urls in
+    record {
+      fed = fed_both e d u v xs ys old.moment mid.moment new.moment x still first.fed second.fed;
+      later = omega (arith, first.later, second.later);
+      ahead = second.ahead;
+      text = first.text ++ second.text;
+      written = appends_both _ _ _ first.text second.text first.written second.written;
+      prints = printed_then first.text second.text (unprinted old.printed z) (unprinted mid.printed z) (unprinted new.printed z) (printed_later y z old.printed mid.printed first.text book second.fed.grows.front.urls first.later first.ahead first.prints) second.prints;
+    }
+
+pub goes_then_ends : (e d : ℕ) (u v : ℕ → ℕ) (xs ys : List Tuple) (old mid new : Place) (ending : Ending) (x : State) → Stays old.moment mid.moment → (first : Goes e u xs old mid x) → Ends d v ys mid new ending first.fed.state → Ends (e + d) (λ b. u b + v b) (xs ++ ys) old new ending x
+unfolding stranded_after
+goes_then_ends e d u v xs ys old mid new ending x still first second =
+    let settings = old.moment.parts.urls.settings in
+    let book = first.fed.holds.urls_hold.book_is.is_book in
+    let y = first.fed.state in
+    let z = second.kept in
+    let strands = stranded_after e d u v xs ys old.moment mid.moment new.moment x still first.fed second.strands in
+    let grows : Grows settings d y z = subst (λ (s : Settings). Grows s d y z) still.settings second.grows in
+    let seen : first.text ++ unprinted mid.printed z.urls ≡ unprinted old.printed z.urls =
+    printed_later y.urls z.urls old.printed mid.printed first.text book grows.front.urls first.later first.ahead first.prints in
+    record {
+      strands = strands;
+      kept = z;
+      grows = grows_both settings e d x y z first.fed.grows grows;
+      front = second.front;
+      settled = second.settled;
+      now = second.now;
+      text = first.text ++ second.text;
+      written = appends_both _ _ _ first.text second.text first.written second.written;
+      prints = prefix_then first.text second.text (unprinted old.printed z.urls) (unprinted mid.printed z.urls) seen second.prints;
+      prints_all = λ all. ap (λ (l : List ℕ). first.text ++ l) (second.prints_all all) ∙ seen;
+      full = λ b is.
+          let has = second.full b is in
+          let within : b < settings.buckets = subst (λ (s : Settings). b < s.buckets) still.settings has.0 in
+          let whole = handed_more settings b xs ys (handed_in x.urls old.moment.arrays b) (handed_in y.urls mid.moment.arrays b) (first.fed.keeps b within) in
+          let firsts : slice_index y.urls.firsts b ≡ slice_index x.urls.firsts b = ap (λ (l : List ℕ). slice_index l b) first.fed.grows.front.urls.firsts in
+          let passes : settings.cap < slice_index y.urls.firsts b + length (handed_in y.urls mid.moment.arrays b ++ part settings.buckets b ys) =
+          subst (λ (s : Settings). s.cap < slice_index y.urls.firsts b + length (handed_in y.urls mid.moment.arrays b ++ part s.buckets b ys)) still.settings has.2 in (
+            within,
+            subst (λ (s : Settings). s.cap < length_at second.strands.state.urls b + s.array) still.settings has.1,
+            omega (arith, passes, firsts, ap (λ (l : List Tuple). length l) whole),
+          );
+      all = λ is.
+          let has = second.all is in (
+            λ b within.
+                let listed : list_at z.urls b ≡ handed_in y.urls mid.moment.arrays b ++ part settings.buckets b ys =
+                subst (λ (s : Settings). b < s.buckets → list_at z.urls b ≡ handed_in y.urls mid.moment.arrays b ++ part s.buckets b ys) still.settings (has.0 b) within in
+                listed ∙ handed_more settings b xs ys (handed_in x.urls old.moment.arrays b) (handed_in y.urls mid.moment.arrays b) (first.fed.keeps b within),
+            has.1,
+          );
+    }
+
+-- ---- from what an intake's call says
+-- nothing was printed
+pub goes_fed : (e : ℕ) (u : ℕ → ℕ) (xs : List Tuple) (old new : Place) (x : State) → HoldsState old.moment.store.images old.moment.parts x → old.printed ≤ judged_count x.urls → new.output.bytes ≡ old.output.bytes → new.printed ≡ old.printed → Fed e u xs old.moment new.moment x → Goes e u xs old new x
+goes_fed e u xs old new x holds few output printed fed = record {
+  fed = fed;
+  later = omega (arith, printed);
+  ahead = omega (arith, printed, few, judged_later x.urls fed.state.urls holds.urls_hold.book_is.is_book fed.grows.front.urls);
+  text = [];
+  written = subst (λ (o : Option (List ℕ)). Appends old.output.bytes o []) (sym output) (Appends-nil old.output.bytes);
+  prints = ap (λ (p : ℕ). unprinted p fed.state.urls) printed;
+}
+
+-- the state that is held is the one that is told, and that every stop leaves
+abbrev strands_fed : (e : ℕ) (u : ℕ → ℕ) (xs : List Tuple) (old new : Moment) (x : State) → IsConsistent new.store → IsDrum new.parts.urls → Fed e u xs old new x → Stranded e u xs old new x
+strands_fed e u xs old new x law drum fed = record {
+  state = fed.state;
+  most = fed.state;
+  told = λ files tells. held_has new.store.images new.parts.urls fed.state files drum fed.holds (law.told files tells);
+  grows = fed.grows;
+  may_grow = fed.grows;
+  front = same_fronts fed.state;
+  takes = λ b within. (waiting_at new.arrays b, sym (fed.keeps b within));
+  stops = fed.stops;
+  records_stop = fed.records_stop;
+}
+
+-- what an ending adds where the store holds a state
+pub record Closes (news : List Tuple) (old new : Place) (ending : Ending) (x state : State) : Type 0 where
+  pub text : List ℕ
+  pub written : Appends old.output.bytes new.output.bytes text
+  pub prints : IsPrefixOf text (unprinted old.printed state.urls)
+  pub prints_all : IsAllPrinted ending → text ≡ unprinted old.printed state.urls
+  pub full : (b : ℕ) → ending ≡ Full b → (b < old.moment.parts.urls.settings.buckets) × (old.moment.parts.urls.settings.cap < length_at state.urls b + old.moment.parts.urls.settings.array)
+      × (old.moment.parts.urls.settings.cap < slice_index x.urls.firsts b + length (handed_in x.urls old.moment.arrays b ++ part old.moment.parts.urls.settings.buckets b news))
+  pub all : ending ≡ Done → ((b : ℕ) → b < old.moment.parts.urls.settings.buckets → list_at state.urls b ≡ handed_in x.urls old.moment.arrays b ++ part old.moment.parts.urls.settings.buckets b news) × (judged_cut state.urls ≡ lengths_of state.urls)
+
+pub ends_fed : (e : ℕ) (u : ℕ → ℕ) (xs : List Tuple) (old new : Place) (ending : Ending) (x : State) → IsConsistent new.moment.store → IsDrum new.moment.parts.urls → (fed : Fed e u xs old.moment new.moment x) → Closes xs old new ending x fed.state → Ends e u xs old new ending x
+ends_fed e u xs old new ending x law drum fed closes = record {
+  strands = strands_fed e u xs old.moment new.moment x law drum fed;
+  kept = fed.state;
+  grows = fed.grows;
+  front = same_fronts fed.state;
+  settled = λ not. (refl, refl);
+  now = λ image left. (fed.state, held_has new.moment.store.images new.moment.parts.urls fed.state image drum fed.holds left, same_fronts fed.state, same_fronts fed.state);
+  text = closes.text;
+  written = closes.written;
+  prints = closes.prints;
+  prints_all = closes.prints_all;
+  full = closes.full;
+  all = closes.all;
+}
+
+-- an ending that is none of those for which there is more to say: nothing was printed
+pub record IsPlain (ending : Ending) : Type 0 where
+  pub printed : IsAllPrinted ending → ⊥
+  pub full : (b : ℕ) → ending ≡ Full b → ⊥
+  pub done : ending ≡ Done → ⊥
+
+pub closes_plain : (xs : List Tuple) (old new : Place) (ending : Ending) (x state : State) → IsPlain ending → new.output.bytes ≡ old.output.bytes → Closes xs old new ending x state
+closes_plain xs old new ending x state plain output = record {
+  text = [];
+  written = subst (λ (o : Option (List ℕ)). Appends old.output.bytes o []) (sym output) (Appends-nil old.output.bytes);
+  prints = (unprinted old.printed state.urls, refl);
+  prints_all = λ is. absurd (plain.printed is);
+  full = λ b is. absurd (plain.full b is);
+  all = λ is. absurd (plain.done is);
+}
+
+disk_no_input : IsEndOfInput DiskFault → ⊥
+disk_no_input is = elim is [ inl done ↦ let no : ⊥ = cc in absurd no | inr rest ↦ elim rest [ inl line ↦ let e = line.1 in let no : ⊥ = cc in absurd no | inr input ↦ let no : ⊥ = cc in absurd no ] ]
+
+disk_plain : IsPlain DiskFault
+disk_plain = record {
+  printed = λ is. elim is [ inl of_input ↦ disk_no_input of_input | inr over ↦ let e = over.1 in let no : ⊥ = cc in absurd no ];
+  full = λ b is. cc;
+  done = λ is. cc;
+}
+
+-- the store failed
+pub ends_stranded : (e : ℕ) (u : ℕ → ℕ) (xs : List Tuple) (old new : Place) (x : State) → IsConsistent new.moment.store → new.output.bytes ≡ old.output.bytes → Stranded e u xs old.moment new.moment x → Ends e u xs old new DiskFault x
+ends_stranded e u xs old new x law output strands =
+    let closes = closes_plain xs old new DiskFault x x disk_plain output in
+    record {
+      strands = strands;
+      kept = x;
+      grows = grows_more old.moment.parts.urls.settings 0 e x x (omega arith) (grows_same old.moment.parts.urls.settings x);
+      front = strands.grows.front;
+      settled = λ not. absurd (not refl);
+      now = λ image left. left_now old.moment.store new.moment.store (HasBetween x strands.most) law strands.stops image left;
+      text = closes.text;
+      written = closes.written;
+      prints = closes.prints;
+      prints_all = closes.prints_all;
+      full = λ b is. absurd (disk_plain.full b is);
+      all = λ is. absurd (disk_plain.done is);
+    }
+
+-- ---- the same of each state that was held
+pub goes_on_both : (e d : ℕ) (u v : ℕ → ℕ) (xs ys : List Tuple) (old mid new : Place) → Stays old.moment mid.moment → GoesOn e u xs old mid → GoesOn d v ys mid new → GoesOn (e + d) (λ b. u b + v b) (xs ++ ys) old new
+goes_on_both e d u v xs ys old mid new still first second = λ files told x holds few.
+    let one = first files told x holds few in
+    let after = tells_on _ old.moment.store.files mid.moment.store.files files still.others told in
+    goes_both e d u v xs ys old mid new x still one (second after.0 after.1 one.fed.state one.fed.holds one.ahead)
+
+pub goes_on_ends : (e d : ℕ) (u v : ℕ → ℕ) (xs ys : List Tuple) (old mid new : Place) (ending : Ending) → Stays old.moment mid.moment → GoesOn e u xs old mid → EndsWith d v ys mid new ending → EndsWith (e + d) (λ b. u b + v b) (xs ++ ys) old new ending
+goes_on_ends e d u v xs ys old mid new ending still first second = λ files told x holds few.
+    let one = first files told x holds few in
+    let after = tells_on _ old.moment.store.files mid.moment.store.files files still.others told in
+    goes_then_ends e d u v xs ys old mid new ending x still one (second after.0 after.1 one.fed.state one.fed.holds one.ahead)
+
+-- a store that holds none later held none
+pub none_before : (e : ℕ) (u : ℕ → ℕ) (xs : List Tuple) (old mid : Place) → Stays old.moment mid.moment → GoesOn e u xs old mid → HoldsNone mid → HoldsNone old
+none_before e u xs old mid still first none = λ files told x holds few.
+    let one = first files told x holds few in
+    let after = tells_on _ old.moment.store.files mid.moment.store.files files still.others told in
+    none after.0 after.1 one.fed.state one.fed.holds one.ahead
+
+pub reason_then : (e : ℕ) (u : ℕ → ℕ) (xs : List Tuple) (old mid new : Place) (before ending : Ending) → IsConsistent mid.moment.store → GoesOn e u xs old mid → HasReason old mid before → HasReason mid new ending → HasReason old new ending
+reason_then e u xs old mid new before ending law first one two = record {
+  stays = stays_both old.moment mid.moment new.moment law one.stays two.stays;
+  disk = record { later = omega (arith, one.disk.later, two.disk.later); rose = λ is. omega (arith, one.disk.later, two.disk.rose is) };
+  output = record { later = omega (arith, one.output.later, two.output.later); rose = λ is. omega (arith, one.output.later, two.output.rose is) };
+  opened = two.opened;
+  damaged = two.damaged;
+  whole = λ f at is. none_before e u xs old mid one.stays first (two.whole f at is);
+}

@@ -1,0 +1,152 @@
+-- States of a run: what lies between two of them, and what entering a store makes of one.
+use Rattle.std.proofs.Common.{◌≡◌, ◌≢◌, ◌∙◌, ◌⊎◌, inl, inr, ⊎_elim, ℕ, zero, suc, ◌+◌, ◌-◌, ◌<◌, ◌≤◌, List, [], ◌∷◌, ◌++◌, length, filter, replicate, sum, get_or, nat_eq, Bool, true, false, cond, Option, None, Some, refl, sym, ap, subst, append_assoc, append-nil, length-append, arith}
+use Rattle.std.proofs.Math.Nat.{eq-or-lt_of_le}
+use Rattle.std.proofs.lemmas.Bool.Decides.{nat_tests}
+use Rattle.std.proofs.lemmas.List.{append_cancel_left}
+use Rattle.std.proofs.lemmas.List.Elements.{filter-append}
+use Rattle.std.specs.Prelude.{unwrap_or, slice_index}
+use Rattle.irl_offer.specs.Buckets.{bucket_of}
+use Rattle.irl_offer.specs.Settings.{settings_of}
+use Rattle.irl_offer.specs.Tuple.{Tuple}
+use Rattle.irl_offer.specs.declared.offer.Rule.{Rule}
+use Rattle.irl_offer.specs.declared.offer.Rule.TheVariants.{Keep}
+use Rattle.irl_offer.specs.declared.settings.Asked.{Asked}
+use Rattle.irl_offer.specs.declared.settings.Settings.{Settings}
+use Rattle.irl_model.specs.Book.{Book, ArePrefixes, IsPrefixOf, blank_book, part, judged_cut}
+use Rattle.irl_model.specs.State.{State, AreFronts, IsFrontState, blank_state}
+use Rattle.irl_disk.specs.Disk.{Files}
+use Rattle.irl_yard.specs.Standing.{HasState}
+use Rattle.irl_yard.specs.Opening.{entered_state, new_state}
+use Rattle.irl_yard.proofs.Grounds.{entered_made}
+use Rattle.irl_intake.specs.Schedule.{early_cuts, has_enough}
+use Rattle.irl_intake.specs.Feeding.{Grows, list_at, length_at}
+use Rattle.irl_top.specs.Printed.{judged_count}
+use Rattle.irl_top.specs.Run.{settings_in}
+
+-- ---- prefixes
+-- what lies behind a prefix, and is a prefix of what does
+pub prefix_cancel : (xs ys zs : List Tuple) → IsPrefixOf xs ys → IsPrefixOf ys (xs ++ zs) → (news : List Tuple) × (ys ≡ xs ++ news) × IsPrefixOf news zs
+prefix_cancel xs ys zs first second =
+    (first.0, first.1, (second.0, append_cancel_left xs zs (first.0 ++ second.0) (second.1 ∙ ap (λ (l : List Tuple). l ++ second.0) first.1 ∙ append_assoc xs first.0 second.0)))
+
+pub part_prefix : (buckets b : ℕ) (xs ys : List Tuple) → IsPrefixOf xs ys → IsPrefixOf (part buckets b xs) (part buckets b ys)
+part_prefix buckets b xs ys prefix =
+    (part buckets b prefix.0, ap (λ (l : List Tuple). part buckets b l) prefix.1 ∙ filter-append (λ (offer : Tuple). nat_eq (bucket_of buckets offer.key) b) xs prefix.0)
+
+prefix_trans : (xs ys zs : List Tuple) → IsPrefixOf xs ys → IsPrefixOf ys zs → IsPrefixOf xs zs
+prefix_trans xs ys zs first second = (first.0 ++ second.0, second.1 ∙ ap (λ (l : List Tuple). l ++ second.0) first.1 ∙ append_assoc xs first.0 second.0)
+
+list_prefix : (xss yss : List (List Tuple)) (b : ℕ) → ArePrefixes xss yss → IsPrefixOf (get_or xss b []) (get_or yss b [])
+list_prefix [] [] b front = ([], refl)
+list_prefix [] (ys ∷ yss) b front = absurd front
+list_prefix (xs ∷ xss) [] b front = absurd front
+list_prefix (xs ∷ xss) (ys ∷ yss) zero front = front.0
+list_prefix (xs ∷ xss) (ys ∷ yss) (suc b) front = list_prefix xss yss b front.1
+
+pub front_list : (x y : State) (b : ℕ) → AreFronts x y → IsPrefixOf (list_at x.urls b) (list_at y.urls b)
+front_list x y b front = list_prefix x.urls.lists y.urls.lists b front.urls.lists
+
+-- what a list has got is a prefix of what was handed in, and so of more
+pub adds_some : (buckets b : ℕ) (x y : State) (xs ys : List Tuple) → AreFronts x y → IsPrefixOf (list_at y.urls b) ((list_at x.urls b ++ []) ++ part buckets b xs) → IsPrefixOf xs ys → (news : List Tuple) × (list_at y.urls b ≡ list_at x.urls b ++ news) × IsPrefixOf news (part buckets b ys)
+adds_some buckets b x y xs ys front takes prefix =
+    let old = list_at x.urls b in
+    let takes_plain : IsPrefixOf (list_at y.urls b) (old ++ part buckets b xs) = subst (λ (l : List Tuple). IsPrefixOf (list_at y.urls b) (l ++ part buckets b xs)) (append-nil old) takes in
+    let some = prefix_cancel old (list_at y.urls b) (part buckets b xs) (front_list x y b front) takes_plain in
+    (some.0, some.1, prefix_trans some.0 (part buckets b xs) (part buckets b ys) some.2 (part_prefix buckets b xs ys prefix))
+
+-- ---- between two states
+early_front : (trigger : ℕ) (from : List ℕ) (xs ys : List (List ℕ)) → early_cuts trigger from xs ≤ early_cuts trigger from (xs ++ ys)
+early_front trigger from [] ys = omega arith
+early_front trigger from (cut ∷ xs) ys = omega (arith, early_front trigger cut xs ys)
+
+no_length : {X : Type 0} (xs : List X) → length xs ≡ 0 → xs ≡ []
+no_length [] e = refl
+no_length (x ∷ xs) e = absurd (omega (arith, e))
+
+fits_between : (settings : Settings) (x z y : State) (b : ℕ) → AreFronts x z → AreFronts z y → (list_at y.urls b ≡ list_at x.urls b) ⊎ (length_at y.urls b ≤ settings.cap) → (list_at z.urls b ≡ list_at x.urls b) ⊎ (length_at z.urls b ≤ settings.cap)
+fits_between settings x z y b first second (inl same) =
+    let one = front_list x z b first in
+    let two = front_list z y b second in
+    let counts : length one.0 ≡ 0 =
+    omega (arith, ap (λ (l : List Tuple). length l) same, ap (λ (l : List Tuple). length l) one.1, ap (λ (l : List Tuple). length l) two.1, length-append (list_at x.urls b) one.0, length-append (list_at z.urls b) two.0) in
+    inl (one.1 ∙ ap (λ (l : List Tuple). list_at x.urls b ++ l) (no_length one.0 counts) ∙ append-nil (list_at x.urls b))
+fits_between settings x z y b first second (inr fits) =
+    let two = front_list z y b second in
+    let firsts : slice_index y.urls.firsts b ≡ slice_index z.urls.firsts b = ap (λ (l : List ℕ). slice_index l b) second.urls.firsts in
+    inr (omega (arith, fits, firsts, ap (λ (l : List Tuple). length l) two.1, length-append (list_at z.urls b) two.0))
+
+-- a state between has grown too
+pub grows_between : (settings : Settings) (early : ℕ) (x z y : State) → AreFronts x z → AreFronts z y → Grows settings early x y → Grows settings early x z
+grows_between settings early x z y first second grows =
+    let one = first.urls.cuts in
+    let two = second.urls.cuts in
+    let cuts : grows.cuts ≡ one.0 ++ two.0 = append_cancel_left x.urls.cuts grows.cuts (one.0 ++ two.0) (sym grows.cuts_are ∙ two.1 ∙ ap (λ (l : List (List ℕ)). l ++ two.0) one.1 ∙ append_assoc x.urls.cuts one.0 two.0) in
+    let from = judged_cut x.urls in
+    record {
+      front = first;
+      fits = λ b within. fits_between settings x z y b first second (grows.fits b within);
+      cuts = one.0;
+      cuts_are = one.1;
+      early_are = omega (arith, grows.early_are, ap (λ (l : List (List ℕ)). early_cuts settings.trigger from l) cuts, early_front settings.trigger from one.0 two.0);
+    }
+
+-- ---- what entering makes of a state
+settings_made : (asked : Asked) (o : Option Settings) (urls pairs : Book) (s : Settings) → (entered_state asked (record { settings = o; urls = urls; pairs = pairs })).settings ≡ Some s → s ≡ unwrap_or o (settings_of asked)
+settings_made asked None urls pairs s is = cc
+settings_made asked (Some kept) urls pairs s is = cc
+
+pub settings_entered : (asked : Asked) (x : State) (s : Settings) → (entered_state asked x).settings ≡ Some s → s ≡ settings_in asked x
+settings_entered asked x s is = settings_made asked x.settings x.urls x.pairs s is
+
+abbrev list_in : List (List Tuple) → ℕ → List Tuple
+list_in lists b = get_or lists b []
+
+none_listed : (n b : ℕ) → list_in (replicate n []) b ≡ []
+none_listed zero b = refl
+none_listed (suc n) zero = refl
+none_listed (suc n) (suc b) = none_listed n b
+
+zeros : (n : ℕ) → sum (replicate n 0) ≡ 0
+zeros zero = refl
+zeros (suc n) = zeros n
+
+-- it has no offer and no judged one that the state hadn't
+pub record Starts (x y : State) : Type 0 where
+  pub lists : (b : ℕ) → list_at y.urls b ≡ list_at x.urls b
+  pub count : judged_count y.urls ≡ judged_count x.urls
+
+blank_lists : (n m b : ℕ) (r q : Rule) → list_at (blank_book n r) b ≡ list_at (blank_book m q) b
+blank_lists n m b r q = none_listed n b ∙ sym (none_listed m b)
+
+blank_count : (n : ℕ) (r : Rule) → judged_count (blank_book n r) ≡ 0
+blank_count n r = omega (arith, zeros n)
+
+pub starts : (asked : Asked) (x : State) (files : Files) → HasState x files → Starts x (entered_state asked x)
+starts asked x files (inl blank) =
+    let settings = settings_of asked in
+    let fresh : Starts blank_state (entered_state asked blank_state) = record {
+      lists = λ b. blank_lists settings.buckets 1 b settings.rule Keep;
+      count = blank_count settings.buckets settings.rule ∙ sym (blank_count 1 Keep);
+    } in
+    subst (λ (s : State). Starts s (entered_state asked s)) (sym blank.1) fresh
+starts asked x files (inr (settings, made)) = subst (λ (s : State). Starts x s) (sym (entered_made asked settings x made.settings_are)) (record { lists = λ b. refl; count = refl })
+
+-- ---- a value for each number below another
+pub choose : (n : ℕ) (P : ℕ → List (List ℕ) → Type 0) → ((b : ℕ) → b < n → (r : List (List ℕ)) × P b r) → (was : ℕ → List (List ℕ)) × ((b : ℕ) → b < n → P b (was b))
+choose zero P each = (λ b. [], λ b within. absurd (omega arith))
+choose (suc n) P each =
+    let before = choose n P (λ b within. each b (omega (arith, within))) in
+    let last = each n (omega arith) in
+    let pick : ℕ → List (List ℕ) = λ b. cond (nat_eq b n) last.0 (before.0 b) in
+    let at_last : pick n ≡ last.0 = ap (λ (t : Bool). cond t last.0 (before.0 n)) (same_number n) in
+    let below : (b : ℕ) → b < n → pick b ≡ before.0 b = λ b within. ap (λ (t : Bool). cond t last.0 (before.0 b)) (other_number b n within) in
+    (pick, λ b within. by_place b n P pick (subst (P n) (sym at_last) last.1) (λ less. subst (P b) (sym (below b less)) (before.1 b less)) within)
+  where
+    same_number : (m : ℕ) → nat_eq m m ≡ true
+    same_number m = grind (arith, nat_tests)
+
+    other_number : (b m : ℕ) → b < m → nat_eq b m ≡ false
+    other_number b m less = grind (arith, nat_tests)
+
+    by_place : (b m : ℕ) (Q : ℕ → List (List ℕ) → Type 0) (pick : ℕ → List (List ℕ)) → Q m (pick m) → (b < m → Q b (pick b)) → b < suc m → Q b (pick b)
+    by_place b m Q pick here less within = ⊎_elim (λ (e : b ≡ m). subst (λ (k : ℕ). Q k (pick k)) (sym e) here) (λ (l : b < m). less l) (eq-or-lt_of_le {n = b} {m = m} (omega (arith, within)))

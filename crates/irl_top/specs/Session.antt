@@ -1,0 +1,120 @@
+-- A part of a run over an open store: what it keeps, judges and prints.
+use Rattle.std.specs.Prelude.{◌≡◌, ◌≢◌, ◌⊎◌, ℕ, ◌+◌, ◌-◌, ◌<◌, ◌≤◌, List, [], ◌∷◌, ◌++◌, length, drop, slice_index, Option, None, Some}
+use Rattle.std.specs.Option.{ForSome}
+use Rattle.std.specs.Io.KnownBytes.{Appends, prepend_known}
+use Rattle.irl_offer.specs.Faults.{HasCause}
+use Rattle.irl_offer.specs.Tuple.{Tuple}
+use Rattle.irl_array.specs.Waiting.{Waiting}
+use Rattle.irl_model.specs.Book.{Book, gone, judged, judged_cut, lengths_of, part, IsPrefixOf}
+use Rattle.irl_model.specs.State.{State, AreFronts}
+use Rattle.irl_disk.specs.Disk.{Files}
+use Rattle.irl_disk.specs.Images.{Snapshot}
+use Rattle.irl_bay.specs.Spoilt.{IsSpoiltAt}
+use Rattle.irl_bay.specs.JudgedSpoilt.{IsJudgedSpoiltAt}
+use Rattle.irl_yard.specs.declared.parts.Parts.{Parts}
+use Rattle.irl_yard.specs.Holding.{HoldsState}
+use Rattle.irl_intake.specs.Feeding.{Moment, moment, Stays, Fed, Stranded, Grows, HasBetween, handed_in, list_at, length_at}
+use Rattle.irl_io.specs.Lines.{lines}
+use Rattle.irl_io.specs.Steps.{Progress}
+use Rattle.irl_top.specs.Input.{offered, offered_from, refused, refused_from}
+use Rattle.irl_top.specs.Message.{IsAllPrinted, IsUnopened}
+use Rattle.irl_top.specs.Printed.{unique_lines, judged_count}
+use Rattle.irl_top.specs.Stream.{Stream}
+use Rattle.irl_top.specs.declared.ending.Ending.{Ending}
+use Rattle.irl_top.specs.declared.ending.Ending.TheVariants.{Done, BadSettings, LineRefused, NotOurs, Damaged, OtherSettings, DiskFault, InputFault, OutputFault, Full}
+
+-- ---- where it stands
+pub record Place : Type 1 where
+  pub moment : Moment
+  pub disk_faults : ℕ
+  pub output : Stream
+  -- how many judged offers were printed, from the beginning of time
+  pub printed : ℕ
+
+abbrev pub place : {S O : Type 0} → (S → Snapshot) → (S → ℕ) → (O → Option (List ℕ)) → (O → ℕ) → S → Parts → List Waiting → O → ℕ → Place
+place snapshot faults written output_faults store parts arrays output printed =
+    record {
+      moment = moment snapshot store parts arrays;
+      disk_faults = faults store;
+      output = record { bytes = written output; faults = output_faults output };
+      printed = printed;
+    }
+
+-- what is printed of a book's judged offers from this number on
+abbrev pub unprinted : ℕ → Book → List ℕ
+unprinted printed book = unique_lines (drop (printed - gone book) (judged book))
+
+-- ---- what it keeps, judges and prints
+-- The store held a state, and these offers were handed in: it holds a later one, and some more of its judged offers are printed.
+pub record Goes (early : ℕ) (uneven : ℕ → ℕ) (news : List Tuple) (old new : Place) (x : State) : Type 0 where
+  pub fed : Fed early uneven news old.moment new.moment x
+  pub later : old.printed ≤ new.printed
+  pub ahead : new.printed ≤ judged_count fed.state.urls
+  pub text : List ℕ
+  pub written : Appends old.output.bytes new.output.bytes text
+  pub prints : text ++ unprinted new.printed fed.state.urls ≡ unprinted old.printed fed.state.urls
+
+-- The store held a state, and some of these offers were handed in before the run ended.
+pub record Ends (early : ℕ) (uneven : ℕ → ℕ) (news : List Tuple) (old new : Place) (ending : Ending) (x : State) : Type 0 where
+  -- the state that is told, and the greatest that a stop left
+  pub strands : Stranded early uneven news old.moment new.moment x
+  -- the one that was acknowledged
+  pub kept : State
+  pub grows : Grows old.moment.parts.urls.settings early x kept
+  pub front : AreFronts kept strands.state
+  pub settled : ending ≢ DiskFault → (strands.state ≡ kept) × (strands.most ≡ kept)
+  -- a stop from now on leaves no less
+  pub now : (image : Files) → new.moment.store.images image → HasBetween kept strands.most image
+  -- what is printed was acknowledged
+  pub text : List ℕ
+  pub written : Appends old.output.bytes new.output.bytes text
+  pub prints : IsPrefixOf text (unprinted old.printed kept.urls)
+  pub prints_all : IsAllPrinted ending → text ≡ unprinted old.printed kept.urls
+  -- a bucket is full only where the offers that were handed in don't fit
+  pub full : (b : ℕ) → ending ≡ Full b → (b < old.moment.parts.urls.settings.buckets) × (old.moment.parts.urls.settings.cap < length_at strands.state.urls b + old.moment.parts.urls.settings.array)
+      × (old.moment.parts.urls.settings.cap < slice_index x.urls.firsts b + length (handed_in x.urls old.moment.arrays b ++ part old.moment.parts.urls.settings.buckets b news))
+  -- and at `Done` all of them are kept and judged
+  pub all : ending ≡ Done → ((b : ℕ) → b < old.moment.parts.urls.settings.buckets → list_at kept.urls b ≡ handed_in x.urls old.moment.arrays b ++ part old.moment.parts.urls.settings.buckets b news) × (judged_cut kept.urls ≡ lengths_of kept.urls)
+
+-- the same of each state that was held, where the store tells, and of which no more was printed than was judged
+abbrev pub GoesOn : ℕ → (ℕ → ℕ) → List Tuple → Place → Place → Type 0
+GoesOn early uneven news old new = ForSome old.moment.store.files (λ _. (x : State) → HoldsState old.moment.store.images old.moment.parts x → old.printed ≤ judged_count x.urls → Goes early uneven news old new x)
+
+abbrev pub EndsWith : ℕ → (ℕ → ℕ) → List Tuple → Place → Place → Ending → Type 0
+EndsWith early uneven news old new ending = ForSome old.moment.store.files (λ _. (x : State) → HoldsState old.moment.store.images old.moment.parts x → old.printed ≤ judged_count x.urls → Ends early uneven news old new ending x)
+
+abbrev pub HoldsNone : Place → Type 0
+HoldsNone old = ForSome old.moment.store.files (λ _. (x : State) → HoldsState old.moment.store.images old.moment.parts x → old.printed ≤ judged_count x.urls → ⊥)
+
+-- whatever the store held: the cause of each ending
+pub record HasReason (old new : Place) (ending : Ending) : Type 0 where
+  pub stays : Stays old.moment new.moment
+  pub disk : HasCause (ending ≡ DiskFault) old.disk_faults new.disk_faults
+  pub output : HasCause (ending ≡ OutputFault) old.output.faults new.output.faults
+  pub opened : IsUnopened ending → ⊥
+  pub damaged : (f at : ℕ) → ending ≡ Damaged f at → ForSome new.moment.store.files (λ files. IsSpoiltAt new.moment.parts.urls files f at ⊎ IsJudgedSpoiltAt new.moment.parts.urls files f at)
+  pub whole : (f at : ℕ) → ending ≡ Damaged f at → HoldsNone old
+
+-- ---- what is read
+-- these offers were read from one place of the bytes left to another
+pub record ReadsOn (old new : Progress) (before after : List ℕ) (news : List Tuple) : Type 0 where
+  pub offers : offered_from (old.number + 1) (lines before) ≡ news ++ offered_from (new.number + 1) (lines after)
+  pub refuses : refused_from (old.number + 1) (lines before) ≡ refused_from (new.number + 1) (lines after)
+
+-- the same where the source tells
+abbrev pub ReadsOnTold : Progress → Progress → Option (List ℕ) → Option (List ℕ) → List Tuple → Type 0
+ReadsOnTold old new left_before left_after news = (before : List ℕ) → prepend_known old.ahead left_before ≡ Some before → (after : List ℕ) × (prepend_known new.ahead left_after ≡ Some after) × ReadsOn old new before after news
+
+-- no line was left
+abbrev pub EndsTold : Progress → Option (List ℕ) → Option (List ℕ) → Type 0
+EndsTold old left_before left_after = (before : List ℕ) → prepend_known old.ahead left_before ≡ Some before → (left_after ≡ Some []) × (offered_from (old.number + 1) (lines before) ≡ []) × (refused_from (old.number + 1) (lines before) ≡ None)
+
+-- the next line that isn't empty is refused, and has this number
+abbrev pub RefusesTold : Progress → Option (List ℕ) → ℕ → Type 0
+RefusesTold old left_before n = (before : List ℕ) → prepend_known old.ahead left_before ≡ Some before → refused_from (old.number + 1) (lines before) ≡ Some n
+
+-- These offers of an input were read before a run ended so: all of them at `Done`, and then nothing is left and none is refused.
+pub record HasRead (news : List Tuple) (before after : Option (List ℕ)) (ending : Ending) : Type 0 where
+  pub offers : ForSome before (λ input. IsPrefixOf news (offered input))
+  pub done : ending ≡ Done → ForSome before (λ input. (news ≡ offered input) × (after ≡ Some []) × (refused input ≡ None))
+  pub line : (n : ℕ) → ending ≡ LineRefused n → ForSome before (λ input. refused input ≡ Some n)
