@@ -6,6 +6,7 @@ mod names;
 mod parts;
 mod suffixes;
 
+pub use names::is_name;
 pub use suffixes::{SuffixFault, Suffixes};
 
 #[cfg(test)]

@@ -8,7 +8,7 @@ use crate::parts::{Parts, split};
 // The most bytes of a name.
 const MOST: usize = 253;
 
-// Whether the line is a suffix name: labels joined by dots, 253 bytes at most in all.
+/// Whether the line is a suffix name: labels of lower-case letters, digits and `-`, joined by dots, 253 bytes at most in all.
 pub fn is_name(line: &[u8]) -> bool
     ensures { result ≡ spec.is_name line.now }
 {

@@ -1,0 +1,11 @@
+pub mod Fetched
+pub mod Forms
+pub mod Grammar
+pub mod Limits
+pub mod Names
+pub mod Opened
+pub mod Parts
+pub mod Reading
+pub mod Site
+pub mod Taped
+pub mod Widening
