@@ -1,0 +1,11 @@
+pub mod Agreeing
+pub mod Applying
+pub mod Counting
+pub mod Marking
+pub mod Placing
+pub mod Reading
+pub mod Rows
+pub mod RuleLemmas
+pub mod Settling
+pub mod Standing
+pub mod Steps

@@ -1,0 +1,13 @@
+use Rattle.std.proofs.Common.{rules}
+use Rattle.irl_model.specs.Events.{Progress}
+use Rattle.irl_fate.specs.Seen.{seen}
+use Rattle.irl_fate.proofs.Applying.{progress_more, lawful_more}
+use Rattle.irl_fate.proofs.fates.Fates.apply.Goals as goal
+
+pub returns-clause-events : goal.returns-clause-events
+returns-clause-events c =
+    progress_more c.args.self.now c.carry_out.new.self (seen c.args.event.now) c.args.places.now c.in_ok-carry_out.ensures.ok
+
+pub returns-clause-lawful : goal.returns-clause-lawful
+returns-clause-lawful c =
+    lawful_more c.args.self.now (seen c.args.event.now) c.args.places.now (search rules)

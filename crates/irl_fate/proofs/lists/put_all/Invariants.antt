@@ -1,0 +1,15 @@
+use Rattle.std.proofs.Common.{◌≡◌, take, vec_len}
+use Rattle.irl_model.specs.Plain.{items_of}
+use Rattle.irl_model.specs.Events.{numbers_of}
+use Rattle.irl_model.specs.Queues.{delivered, Grown}
+use Rattle.irl_fate.proofs.lists.put_all.Given as goal
+
+-- the numbers so far are in their places
+abbrev pub invariant-loop-place : goal.invariant-loop-place
+invariant-loop-place l =
+    let places = take l.place-index l.places in
+    record {
+      lists : items_of l.lists.items ≡ delivered (items_of l.fn.lists.items) (numbers_of places) places;
+      grown : Grown (items_of l.fn.lists.items) (items_of l.lists.items);
+      len : vec_len l.lists ≡ 65;
+    }
