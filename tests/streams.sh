@@ -146,10 +146,30 @@ done >in
 } | head -n 1 >out
 has status '6|'
 has err 'output fault|'
-[ "$(cat out)" = "0$long" ] || fail 'the first line is another'
+grep -qxF -- "$(cat out)" in || fail 'the first line is none of the input'
 reads_again broken "a|" 'a|'
 "$program" broken seen <in >out 2>err
 gives 0 '' ''
+right
+
+# Folders that are none of a store
+
+try 'a folder of another kind of store' 'a|'
+mkdir other
+printf 'ab' >other/0999
+"$program" other seen <in >out 2>err
+gives 3 '' 'not a store: byte 0 of file 0000|'
+[ "$(ls other)" = 0999 ] || fail 'the folder has other files'
+right
+
+try 'a damaged journal' 'a|'
+"$program" damaged seen <in >out 2>err
+gives 0 'a|' ''
+printf '\245\377\0\0\0\0' >damaged/0110
+"$program" damaged seen <in >out 2>err
+gives 3 '' 'damaged: byte 0 of file 0110|'
+printf '\245' >damaged/0110
+reads_again damaged 'a|b|' 'b|'
 right
 
 # Words
@@ -195,7 +215,7 @@ is_absent -x
 gives 1 '' 'words refused: --|'
 "$program" ./-x seen <in >out 2>err
 gives 0 'a|' ''
-[ -f ./-x/0999 ] || fail 'the folder ./-x was not made'
+[ -f ./-x/0000 ] || fail 'the folder ./-x was not made'
 reads_again ./-x 'a|b|' 'b|'
 right
 
