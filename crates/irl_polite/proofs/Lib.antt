@@ -1,0 +1,15 @@
+pub mod Lists
+pub mod Tables
+pub mod Links
+pub mod TurnLemmas
+pub mod NextLemmas
+pub mod MoveLemmas
+pub mod AnswerLemmas
+pub mod TakeLemmas
+pub mod TextPlaces
+pub mod GrowLemmas
+pub mod LinkingLemmas
+pub mod BeginLemmas
+pub mod LoadLemmas
+pub mod HistoryLemmas
+pub mod Awaited

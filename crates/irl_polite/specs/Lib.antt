@@ -1,0 +1,4 @@
+pub mod Schedule
+pub mod Answers
+pub mod History
+pub mod Inside
