@@ -158,7 +158,7 @@ fn notes_answer_for_a_day(rt: HostRuntime) -> Result<(), Fail> {
     Ok(())
 }
 
-const HOSTS: u64 = 5_000;
+const HOSTS: u64 = 10_000;
 
 // Two items of each host.
 fn two_of_each(alloc: Global) -> Result<Vec<Work>, Fail> {
