@@ -19,7 +19,7 @@ use Rattle.irl_bay.proofs.Staying.{only_wider, tells_same, tells_both, leaves_sa
 use Rattle.irl_yard.specs.Holding.{HoldsUrls, HoldsState, HasBucketRecords}
 use Rattle.irl_yard.proofs.Holding.{held_has}
 use Rattle.irl_intake.specs.Schedule.{early_cuts, HaveRecords, AddsUneven, LeavesUneven, none_more}
-use Rattle.irl_intake.specs.Feeding.{list_at, length_at, handed_in, Grows, Keeps, TakesWaiting, HasBetween, Moment, Stays, Fed, Stranded, Feeds, Strands, HeldNone}
+use Rattle.irl_intake.specs.Feeding.{list_at, length_at, handed_in, IsStateOf, FewUnjudged, Grows, Keeps, TakesWaiting, HasBetween, Moment, Stays, Fed, Stranded, Feeds, Strands, HeldNone}
 
 -- ---- fronts
 pub same_fronts : (x : State) → AreFronts x x
@@ -33,6 +33,12 @@ both_fronts x y z first second = record {
 }
 
 -- ---- a later state
+pub few_same : (settings : Settings) (x : State) → FewUnjudged settings x x
+few_same settings x = λ b within. omega arith
+
+pub few_both : (settings : Settings) (x y z : State) → FewUnjudged settings x y → FewUnjudged settings y z → FewUnjudged settings x z
+few_both settings x y z first second = λ b within. omega (arith, first b within, second b within)
+
 last_append : (from : List ℕ) (xs ys : List (List ℕ)) → last_cut from (xs ++ ys) ≡ last_cut (last_cut from xs) ys
 last_append from [] ys = refl
 last_append from (cut ∷ xs) ys = last_append cut xs ys
@@ -62,13 +68,14 @@ grows_both settings e d x y z first second = record {
   early_are =
       let later = subst (λ (from : List ℕ). early_cuts settings.trigger from second.cuts ≤ d) (judged_later x.urls y.urls first.cuts first.front.urls.firsts first.cuts_are) second.early_are in
       omega (arith, early_append settings.trigger (judged_cut x.urls) first.cuts second.cuts, first.early_are, later);
+  waits = few_both settings x y z first.waits second.waits;
 }
 
 pub grows_same : (settings : Settings) (x : State) → Grows settings 0 x x
-grows_same settings x = record { front = same_fronts x; fits = λ b within. inl refl; cuts = []; cuts_are = sym (append-nil x.urls.cuts); early_are = omega arith }
+grows_same settings x = record { front = same_fronts x; fits = λ b within. inl refl; cuts = []; cuts_are = sym (append-nil x.urls.cuts); early_are = omega arith; waits = few_same settings x }
 
 pub grows_more : (settings : Settings) (e d : ℕ) (x y : State) → e ≤ d → Grows settings e x y → Grows settings d x y
-grows_more settings e d x y le grows = record { front = grows.front; fits = grows.fits; cuts = grows.cuts; cuts_are = grows.cuts_are; early_are = omega (arith, le, grows.early_are) }
+grows_more settings e d x y le grows = record { front = grows.front; fits = grows.fits; cuts = grows.cuts; cuts_are = grows.cuts_are; early_are = omega (arith, le, grows.early_are); waits = grows.waits }
 
 -- ---- offers that were handed in
 joined : {X : Type 0} (a b c p q r : List X) → b ≡ a ++ p → c ≡ b ++ q → r ≡ p ++ q → c ≡ a ++ r
@@ -92,10 +99,10 @@ takes_both settings x y z was mid xs ys first second = λ b within.
     ((second b within).0, sym whole ∙ (second b within).1)
 
 -- ---- stops
-pub stops_both : (old mid new : Snapshot) (x y z : State) → AreFronts x y → AreFronts y z → Leaves old mid (HasBetween x y) → Leaves mid new (HasBetween y z) → Leaves old new (HasBetween x z)
-stops_both old mid new x y z first second before after =
-    joins old mid new (HasBetween x z) (widens old mid (HasBetween x y) (HasBetween x z) before (λ image has. (has.0, has.1, has.2, both_fronts has.0 y z has.3 second)))
-    (widens mid new (HasBetween y z) (HasBetween x z) after (λ image has. (has.0, has.1, both_fronts x y has.0 first has.2, has.3)))
+pub stops_both : (settings : Settings) (old mid new : Snapshot) (x y z : State) → AreFronts x y → FewUnjudged settings x y → AreFronts y z → Leaves old mid (HasBetween settings x y) → Leaves mid new (HasBetween settings y z) → Leaves old new (HasBetween settings x z)
+stops_both settings old mid new x y z first few second before after =
+    joins old mid new (HasBetween settings x z) (widens old mid (HasBetween settings x y) (HasBetween settings x z) before (λ image has. (has.0, has.1, has.2, both_fronts has.0 y z has.3 second, has.4)))
+    (widens mid new (HasBetween settings y z) (HasBetween settings x z) after (λ image has. (has.0, has.1, both_fronts x y has.0 first has.2, has.3, few_both settings x y has.0 few has.4)))
 
 -- ---- records
 -- what is left of a later bay is left of an earlier one
@@ -161,12 +168,13 @@ fed_both e d u v xs ys old mid new x still first second =
     let z = second.state in
     let grows = subst (λ (s : Settings). Grows s d y z) still.settings second.grows in
     let keeps = subst (λ (s : Settings). Keeps s y mid.arrays z new.arrays ys) still.settings second.keeps in
+    let stops = subst (λ (s : Settings). Leaves mid.store new.store (HasBetween s y z)) still.settings second.stops in
     record {
       state = z;
       holds = second.holds;
       grows = grows_both old.parts.urls.settings e d x y z first.grows grows;
       keeps = keeps_both old.parts.urls.settings x y z old.arrays mid.arrays new.arrays xs ys first.keeps keeps;
-      stops = stops_both old.store mid.store new.store x y z first.grows.front second.grows.front first.stops second.stops;
+      stops = stops_both old.parts.urls.settings old.store mid.store new.store x y z first.grows.front first.grows.waits second.grows.front first.stops stops;
       records = λ was have.
           let between = first.records was have in
           let now = second.records between.0 between.1 in (
@@ -187,6 +195,7 @@ stranded_after e d u v xs ys old mid new x still first second =
     let grows = subst (λ (s : Settings). Grows s d y second.state) still.settings second.grows in
     let may_grow = subst (λ (s : Settings). Grows s d y second.most) still.settings second.may_grow in
     let takes = subst (λ (s : Settings). TakesWaiting s y mid.arrays second.most ys) still.settings second.takes in
+    let stops = subst (λ (s : Settings). Leaves mid.store new.store (HasBetween s y second.most)) still.settings second.stops in
     record {
       state = second.state;
       most = second.most;
@@ -194,8 +203,15 @@ stranded_after e d u v xs ys old mid new x still first second =
       grows = grows_both old.parts.urls.settings e d x y second.state first.grows grows;
       may_grow = grows_both old.parts.urls.settings e d x y second.most first.grows may_grow;
       front = second.front;
+      legal = subst (λ (s : Settings). IsStateOf s second.most) still.settings second.legal;
+      kept = second.kept;
+      kept_grows = grows_both old.parts.urls.settings e d x y second.kept first.grows (subst (λ (s : Settings). Grows s d y second.kept) still.settings second.kept_grows);
+      kept_front = second.kept_front;
+      kept_legal = subst (λ (s : Settings). IsStateOf s second.kept) still.settings second.kept_legal;
+      keeps = keeps_both old.parts.urls.settings x y second.kept old.arrays mid.arrays new.arrays xs ys first.keeps (subst (λ (s : Settings). Keeps s y mid.arrays second.kept new.arrays ys) still.settings second.keeps);
+      now = λ image left. subst (λ (s : Settings). HasBetween s second.kept second.most image) still.settings (second.now image left);
       takes = takes_both old.parts.urls.settings x y second.most old.arrays mid.arrays xs ys first.keeps takes;
-      stops = stops_both old.store mid.store new.store x y second.most first.grows.front second.may_grow.front first.stops second.stops;
+      stops = stops_both old.parts.urls.settings old.store mid.store new.store x y second.most first.grows.front first.grows.waits second.may_grow.front first.stops stops;
       records_stop = λ was have.
           let between = first.records was have in
           records_stop_both u v old.store mid.store new.store old.parts.urls mid.parts.urls was between.0 still.settings still.base between.2 (first.records_stop was have) (second.records_stop between.0 between.1);
@@ -223,6 +239,13 @@ stranded_more e d u v xs old new x le more has = record {
   grows = grows_more old.parts.urls.settings e d x has.state le has.grows;
   may_grow = grows_more old.parts.urls.settings e d x has.most le has.may_grow;
   front = has.front;
+  legal = has.legal;
+  kept = has.kept;
+  kept_grows = grows_more old.parts.urls.settings e d x has.kept le has.kept_grows;
+  kept_front = has.kept_front;
+  kept_legal = has.kept_legal;
+  keeps = has.keeps;
+  now = has.now;
   takes = has.takes;
   stops = has.stops;
   records_stop = λ was have. widens old.store new.store (LeavesUneven u old.parts.urls was) _ (has.records_stop was have) (λ image left. uneven_longer u v old.parts.urls was image more left);
@@ -266,8 +289,8 @@ fed_still xs old new x consistent law store urls keeps holds = record {
   holds = subst (λ (s : Snapshot). HoldsUrls s.images new.parts.urls x) (sym store) (subst (λ (d : Drum). HoldsUrls old.store.images d x) (sym urls) holds);
   grows = grows_same old.parts.urls.settings x;
   keeps = keeps;
-  stops = subst (λ (s : Snapshot). Leaves old.store s (HasBetween x x)) (sym store)
-      (stays old.store (HasBetween x x) consistent (λ image left. (x, held_has old.store.images old.parts.urls x image law holds left, same_fronts x, same_fronts x)));
+  stops = subst (λ (s : Snapshot). Leaves old.store s (HasBetween old.parts.urls.settings x x)) (sym store)
+      (stays old.store (HasBetween old.parts.urls.settings x x) consistent (λ image left. (x, held_has old.store.images old.parts.urls x image law holds left, same_fronts x, same_fronts x, few_same old.parts.urls.settings x)));
   records = λ was have. (was, journals_same old new was store urls have, λ b within. omega arith);
   records_stop = λ was have. subst (λ (s : Snapshot). Leaves old.store s (LeavesUneven none_more old.parts.urls was)) (sym store) (journals_left old.store old.parts.urls was law consistent have);
 }
@@ -285,7 +308,7 @@ fed_read old new x consistent law same urls arrays holds after = record {
   holds = after;
   grows = grows_same old.parts.urls.settings x;
   keeps = subst (λ (l : List Waiting). Keeps old.parts.urls.settings x old.arrays x l []) (sym arrays) (keeps_same old.parts.urls.settings x old.arrays);
-  stops = widens old.store new.store old.store.images (HasBetween x x) same (λ image left. (x, held_has old.store.images old.parts.urls x image law holds left, same_fronts x, same_fronts x));
+  stops = widens old.store new.store old.store.images (HasBetween old.parts.urls.settings x x) same (λ image left. (x, held_has old.store.images old.parts.urls x image law holds left, same_fronts x, same_fronts x, few_same old.parts.urls.settings x));
   records = λ was have. (
     was,
     subst (λ (d : Drum). HaveRecords new.store.images d was) (sym urls) (λ b within image left. have b within image (left_now old.store new.store old.store.images consistent same image left)),

@@ -1,5 +1,5 @@
 -- Arrays by their number, the offers of one bucket among some, and what a call makes of the numbers of a bay.
-use Rattle.std.proofs.Common.{◌≡◌, ◌≢◌, ◌∙◌, ⊎_elim, ℕ, ◌+◌, ◌<◌, ◌≤◌, Bool, true, false, cond, List, [], ◌∷◌, ◌++◌, length, filter, nat_eq, set, slice_index, sym, ap, append_assoc, append-nil, arith}
+use Rattle.std.proofs.Common.{◌≡◌, ◌≢◌, ◌∙◌, inl, inr, ⊎_elim, ℕ, ◌+◌, ◌<◌, ◌≤◌, Bool, true, false, cond, List, [], ◌∷◌, ◌++◌, length, filter, nat_eq, set, slice_index, sym, ap, subst, append_assoc, append-nil, arith}
 use Rattle.std.proofs.lemmas.List.{get_or-set_same, get_or-set_other, length-map}
 use Rattle.std.proofs.Math.ListN.{get_or-map}
 use Rattle.std.proofs.lemmas.Bool.{eq-eqb}
@@ -13,7 +13,7 @@ use Rattle.irl_model.specs.State.{State}
 use Rattle.irl_bay.specs.declared.bucket.Bucket.{Bucket}
 use Rattle.irl_bay.specs.Commits.{Commit}
 use Rattle.irl_bay.specs.Drum.{Drum, IsDrum, no_bucket, durables, durable_at, pending_at, KeepsCounts, CountsFlush, CountsMerge}
-use Rattle.irl_intake.specs.Feeding.{no_array, array_at, waiting_at, list_at, handed_in, Keeps}
+use Rattle.irl_intake.specs.Feeding.{no_array, array_at, waiting_at, list_at, handed_in, Keeps, Moment, Moves}
 use Rattle.irl_intake.specs.Schedule.{none_more, one_more_at, uneven_flush}
 
 -- ---- arrays
@@ -91,6 +91,34 @@ pub merged_pending : (b : ℕ) (old new : Drum) → CountsMerge old new → pend
 merged_pending b old new counts =
     let cut = ap (λ (l : List ℕ). slice_index l b) counts.cut in
     omega (arith, cut, durable_index old b, same_durables old new b counts.offers)
+
+-- ---- what leaves an array
+pub kept_durable : (old new : Drum) (b : ℕ) → KeepsCounts old new → durable_at new b ≡ durable_at old b
+kept_durable old new b counts = same_durables old new b counts.offers
+
+pub merged_durable : (old new : Drum) (b : ℕ) → CountsMerge old new → durable_at new b ≡ durable_at old b
+merged_durable old new b counts = same_durables old new b counts.offers
+
+-- nothing moves where no array and no number changes
+pub moves_none : (old new : Moment) (b : ℕ) → waiting_at new.arrays b ≡ waiting_at old.arrays b → durable_at new.parts.urls b ≡ durable_at old.parts.urls b → Moves old new b
+moves_none old new b waits durable = inl (waits, durable)
+
+-- what has moved stays so
+pub moves_on : (old mid new : Moment) (b : ℕ) → Moves old mid b → waiting_at new.arrays b ≡ waiting_at mid.arrays b → durable_at new.parts.urls b ≡ durable_at mid.parts.urls b → Moves old new b
+moves_on old mid new b (inl same) waits durable = inl (waits ∙ same.0, durable ∙ same.1)
+moves_on old mid new b (inr moved) waits durable = inr (waits ∙ moved.0, durable ∙ moved.1)
+
+-- one bucket moves, or none
+pub moves_all : (old new : Moment) (b : ℕ) → ((c : ℕ) → c ≢ b → (waiting_at new.arrays c ≡ waiting_at old.arrays c) × (pending_at new.parts.urls c ≡ pending_at old.parts.urls c) × (durable_at new.parts.urls c ≡ durable_at old.parts.urls c)) → Moves old new b → (c : ℕ) → Moves old new c
+moves_all old new b others here = λ c. ⊎_elim
+    (λ same. subst (λ (n : ℕ). Moves old new n) (sym same.1) here)
+    (λ other. let kept = others c other.1 in moves_none old new c kept.0 kept.2)
+    (eqb_tells c b)
+
+-- what had not moved does
+pub moves_after : (old mid new : Moment) (b : ℕ) → waiting_at mid.arrays b ≡ waiting_at old.arrays b → durable_at mid.parts.urls b ≡ durable_at old.parts.urls b → Moves mid new b → Moves old new b
+moves_after old mid new b waits durable (inl same) = inl (same.0 ∙ waits, same.1 ∙ durable)
+moves_after old mid new b waits durable (inr moved) = inr (moved.0, omega (arith, moved.1, durable, ap (λ (l : List Tuple). length l) waits))
 
 -- ---- uneven records
 at_most : (test : Bool) (n : ℕ) → cond test 0 n ≤ n

@@ -1,5 +1,5 @@
 -- What one merge of the store does for the arrays in front of it.
-use Rattle.std.proofs.Common.{◌≡◌, ◌∙◌, ◌⊎◌, inl, inr, ⊎_elim, ℕ, zero, suc, ◌+◌, ◌<◌, ◌≤◌, Bool, true, false, cond, ◌||◌, List, [], ◌∷◌, ◌++◌, length, nat_le, slice_index, Option, None, Some, refl, sym, ap, subst, append-nil, arith}
+use Rattle.std.proofs.Common.{◌≡◌, ◌≢◌, ◌∙◌, ◌⊎◌, inl, inr, ⊎_elim, ℕ, zero, suc, ◌+◌, ◌<◌, ◌≤◌, Bool, true, false, cond, ◌||◌, List, [], ◌∷◌, ◌++◌, length, nat_le, slice_index, Option, None, Some, refl, sym, ap, subst, append-nil, arith}
 use Rattle.std.proofs.Math.Bool.{or-true}
 use Rattle.std.proofs.lemmas.Bool.Decides.{nat_tests}
 use Rattle.std.specs.Option.{ForSome}
@@ -7,14 +7,14 @@ use Rattle.irl_offer.specs.declared.entry.Entry.{Entry}
 use Rattle.irl_offer.specs.declared.settings.Settings.{Settings}
 use Rattle.irl_offer.specs.Tuple.{Tuple}
 use Rattle.irl_array.specs.Waiting.{Waiting}
-use Rattle.irl_model.specs.Book.{lengths_of, judged_cut}
+use Rattle.irl_model.specs.Book.{lengths_of, judged_cut, last_cut}
 use Rattle.irl_model.specs.State.{State, AreFronts}
-use Rattle.irl_model.proofs.FrontLaws.{front_same, merged_front}
+use Rattle.irl_model.proofs.FrontLaws.{front_same, merged_front, merged_book}
 use Rattle.irl_disk.specs.Disk.{Files}
 use Rattle.irl_disk.specs.Images.{IsConsistent, Follows, Leaves, LeavesBy}
-use Rattle.irl_disk.proofs.Stretches.{widens}
+use Rattle.irl_disk.proofs.Stretches.{widens, left_now}
 use Rattle.irl_bay.specs.declared.bucket.Bucket.{Bucket}
-use Rattle.irl_bay.specs.Drum.{Drum, IsDrum, bucket_at, durables, pending_at}
+use Rattle.irl_bay.specs.Drum.{Drum, IsDrum, bucket_at, durables, pending_at, SomePending}
 use Rattle.irl_bay.specs.Merging.{KeepsCommitted, IsBatchFile}
 use Rattle.irl_bay.specs.Holding.{TellsBy}
 use Rattle.irl_bay.specs.Pending.{IsSpoiltBucket, HasEntries, HasRunsTo}
@@ -25,10 +25,10 @@ use Rattle.irl_yard.specs.Standing.{HasState}
 use Rattle.irl_yard.specs.Holding.{HoldsUrls, HoldsState, HasOneOf, HasJournal, HasBucketRecords, with_cut}
 use Rattle.irl_yard.proofs.Holding.{rest_kept, held_has}
 use Rattle.irl_intake.specs.Schedule.{IsDue, has_enough, early_cuts, HaveRecords, LeavesUneven, none_more}
-use Rattle.irl_intake.specs.Feeding.{waiting_at, handed_in, list_at, Grows, Keeps, HasBetween, Moment, Fed, Stranded}
-use Rattle.irl_intake.proofs.Chains.{same_fronts, grows_same}
+use Rattle.irl_intake.specs.Feeding.{waiting_at, handed_in, list_at, length_at, IsStateOf, FewUnjudged, Grows, Keeps, HasBetween, Moment, Fed, Stranded}
+use Rattle.irl_intake.proofs.Chains.{same_fronts, few_same, grows_same, grows_more}
 use Rattle.irl_intake.proofs.Counts.{durable_index, length-durables}
-use Rattle.irl_intake.proofs.Steps.{leaves_all, told_these, told_none, told_one}
+use Rattle.irl_intake.proofs.Steps.{no_first, list_within, held_state, leaves_all, told_these, told_none, told_one}
 
 -- ---- a merge that is due
 or_true : (a b : Bool) → b ≡ true → a || b ≡ true
@@ -60,6 +60,41 @@ one_cut trigger early from to false is (inr le) = let one : early_cuts trigger f
 cut_front : (x : State) → AreFronts x (with_cut x)
 cut_front x = record { settings = refl; urls = merged_front x.urls; pairs = front_same x.pairs }
 
+-- and all is judged
+numbers_same : (images : Files → Type 0) (urls : Drum) (x : State) (b : ℕ) → HoldsUrls images urls x → b < urls.settings.buckets → slice_index (lengths_of x.urls) b ≡ length_at x.urls b
+numbers_same images urls x b holds within =
+    let at = ap (λ (l : List ℕ). slice_index l b) holds.urls_hold.numbers.offers in
+    let durable = (holds.urls_hold.buckets b (list_within images urls x b holds within)).durable in
+    omega (arith, sym at, durable_index urls b, durable, no_first images urls x b holds)
+
+last_one : (from : List ℕ) (cuts : List (List ℕ)) (cut : List ℕ) → last_cut from (cuts ++ cut ∷ []) ≡ cut
+last_one from [] cut = refl
+last_one from (first ∷ cuts) cut = last_one first cuts cut
+
+cut_waits : (images : Files → Type 0) (urls : Drum) (x : State) → HoldsUrls images urls x → FewUnjudged urls.settings x (with_cut x)
+cut_waits images urls x holds = λ b within.
+    let cut = ap (λ (l : List ℕ). slice_index l b) (last_one x.urls.firsts x.urls.cuts (lengths_of x.urls)) in
+    omega (arith, cut, numbers_same images urls x b holds within)
+
+-- the state with the cut is one that files may stand for
+differs : (images : Files → Type 0) (urls : Drum) (x : State) → HoldsUrls images urls x → SomePending urls → judged_cut x.urls ≢ lengths_of x.urls
+differs images urls x holds some = λ same.
+    let numbers = holds.urls_hold.numbers in
+    let b = some.0 in
+    let at = ap (λ (l : List ℕ). slice_index l b) (numbers.commit.cut ∙ same ∙ sym numbers.offers) in
+    omega (arith, at, durable_index urls b, some.2)
+
+cut_legal : (images : Files → Type 0) (urls : Drum) (x : State) → IsDrum urls → HoldsUrls images urls x → SomePending urls → IsStateOf urls.settings (with_cut x)
+cut_legal images urls x law holds some =
+    let is = holds.urls_hold.book_is in
+    record {
+      settings_are = holds.settings;
+      valid = law.settings;
+      kind = holds.kind;
+      book_is = record { is_book = merged_book x.urls is.is_book (differs images urls x holds some); buckets = is.buckets; rule = is.rule; dropped = is.dropped };
+      pairs_are = holds.pairs_are;
+    }
+
 cut_grows : (early : ℕ) (images : Files → Type 0) (urls : Drum) (x : State) → IsDrum urls → HoldsUrls images urls x → IsDue urls ⊎ (1 ≤ early) → Grows urls.settings early x (with_cut x)
 cut_grows early images urls x law holds why = record {
   front = cut_front x;
@@ -68,11 +103,13 @@ cut_grows early images urls x law holds why = record {
   cuts_are = refl;
   early_are = one_cut urls.settings.trigger early (judged_cut x.urls) (lengths_of x.urls) (has_enough urls.settings.trigger (judged_cut x.urls) (lengths_of x.urls)) refl
       (⊎_elim (λ due. inl (due_enough images urls x law holds due)) (λ le. inr le) why);
+  waits = cut_waits images urls x holds;
 }
 
 -- ---- what a merge says of stops, whatever it answers
 pub record Merging (old new : Moment) : Type 0 where
   pub later : old.store.moment ≤ new.store.moment
+  pub pending : SomePending old.parts.urls
   pub waiting : new.arrays ≡ old.arrays
   pub stops : (state : State) → HoldsState old.store.images old.parts state → Leaves old.store new.store (HasOneOf state (with_cut state))
   pub records_stop : (b : ℕ) (payloads : List (List ℕ)) → b < old.parts.urls.settings.buckets → HasJournal old.store.images old.parts.urls b payloads
@@ -83,9 +120,12 @@ merge_records_stop old new was merge have =
     widens old.store new.store _ _ (leaves_all old.parts.urls.settings.buckets old.store new.store (λ b. HasBucketRecords old.parts.urls.base b (was b)) merge.later (λ b within. merge.records_stop b (was b) within (have b within)))
     (λ image has. (was, has, λ b within. omega arith))
 
-merge_between : (old new : Moment) (x : State) → Merging old new → HoldsState old.store.images old.parts x → Leaves old.store new.store (HasBetween x (with_cut x))
-merge_between old new x merge holds = widens old.store new.store (HasOneOf x (with_cut x)) (HasBetween x (with_cut x)) (merge.stops x holds)
-    (λ image has. ⊎_elim (λ was. (x, was, same_fronts x, cut_front x)) (λ now. (with_cut x, now, cut_front x, same_fronts (with_cut x))) has)
+merge_between : (old new : Moment) (x : State) → Merging old new → HoldsState old.store.images old.parts x → Leaves old.store new.store (HasBetween old.parts.urls.settings x (with_cut x))
+merge_between old new x merge holds =
+    let urls = old.parts.urls in
+    let y = with_cut x in
+    widens old.store new.store (HasOneOf x y) (HasBetween urls.settings x y) (merge.stops x holds)
+    (λ image has. ⊎_elim (λ was. (x, was, same_fronts x, cut_front x, few_same urls.settings x)) (λ now. (y, now, cut_front x, same_fronts y, cut_waits old.store.images urls x holds)) has)
 
 merge_keeps : (old new : Moment) (x y : State) → new.arrays ≡ old.arrays → ((b : ℕ) → list_at y.urls b ≡ list_at x.urls b) → Keeps old.parts.urls.settings x old.arrays y new.arrays []
 merge_keeps old new x y same lists = λ b within.
@@ -99,7 +139,7 @@ KeepsJournals x old new = (b : ℕ) (payloads : List (List ℕ)) → b < old.par
 
 -- a later state
 fed_to : (early : ℕ) (old new : Moment) (x y : State) → Merging old new → new.parts.urls.settings ≡ old.parts.urls.settings → HoldsState old.store.images old.parts x → HoldsState new.store.images new.parts y
-    → Grows old.parts.urls.settings early x y → ((b : ℕ) → list_at y.urls b ≡ list_at x.urls b) → Leaves old.store new.store (HasBetween x y) → KeepsJournals x old new → Fed early none_more [] old new x
+    → Grows old.parts.urls.settings early x y → ((b : ℕ) → list_at y.urls b ≡ list_at x.urls b) → Leaves old.store new.store (HasBetween old.parts.urls.settings x y) → KeepsJournals x old new → Fed early none_more [] old new x
 fed_to early old new x y merge settings holds after grows lists stops kept = record {
   state = y;
   holds = after;
@@ -120,11 +160,11 @@ merge_fed early old new x law merge settings why holds after kept =
     fed_to early old new x (with_cut x) merge settings holds after (cut_grows early old.store.images old.parts.urls x law holds why) (λ b. refl) (merge_between old new x merge holds) kept
 
 -- where it adds no cut, each image has the state
-written_has : (old new : Moment) (x : State) → IsDrum old.parts.urls → HoldsState old.store.images old.parts x → LeavesBy (KeepsCommitted old.parts.urls) old.store new.store → Leaves old.store new.store (HasBetween x x)
+written_has : (old new : Moment) (x : State) → IsDrum old.parts.urls → HoldsState old.store.images old.parts x → LeavesBy (KeepsCommitted old.parts.urls) old.store new.store → Leaves old.store new.store (HasBetween old.parts.urls.settings x x)
 written_has old new x law holds stops =
     let urls = old.parts.urls in
-    widens old.store new.store (Follows (KeepsCommitted urls) old.store.images) (HasBetween x x) stops (λ image from.
-    (x, held_has (Follows (KeepsCommitted urls) old.store.images) urls x image law (held urls) from, same_fronts x, same_fronts x))
+    widens old.store new.store (Follows (KeepsCommitted urls) old.store.images) (HasBetween urls.settings x x) stops (λ image from.
+    (x, held_has (Follows (KeepsCommitted urls) old.store.images) urls x image law (held urls) from, same_fronts x, same_fronts x, few_same urls.settings x))
   where
     held : (urls : Drum) → HoldsUrls (Follows (KeepsCommitted old.parts.urls) old.store.images) old.parts.urls x
     held urls = record {
@@ -136,24 +176,31 @@ written_has old new x law holds stops =
       rest = λ image from. rest_kept (IsBatchFile old.parts.urls) old.parts.urls from.0 image law holds.base (batch_files old.parts.urls) from.2.others (holds.rest from.0 from.1);
     }
 
+grows_any : (early : ℕ) (settings : Settings) (x : State) → Grows settings early x x
+grows_any early settings x = grows_more settings 0 early x x (omega arith) (grows_same settings x)
+
 pub unmerged_fed : (early : ℕ) (old new : Moment) (x : State) → IsDrum old.parts.urls → Merging old new → new.parts.urls ≡ old.parts.urls → LeavesBy (KeepsCommitted old.parts.urls) old.store new.store
     → HoldsState old.store.images old.parts x → HoldsState new.store.images new.parts x → KeepsJournals x old new → Fed early none_more [] old new x
 unmerged_fed early old new x law merge same stops holds after kept =
     fed_to early old new x x merge (ap (λ (d : Drum). d.settings) same) holds after (grows_any early old.parts.urls.settings x) (λ b. refl) (written_has old new x law holds stops) kept
-  where
-    grows_any : (early : ℕ) (settings : Settings) (x : State) → Grows settings early x x
-    grows_any early settings x = let same = grows_same settings x in record { front = same.front; fits = same.fits; cuts = same.cuts; cuts_are = same.cuts_are; early_are = omega (arith, same.early_are) }
 
 -- ---- where the store failed
-merge_strand : (early : ℕ) (old new : Moment) (x s : State) → IsDrum old.parts.urls → Merging old new → IsDue old.parts.urls ⊎ (1 ≤ early) → HoldsState old.store.images old.parts x → ForSome new.store.files (HasState s)
+merge_strand : (early : ℕ) (old new : Moment) (x s : State) → IsConsistent new.store → IsDrum old.parts.urls → Merging old new → IsDue old.parts.urls ⊎ (1 ≤ early) → HoldsState old.store.images old.parts x → ForSome new.store.files (HasState s)
     → Grows old.parts.urls.settings early x s → AreFronts s (with_cut x) → Stranded early none_more [] old new x
-merge_strand early old new x s law merge why holds told grows front = record {
+merge_strand early old new x s consistent law merge why holds told grows front = record {
   state = s;
   most = with_cut x;
   told = told;
   grows = grows;
   may_grow = cut_grows early old.store.images old.parts.urls x law holds why;
   front = front;
+  legal = cut_legal old.store.images old.parts.urls x law holds merge.pending;
+  kept = x;
+  kept_grows = grows_any early old.parts.urls.settings x;
+  kept_front = grows.front;
+  kept_legal = held_state old.store.images old.parts.urls x law.settings holds;
+  keeps = merge_keeps old new x x merge.waiting (λ b. refl);
+  now = λ image left. left_now old.store new.store (HasBetween old.parts.urls.settings x (with_cut x)) consistent (merge_between old new x merge holds) image left;
   takes = λ b within. (waiting_at old.arrays b, append-nil (handed_in x.urls old.arrays b));
   stops = merge_between old new x merge holds;
   records_stop = λ was have. merge_records_stop old new was merge have;
@@ -164,11 +211,10 @@ pub merge_stranded : (early : ℕ) (old new : Moment) (x : State) → IsConsiste
 merge_stranded early old new x consistent law merge why holds = by_told new.store.files refl
   where
     before : ForSome new.store.files (HasState x) → Stranded early none_more [] old new x
-    before told = let same = grows_same old.parts.urls.settings x in
-        merge_strand early old new x x law merge why holds told (record { front = same.front; fits = same.fits; cuts = same.cuts; cuts_are = same.cuts_are; early_are = omega (arith, same.early_are) }) (cut_front x)
+    before told = merge_strand early old new x x consistent law merge why holds told (grows_any early old.parts.urls.settings x) (cut_front x)
 
     after : ForSome new.store.files (HasState (with_cut x)) → Stranded early none_more [] old new x
-    after told = merge_strand early old new x (with_cut x) law merge why holds told (cut_grows early old.store.images old.parts.urls x law holds why) (same_fronts (with_cut x))
+    after told = merge_strand early old new x (with_cut x) consistent law merge why holds told (cut_grows early old.store.images old.parts.urls x law holds why) (same_fronts (with_cut x))
 
     by_told : (told : Option Files) → new.store.files ≡ told → Stranded early none_more [] old new x
     by_told None is = before (told_none new.store.files x is)

@@ -8,6 +8,11 @@ pub by_answer : {T A B P : Type 0} (result : Result T Fault) → OnOk result A �
 by_answer (Ok value) ok err one two = one ok
 by_answer (Err fault) ok err one two = two err
 
+-- of two facts of each kind
+pub by_both : {T A B C D P : Type 0} (result : Result T Fault) → OnOk result A → OnOk result B → OnErr result C → OnErr result D → (A → B → P) → (C → D → P) → P
+by_both (Ok value) a b c d one two = one a b
+by_both (Err fault) a b c d one two = two c d
+
 pub err_gives : {T B : Type 0} (result : Result T Fault) (fault : Fault) → OnErr result B → IsErrOf result fault → B
 err_gives (Ok value) fault err is = let no : ⊥ = cc in absurd no
 err_gives (Err other) fault err is = err

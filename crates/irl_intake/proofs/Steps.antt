@@ -1,26 +1,29 @@
 -- What one flush and one merge of the store do for the arrays in front of it.
-use Rattle.std.proofs.Common.{◌≡◌, ◌≢◌, ◌∙◌, ◌⊎◌, inl, inr, ⊎_elim, ℕ, zero, suc, ◌+◌, ◌*◌, ◌<◌, ◌≤◌, Bool, true, false, cond, not, List, [], ◌∷◌, ◌++◌, length, filter, replicate, nat_eq, get_or, slice_index, Option, None, Some, refl, sym, ap, subst, append-nil, length-append, arith}
-use Rattle.std.proofs.lemmas.List.Elements.{filter-append}
+use Rattle.std.proofs.Common.{◌≡◌, ◌≢◌, ◌∙◌, ◌⊎◌, inl, inr, ⊎_elim, ℕ, zero, suc, ◌+◌, ◌*◌, ◌-◌, ◌<◌, ◌≤◌, max, Bool, true, false, cond, not, List, [], ◌∷◌, ◌++◌, length, filter, replicate, nat_eq, get_or, slice_index, Option, None, Some, refl, sym, ap, subst, append-nil, length-append, arith}
+use Rattle.std.proofs.lemmas.List.Elements.{filter-append, recursion_from_All}
 use Rattle.std.proofs.lemmas.Bool.{eq-eqb}
 use Rattle.std.proofs.lemmas.Bool.Decides.{eqb_tells}
+use Rattle.std.specs.List.{All, AllByRecursion}
 use Rattle.std.specs.Option.{ForSome}
 use Rattle.irl_offer.specs.declared.settings.Settings.{Settings}
+use Rattle.irl_offer.specs.Buckets.{bucket_of}
+use Rattle.irl_offer.specs.Settings.{AreValid}
 use Rattle.irl_offer.specs.Tuple.{Tuple}
 use Rattle.irl_model.specs.Book.{flushed}
 use Rattle.irl_model.specs.State.{State, AreFronts}
-use Rattle.irl_model.proofs.Flushes.{flushed_here, flushed_elsewhere}
+use Rattle.irl_model.proofs.Flushes.{flushed_here, flushed_elsewhere, flushed_book}
 use Rattle.irl_model.proofs.FrontLaws.{front_same, flushed_front}
 use Rattle.irl_disk.specs.Disk.{Files}
 use Rattle.irl_disk.specs.Images.{Snapshot, IsConsistent, Leaves}
 use Rattle.irl_disk.proofs.Stretches.{widens, left_now}
-use Rattle.irl_bay.specs.Drum.{Drum, durable_at}
+use Rattle.irl_bay.specs.Drum.{Drum, durable_at, pending_at}
 use Rattle.irl_bay.specs.Runs.{run_bytes}
 use Rattle.irl_bay.proofs.Runs.{length-run_bytes}
 use Rattle.irl_yard.specs.Standing.{HasState}
 use Rattle.irl_yard.specs.Holding.{HoldsUrls, HoldsState, HasOneOf, HasJournal, HasBucketRecords, with_offers}
 use Rattle.irl_intake.specs.Schedule.{entry_len, uneven_records, one_more_at, uneven_flush, HaveRecords, AddsUneven, LeavesUneven}
-use Rattle.irl_intake.specs.Feeding.{waiting_at, list_at, length_at, handed_in, Grows, Keeps, TakesWaiting, HasBetween, Moment, Fed, Stranded}
-use Rattle.irl_intake.proofs.Chains.{same_fronts, grows_same}
+use Rattle.irl_intake.specs.Feeding.{waiting_at, list_at, length_at, unjudged_at, handed_in, IsStateOf, FewUnjudged, Grows, Keeps, TakesWaiting, HasBetween, Moment, Fed, Stranded}
+use Rattle.irl_intake.proofs.Chains.{same_fronts, few_same, grows_same}
 
 -- ---- several facts of what stops leave
 pub leaves_pair : (old new : Snapshot) (P Q : Files → Type 0) → Leaves old new P → Leaves old new Q → Leaves old new (λ image. P image × Q image)
@@ -85,6 +88,10 @@ pub record Flushing (b : ℕ) (items : List Tuple) (old new : Moment) : Type 0 w
   pub within : b < old.parts.urls.settings.buckets
   pub waits : items ≡ waiting_at old.arrays b
   pub fits : durable_at old.parts.urls b + length items ≤ old.parts.urls.settings.cap
+  pub valid : AreValid old.parts.urls.settings
+  pub few : length items ≤ old.parts.urls.settings.array
+  pub offers : All (λ offer. bucket_of old.parts.urls.settings.buckets offer.key ≡ b) items
+  pub pending : pending_at old.parts.urls b < old.parts.urls.settings.trigger
   pub stops : (state : State) → HoldsState old.store.images old.parts state → Leaves old.store new.store (HasOneOf state (with_offers b items state))
   pub gains_stop : (payloads : List (List ℕ)) → HasJournal old.store.images old.parts.urls b payloads
       → Leaves old.store new.store (λ image. HasBucketRecords old.parts.urls.base b payloads image ⊎ HasBucketRecords old.parts.urls.base b (payloads ++ run_bytes items ∷ []) image)
@@ -137,7 +144,7 @@ flush_records_stop b items old new was flush have =
     has.0)
 
 -- the state with the offers
-no_first : (images : Files → Type 0) (urls : Drum) (x : State) (b : ℕ) → HoldsUrls images urls x → slice_index x.urls.firsts b ≡ 0
+pub no_first : (images : Files → Type 0) (urls : Drum) (x : State) (b : ℕ) → HoldsUrls images urls x → slice_index x.urls.firsts b ≡ 0
 no_first images urls x b holds =
     let book = holds.urls_hold.book_is in
     ap (λ (l : List ℕ). slice_index l b) (book.is_book.none book.dropped).1 ∙ zeros x.urls.buckets b
@@ -147,14 +154,56 @@ no_first images urls x b holds =
     zeros (suc n) zero = refl
     zeros (suc n) (suc i) = zeros n i
 
-list_within : (images : Files → Type 0) (urls : Drum) (x : State) (b : ℕ) → HoldsUrls images urls x → b < urls.settings.buckets → b < x.urls.buckets
+pub list_within : (images : Files → Type 0) (urls : Drum) (x : State) (b : ℕ) → HoldsUrls images urls x → b < urls.settings.buckets → b < x.urls.buckets
 list_within images urls x b holds within = subst (λ (n : ℕ). b < n) (sym holds.urls_hold.book_is.buckets) within
 
 list_here : (images : Files → Type 0) (urls : Drum) (x : State) (b : ℕ) (items : List Tuple) → HoldsUrls images urls x → b < urls.settings.buckets → list_at (flushed b items x.urls) b ≡ list_at x.urls b ++ items
 list_here images urls x b items holds within = flushed_here b items x.urls (omega (arith, list_within images urls x b holds within, holds.urls_hold.book_is.is_book.lists))
 
+-- how many offers of a state are unjudged
+pub unjudged_pending : (images : Files → Type 0) (urls : Drum) (x : State) (b : ℕ) → HoldsUrls images urls x → b < urls.settings.buckets → unjudged_at x.urls b ≡ pending_at urls b
+unjudged_pending images urls x b holds within =
+    let durable = (holds.urls_hold.buckets b (list_within images urls x b holds within)).durable in
+    let cut = ap (λ (l : List ℕ). slice_index l b) holds.urls_hold.numbers.commit.cut in
+    omega (arith, no_first images urls x b holds, durable, cut)
+
+-- a state that is held is one that files may stand for
+pub held_state : (images : Files → Type 0) (urls : Drum) (x : State) → AreValid urls.settings → HoldsUrls images urls x → IsStateOf urls.settings x
+held_state images urls x valid holds = record { settings_are = holds.settings; valid = valid; kind = holds.kind; book_is = holds.urls_hold.book_is; pairs_are = holds.pairs_are }
+
 flush_front : (b : ℕ) (items : List Tuple) (x : State) → AreFronts x (with_offers b items x)
 flush_front b items x = record { settings = refl; urls = flushed_front b items x.urls; pairs = front_same x.pairs }
+
+flush_waits : (b : ℕ) (items : List Tuple) (old new : Moment) (x : State) → Flushing b items old new → HoldsState old.store.images old.parts x → FewUnjudged old.parts.urls.settings x (with_offers b items x)
+flush_waits b items old new x flush holds = λ c within. ⊎_elim (λ same. here c same.1) (λ other. elsewhere c other.1) (eqb_tells c b)
+  where
+    here : (c : ℕ) → c ≡ b → unjudged_at (flushed b items x.urls) c ≤ max (old.parts.urls.settings.trigger + old.parts.urls.settings.array - 1) (unjudged_at x.urls c)
+    here c same =
+        let list = ap (λ (l : List Tuple). length l) (list_here old.store.images old.parts.urls x b items holds flush.within) in
+        let was = unjudged_pending old.store.images old.parts.urls x b holds flush.within in
+        subst (λ (n : ℕ). unjudged_at (flushed b items x.urls) n ≤ max (old.parts.urls.settings.trigger + old.parts.urls.settings.array - 1) (unjudged_at x.urls n)) (sym same)
+        (omega (arith, list, length-append (list_at x.urls b) items, was, flush.pending, flush.few))
+
+    elsewhere : (c : ℕ) → c ≢ b → unjudged_at (flushed b items x.urls) c ≤ max (old.parts.urls.settings.trigger + old.parts.urls.settings.array - 1) (unjudged_at x.urls c)
+    elsewhere c other = let list = ap (λ (l : List Tuple). length l) (flushed_elsewhere b items x.urls c other) in omega (arith, list)
+
+-- the state with them is one that files may stand for
+flush_legal : (b : ℕ) (items : List Tuple) (old new : Moment) (x : State) → Flushing b items old new → HoldsState old.store.images old.parts x → IsStateOf old.parts.urls.settings (with_offers b items x)
+flush_legal b items old new x flush holds =
+    let is = holds.urls_hold.book_is in
+    let offers = recursion_from_All (λ (offer : Tuple). bucket_of old.parts.urls.settings.buckets offer.key ≡ b) items flush.offers in
+    record {
+      settings_are = holds.settings;
+      valid = flush.valid;
+      kind = holds.kind;
+      book_is = record {
+        is_book = flushed_book b items x.urls is.is_book (subst (λ (n : ℕ). AllByRecursion (λ (offer : Tuple). bucket_of n offer.key ≡ b) items) (sym is.buckets) offers);
+        buckets = is.buckets;
+        rule = is.rule;
+        dropped = is.dropped;
+      };
+      pairs_are = holds.pairs_are;
+    }
 
 flush_grows : (b : ℕ) (items : List Tuple) (old new : Moment) (x : State) → Flushing b items old new → HoldsState old.store.images old.parts x → Grows old.parts.urls.settings 0 x (with_offers b items x)
 flush_grows b items old new x flush holds =
@@ -173,12 +222,15 @@ flush_grows b items old new x flush holds =
       cuts = [];
       cuts_are = sym (append-nil x.urls.cuts);
       early_are = omega arith;
+      waits = flush_waits b items old new x flush holds;
     }
 
-flush_between : (b : ℕ) (items : List Tuple) (old new : Moment) (x : State) → Flushing b items old new → HoldsState old.store.images old.parts x → Leaves old.store new.store (HasBetween x (with_offers b items x))
+flush_between : (b : ℕ) (items : List Tuple) (old new : Moment) (x : State) → Flushing b items old new → HoldsState old.store.images old.parts x → Leaves old.store new.store (HasBetween old.parts.urls.settings x (with_offers b items x))
 flush_between b items old new x flush holds =
-    widens old.store new.store (HasOneOf x (with_offers b items x)) (HasBetween x (with_offers b items x)) (flush.stops x holds)
-    (λ image has. ⊎_elim (λ was. (x, was, same_fronts x, flush_front b items x)) (λ now. (with_offers b items x, now, flush_front b items x, same_fronts (with_offers b items x))) has)
+    let settings = old.parts.urls.settings in
+    let y = with_offers b items x in
+    widens old.store new.store (HasOneOf x y) (HasBetween settings x y) (flush.stops x holds)
+    (λ image has. ⊎_elim (λ was. (x, was, same_fronts x, flush_front b items x, few_same settings x)) (λ now. (y, now, flush_front b items x, same_fronts y, flush_waits b items old new x flush holds)) has)
 
 flush_takes : (b : ℕ) (items : List Tuple) (old new : Moment) (x : State) → Flushing b items old new → HoldsState old.store.images old.parts x → TakesWaiting old.parts.urls.settings x old.arrays (with_offers b items x) []
 flush_takes b items old new x flush holds = λ c within. ⊎_elim
@@ -242,15 +294,22 @@ flush_fed b items old new x flush done holds =
 pub told_one : (x y : State) (old new : Snapshot) (files : Files) → IsConsistent new → Leaves old new (HasOneOf x y) → new.files ≡ Some files → HasOneOf x y files
 told_one x y old new files law stops told = left_now old new (HasOneOf x y) law stops files (law.told files told)
 
-flush_strand : (b : ℕ) (items : List Tuple) (old new : Moment) (x s : State) → Flushing b items old new → HoldsState old.store.images old.parts x → ForSome new.store.files (HasState s) → Grows old.parts.urls.settings 0 x s → AreFronts s (with_offers b items x)
+flush_strand : (b : ℕ) (items : List Tuple) (old new : Moment) (x s : State) → IsConsistent new.store → Keeps old.parts.urls.settings x old.arrays x new.arrays [] → Flushing b items old new → HoldsState old.store.images old.parts x → ForSome new.store.files (HasState s) → Grows old.parts.urls.settings 0 x s → AreFronts s (with_offers b items x)
     → Stranded 0 (uneven_flush old.parts.urls.settings.array b items) [] old new x
-flush_strand b items old new x s flush holds told grows front = record {
+flush_strand b items old new x s consistent keeps flush holds told grows front = record {
   state = s;
   most = with_offers b items x;
   told = told;
   grows = grows;
   may_grow = flush_grows b items old new x flush holds;
   front = front;
+  legal = flush_legal b items old new x flush holds;
+  kept = x;
+  kept_grows = grows_same old.parts.urls.settings x;
+  kept_front = grows.front;
+  kept_legal = held_state old.store.images old.parts.urls x flush.valid holds;
+  keeps = keeps;
+  now = λ image left. left_now old.store new.store (HasBetween old.parts.urls.settings x (with_offers b items x)) consistent (flush_between b items old new x flush holds) image left;
   takes = flush_takes b items old new x flush holds;
   stops = flush_between b items old new x flush holds;
   records_stop = λ was have. flush_records_stop b items old new was flush have;
@@ -263,15 +322,15 @@ told_these told files s is has = λ other also. let same : files ≡ other = cc 
 pub told_none : (told : Option Files) (s : State) → told ≡ None → ForSome told (HasState s)
 told_none told s is = λ other also. let no : ⊥ = cc in absurd no
 
-pub flush_stranded : (b : ℕ) (items : List Tuple) (old new : Moment) (x : State) → IsConsistent new.store → Flushing b items old new → HoldsState old.store.images old.parts x
+pub flush_stranded : (b : ℕ) (items : List Tuple) (old new : Moment) (x : State) → IsConsistent new.store → Keeps old.parts.urls.settings x old.arrays x new.arrays [] → Flushing b items old new → HoldsState old.store.images old.parts x
     → Stranded 0 (uneven_flush old.parts.urls.settings.array b items) [] old new x
-flush_stranded b items old new x consistent flush holds = by_told new.store.files refl
+flush_stranded b items old new x consistent keeps flush holds = by_told new.store.files refl
   where
     before : ForSome new.store.files (HasState x) → Stranded 0 (uneven_flush old.parts.urls.settings.array b items) [] old new x
-    before told = flush_strand b items old new x x flush holds told (grows_same old.parts.urls.settings x) (flush_front b items x)
+    before told = flush_strand b items old new x x consistent keeps flush holds told (grows_same old.parts.urls.settings x) (flush_front b items x)
 
     after : ForSome new.store.files (HasState (with_offers b items x)) → Stranded 0 (uneven_flush old.parts.urls.settings.array b items) [] old new x
-    after told = flush_strand b items old new x (with_offers b items x) flush holds told (flush_grows b items old new x flush holds) (same_fronts (with_offers b items x))
+    after told = flush_strand b items old new x (with_offers b items x) consistent keeps flush holds told (flush_grows b items old new x flush holds) (same_fronts (with_offers b items x))
 
     by_told : (told : Option Files) → new.store.files ≡ told → Stranded 0 (uneven_flush old.parts.urls.settings.array b items) [] old new x
     by_told None is = before (told_none new.store.files x is)

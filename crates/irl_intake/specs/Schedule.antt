@@ -21,7 +21,7 @@ early_cuts trigger from [] = 0
 early_cuts trigger from (cut ∷ cuts) = (if has_enough trigger from cut then 0 else 1) + early_cuts trigger cut cuts
 
 -- ---- records
--- the bytes of an offer in a record
+-- the bytes of an offer in a record: as many as its `entry_bytes` has
 abbrev pub entry_len : ℕ
 entry_len = 27
 

@@ -14,7 +14,7 @@ ghost use Rattle.irl_bay.specs.Spoilt.{IsSpoiltAt};
 ghost use Rattle.irl_bay.specs.JudgedSpoilt.{IsJudgedSpoiltAt};
 ghost use Rattle.irl_yard.specs.Holding.{IsSound, HoldsState};
 ghost use Rattle.irl_intake.specs.Feeding.{AreArrays, array_at, waiting_at, SomeWaiting, Keeps};
-ghost use Rattle.irl_intake.specs.Feeding.{moment, Stays, Feeds, Strands, HeldNone};
+ghost use Rattle.irl_intake.specs.Feeding.{moment_of, Moves, Stays, Feeds, Strands, HeldNone};
 ghost use Rattle.irl_intake.specs.Schedule.{IsDue, none_more, one_more, one_more_at, uneven_flush};
 
 use irl_array::Array;
@@ -86,11 +86,9 @@ impl<S: Store> Intake<S> {
         ensures keeps { (state : State) → Keeps self.old.yard.parts.urls.settings
             state self.old.arrays.items state self.new.arrays.items (offer ∷ []) }
         ensures fed { Feeds 0 none_more (offer ∷ [])
-            (moment S.snapshot self.old.yard.store self.old.yard.parts self.old.arrays.items)
-            (moment S.snapshot self.new.yard.store self.new.yard.parts self.new.arrays.items) }
+            (moment_of self.old.yard self.old.arrays.items) (moment_of self.new.yard self.new.arrays.items) }
         ensures stays { Stays
-            (moment S.snapshot self.old.yard.store self.old.yard.parts self.old.arrays.items)
-            (moment S.snapshot self.new.yard.store self.new.yard.parts self.new.arrays.items) }
+            (moment_of self.old.yard self.old.arrays.items) (moment_of self.new.yard self.new.arrays.items) }
     {
         let _is_sound = self.yard.is_sound();
         let b = bucket_of(offer.key, self.yard.settings().buckets);
@@ -107,24 +105,22 @@ impl<S: Store> Intake<S> {
         ensures ready { OnOk result (self.old.yard.parts.urls.settings.array ≤ length (waiting_at self.old.arrays.items b) →
             IsDue self.new.yard.parts.urls → ⊥) }
         ensures waiting { self.new.arrays ≡ self.old.arrays }
+        ensures durable { (c : ℕ) → durable_at self.new.yard.parts.urls c ≡ durable_at self.old.yard.parts.urls c }
         // A call that isn't refused by the store leaves it sound, and no offer is lost.
         ensures sound { (IsErrOf result Fault.Failed → ⊥) → IsSound self.new.yard.parts }
         ensures unsound { IsErrOf result Fault.Failed → IsSound self.new.yard.parts → ⊥ }
         ensures fed { (IsErrOf result Fault.Failed → ⊥) → Feeds 0 none_more []
-            (moment S.snapshot self.old.yard.store self.old.yard.parts self.old.arrays.items)
-            (moment S.snapshot self.new.yard.store self.new.yard.parts self.new.arrays.items) }
+            (moment_of self.old.yard self.old.arrays.items) (moment_of self.new.yard self.new.arrays.items) }
         // One that is leaves files that stand for a state with some of the offers that waited.
         ensures stranded { IsErrOf result Fault.Failed → Strands 0 none_more []
-            (moment S.snapshot self.old.yard.store self.old.yard.parts self.old.arrays.items)
-            (moment S.snapshot self.new.yard.store self.new.yard.parts self.new.arrays.items) }
+            (moment_of self.old.yard self.old.arrays.items) (moment_of self.new.yard self.new.arrays.items) }
         ensures stays { Stays
-            (moment S.snapshot self.old.yard.store self.old.yard.parts self.old.arrays.items)
-            (moment S.snapshot self.new.yard.store self.new.yard.parts self.new.arrays.items) }
+            (moment_of self.old.yard self.old.arrays.items) (moment_of self.new.yard self.new.arrays.items) }
         ensures full { (n : ℕ) → IsErrOf result (Fault.Full n) → ⊥ }
         ensures damaged { (f at : ℕ) → IsErrOf result (Fault.Damaged f at) →
             ForSome (S.snapshot self.new.yard.store).files (λ files. IsSpoiltAt self.new.yard.parts.urls files f at) }
         ensures whole { (f at : ℕ) → IsErrOf result (Fault.Damaged f at) → HeldNone
-            (moment S.snapshot self.old.yard.store self.old.yard.parts self.old.arrays.items) }
+            (moment_of self.old.yard self.old.arrays.items) }
         // A refused call has judged nothing.
         ensures judged_kept { OnErr result (self.new.yard.parts.urls.last ≡ self.old.yard.parts.urls.last) }
         ensures cause { HasCause (IsErrOf result Fault.Failed)
@@ -150,27 +146,27 @@ impl<S: Store> Intake<S> {
         ensures ready { OnOk result (self.old.yard.parts.urls.settings.array ≤ length (waiting_at self.old.arrays.items b) →
             IsDue self.new.yard.parts.urls → ⊥) }
         ensures waiting { (c : ℕ) → c ≢ b → waiting_at self.new.arrays.items c ≡ waiting_at self.old.arrays.items c }
+        // Whatever is answered, a bucket's offers wait as they did, or its count of durable ones has risen by theirs.
+        ensures moves { (c : ℕ) → Moves
+            (moment_of self.old.yard self.old.arrays.items) (moment_of self.new.yard self.new.arrays.items) c }
         // A call that isn't refused by the store leaves it sound, and no offer is lost.
         ensures sound { (IsErrOf result Fault.Failed → ⊥) → IsSound self.new.yard.parts }
         ensures unsound { IsErrOf result Fault.Failed → IsSound self.new.yard.parts → ⊥ }
         ensures fed { (IsErrOf result Fault.Failed → ⊥) → Feeds 0 none_more []
-            (moment S.snapshot self.old.yard.store self.old.yard.parts self.old.arrays.items)
-            (moment S.snapshot self.new.yard.store self.new.yard.parts self.new.arrays.items) }
+            (moment_of self.old.yard self.old.arrays.items) (moment_of self.new.yard self.new.arrays.items) }
         // One that is leaves files that stand for a state with some of the offers that waited.
         ensures stranded { IsErrOf result Fault.Failed → Strands 0 none_more []
-            (moment S.snapshot self.old.yard.store self.old.yard.parts self.old.arrays.items)
-            (moment S.snapshot self.new.yard.store self.new.yard.parts self.new.arrays.items) }
+            (moment_of self.old.yard self.old.arrays.items) (moment_of self.new.yard self.new.arrays.items) }
         ensures stays { Stays
-            (moment S.snapshot self.old.yard.store self.old.yard.parts self.old.arrays.items)
-            (moment S.snapshot self.new.yard.store self.new.yard.parts self.new.arrays.items) }
+            (moment_of self.old.yard self.old.arrays.items) (moment_of self.new.yard self.new.arrays.items) }
         // The offers that wait don't fit.
         ensures full { (n : ℕ) → IsErrOf result (Fault.Full n) → (n ≡ b)
-            × (self.old.yard.parts.urls.settings.cap <
+            × (1 ≤ length (waiting_at self.new.arrays.items b)) × (self.old.yard.parts.urls.settings.cap <
             durable_at self.new.yard.parts.urls b + length (waiting_at self.new.arrays.items b)) }
         ensures damaged { (f at : ℕ) → IsErrOf result (Fault.Damaged f at) →
             ForSome (S.snapshot self.new.yard.store).files (λ files. IsSpoiltAt self.new.yard.parts.urls files f at) }
         ensures whole { (f at : ℕ) → IsErrOf result (Fault.Damaged f at) → HeldNone
-            (moment S.snapshot self.old.yard.store self.old.yard.parts self.old.arrays.items) }
+            (moment_of self.old.yard self.old.arrays.items) }
         // A refused call has judged nothing.
         ensures judged_kept { OnErr result (self.new.yard.parts.urls.last ≡ self.old.yard.parts.urls.last) }
         ensures cause { HasCause (IsErrOf result Fault.Failed)
@@ -193,24 +189,22 @@ impl<S: Store> Intake<S> {
         ensures ready { OnOk result (SomeWaiting self.old.yard.parts.urls.settings.buckets self.old.arrays.items →
             IsDue self.new.yard.parts.urls → ⊥) }
         ensures waiting { self.new.arrays ≡ self.old.arrays }
+        ensures durable { (c : ℕ) → durable_at self.new.yard.parts.urls c ≡ durable_at self.old.yard.parts.urls c }
         // A call that isn't refused by the store leaves it sound, and no offer is lost.
         ensures sound { (IsErrOf result Fault.Failed → ⊥) → IsSound self.new.yard.parts }
         ensures unsound { IsErrOf result Fault.Failed → IsSound self.new.yard.parts → ⊥ }
         ensures fed { (IsErrOf result Fault.Failed → ⊥) → Feeds 0 none_more []
-            (moment S.snapshot self.old.yard.store self.old.yard.parts self.old.arrays.items)
-            (moment S.snapshot self.new.yard.store self.new.yard.parts self.new.arrays.items) }
+            (moment_of self.old.yard self.old.arrays.items) (moment_of self.new.yard self.new.arrays.items) }
         // One that is leaves files that stand for a state with some of the offers that waited.
         ensures stranded { IsErrOf result Fault.Failed → Strands 0 none_more []
-            (moment S.snapshot self.old.yard.store self.old.yard.parts self.old.arrays.items)
-            (moment S.snapshot self.new.yard.store self.new.yard.parts self.new.arrays.items) }
+            (moment_of self.old.yard self.old.arrays.items) (moment_of self.new.yard self.new.arrays.items) }
         ensures stays { Stays
-            (moment S.snapshot self.old.yard.store self.old.yard.parts self.old.arrays.items)
-            (moment S.snapshot self.new.yard.store self.new.yard.parts self.new.arrays.items) }
+            (moment_of self.old.yard self.old.arrays.items) (moment_of self.new.yard self.new.arrays.items) }
         ensures full { (n : ℕ) → IsErrOf result (Fault.Full n) → ⊥ }
         ensures damaged { (f at : ℕ) → IsErrOf result (Fault.Damaged f at) →
             ForSome (S.snapshot self.new.yard.store).files (λ files. IsSpoiltAt self.new.yard.parts.urls files f at) }
         ensures whole { (f at : ℕ) → IsErrOf result (Fault.Damaged f at) → HeldNone
-            (moment S.snapshot self.old.yard.store self.old.yard.parts self.old.arrays.items) }
+            (moment_of self.old.yard self.old.arrays.items) }
         // A refused call has judged nothing.
         ensures judged_kept { OnErr result (self.new.yard.parts.urls.last ≡ self.old.yard.parts.urls.last) }
         ensures cause { HasCause (IsErrOf result Fault.Failed)
@@ -231,28 +225,28 @@ impl<S: Store> Intake<S> {
         // From then on nothing waits and nothing is unjudged.
         ensures empty { OnOk result ((b : ℕ) → waiting_at self.new.arrays.items b ≡ []) }
         ensures judged { OnOk result (SomePending self.new.yard.parts.urls → ⊥) }
+        // Whatever is answered, a bucket's offers wait as they did, or its count of durable ones has risen by theirs.
+        ensures moves { (c : ℕ) → Moves
+            (moment_of self.old.yard self.old.arrays.items) (moment_of self.new.yard self.new.arrays.items) c }
         // A call that isn't refused by the store leaves it sound, and no offer is lost.
         ensures sound { (IsErrOf result Fault.Failed → ⊥) → IsSound self.new.yard.parts }
         ensures unsound { IsErrOf result Fault.Failed → IsSound self.new.yard.parts → ⊥ }
         ensures fed { (IsErrOf result Fault.Failed → ⊥) → Feeds 1 one_more []
-            (moment S.snapshot self.old.yard.store self.old.yard.parts self.old.arrays.items)
-            (moment S.snapshot self.new.yard.store self.new.yard.parts self.new.arrays.items) }
+            (moment_of self.old.yard self.old.arrays.items) (moment_of self.new.yard self.new.arrays.items) }
         // One that is leaves files that stand for a state with some of the offers that waited.
         ensures stranded { IsErrOf result Fault.Failed → Strands 1 one_more []
-            (moment S.snapshot self.old.yard.store self.old.yard.parts self.old.arrays.items)
-            (moment S.snapshot self.new.yard.store self.new.yard.parts self.new.arrays.items) }
+            (moment_of self.old.yard self.old.arrays.items) (moment_of self.new.yard self.new.arrays.items) }
         ensures stays { Stays
-            (moment S.snapshot self.old.yard.store self.old.yard.parts self.old.arrays.items)
-            (moment S.snapshot self.new.yard.store self.new.yard.parts self.new.arrays.items) }
+            (moment_of self.old.yard self.old.arrays.items) (moment_of self.new.yard self.new.arrays.items) }
         // The offers that wait of this bucket don't fit; those of the buckets before it are flushed.
         ensures full { (n : ℕ) → IsErrOf result (Fault.Full n) → (n < self.old.yard.parts.urls.settings.buckets)
-            × (self.old.yard.parts.urls.settings.cap <
+            × (1 ≤ length (waiting_at self.new.arrays.items n)) × (self.old.yard.parts.urls.settings.cap <
             durable_at self.new.yard.parts.urls n + length (waiting_at self.new.arrays.items n))
             × ((c : ℕ) → c < n → waiting_at self.new.arrays.items c ≡ []) }
         ensures damaged { (f at : ℕ) → IsErrOf result (Fault.Damaged f at) →
             ForSome (S.snapshot self.new.yard.store).files (λ files. IsSpoiltAt self.new.yard.parts.urls files f at) }
         ensures whole { (f at : ℕ) → IsErrOf result (Fault.Damaged f at) → HeldNone
-            (moment S.snapshot self.old.yard.store self.old.yard.parts self.old.arrays.items) }
+            (moment_of self.old.yard self.old.arrays.items) }
         // A refused call has judged nothing.
         ensures judged_kept { OnErr result (self.new.yard.parts.urls.last ≡ self.old.yard.parts.urls.last) }
         ensures cause { HasCause (IsErrOf result Fault.Failed)
@@ -271,22 +265,20 @@ impl<S: Store> Intake<S> {
         requires sound { IsSound self.old.yard.parts }
         ensures ready { OnOk result (IsDue self.new.yard.parts.urls → ⊥) }
         ensures waiting { self.new.arrays ≡ self.old.arrays }
+        ensures durable { (c : ℕ) → durable_at self.new.yard.parts.urls c ≡ durable_at self.old.yard.parts.urls c }
         ensures sound { (IsErrOf result Fault.Failed → ⊥) → IsSound self.new.yard.parts }
         ensures unsound { IsErrOf result Fault.Failed → IsSound self.new.yard.parts → ⊥ }
         ensures fed { (IsErrOf result Fault.Failed → ⊥) → Feeds 0 none_more []
-            (moment S.snapshot self.old.yard.store self.old.yard.parts self.old.arrays.items)
-            (moment S.snapshot self.new.yard.store self.new.yard.parts self.new.arrays.items) }
+            (moment_of self.old.yard self.old.arrays.items) (moment_of self.new.yard self.new.arrays.items) }
         ensures stranded { IsErrOf result Fault.Failed → Strands 0 none_more []
-            (moment S.snapshot self.old.yard.store self.old.yard.parts self.old.arrays.items)
-            (moment S.snapshot self.new.yard.store self.new.yard.parts self.new.arrays.items) }
+            (moment_of self.old.yard self.old.arrays.items) (moment_of self.new.yard self.new.arrays.items) }
         ensures stays { Stays
-            (moment S.snapshot self.old.yard.store self.old.yard.parts self.old.arrays.items)
-            (moment S.snapshot self.new.yard.store self.new.yard.parts self.new.arrays.items) }
+            (moment_of self.old.yard self.old.arrays.items) (moment_of self.new.yard self.new.arrays.items) }
         ensures full { (n : ℕ) → IsErrOf result (Fault.Full n) → ⊥ }
         ensures damaged { (f at : ℕ) → IsErrOf result (Fault.Damaged f at) →
             ForSome (S.snapshot self.new.yard.store).files (λ files. IsSpoiltAt self.new.yard.parts.urls files f at) }
         ensures whole { (f at : ℕ) → IsErrOf result (Fault.Damaged f at) → HeldNone
-            (moment S.snapshot self.old.yard.store self.old.yard.parts self.old.arrays.items) }
+            (moment_of self.old.yard self.old.arrays.items) }
         ensures judged_kept { OnErr result (self.new.yard.parts.urls.last ≡ self.old.yard.parts.urls.last) }
         ensures cause { HasCause (IsErrOf result Fault.Failed)
             (S.faults self.old.yard.store) (S.faults self.new.yard.store) }
@@ -304,24 +296,22 @@ impl<S: Store> Intake<S> {
         requires pending { SomePending self.old.yard.parts.urls }
         ensures judged { OnOk result ((b : ℕ) → pending_at self.new.yard.parts.urls b ≡ 0) }
         ensures waiting { self.new.arrays ≡ self.old.arrays }
+        ensures durable { (c : ℕ) → durable_at self.new.yard.parts.urls c ≡ durable_at self.old.yard.parts.urls c }
         ensures sound { (IsErrOf result Fault.Failed → ⊥) → IsSound self.new.yard.parts }
         ensures unsound { IsErrOf result Fault.Failed → IsSound self.new.yard.parts → ⊥ }
         ensures fed { (early : ℕ) → IsDue self.old.yard.parts.urls ⊎ (1 ≤ early) → (IsErrOf result Fault.Failed →
             ⊥) → Feeds early none_more []
-            (moment S.snapshot self.old.yard.store self.old.yard.parts self.old.arrays.items)
-            (moment S.snapshot self.new.yard.store self.new.yard.parts self.new.arrays.items) }
+            (moment_of self.old.yard self.old.arrays.items) (moment_of self.new.yard self.new.arrays.items) }
         ensures stranded { (early : ℕ) → IsDue self.old.yard.parts.urls ⊎ (1 ≤ early) → IsErrOf result Fault.Failed →
             Strands early none_more []
-            (moment S.snapshot self.old.yard.store self.old.yard.parts self.old.arrays.items)
-            (moment S.snapshot self.new.yard.store self.new.yard.parts self.new.arrays.items) }
+            (moment_of self.old.yard self.old.arrays.items) (moment_of self.new.yard self.new.arrays.items) }
         ensures stays { Stays
-            (moment S.snapshot self.old.yard.store self.old.yard.parts self.old.arrays.items)
-            (moment S.snapshot self.new.yard.store self.new.yard.parts self.new.arrays.items) }
+            (moment_of self.old.yard self.old.arrays.items) (moment_of self.new.yard self.new.arrays.items) }
         ensures full { (n : ℕ) → IsErrOf result (Fault.Full n) → ⊥ }
         ensures damaged { (f at : ℕ) → IsErrOf result (Fault.Damaged f at) →
             ForSome (S.snapshot self.new.yard.store).files (λ files. IsSpoiltAt self.new.yard.parts.urls files f at) }
         ensures whole { (f at : ℕ) → IsErrOf result (Fault.Damaged f at) → HeldNone
-            (moment S.snapshot self.old.yard.store self.old.yard.parts self.old.arrays.items) }
+            (moment_of self.old.yard self.old.arrays.items) }
         ensures judged_kept { OnErr result (self.new.yard.parts.urls.last ≡ self.old.yard.parts.urls.last) }
         ensures cause { HasCause (IsErrOf result Fault.Failed)
             (S.faults self.old.yard.store) (S.faults self.new.yard.store) }
@@ -342,22 +332,22 @@ impl<S: Store> Intake<S> {
         ensures emptied { OnOk result (waiting_at self.new.arrays.items b ≡ []) }
         ensures waiting { OnErr result (waiting_at self.new.arrays.items b ≡ waiting_at self.old.arrays.items b) }
         ensures others { (c : ℕ) → c ≢ b → (waiting_at self.new.arrays.items c ≡ waiting_at self.old.arrays.items c)
-            × (pending_at self.new.yard.parts.urls c ≡ pending_at self.old.yard.parts.urls c) }
+            × (pending_at self.new.yard.parts.urls c ≡ pending_at self.old.yard.parts.urls c)
+            × (durable_at self.new.yard.parts.urls c ≡ durable_at self.old.yard.parts.urls c) }
+        ensures moves { Moves
+            (moment_of self.old.yard self.old.arrays.items) (moment_of self.new.yard self.new.arrays.items) b }
         ensures sound { (IsErrOf result Fault.Failed → ⊥) → IsSound self.new.yard.parts }
         ensures unsound { IsErrOf result Fault.Failed → IsSound self.new.yard.parts → ⊥ }
         ensures fed { (IsErrOf result Fault.Failed → ⊥) →
             Feeds 0 (uneven_flush self.old.yard.parts.urls.settings.array b (waiting_at self.old.arrays.items b)) []
-            (moment S.snapshot self.old.yard.store self.old.yard.parts self.old.arrays.items)
-            (moment S.snapshot self.new.yard.store self.new.yard.parts self.new.arrays.items) }
+            (moment_of self.old.yard self.old.arrays.items) (moment_of self.new.yard self.new.arrays.items) }
         ensures stranded { IsErrOf result Fault.Failed →
             Strands 0 (uneven_flush self.old.yard.parts.urls.settings.array b (waiting_at self.old.arrays.items b)) []
-            (moment S.snapshot self.old.yard.store self.old.yard.parts self.old.arrays.items)
-            (moment S.snapshot self.new.yard.store self.new.yard.parts self.new.arrays.items) }
+            (moment_of self.old.yard self.old.arrays.items) (moment_of self.new.yard self.new.arrays.items) }
         ensures stays { Stays
-            (moment S.snapshot self.old.yard.store self.old.yard.parts self.old.arrays.items)
-            (moment S.snapshot self.new.yard.store self.new.yard.parts self.new.arrays.items) }
+            (moment_of self.old.yard self.old.arrays.items) (moment_of self.new.yard self.new.arrays.items) }
         ensures full { (n : ℕ) → IsErrOf result (Fault.Full n) → (n ≡ b)
-            × (self.old.yard.parts.urls.settings.cap <
+            × (1 ≤ length (waiting_at self.new.arrays.items b)) × (self.old.yard.parts.urls.settings.cap <
             durable_at self.new.yard.parts.urls b + length (waiting_at self.new.arrays.items b)) }
         ensures damaged { (f at : ℕ) → IsErrOf result (Fault.Damaged f at) → ⊥ }
         ensures judged_kept { self.new.yard.parts.urls.last ≡ self.old.yard.parts.urls.last }
@@ -376,20 +366,20 @@ impl<S: Store> Intake<S> {
             pending_at self.old.yard.parts.urls b < self.old.yard.parts.urls.settings.trigger }
         ensures emptied { OnOk result (waiting_at self.new.arrays.items b ≡ []) }
         ensures others { (c : ℕ) → c ≢ b → (waiting_at self.new.arrays.items c ≡ waiting_at self.old.arrays.items c)
-            × (pending_at self.new.yard.parts.urls c ≡ pending_at self.old.yard.parts.urls c) }
+            × (pending_at self.new.yard.parts.urls c ≡ pending_at self.old.yard.parts.urls c)
+            × (durable_at self.new.yard.parts.urls c ≡ durable_at self.old.yard.parts.urls c) }
+        ensures moves { Moves
+            (moment_of self.old.yard self.old.arrays.items) (moment_of self.new.yard self.new.arrays.items) b }
         ensures sound { (IsErrOf result Fault.Failed → ⊥) → IsSound self.new.yard.parts }
         ensures unsound { IsErrOf result Fault.Failed → IsSound self.new.yard.parts → ⊥ }
         ensures fed { (IsErrOf result Fault.Failed → ⊥) → Feeds 0 (one_more_at b) []
-            (moment S.snapshot self.old.yard.store self.old.yard.parts self.old.arrays.items)
-            (moment S.snapshot self.new.yard.store self.new.yard.parts self.new.arrays.items) }
+            (moment_of self.old.yard self.old.arrays.items) (moment_of self.new.yard self.new.arrays.items) }
         ensures stranded { IsErrOf result Fault.Failed → Strands 0 (one_more_at b) []
-            (moment S.snapshot self.old.yard.store self.old.yard.parts self.old.arrays.items)
-            (moment S.snapshot self.new.yard.store self.new.yard.parts self.new.arrays.items) }
+            (moment_of self.old.yard self.old.arrays.items) (moment_of self.new.yard self.new.arrays.items) }
         ensures stays { Stays
-            (moment S.snapshot self.old.yard.store self.old.yard.parts self.old.arrays.items)
-            (moment S.snapshot self.new.yard.store self.new.yard.parts self.new.arrays.items) }
+            (moment_of self.old.yard self.old.arrays.items) (moment_of self.new.yard self.new.arrays.items) }
         ensures full { (n : ℕ) → IsErrOf result (Fault.Full n) → (n ≡ b)
-            × (self.old.yard.parts.urls.settings.cap <
+            × (1 ≤ length (waiting_at self.new.arrays.items b)) × (self.old.yard.parts.urls.settings.cap <
             durable_at self.new.yard.parts.urls b + length (waiting_at self.new.arrays.items b)) }
         ensures damaged { (f at : ℕ) → IsErrOf result (Fault.Damaged f at) → ⊥ }
         ensures judged_kept { self.new.yard.parts.urls.last ≡ self.old.yard.parts.urls.last }
@@ -409,19 +399,18 @@ impl<S: Store> Intake<S> {
         requires ready { SomeWaiting self.old.yard.parts.urls.settings.buckets self.old.arrays.items →
             IsDue self.old.yard.parts.urls → ⊥ }
         ensures empty { OnOk result ((b : ℕ) → waiting_at self.new.arrays.items b ≡ []) }
+        ensures moves { (c : ℕ) → Moves
+            (moment_of self.old.yard self.old.arrays.items) (moment_of self.new.yard self.new.arrays.items) c }
         ensures sound { (IsErrOf result Fault.Failed → ⊥) → IsSound self.new.yard.parts }
         ensures unsound { IsErrOf result Fault.Failed → IsSound self.new.yard.parts → ⊥ }
         ensures fed { (IsErrOf result Fault.Failed → ⊥) → Feeds 0 one_more []
-            (moment S.snapshot self.old.yard.store self.old.yard.parts self.old.arrays.items)
-            (moment S.snapshot self.new.yard.store self.new.yard.parts self.new.arrays.items) }
+            (moment_of self.old.yard self.old.arrays.items) (moment_of self.new.yard self.new.arrays.items) }
         ensures stranded { IsErrOf result Fault.Failed → Strands 0 one_more []
-            (moment S.snapshot self.old.yard.store self.old.yard.parts self.old.arrays.items)
-            (moment S.snapshot self.new.yard.store self.new.yard.parts self.new.arrays.items) }
+            (moment_of self.old.yard self.old.arrays.items) (moment_of self.new.yard self.new.arrays.items) }
         ensures stays { Stays
-            (moment S.snapshot self.old.yard.store self.old.yard.parts self.old.arrays.items)
-            (moment S.snapshot self.new.yard.store self.new.yard.parts self.new.arrays.items) }
+            (moment_of self.old.yard self.old.arrays.items) (moment_of self.new.yard self.new.arrays.items) }
         ensures full { (n : ℕ) → IsErrOf result (Fault.Full n) → (n < self.old.yard.parts.urls.settings.buckets)
-            × (self.old.yard.parts.urls.settings.cap <
+            × (1 ≤ length (waiting_at self.new.arrays.items n)) × (self.old.yard.parts.urls.settings.cap <
             durable_at self.new.yard.parts.urls n + length (waiting_at self.new.arrays.items n))
             × ((c : ℕ) → c < n → waiting_at self.new.arrays.items c ≡ []) }
         ensures damaged { (f at : ℕ) → IsErrOf result (Fault.Damaged f at) → ⊥ }
@@ -494,11 +483,9 @@ impl<S: Store> Intake<S> {
         ensures holds { (state : State) → HoldsState (S.snapshot self.old.yard.store).images self.old.yard.parts state →
             HoldsState (S.snapshot self.new.yard.store).images self.new.yard.parts state }
         ensures fed { Feeds 0 none_more []
-            (moment S.snapshot self.old.yard.store self.old.yard.parts self.old.arrays.items)
-            (moment S.snapshot self.new.yard.store self.new.yard.parts self.new.arrays.items) }
+            (moment_of self.old.yard self.old.arrays.items) (moment_of self.new.yard self.new.arrays.items) }
         ensures stays { Stays
-            (moment S.snapshot self.old.yard.store self.old.yard.parts self.old.arrays.items)
-            (moment S.snapshot self.new.yard.store self.new.yard.parts self.new.arrays.items) }
+            (moment_of self.old.yard self.old.arrays.items) (moment_of self.new.yard self.new.arrays.items) }
         ensures kept { self.new.yard.parts.urls ≡ self.old.yard.parts.urls }
         ensures waiting { self.new.arrays ≡ self.old.arrays }
         ensures sound { (IsErrOf result Fault.Failed → ⊥) → IsSound self.new.yard.parts }
@@ -506,7 +493,7 @@ impl<S: Store> Intake<S> {
         ensures damaged { (f at : ℕ) → IsErrOf result (Fault.Damaged f at) →
             ForSome (S.snapshot self.new.yard.store).files (λ files. IsJudgedSpoiltAt self.new.yard.parts.urls files f at) }
         ensures whole { (f at : ℕ) → IsErrOf result (Fault.Damaged f at) → HeldNone
-            (moment S.snapshot self.old.yard.store self.old.yard.parts self.old.arrays.items) }
+            (moment_of self.old.yard self.old.arrays.items) }
         ensures full { (n : ℕ) → IsErrOf result (Fault.Full n) → ⊥ }
         ensures same { (S.snapshot self.new.yard.store).files ≡ (S.snapshot self.old.yard.store).files }
         ensures same_stops { LeavesSame (S.snapshot self.old.yard.store) (S.snapshot self.new.yard.store) }

@@ -1,6 +1,7 @@
 use Rattle.std.proofs.Common.{◌≡◌, ◌∙◌, inr, [], Err, sym, ap, arith}
 use Rattle.std.proofs.lemmas.Result.{err_from_is_err_and}
-use Rattle.irl_intake.specs.Feeding.{moment, Moment}
+use Rattle.irl_intake.specs.Feeding.{waiting_at, moment, Moment}
+use Rattle.irl_intake.proofs.Counts.{moves_on}
 use Rattle.irl_intake.specs.Schedule.{none_more, one_more}
 use Rattle.irl_intake.proofs.Chains.{feeds_more, feeds_both, strands_more, strands_after, stays_both, none_before}
 use Rattle.irl_intake.proofs.intake.Intake.finish.Goals as goal
@@ -87,3 +88,14 @@ returns-in_err-flush_all-clause-full g c = λ n full.
     let out = err_from_is_err_and c.from_residual.result c.from_residual.ensures.1 in
     let same : c.from_residual.result ≡ c.flush_all.result = out.1 ∙ ap (λ e. Err e) out.2 ∙ sym c.in_err-flush_all.was in
     c.flush_all.ensures.full n (sym same ∙ full)
+
+pub returns-clause-moves : goal.returns-clause-moves
+returns-clause-moves g c = λ n.
+    let tells = g.S.Store.snapshot in
+    let was = c.args.self.now in
+    let between = c.flush_all.new.self in
+    let old : Moment = moment tells was.yard.store was.yard.parts was.arrays.items in
+    let mid : Moment = moment tells between.yard.store between.yard.parts between.arrays.items in
+    let next = c.merge.new.self in
+    let new : Moment = moment tells next.yard.store next.yard.parts next.arrays.items in
+    moves_on old mid new n (c.flush_all.ensures.moves n) (ap (λ (v : _). waiting_at v.items n) c.merge.ensures.waiting) (c.merge.ensures.durable n)

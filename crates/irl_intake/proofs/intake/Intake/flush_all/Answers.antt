@@ -3,7 +3,7 @@ use Rattle.std.proofs.lemmas.Result.{err_from_is_err_and}
 use Rattle.irl_offer.specs.declared.settings.Settings.{Settings}
 use Rattle.irl_intake.specs.Feeding.{moment, Moment}
 use Rattle.irl_intake.proofs.Chains.{stays_both}
-use Rattle.irl_intake.proofs.Finishing.{begins, goes_on, ends_fed, ends_stranded, all_fed, none_waits}
+use Rattle.irl_intake.proofs.Finishing.{begins, all_moves, goes_on, ends_fed, ends_stranded, all_fed, none_waits}
 use Rattle.irl_intake.proofs.intake.Intake.flush_all.Goals as goal
 
 pub loop-b-init : goal.loop-b-init
@@ -23,7 +23,7 @@ loop-b-preserved g c =
     let new : Moment = moment tells next.yard.store next.yard.parts next.arrays.items in
     let ok = c.in_ok-flush_some.ensures in (
       goes_on c.loop-b.b old mid new (g.met.S.Store.is_consistent between.yard.store) c.loop-b.invariant.0 (ok.sound (λ failed. let no : ⊥ = cc in absurd no)) c.flush_some.ensures.stays
-          (ok.fed (λ failed. let no : ⊥ = cc in absurd no)) c.flush_some.ensures.judged_kept ok.emptied c.flush_some.ensures.others,
+          (ok.fed (λ failed. let no : ⊥ = cc in absurd no)) c.flush_some.ensures.judged_kept ok.emptied c.flush_some.ensures.others c.flush_some.ensures.moves,
       omega (arith, c.loop-b.invariant.1, c.flush_some.ensures.cause.later),
     )
 
@@ -63,6 +63,17 @@ returns-in_err-flush_some-clause-stays g c =
     let mid : Moment = moment tells between.yard.store between.yard.parts between.arrays.items in
     let new : Moment = moment tells next.yard.store next.yard.parts next.arrays.items in
     stays_both old mid new (g.met.S.Store.is_consistent between.yard.store) c.loop-b.invariant.0.stays c.flush_some.ensures.stays
+
+pub returns-in_err-flush_some-clause-moves : goal.returns-in_err-flush_some-clause-moves
+returns-in_err-flush_some-clause-moves g c =
+    let tells = g.S.Store.snapshot in
+    let was = c.args.self.now in
+    let between = c.loop-b.self in
+    let next = c.flush_some.new.self in
+    let old : Moment = moment tells was.yard.store was.yard.parts was.arrays.items in
+    let mid : Moment = moment tells between.yard.store between.yard.parts between.arrays.items in
+    let new : Moment = moment tells next.yard.store next.yard.parts next.arrays.items in
+    all_moves c.loop-b.b old mid new c.loop-b.invariant.0 c.flush_some.ensures.others c.flush_some.ensures.moves
 
 pub returns-clause-empty : goal.returns-clause-empty
 returns-clause-empty g c = λ b.

@@ -2,7 +2,7 @@ use Rattle.std.proofs.Common.{[], refl, arith}
 use Rattle.irl_intake.specs.Feeding.{waiting_at, moment, Moment}
 use Rattle.irl_intake.specs.Schedule.{none_more, one_more_at, uneven_flush}
 use Rattle.irl_intake.proofs.Chains.{feeds_none, feeds_more, strands_more}
-use Rattle.irl_intake.proofs.Counts.{flush_few}
+use Rattle.irl_intake.proofs.Counts.{flush_few, moves_none}
 use Rattle.irl_intake.proofs.intake.Intake.flush_some.Goals as goal
 
 pub returns-then-len-eq0-clause-fed : goal.returns-then-len-eq0-clause-fed
@@ -31,3 +31,9 @@ returns-clause-stranded g c = λ failed.
     let array = was.yard.parts.urls.settings.array in
     let offers = waiting_at was.arrays.items c.args.b in
     strands_more 0 0 (uneven_flush array c.args.b offers) (one_more_at c.args.b) [] old new (omega arith) (flush_few array c.args.b offers) (c.flush.ensures.stranded failed)
+
+pub returns-then-len-eq0-clause-moves : goal.returns-then-len-eq0-clause-moves
+returns-then-len-eq0-clause-moves g c =
+    let was = c.args.self.now in
+    let now : Moment = moment g.S.Store.snapshot was.yard.store was.yard.parts was.arrays.items in
+    moves_none now now c.args.b refl refl

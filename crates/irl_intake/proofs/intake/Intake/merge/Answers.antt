@@ -15,7 +15,7 @@ use Rattle.irl_yard.proofs.Journals.{unless_failed}
 use Rattle.irl_intake.specs.Feeding.{moment, Moment, Fed}
 use Rattle.irl_intake.specs.Schedule.{none_more}
 use Rattle.irl_intake.proofs.Chains.{tells_wider}
-use Rattle.irl_intake.proofs.Counts.{kept_pending, merged_pending}
+use Rattle.irl_intake.proofs.Counts.{kept_durable, kept_pending, merged_durable, merged_pending}
 use Rattle.irl_intake.proofs.Merging.{Merging, merge_fed, merge_stranded, unmerged_fed, spoilt_told}
 use Rattle.irl_intake.proofs.intake.Intake.merge.Goals as goal
 
@@ -25,9 +25,15 @@ returns-in-Ok-clause-fed g c = λ early why sound files told x holds.
     let was = c.args.self.now in
     let old : Moment = moment tells was.yard.store was.yard.parts was.arrays.items in
     let new : Moment = moment tells c.merge.new.self.store c.merge.new.self.parts was.arrays.items in
-    let merging : Merging old new = record { later = c.merge.ensures.others_stop.later; waiting = refl; stops = c.merge.ensures.stops; records_stop = c.merge.ensures.records_stop } in
+    let merging : Merging old new = record { later = c.merge.ensures.others_stop.later; pending = c.requires.pending; waiting = refl; stops = c.merge.ensures.stops; records_stop = c.merge.ensures.records_stop } in
     merge_fed early old new x c.is_sound-is_sound.ensures.drum merging c.in-Ok.ensures.counts.settings why holds (c.in-Ok.ensures.holds files told x holds)
     (c.merge.ensures.records_kept (c.in-Ok.ensures.sound (λ failed. let no : ⊥ = cc in absurd no)) x)
+
+pub returns-in-Ok-clause-durable : goal.returns-in-Ok-clause-durable
+returns-in-Ok-clause-durable g c = λ b. merged_durable c.args.self.now.yard.parts.urls c.merge.new.self.parts.urls b c.in-Ok.ensures.counts
+
+pub returns-in-Err-clause-durable : goal.returns-in-Err-clause-durable
+returns-in-Err-clause-durable g c = λ b. kept_durable c.args.self.now.yard.parts.urls c.merge.new.self.parts.urls b c.in-Err.ensures.counts_kept
 
 pub returns-in-Ok-clause-stays : goal.returns-in-Ok-clause-stays
 returns-in-Ok-clause-stays g c =
@@ -62,7 +68,7 @@ returns-in-Err-clause-fed g c = λ early why sound files told x holds.
     let law = c.is_sound-is_sound.ensures.drum in
     let old : Moment = moment tells was.yard.store was.yard.parts was.arrays.items in
     let new : Moment = moment tells c.merge.new.self.store c.merge.new.self.parts was.arrays.items in
-    let merging : Merging old new = record { later = c.merge.ensures.others_stop.later; waiting = refl; stops = c.merge.ensures.stops; records_stop = c.merge.ensures.records_stop } in
+    let merging : Merging old new = record { later = c.merge.ensures.others_stop.later; pending = c.requires.pending; waiting = refl; stops = c.merge.ensures.stops; records_stop = c.merge.ensures.records_stop } in
     let not_failed = λ (is : IsErrOf {T = ℕ} {E = Fault} (Err c.in-Err.fault) Failed). sound (error_of c.in-Err.fault Failed is) in
     let kept = c.merge.ensures.records_kept (c.in-Err.ensures.sound not_failed) x in
     unless_failed {T = ℕ} (Err c.in-Err.fault) (Fed early none_more [] old new x) not_failed tt
@@ -76,7 +82,7 @@ returns-in-Err-clause-stranded g c = λ early why failed files told x holds.
     let was = c.args.self.now in
     let old : Moment = moment tells was.yard.store was.yard.parts was.arrays.items in
     let new : Moment = moment tells c.merge.new.self.store c.merge.new.self.parts was.arrays.items in
-    let merging : Merging old new = record { later = c.merge.ensures.others_stop.later; waiting = refl; stops = c.merge.ensures.stops; records_stop = c.merge.ensures.records_stop } in
+    let merging : Merging old new = record { later = c.merge.ensures.others_stop.later; pending = c.requires.pending; waiting = refl; stops = c.merge.ensures.stops; records_stop = c.merge.ensures.records_stop } in
     merge_stranded early old new x (g.met.S.Store.is_consistent c.merge.new.self.store) c.is_sound-is_sound.ensures.drum merging why holds
 
 pub returns-in-Err-clause-damaged : goal.returns-in-Err-clause-damaged
