@@ -1,5 +1,5 @@
 -- What a call on an open store, and a piece that is printed, do to a run.
-use Rattle.std.proofs.Common.{◌≡◌, ◌≢◌, ◌∙◌, ◌⊎◌, ◌↔◌, inl, inr, ⊎_elim, ℕ, zero, suc, ◌+◌, ◌-◌, ◌<◌, ◌≤◌, min, List, [], ◌∷◌, ◌++◌, length, map, sum, replicate, take, drop, get_or, slice_index, slice_index_or, true, Option, None, Some, refl, sym, ap, subst, append_assoc, append-nil, length-append, length-take, length-drop, arith}
+use Rattle.std.proofs.Common.{◌≡◌, ◌≢◌, ◌∙◌, ◌⊎◌, ◌↔◌, inl, inr, ⊎_elim, ℕ, zero, suc, ◌+◌, ◌-◌, ◌<◌, ◌≤◌, min, List, [], ◌∷◌, ◌++◌, length, map, sum, replicate, take, drop, get_or, slice_index_or, true, Option, None, Some, refl, sym, ap, subst, append_assoc, append-nil, length-take, length-drop, arith}
 use Rattle.std.proofs.KnownBytes.{Appends-nil}
 use Rattle.std.proofs.lemmas.List.{take-append-drop, drop-drop, drop_all, length-map}
 use Rattle.std.specs.Prelude.{Result, Ok, Err, IfErr, IsErrOf}
@@ -21,6 +21,7 @@ use Rattle.irl_disk.specs.Images.{Snapshot, IsConsistent}
 use Rattle.irl_bay.specs.Standing.{IsBookOf}
 use Rattle.irl_bay.specs.declared.bucket.Bucket.{Bucket}
 use Rattle.irl_bay.specs.Drum.{Drum, IsDrum, HasNumbers, durable_at, durables, pending_at, judged_at, SomePending}
+use Rattle.irl_bay.specs.Holding.{IsLong}
 use Rattle.irl_bay.specs.Spoilt.{IsSpoiltAt}
 use Rattle.irl_bay.specs.JudgedSpoilt.{IsJudgedSpoiltAt}
 use Rattle.irl_bay.proofs.Merged.{durable_is}
@@ -28,12 +29,12 @@ use Rattle.irl_bay.proofs.AdoptedBook.{lengths_are}
 use Rattle.irl_yard.specs.declared.parts.Parts.{Parts}
 use Rattle.irl_yard.specs.Holding.{HoldsState}
 use Rattle.irl_intake.specs.Schedule.{none_more, one_more}
-use Rattle.irl_intake.specs.Feeding.{AreArrays, Moment, Stays, Fed, Stranded, Feeds, Strands, HeldNone, handed_in, list_at, length_at, waiting_at}
+use Rattle.irl_intake.specs.Feeding.{AreArrays, Moment, Stays, Fed, Feeds, Strands, HeldNone, list_at, length_at, waiting_at}
 use Rattle.irl_intake.proofs.Chains.{stays_same, fed_still, keeps_same, feeds_more, feeds_none}
 use Rattle.irl_io.specs.Written.{AppendsPrefix}
 use Rattle.irl_top.specs.Message.{ending_of, ending_of_store, IsAllPrinted, IsEndOfInput, IsUnopened}
 use Rattle.irl_top.specs.Printed.{unique_lines, judged_count}
-use Rattle.irl_top.specs.Session.{Place, unprinted, Goes, Ends, GoesOn, EndsWith, HoldsNone, HasReason}
+use Rattle.irl_top.specs.Session.{Place, unprinted, FewWait, Goes, Ends, GoesOn, EndsWith, HoldsNone, HasReason}
 use Rattle.irl_top.specs.Stream.{Stream}
 use Rattle.irl_top.specs.declared.ending.Ending.{Ending}
 use Rattle.irl_top.specs.declared.ending.Ending.TheVariants.{Done, BadSettings, LineRefused, NotOurs, Damaged, OtherSettings, DiskFault, InputFault, OutputFault, NoMemory, Full}
@@ -109,19 +110,16 @@ store_done (StoreDamaged f at) is = cc
 -- ---- ends
 -- the offers that wait of a bucket don't fit
 abbrev pub IsOver : Place → Place → ℕ → Type 0
-IsOver old new b = (b < old.moment.parts.urls.settings.buckets) × (old.moment.parts.urls.settings.cap < durable_at new.moment.parts.urls b + length (waiting_at new.moment.arrays b))
+IsOver old new b = (b < old.moment.parts.urls.settings.buckets) × (1 ≤ length (waiting_at new.moment.arrays b)) × (old.moment.parts.urls.settings.cap < durable_at new.moment.parts.urls b + length (waiting_at new.moment.arrays b))
 
--- so the lists that would come of them pass the cap
-over_full : (e : ℕ) (u : ℕ → ℕ) (xs : List Tuple) (old new : Place) (x : State) (b : ℕ) → Stays old.moment new.moment → AreArrays new.moment.parts.urls.settings new.moment.arrays → (fed : Fed e u xs old.moment new.moment x) → IsOver old new b
-    → (b < old.moment.parts.urls.settings.buckets) × (old.moment.parts.urls.settings.cap < length_at fed.state.urls b + old.moment.parts.urls.settings.array)
-    × (old.moment.parts.urls.settings.cap < slice_index x.urls.firsts b + length (handed_in x.urls old.moment.arrays b ++ part old.moment.parts.urls.settings.buckets b xs))
-over_full e u xs old new x b still arrays fed over =
-    let long = durable_length new.moment.store new.moment.parts fed.state b fed.holds in
-    let few : length (waiting_at new.moment.arrays b) ≤ old.moment.parts.urls.settings.array =
-    subst (λ (s : Settings). b < s.buckets → length (waiting_at new.moment.arrays b) ≤ s.array) still.settings (λ within. (arrays.each b within).few) over.0 in
-    let kept = ap (λ (l : List Tuple). length l) (fed.keeps b over.0) in
-    let both = length-append (list_at fed.state.urls b) (waiting_at new.moment.arrays b) in
-    (over.0, omega (arith, over.1, long, few), omega (arith, over.1, long, kept, both))
+-- so they don't fit behind its list
+over_full : (old new : Place) (state : State) (b : ℕ) → HoldsState new.moment.store.images new.moment.parts state → IsOver old new b
+    → (b < old.moment.parts.urls.settings.buckets) × (1 ≤ length (waiting_at new.moment.arrays b)) × (old.moment.parts.urls.settings.cap < length_at state.urls b + length (waiting_at new.moment.arrays b))
+over_full old new state b holds over = (over.0, over.1, omega (arith, over.2, durable_length new.moment.store new.moment.parts state b holds))
+
+-- no array has more than its room, by the settings of before
+pub few_wait : (old : Moment) (parts : Parts) (arrays : List Waiting) → parts.urls.settings ≡ old.parts.urls.settings → AreArrays parts.urls.settings arrays → FewWait old.parts.urls.settings arrays
+few_wait old parts arrays same are = subst (λ (s : Settings). FewWait s arrays) same (λ b within. (are.each b within).few)
 
 -- nothing waits and nothing is unjudged
 pub record IsFinished (new : Place) : Type 0 where
@@ -169,17 +167,13 @@ pub ends_goes : (e : ℕ) (u : ℕ → ℕ) (xs : List Tuple) (old new : Place) 
     → Last old new ending → Goes e u xs old new x → Ends e u xs old new ending x
 ends_goes e u xs old new ending x law drum arrays still last goes =
     let y = goes.fed.state in
-    ends_fed e u xs old new ending x law drum goes.fed (record {
+    ends_fed e u xs old new ending x law drum still (few_wait old.moment new.moment.parts new.moment.arrays still.settings arrays) goes.fed (record {
       text = goes.text;
       written = goes.written;
       prints = (unprinted new.printed y.urls, sym goes.prints);
       prints_all = λ all. sym (append-nil goes.text) ∙ ap (λ (l : List ℕ). goes.text ++ l) (sym (printed_all new.moment.store new.moment.parts y new.printed goes.fed.holds (last.printed all))) ∙ goes.prints;
-      full = λ b is. over_full e u xs old new x b still arrays goes.fed (last.full b is);
-      all = λ is.
-          let finished = last.done is in (
-            λ b within. sym (append-nil (list_at y.urls b)) ∙ ap (λ (l : List Tuple). list_at y.urls b ++ l) (sym (finished.empty b)) ∙ goes.fed.keeps b within,
-            all_judged new.moment.store new.moment.parts y drum goes.fed.holds finished.judged,
-          );
+      full = λ b is. over_full old new y b goes.fed.holds (last.full b is);
+      done = λ is. let finished = last.done is in (finished.empty, all_judged new.moment.store new.moment.parts y drum goes.fed.holds finished.judged);
     })
 
 pub ends_on : (e : ℕ) (u : ℕ → ℕ) (xs : List Tuple) (old new : Place) (ending : Ending) → IsConsistent new.moment.store → IsDrum new.moment.parts.urls → AreArrays new.moment.parts.urls.settings new.moment.arrays → Stays old.moment new.moment
@@ -199,8 +193,10 @@ last_of_store old new fault full whole = record {
 
 -- a call that is refused
 pub ends_call : (e : ℕ) (u : ℕ → ℕ) (xs : List Tuple) (old new : Place) (fault : Fault) → IsConsistent new.moment.store → IsDrum new.moment.parts.urls → AreArrays new.moment.parts.urls.settings new.moment.arrays → Stays old.moment new.moment
-    → new.output.bytes ≡ old.output.bytes → new.printed ≡ old.printed → ((fault ≡ StoreFailed → ⊥) → Feeds e u xs old.moment new.moment) → (fault ≡ StoreFailed → Strands e u xs old.moment new.moment) → ((n : ℕ) → fault ≡ StoreFull n → IsOver old new n) → ((n : ℕ) → fault ≡ StoreFull n → new.moment.parts.urls.last.judged ≤ new.printed) → EndsWith e u xs old new (ending_of_store fault)
-ends_call e u xs old new StoreFailed law drum arrays still output printed feeds strands full whole = λ files told x holds few. ends_stranded e u xs old new x law output (strands refl files told x holds)
+    → new.output.bytes ≡ old.output.bytes → new.printed ≡ old.printed → ((fault ≡ StoreFailed → ⊥) → Feeds e u xs old.moment new.moment) → (fault ≡ StoreFailed → Strands e u xs old.moment new.moment) → ((n : ℕ) → fault ≡ StoreFull n → IsOver old new n)
+    → ((n : ℕ) → fault ≡ StoreFull n → new.moment.parts.urls.last.judged ≤ new.printed) → EndsWith e u xs old new (ending_of_store fault)
+ends_call e u xs old new StoreFailed law drum arrays still output printed feeds strands full whole = λ files told x holds few.
+    ends_stranded e u xs old new x (few_wait old.moment new.moment.parts new.moment.arrays still.settings arrays) output (strands refl files told x holds)
 ends_call e u xs old new StoreMemory law drum arrays still output printed feeds strands full whole =
     ends_on e u xs old new (ending_of_store StoreMemory) law drum arrays still (last_of_store old new StoreMemory full whole) (goes_call e u xs old new output printed (feeds (λ is. cc)))
 ends_call e u xs old new (StoreFull b) law drum arrays still output printed feeds strands full whole =
@@ -211,13 +207,14 @@ ends_call e u xs old new (StoreDamaged f at) law drum arrays still output printe
 -- why it is
 pub reason_call : (old new : Place) (fault : Fault) → Stays old.moment new.moment → HasCause (fault ≡ StoreFailed) old.disk_faults new.disk_faults → new.output ≡ old.output
     → ((f at : ℕ) → fault ≡ StoreDamaged f at → ForSome new.moment.store.files (λ files. IsSpoiltAt new.moment.parts.urls files f at ⊎ IsJudgedSpoiltAt new.moment.parts.urls files f at))
-    → ((f at : ℕ) → fault ≡ StoreDamaged f at → HeldNone old.moment) → HasReason old new (ending_of_store fault)
-reason_call old new fault still cause output damaged whole = record {
+    → ((f at : ℕ) → fault ≡ StoreDamaged f at → ForSome new.moment.store.files (IsLong new.moment.parts.urls)) → ((f at : ℕ) → fault ≡ StoreDamaged f at → HeldNone old.moment) → HasReason old new (ending_of_store fault)
+reason_call old new fault still cause output damaged long whole = record {
   stays = still;
   disk = record { later = cause.later; rose = λ is. cause.rose (store_disk fault is) };
   output = record { later = omega (arith, ap (λ (s : Stream). s.faults) output); rose = λ is. absurd (store_output fault is) };
   opened = store_unopened fault;
   damaged = λ f at is. damaged f at (store_damaged fault f at is);
+  long = λ f at is. long f at (store_damaged fault f at is);
   whole = λ f at is files told x holds few. whole f at (store_damaged fault f at is) files told x holds;
 }
 
@@ -229,6 +226,7 @@ reason_went old new still disk output = record {
   output = record { later = output; rose = λ is. let no : ⊥ = cc in absurd no };
   opened = λ is. elim is [ inl bad ↦ let e = bad.1 in let no : ⊥ = cc in absurd no | inr rest ↦ elim rest [ inl ours ↦ let e = ours.1 in let no : ⊥ = cc in absurd no | inr other ↦ let e = other.3 in let no : ⊥ = cc in absurd no ] ];
   damaged = λ f at is. let no : ⊥ = cc in absurd no;
+  long = λ f at is. let no : ⊥ = cc in absurd no;
   whole = λ f at is. let no : ⊥ = cc in absurd no;
 }
 
@@ -282,9 +280,9 @@ pub goes_on_piece : (old new : Place) (most : ℕ) (found : List Judged) → Fee
 goes_on_piece old new most found feeds finds next written = λ files told x holds few. goes_piece old new most found x holds few (feeds files told x holds) (finds files told x holds) next written
 
 -- a piece of which a prefix is printed
-pub ends_piece : (old new : Place) (most : ℕ) (found : List Judged) (ending : Ending) → IsConsistent new.moment.store → IsDrum new.moment.parts.urls → IsPlain ending → Feeds 0 none_more [] old.moment new.moment → Finds old most found → AppendsPrefix old.output.bytes new.output.bytes (unique_lines found)
+pub ends_piece : (old new : Place) (most : ℕ) (found : List Judged) (ending : Ending) → IsConsistent new.moment.store → IsDrum new.moment.parts.urls → Stays old.moment new.moment → AreArrays new.moment.parts.urls.settings new.moment.arrays → IsPlain ending → Feeds 0 none_more [] old.moment new.moment → Finds old most found → AppendsPrefix old.output.bytes new.output.bytes (unique_lines found)
     → EndsWith 0 none_more [] old new ending
-ends_piece old new most found ending law drum plain feeds finds part = λ files told x holds few.
+ends_piece old new most found ending law drum still arrays plain feeds finds part = λ files told x holds few.
     let fed = feeds files told x holds in
     let pieces = finds files told x holds in
     let is = holds.urls_hold.book_is in
@@ -295,13 +293,13 @@ ends_piece old new most found ending law drum plain feeds finds part = λ files 
     let whole : unprinted old.printed fed.state.urls ≡ text ++ (rest ++ (behind ++ more.0)) =
     more.1 old.printed few ∙ ap (λ (l : List ℕ). l ++ more.0) (sym (piece_of old.moment.parts.urls.settings x.urls old.printed (old.printed + length found) most found is pieces refl))
     ∙ append_assoc (unique_lines found) behind more.0 ∙ ap (λ (l : List ℕ). l ++ (behind ++ more.0)) (sym (take-append-drop part.0 (unique_lines found))) ∙ append_assoc text rest (behind ++ more.0) in
-    ends_fed 0 none_more [] old new ending x law drum fed (record {
+    ends_fed 0 none_more [] old new ending x law drum still (few_wait old.moment new.moment.parts new.moment.arrays still.settings arrays) fed (record {
       text = text;
       written = part.1;
       prints = (rest ++ (behind ++ more.0), whole);
       prints_all = λ all. absurd (plain.printed all);
       full = λ b e. absurd (plain.full b e);
-      all = λ e. absurd (plain.done e);
+      done = λ e. absurd (plain.done e);
     })
 
 memory_no_input : IsEndOfInput NoMemory → ⊥
@@ -345,6 +343,7 @@ reason_piece old new ending (inl memory) still disk output = subst (HasReason ol
   output = record { later = output.later; rose = λ is. let no : ⊥ = cc in absurd no };
   opened = memory_unopened;
   damaged = λ f at is. let no : ⊥ = cc in absurd no;
+  long = λ f at is. let no : ⊥ = cc in absurd no;
   whole = λ f at is. let no : ⊥ = cc in absurd no;
 })
 reason_piece old new ending (inr failed) still disk output = subst (HasReason old new) (sym failed) (record {
@@ -353,6 +352,7 @@ reason_piece old new ending (inr failed) still disk output = subst (HasReason ol
   output = record { later = output.later; rose = λ is. output.rose failed };
   opened = output_unopened;
   damaged = λ f at is. let no : ⊥ = cc in absurd no;
+  long = λ f at is. let no : ⊥ = cc in absurd no;
   whole = λ f at is. let no : ⊥ = cc in absurd no;
 })
 
@@ -419,6 +419,7 @@ reason_input old ending law (inl memory) = subst (HasReason old old) (sym memory
   output = record { later = omega arith; rose = λ is. let no : ⊥ = cc in absurd no };
   opened = memory_unopened;
   damaged = λ f at is. let no : ⊥ = cc in absurd no;
+  long = λ f at is. let no : ⊥ = cc in absurd no;
   whole = λ f at is. let no : ⊥ = cc in absurd no;
 })
 reason_input old ending law (inr (inl input)) = subst (HasReason old old) (sym input) (record {
@@ -427,6 +428,7 @@ reason_input old ending law (inr (inl input)) = subst (HasReason old old) (sym i
   output = record { later = omega arith; rose = λ is. let no : ⊥ = cc in absurd no };
   opened = input_unopened;
   damaged = λ f at is. let no : ⊥ = cc in absurd no;
+  long = λ f at is. let no : ⊥ = cc in absurd no;
   whole = λ f at is. let no : ⊥ = cc in absurd no;
 })
 reason_input old ending law (inr (inr line)) = subst (HasReason old old) (sym line.1) (record {
@@ -435,6 +437,7 @@ reason_input old ending law (inr (inr line)) = subst (HasReason old old) (sym li
   output = record { later = omega arith; rose = λ is. let no : ⊥ = cc in absurd no };
   opened = line_unopened line.0;
   damaged = λ f at is. let no : ⊥ = cc in absurd no;
+  long = λ f at is. let no : ⊥ = cc in absurd no;
   whole = λ f at is. let no : ⊥ = cc in absurd no;
 })
 
@@ -448,7 +451,7 @@ ends_lifted news old mid new ending law drum still goes ends =
     (goes_on_ends 1 0 one_more none_more [] [] mid mid new ending (stays_same mid.moment mid.moment law refl refl) (lifts_goes mid law drum) ends)
 
 -- nothing waits yet, and memory runs out
-pub stop_plain : (old : Place) → IsConsistent old.moment.store → IsDrum old.moment.parts.urls → EndsWith 1 one_more [] old old NoMemory
-stop_plain old law drum = λ files told x holds few.
+pub stop_plain : (old : Place) → IsConsistent old.moment.store → IsDrum old.moment.parts.urls → FewWait old.moment.parts.urls.settings old.moment.arrays → EndsWith 1 one_more [] old old NoMemory
+stop_plain old law drum few_waiting = λ files told x holds few.
     let fed = feeds_more 0 1 none_more one_more [] old.moment old.moment (omega arith) (λ b. omega arith) (feeds_none old.moment old.moment law drum refl refl refl) files told x holds in
-    ends_fed 1 one_more [] old old NoMemory x law drum fed (closes_plain [] old old NoMemory x fed.state memory_plain refl)
+    ends_fed 1 one_more [] old old NoMemory x law drum (stays_same old.moment old.moment law refl refl) few_waiting fed (closes_plain old old NoMemory fed.state memory_plain refl)

@@ -3,7 +3,8 @@ use Rattle.std.proofs.Common.{◌≡◌, ◌≢◌, ◌∙◌, ◌⊎◌, inl, i
 use Rattle.std.proofs.KnownBytes.{Appends-nil}
 use Rattle.std.specs.Option.{ForSome}
 use Rattle.std.specs.Io.KnownBytes.{Appends}
-use Rattle.irl_offer.specs.Faults.{HasCause, Rose}
+use Rattle.irl_offer.specs.Faults.{HasCause}
+use Rattle.irl_offer.specs.Settings.{AreValid, settings_of}
 use Rattle.irl_offer.specs.Tuple.{Tuple}
 use Rattle.irl_offer.specs.declared.settings.Asked.{Asked}
 use Rattle.irl_offer.specs.declared.settings.Kind.TheVariants.{Crawl}
@@ -15,11 +16,12 @@ use Rattle.irl_disk.specs.Images.{Snapshot, IsConsistent, Leaves, LeavesBy}
 use Rattle.irl_disk.proofs.Stretches.{widens, left_now}
 use Rattle.irl_disk.proofs.Frames.{among_one}
 use Rattle.irl_bay.specs.Holding.{TellsBy}
+use Rattle.irl_bay.proofs.Blank.{blank_is_book}
 use Rattle.irl_journal.specs.Visiting.{IsOpened}
 use Rattle.irl_yard.specs.StoreFiles.{head_file}
 use Rattle.irl_yard.specs.Standing.{HasState, IsBlank}
 use Rattle.irl_yard.specs.Holding.{HasOneOf}
-use Rattle.irl_yard.specs.Opening.{Agrees, HasHead, IsNotOursAt, IsKeptOtherwise, IsBadStore, entered_state}
+use Rattle.irl_yard.specs.Opening.{Agrees, HasHead, IsNotOursAt, IsKeptOtherwise, IsBadStore, entered_state, new_state}
 use Rattle.irl_yard.specs.Entering.{Enters, IsStoreJournal, HasGround, DeniesState, IsUnwanted}
 use Rattle.irl_yard.specs.declared.open_fault.OpenFault.{OpenFault}
 use Rattle.irl_yard.specs.declared.open_fault.OpenFault.TheVariants.{NotOurs as OpenNotOurs, Damaged as OpenDamaged, OtherSettings as OpenOtherSettings, BadSettings as OpenBadSettings, Failed as OpenFailed, Memory as OpenMemory}
@@ -34,11 +36,12 @@ use Rattle.irl_top.specs.Message.{ending_of_open, IsAllPrinted, IsUnopened}
 use Rattle.irl_top.specs.Outside.{Lent}
 use Rattle.irl_top.specs.Printed.{added}
 use Rattle.irl_top.specs.Records.{AddsUnevenRecords}
-use Rattle.irl_top.specs.Run.{task_of, settings_in, Reaches, HasReached, Extends, Ran, IsStoreFile, IsLate, IsOpenable, StaysClosed}
+use Rattle.irl_top.specs.Run.{task_of, settings_in, Reaches, HasReached, IsLegal, Extends, Ran, IsStoreFile, IsLate, IsOpenable, StaysClosed}
 use Rattle.irl_top.specs.Stream.{Stream}
 use Rattle.irl_top.specs.declared.ending.Ending.{Ending}
 use Rattle.irl_top.specs.declared.ending.Ending.TheVariants.{Done, BadSettings, LineRefused, NotOurs, OtherSettings, DiskFault, InputFault, OutputFault, NoMemory, Full, Damaged}
 use Rattle.irl_top.proofs.Growing.{starts}
+use Rattle.irl_top.proofs.Ranges.{valid_or_not}
 use Rattle.irl_top.proofs.Opened.{enters_told, enters_stops, reached_entering, entered_uneven}
 
 -- ---- endings
@@ -141,6 +144,7 @@ pub record IsRefused (asked : Asked) (before after : Lent) (fault : OpenFault) :
   pub ground : HasGround asked before.store.files fault
   pub whole : DeniesState fault → ForSome before.store.files (λ files. (x : State) → HasState x files → ⊥)
   pub same : IsUnwanted fault → after.store.files ≡ before.store.files
+  pub same_stops : IsUnwanted fault → LeavesBy (ChangesFile head_file IsOpened) before.store after.store
   pub blank : fault ≢ OpenFailed → ForSome before.store.files (λ files. IsBlank files → ForSome after.store.files IsBlank)
   pub blank_stops : fault ≢ OpenFailed → ((image : Files) → before.store.images image → IsBlank image) → Leaves before.store after.store IsBlank
   pub files : TellsBy (Enters asked before.store.files) before.store.files after.store.files
@@ -158,7 +162,8 @@ record Keeps (asked : Asked) (before after : Lent) (x most : State) : Type 0 whe
   pub fronts : IsFrontState x state × IsFrontState state most
   pub stops : ((image : Files) → before.store.images image → HasState x image) → Leaves before.store after.store (λ image. (z : State) × HasState z image × Reaches asked x z × IsFrontState x z × IsFrontState z most)
   pub lists : (b : ℕ) → list_at most.urls b ≡ list_at x.urls b
-  pub either : (state ≡ x) ⊎ (state ≡ entered_state asked x)
+  pub legal : IsLegal most
+  pub either : (state ≡ x) ⊎ (state ≡ most)
 
 reaches_entered : (asked : Asked) (x : State) → Reaches asked x (entered_state asked x)
 reaches_entered asked x = inr (grows_more (settings_in asked x) 0 1 (entered_state asked x) (entered_state asked x) (omega arith) (grows_same (settings_in asked x) (entered_state asked x)))
@@ -167,16 +172,39 @@ told_after : (asked : Asked) (old new : Option Files) (files : Files) → TellsB
 told_after asked None new files tells told = let no : ⊥ = cc in absurd no
 told_after asked (Some was) new files tells told = let same : was ≡ files = cc in (tells.0, tells.1, subst (λ (f : Files). Enters asked (Some was) f tells.0) same tells.2)
 
--- it is the state's still, or the new store's
-keeps_either : (asked : Asked) (before after : Lent) (fault : OpenFault) (files : Files) (x : State) → IsRefused asked before after fault → before.store.files ≡ Some files → HasState x files → Keeps asked before after x (entered_state asked x)
-keeps_either asked before after fault files x refused told has =
+same_told : (told : Option Files) (f : Files) (z : State) → told ≡ Some f → HasState z f → ForSome told (HasState z)
+same_told told f z is has = λ g is_g. let same : f ≡ g = cc in subst (HasState z) same has
+
+-- ---- legal states
+-- a state that files stand for
+legal_has : (x : State) (files : Files) → HasState x files → IsLegal x
+legal_has x files (inl blank) = inl blank.1
+legal_has x files (inr (settings, made)) = inr (settings, record { settings_are = made.settings_are; valid = made.valid; kind = made.kind; book_is = made.urls.book_is; pairs_are = made.pairs_are })
+
+-- that of a store that was just made
+legal_new : (settings : Settings) → AreValid settings → settings.kind ≢ Crawl → IsLegal (new_state settings)
+legal_new settings valid kind = inr (settings, record { settings_are = refl; valid = valid; kind = kind; book_is = record { is_book = blank_is_book settings.buckets settings.rule valid.buckets; buckets = refl; rule = refl; dropped = refl }; pairs_are = refl })
+
+legal_entered : (asked : Asked) (x : State) (files : Files) → asked.kind ≢ Crawl → AreValid (settings_of asked) → HasState x files → IsLegal (entered_state asked x)
+legal_entered asked x files kind valid (inl blank) = subst (λ (s : State). IsLegal (entered_state asked s)) (sym blank.1) (legal_new (settings_of asked) valid kind)
+legal_entered asked x files kind valid (inr (settings, made)) = subst IsLegal (sym (entered_made asked settings x made.settings_are)) (legal_has x files (inr (settings, made)))
+
+-- files that have the new store's state show that it can be made
+entered_valid : (asked : Asked) (x : State) (image : Files) → x ≡ blank_state → HasState (entered_state asked x) image → AreValid (settings_of asked)
+entered_valid asked x image blank has = from_new image (subst (λ (s : State). HasState (entered_state asked s) image) blank has)
+  where
+    from_new : (image : Files) → HasState (new_state (settings_of asked)) image → AreValid (settings_of asked)
+    from_new image (inl none) = let no : Some (settings_of asked) ≡ None = ap (λ (s : State). s.settings) none.1 in let never : ⊥ = cc in absurd never
+    from_new image (inr (settings, made)) = let same : settings_of asked ≡ settings = (let is : Some (settings_of asked) ≡ Some settings = made.settings_are in cc) in subst AreValid (sym same) made.valid
+
+-- ---- what is left of the state
+-- the greatest is the new store's
+keeps_either : (asked : Asked) (before after : Lent) (fault : OpenFault) (files : Files) (x : State) → IsRefused asked before after fault → before.store.files ≡ Some files → HasState x files → IsLegal (entered_state asked x) → Keeps asked before after x (entered_state asked x)
+keeps_either asked before after fault files x refused told has legal =
     let new = told_after asked before.store.files after.store.files files refused.files told in
     let one = enters_keeps asked before.store.files files x files new.0 refused.kind told has has new.2 in
     by_one new.0 new.1 one
   where
-    same_told : (f g : Files) (z : State) → after.store.files ≡ Some f → HasState z f → after.store.files ≡ Some g → HasState z g
-    same_told f g z is_f has_f is_g = let same : f ≡ g = cc in subst (HasState z) same has_f
-
     stopped : ((image : Files) → before.store.images image → HasState x image) → Leaves before.store after.store (λ image. (z : State) × HasState z image × Reaches asked x z × IsFrontState x z × IsFrontState z (entered_state asked x))
     stopped each = widens before.store after.store _ _ (refused.stops x each) (λ image either. ⊎_elim
         (λ (is : HasState x image). (x, is, inl refl, state_same x, entered_front asked x))
@@ -186,22 +214,44 @@ keeps_either asked before after fault files x refused told has =
     by_one : (f : Files) → after.store.files ≡ Some f → HasOneOf x (entered_state asked x) f → Keeps asked before after x (entered_state asked x)
     by_one f is (inl old) = record {
       state = x;
-      told = λ g is_g. same_told f g x is old is_g;
+      told = same_told after.store.files f x is old;
       reaches = (inl refl, reaches_entered asked x);
       fronts = (state_same x, entered_front asked x);
       stops = stopped;
       lists = (starts asked x files has).lists;
+      legal = legal;
       either = inl refl;
     }
     by_one f is (inr made) = record {
       state = entered_state asked x;
-      told = λ g is_g. same_told f g (entered_state asked x) is made is_g;
+      told = same_told after.store.files f (entered_state asked x) is made;
       reaches = (reaches_entered asked x, reaches_entered asked x);
       fronts = (entered_front asked x, state_same (entered_state asked x));
       stops = stopped;
       lists = (starts asked x files has).lists;
+      legal = legal;
       either = inr refl;
     }
+
+-- where no store can be made as is asked, none is
+keeps_unmade : (asked : Asked) (before after : Lent) (fault : OpenFault) (files : Files) (x : State) → IsRefused asked before after fault → before.store.files ≡ Some files → HasState x files → x ≡ blank_state → (AreValid (settings_of asked) → ⊥) → Keeps asked before after x x
+keeps_unmade asked before after fault files x refused told has blank bad =
+    let new = told_after asked before.store.files after.store.files files refused.files told in
+    let one = enters_keeps asked before.store.files files x files new.0 refused.kind told has has new.2 in
+    record {
+      state = x;
+      told = same_told after.store.files new.0 x new.1 (old_one new.0 one);
+      reaches = (inl refl, inl refl);
+      fronts = (state_same x, state_same x);
+      stops = λ each. widens before.store after.store _ _ (refused.stops x each) (λ image either. (x, old_one image either, inl refl, state_same x, state_same x));
+      lists = λ b. refl;
+      legal = inl blank;
+      either = inl refl;
+    }
+  where
+    old_one : (image : Files) → HasOneOf x (entered_state asked x) image → HasState x image
+    old_one image (inl has) = has
+    old_one image (inr made) = absurd (bad (entered_valid asked x image blank made))
 
 -- a state of a store that wasn't made has only such files
 blank_image : (x : State) (image : Files) → x ≡ blank_state → HasState x image → IsBlank image
@@ -217,12 +267,13 @@ keeps_blank asked before after fault files x refused fine told blank same = reco
   fronts = (state_same x, state_same x);
   stops = λ each. widens before.store after.store _ _ (refused.blank_stops fine (λ image left. blank_image x image same (each image left))) (λ image still. (x, inl (still, same), inl refl, state_same x, state_same x));
   lists = λ b. refl;
+  legal = inl same;
   either = inl refl;
 }
 
 extends_closed : (asked : Asked) (before after : Lent) (fault : OpenFault) (files : Files) (x most : State) → IsConsistent before.store → IsConsistent after.store → IsRefused asked before after fault → before.store.files ≡ Some files → HasState x files → (k : Keeps asked before after x most)
-    → ((Rose before.disk_faults after.disk_faults → ⊥) → (k.state ≡ x) × (most ≡ x)) → Extends (task_of (Seen asked)) before after (ending_of_open fault) x
-extends_closed asked before after fault files x most law_before law_after refused told has k settled =
+    → (fault ≢ OpenFailed → most ≡ x) → Extends (task_of (Seen asked)) before after (ending_of_open fault) x
+extends_closed asked before after fault files x most law_before law_after refused told has k same =
     let settings = settings_in asked x in
     record {
       kept = x;
@@ -231,9 +282,22 @@ extends_closed asked before after fault files x most law_before law_after refuse
       told = k.told;
       reaches = (inl refl, k.reaches.0, k.reaches.1);
       fronts = k.fronts;
-      settled = settled;
+      legal = (legal_has x files has, k.legal);
+      settled = λ fine. let is = same (λ failed. fine (ap ending_of_open failed)) in (⊎_elim (λ old. old) (λ new. new ∙ is) k.either, is);
+      entered = λ late. absurd (open_late fault late);
+      takes = λ bytes tells. record {
+        news = [];
+        read = (offered bytes, refl);
+        waiting = λ b. [];
+        few = λ b within. omega arith;
+        keeps = λ b within. refl;
+        whole = λ is. absurd (open_late fault (⊎_elim (λ done. inl done) (λ line. inr (inl line)) is));
+        none = λ is b within. refl;
+        full = λ b is. absurd (open_late fault (inr (inr (inr (inr (b, is))))));
+      };
       lists = λ bytes tells b within. ([], k.lists b ∙ sym (append-nil (list_at x.urls b)), (part settings.buckets b (offered bytes), refl));
-      all = λ is. absurd (open_late fault (inl is));
+      judged = λ is. absurd (open_late fault (inl is));
+      full = λ b is. absurd (open_late fault (inr (inr (inr (inr (b, is))))));
       text = [];
       written = subst (λ (s : Stream). Appends before.output.bytes s.bytes []) (sym refused.output) (Appends-nil before.output.bytes);
       prints = (added x.urls x.urls, refl);
@@ -246,31 +310,39 @@ extends_closed asked before after fault files x most law_before law_after refuse
           (records, enters_records asked before.store.files files x files new.0 b records told has has new.2 small stands, omega arith)));
       stops = λ each. widens before.store after.store _ _ (k.stops each) (λ image z. (z.0, z.1, z.2, z.4));
       records_stop = λ each. entered_uneven asked before after.store files x settings.buckets settings.array told has each refused.steps;
-      now = λ each image left. let z = left_now before.store after.store _ law_after (k.stops each) image left in (z.0, z.1, z.3, z.4);
-      full = λ b is. absurd (open_late fault (inr (inr (inr (inr (b, is))))));
+      now = λ why image left. ⊎_elim (λ late. absurd (open_late fault late)) (λ other. ⊎_elim (λ some. absurd (omega (arith, some))) (λ each. let z = left_now before.store after.store _ law_after (k.stops each) image left in (z.0, z.1, z.3, z.4)) other) why;
     }
 
 -- ---- the run
-extends_either : (asked : Asked) (before after : Lent) (fault : OpenFault) (files : Files) (x : State) → IsConsistent before.store → IsConsistent after.store → IsRefused asked before after fault → ((Rose before.disk_faults after.disk_faults → ⊥) → entered_state asked x ≡ x) → before.store.files ≡ Some files → HasState x files → Extends (task_of (Seen asked)) before after (ending_of_open fault) x
-extends_either asked before after fault files x law_before law_after refused same told has =
-    let k = keeps_either asked before after fault files x refused told has in
-    extends_closed asked before after fault files x (entered_state asked x) law_before law_after refused told has k (λ fine. (⊎_elim (λ is. is) (λ is. is ∙ same fine) k.either, same fine))
+-- a store that was made stays so
+extends_made : (asked : Asked) (before after : Lent) (fault : OpenFault) (files : Files) (x : State) (settings : Settings) → IsConsistent before.store → IsConsistent after.store → IsRefused asked before after fault → before.store.files ≡ Some files → HasState x files → x.settings ≡ Some settings → Extends (task_of (Seen asked)) before after (ending_of_open fault) x
+extends_made asked before after fault files x settings law_before law_after refused told has made =
+    let same = entered_made asked settings x made in
+    let k = keeps_either asked before after fault files x refused told has (subst IsLegal (sym same) (legal_has x files has)) in
+    extends_closed asked before after fault files x (entered_state asked x) law_before law_after refused told has k (λ fine. same)
 
--- unless a call failed, the state stays
-extends_fine : (asked : Asked) (before after : Lent) (fault : OpenFault) (files : Files) (x : State) → IsConsistent before.store → IsConsistent after.store → IsRefused asked before after fault → fault ≢ OpenFailed → before.store.files ≡ Some files → HasState x files → Extends (task_of (Seen asked)) before after (ending_of_open fault) x
-unfolding keeps_blank
-extends_fine asked before after fault files x law_before law_after refused fine told (inl blank) =
-    extends_closed asked before after fault files x x law_before law_after refused told (inl blank) (keeps_blank asked before after fault files x refused fine told blank.0 blank.1) (λ none. (refl, refl))
-extends_fine asked before after fault files x law_before law_after refused fine told (inr (settings, made)) =
-    extends_either asked before after fault files x law_before law_after refused (λ none. entered_made asked settings x made.settings_are) told (inr (settings, made))
+-- unless a call failed, a store that wasn't made yet still isn't
+extends_blank : (asked : Asked) (before after : Lent) (fault : OpenFault) (files : Files) (x : State) → IsConsistent before.store → IsConsistent after.store → IsRefused asked before after fault → before.store.files ≡ Some files → IsBlank files → x ≡ blank_state → (fault ≢ OpenFailed) ⊎ (fault ≡ OpenFailed) → Extends (task_of (Seen asked)) before after (ending_of_open fault) x
+extends_blank asked before after fault files x law_before law_after refused told blank same (inl fine) =
+    extends_closed asked before after fault files x x law_before law_after refused told (inl (blank, same)) (keeps_blank asked before after fault files x refused fine told blank same) (λ other. refl)
+extends_blank asked before after fault files x law_before law_after refused told blank same (inr failed) = ⊎_elim
+    (λ valid.
+    let k = keeps_either asked before after fault files x refused told (inl (blank, same)) (legal_entered asked x files refused.kind valid (inl (blank, same))) in
+    extends_closed asked before after fault files x (entered_state asked x) law_before law_after refused told (inl (blank, same)) k (λ fine. absurd (fine failed)))
+    (λ bad. extends_closed asked before after fault files x x law_before law_after refused told (inl (blank, same)) (keeps_unmade asked before after fault files x refused told (inl (blank, same)) same bad) (λ fine. refl))
+    (valid_or_not (settings_of asked))
+
+failed_or_not : (fault : OpenFault) → (fault ≢ OpenFailed) ⊎ (fault ≡ OpenFailed)
+failed_or_not (OpenNotOurs at) = inl (λ is. cc)
+failed_or_not (OpenDamaged f at) = inl (λ is. cc)
+failed_or_not (OpenOtherSettings n kept wanted) = inl (λ is. cc)
+failed_or_not (OpenBadSettings n) = inl (λ is. cc)
+failed_or_not OpenFailed = inr refl
+failed_or_not OpenMemory = inl (λ is. cc)
 
 extends_refused : (asked : Asked) (before after : Lent) (fault : OpenFault) (files : Files) (x : State) → IsConsistent before.store → IsConsistent after.store → IsRefused asked before after fault → before.store.files ≡ Some files → HasState x files → Extends (task_of (Seen asked)) before after (ending_of_open fault) x
-extends_refused asked before after (OpenNotOurs at) files x law_before law_after refused told has = extends_fine asked before after (OpenNotOurs at) files x law_before law_after refused (λ is. cc) told has
-extends_refused asked before after (OpenDamaged f at) files x law_before law_after refused told has = extends_fine asked before after (OpenDamaged f at) files x law_before law_after refused (λ is. cc) told has
-extends_refused asked before after (OpenOtherSettings n kept wanted) files x law_before law_after refused told has = extends_fine asked before after (OpenOtherSettings n kept wanted) files x law_before law_after refused (λ is. cc) told has
-extends_refused asked before after (OpenBadSettings n) files x law_before law_after refused told has = extends_fine asked before after (OpenBadSettings n) files x law_before law_after refused (λ is. cc) told has
-extends_refused asked before after OpenFailed files x law_before law_after refused told has = extends_either asked before after OpenFailed files x law_before law_after refused (λ none. absurd (none (refused.cause.rose refl))) told has
-extends_refused asked before after OpenMemory files x law_before law_after refused told has = extends_fine asked before after OpenMemory files x law_before law_after refused (λ is. cc) told has
+extends_refused asked before after fault files x law_before law_after refused told (inl blank) = extends_blank asked before after fault files x law_before law_after refused told blank.0 blank.1 (failed_or_not fault)
+extends_refused asked before after fault files x law_before law_after refused told (inr (settings, made)) = extends_made asked before after fault files x settings law_before law_after refused told (inr (settings, made)) made.settings_are
 
 -- an ending that refuses the store as it is comes of a fault that does
 unwanted_open : (fault : OpenFault) → IsUnopened (ending_of_open fault) → IsUnwanted fault
@@ -291,7 +363,8 @@ ran_refused asked before after fault law_before law_after refused = record {
   others = enters_told asked before.store.files before.store.files after.store.files refused.files;
   others_stop = enters_stops asked before.store.files before.store after.store refused.steps;
   opened = inr (record { files = refused.files; steps = refused.steps; input = refused.input; output = refused.output; late = open_late fault });
-  unopened = λ is. (refused.same (unwanted_open fault is), ap (λ (s : Stream). s.bytes) refused.input, ap (λ (s : Stream). s.bytes) refused.output);
+  unopened = λ is. (refused.same (unwanted_open fault is), refused.input, refused.output);
+  unopened_stop = λ is. refused.same_stops (unwanted_open fault is);
   read = λ is. absurd (open_late fault (inl is));
   bad = λ n is. ground_as asked before.store.files fault (OpenBadSettings n) (open_bad fault n is) refused.ground;
   line = λ n is. absurd (open_late fault (inr (inl (n, is))));

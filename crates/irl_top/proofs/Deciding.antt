@@ -1,23 +1,28 @@
 -- What a run ends in, by what it says of its ending.
-use Rattle.std.proofs.Common.{◌≡◌, ◌≢◌, ◌∙◌, ◌⊎◌, inl, inr, ℕ, ◌-◌, List, Option, Some, None, refl, sym, ap, subst, arith}
-use Rattle.std.specs.Prelude.{Result, Ok, Err, OnOk, OnErr, IsErr, unwrap_or}
+use Rattle.std.proofs.Common.{◌≡◌, ◌≢◌, ◌∙◌, ◌⊎◌, inl, inr, ⊎_elim, ℕ, ◌+◌, ◌-◌, ◌<◌, ◌≤◌, List, [], length, Option, Some, None, refl, sym, ap, subst, length-append, arith}
+use Rattle.std.specs.Prelude.{Result, Ok, Err, OnOk, OnErr, IsErr, unwrap_or, slice_index}
 use Rattle.std.specs.Io.KnownBytes.{Appends}
 use Rattle.irl_offer.specs.Faults.{HasCause}
 use Rattle.irl_offer.specs.Settings.{AreValid, settings_of}
 use Rattle.irl_offer.specs.declared.settings.Asked.{Asked}
 use Rattle.irl_offer.specs.declared.settings.Settings.{Settings}
-use Rattle.irl_model.specs.State.{State, blank_state}
+use Rattle.irl_offer.specs.Tuple.{Tuple}
+use Rattle.irl_model.specs.Book.{part}
+use Rattle.irl_model.specs.State.{State, AreFronts, blank_state}
 use Rattle.irl_disk.specs.Disk.{Files}
 use Rattle.irl_io.specs.Written.{AppendsPrefix}
 use Rattle.irl_yard.specs.Standing.{HasState}
-use Rattle.irl_yard.specs.Opening.{Agrees, IsBadStore, IsKeptOtherwise}
-use Rattle.irl_yard.proofs.Grounds.{blank_has, made_has}
+use Rattle.irl_yard.specs.Opening.{Agrees, IsBadStore, IsKeptOtherwise, entered_state}
+use Rattle.irl_yard.proofs.Grounds.{blank_has, entered_made, made_has}
 use Rattle.irl_yard.proofs.HeadBytes.{valid_numbers}
+use Rattle.irl_intake.specs.Feeding.{list_at, length_at}
+use Rattle.irl_intake.proofs.Chains.{same_fronts}
 use Rattle.irl_top.specs.Message.{Says}
 use Rattle.irl_top.specs.Outside.{Lent}
-use Rattle.irl_top.specs.Run.{Task, settings_in, Ran, Completes, EndsWell}
+use Rattle.irl_top.specs.Run.{Task, settings_in, Reaches, TakesIn, Ran, Completes, EndsWell}
 use Rattle.irl_top.specs.Stream.{Stream}
 use Rattle.irl_top.specs.declared.ending.Ending.{Ending}
+use Rattle.irl_top.proofs.Growing.{Starts, starts, front_list, part_prefix}
 use Rattle.irl_top.specs.declared.ending.Ending.TheVariants.{Done, BadSettings, LineRefused, NotOurs, Damaged, OtherSettings, DiskFault, InputFault, OutputFault, NoMemory, Full}
 
 pub says_of : {T E : Type 0} (r : Result T E) (text : List ℕ) (old new : Stream) → OnOk r (Appends old.bytes new.bytes text) → OnErr r (AppendsPrefix old.bytes new.bytes text) → HasCause (IsErr r) old.faults new.faults → Says text old new
@@ -39,6 +44,36 @@ not_other asked files x n kept wanted has agrees other =
     let agree = subst (Agrees asked) same agrees in
     other.2.differ (sym (agree (n - 1) wanted kept other.2.asked_is other.2.kept_is))
 
+-- what is acknowledged over an opened store comes of the state that entering makes
+entered_to : (task : Task) (x kept : State) → Reaches task.asked x kept → kept.settings ≡ Some (settings_in task.asked x) → AreFronts (entered_state task.asked x) kept
+entered_to task x kept (inl same) made =
+    let is : entered_state task.asked x ≡ kept = entered_made task.asked (settings_in task.asked x) x (sym (ap (λ (s : State). s.settings) same) ∙ made) ∙ sym same in
+    subst (λ (s : State). AreFronts s kept) (sym is) (same_fronts kept)
+entered_to task x kept (inr grows) made = grows.front
+
+-- a bucket that is full didn't fit with its part of the offers
+no_room : (task : Task) (x kept : State) (input : List ℕ) (b : ℕ) → b < (settings_in task.asked x).buckets → AreFronts (entered_state task.asked x) kept → Starts x (entered_state task.asked x) → TakesIn task x kept input (Full b)
+    → (part (settings_in task.asked x).buckets b (task.offers input) ≡ []) ⊎ (length_at (entered_state task.asked x).urls b + length (part (settings_in task.asked x).buckets b (task.offers input)) ≤ (settings_in task.asked x).cap) → ⊥
+no_room task x kept input b within front start takes fits =
+    let settings = settings_in task.asked x in
+    let y = entered_state task.asked x in
+    let list = front_list y kept b front in
+    let grown = ap (λ (l : List Tuple). length l) list.1 in
+    let both = ap (λ (l : List Tuple). length l) (takes.keeps b within) in
+    let was = ap (λ (l : List Tuple). length l) (start.lists b) in
+    let firsts = ap (λ (l : List ℕ). slice_index l b) front.urls.firsts in
+    let more = part_prefix settings.buckets b takes.news (task.offers input) takes.read in
+    let all = ap (λ (l : List Tuple). length l) more.1 in
+    let full = takes.full b refl in
+    let one = length-append (list_at y.urls b) list.0 in
+    let two = length-append (list_at kept.urls b) (takes.waiting b) in
+    let three = length-append (list_at x.urls b) (part settings.buckets b takes.news) in
+    let four = length-append (part settings.buckets b takes.news) more.0 in
+    ⊎_elim
+    (λ none. let no = ap (λ (l : List Tuple). length l) none in omega (arith, no, grown, both, was, all, full.0, one, two, three, four))
+    (λ few. omega (arith, few, firsts, grown, both, was, all, full.1, one, two, three, four))
+    fits
+
 pub completes : (task : Task) (before after : Lent) (ending : Ending) → Ran task before after ending → Completes task before after ending
 completes task before after Done ran = λ files x input told has known agrees valid fits disk source output. inr (inl (refl, (ran.read refl input known).1))
 completes task before after (BadSettings n) ran = λ files x input told has known agrees valid fits disk source output. absurd (not_bad task.asked files x n has valid (ran.bad n refl files told))
@@ -51,5 +86,6 @@ completes task before after InputFault ran = λ files x input told has known agr
 completes task before after OutputFault ran = λ files x input told has known agrees valid fits disk source output. absurd (output (ran.output.rose refl))
 completes task before after NoMemory ran = λ files x input told has known agrees valid fits disk source output. inl refl
 completes task before after (Full b) ran = λ files x input told has known agrees valid fits disk source output.
-    let full = (ran.extends files told x has).full b refl in
-    absurd (omega (arith, fits b full.0, full.2 input known))
+    let extends = ran.extends files told x has in
+    let full = extends.full b refl in
+    absurd (no_room task x extends.kept input b full.0 (entered_to task x extends.kept extends.reaches.0 (extends.entered (inr (inr (inr (inr (b, refl))))))) (starts task.asked x files has) (extends.takes input known) (fits b full.0))

@@ -1,14 +1,12 @@
 -- A part of a run after another.
-use Rattle.std.proofs.Common.{◌≡◌, ◌≢◌, ◌∙◌, ◌⊎◌, inl, inr, ℕ, ◌+◌, ◌-◌, ◌<◌, ◌≤◌, List, [], ◌∷◌, ◌++◌, length, filter, drop, nat_eq, slice_index, Option, None, Some, refl, sym, ap, subst, append_assoc, append-nil, length-append, arith}
+use Rattle.std.proofs.Common.{◌≡◌, ◌≢◌, ◌∙◌, ◌⊎◌, inl, inr, ℕ, ◌+◌, ◌-◌, ◌<◌, ◌≤◌, List, [], ◌∷◌, ◌++◌, length, filter, drop, Option, None, Some, refl, sym, ap, subst, append_assoc, append-nil, length-append, arith}
 use Rattle.std.proofs.KnownBytes.{Appends-nil}
 use Rattle.std.proofs.lemmas.List.{drop-append-le}
-use Rattle.std.proofs.lemmas.List.Elements.{filter-append}
 use Rattle.std.proofs.lemmas.Grind.{flat_map-append}
 use Rattle.std.specs.Option.{ForSome}
 use Rattle.std.specs.Io.KnownBytes.{Appends}
 use Rattle.irl_offer.specs.declared.settings.Settings.{Settings}
 use Rattle.irl_offer.specs.declared.receipt.Judged.{Judged}
-use Rattle.irl_offer.specs.Buckets.{bucket_of}
 use Rattle.irl_offer.specs.Tuple.{Tuple}
 use Rattle.irl_model.specs.Book.{Book, IsBook, IsFront, gone, judged, judged_cut, lengths_of, part, IsPrefixOf}
 use Rattle.irl_model.specs.State.{State, AreFronts}
@@ -21,11 +19,12 @@ use Rattle.irl_yard.specs.declared.parts.Parts.{Parts}
 use Rattle.irl_yard.specs.Standing.{HasState}
 use Rattle.irl_yard.specs.Holding.{HoldsState}
 use Rattle.irl_yard.proofs.Holding.{held_has}
-use Rattle.irl_intake.specs.Feeding.{Moment, Stays, Fed, Stranded, Grows, HasBetween, handed_in, list_at, length_at, waiting_at}
-use Rattle.irl_intake.proofs.Chains.{same_fronts, both_fronts, grows_both, grows_same, grows_more, fed_both, stranded_after, tells_on, stays_both}
+use Rattle.irl_intake.specs.Feeding.{Moment, Stays, Fed, Stranded, IsStateOf, Grows, Keeps, HasBetween, length_at, waiting_at}
+use Rattle.irl_intake.proofs.Chains.{same_fronts, few_same, grows_both, grows_same, grows_more, keeps_same, keeps_both, fed_both, stranded_after, tells_on, stays_both}
+use Rattle.irl_intake.proofs.Steps.{held_state}
 use Rattle.irl_top.specs.Message.{IsAllPrinted, IsEndOfInput, IsUnopened}
 use Rattle.irl_top.specs.Printed.{unique_lines, judged_count, line_if_unique}
-use Rattle.irl_top.specs.Session.{Place, unprinted, Goes, Ends, GoesOn, EndsWith, HoldsNone, HasReason}
+use Rattle.irl_top.specs.Session.{Place, unprinted, FewWait, Goes, Ends, GoesOn, EndsWith, HoldsNone, HasReason}
 use Rattle.irl_top.specs.declared.ending.Ending.{Ending}
 use Rattle.irl_top.specs.declared.ending.Ending.TheVariants.{Done, DiskFault, Full}
 use Rattle.irl_top.proofs.Sinks.{appends_both}
@@ -66,12 +65,6 @@ printed_later x y p q text book front le within prints =
 prefix_then : (one two old mid : List ℕ) → one ++ mid ≡ old → IsPrefixOf two mid → IsPrefixOf (one ++ two) old
 prefix_then one two old mid first part = (part.0, sym first ∙ ap (λ (l : List ℕ). one ++ l) part.1 ∙ sym (append_assoc one two part.0))
 
--- ---- offers that were handed in
-handed_more : (settings : Settings) (b : ℕ) (xs ys : List Tuple) (first mid : List Tuple) → mid ≡ first ++ part settings.buckets b xs → mid ++ part settings.buckets b ys ≡ first ++ part settings.buckets b (xs ++ ys)
-handed_more settings b xs ys first mid is =
-    ap (λ (l : List Tuple). l ++ part settings.buckets b ys) is ∙ append_assoc first (part settings.buckets b xs) (part settings.buckets b ys)
-    ∙ ap (λ (l : List Tuple). first ++ l) (sym (filter-append (λ (offer : Tuple). nat_eq (bucket_of settings.buckets offer.key) b) xs ys))
-
 -- ---- one part after another
 pub goes_both : (e d : ℕ) (u v : ℕ → ℕ) (xs ys : List Tuple) (old mid new : Place) (x : State) → Stays old.moment mid.moment → (first : Goes e u xs old mid x) → Goes d v ys mid new first.fed.state → Goes (e + d) (λ b. u b + v b) (xs ++ ys) old new x
 unfolding fed_both
@@ -105,30 +98,17 @@ goes_then_ends e d u v xs ys old mid new ending x still first second =
       grows = grows_both settings e d x y z first.fed.grows grows;
       front = second.front;
       settled = second.settled;
-      now = second.now;
+      now = λ image left. subst (λ (s : Settings). HasBetween s z second.strands.most image) still.settings (second.now image left);
+      legal = subst (λ (s : Settings). IsStateOf s z) still.settings second.legal;
+      arrays = second.arrays;
+      few = subst (λ (s : Settings). FewWait s second.arrays) still.settings second.few;
+      keeps = keeps_both settings x y z old.moment.arrays mid.moment.arrays second.arrays xs ys first.fed.keeps (subst (λ (s : Settings). Keeps s y mid.moment.arrays z second.arrays ys) still.settings second.keeps);
       text = first.text ++ second.text;
       written = appends_both _ _ _ first.text second.text first.written second.written;
       prints = prefix_then first.text second.text (unprinted old.printed z.urls) (unprinted mid.printed z.urls) seen second.prints;
       prints_all = λ all. ap (λ (l : List ℕ). first.text ++ l) (second.prints_all all) ∙ seen;
-      full = λ b is.
-          let has = second.full b is in
-          let within : b < settings.buckets = subst (λ (s : Settings). b < s.buckets) still.settings has.0 in
-          let whole = handed_more settings b xs ys (handed_in x.urls old.moment.arrays b) (handed_in y.urls mid.moment.arrays b) (first.fed.keeps b within) in
-          let firsts : slice_index y.urls.firsts b ≡ slice_index x.urls.firsts b = ap (λ (l : List ℕ). slice_index l b) first.fed.grows.front.urls.firsts in
-          let passes : settings.cap < slice_index y.urls.firsts b + length (handed_in y.urls mid.moment.arrays b ++ part settings.buckets b ys) =
-          subst (λ (s : Settings). s.cap < slice_index y.urls.firsts b + length (handed_in y.urls mid.moment.arrays b ++ part s.buckets b ys)) still.settings has.2 in (
-            within,
-            subst (λ (s : Settings). s.cap < length_at second.strands.state.urls b + s.array) still.settings has.1,
-            omega (arith, passes, firsts, ap (λ (l : List Tuple). length l) whole),
-          );
-      all = λ is.
-          let has = second.all is in (
-            λ b within.
-                let listed : list_at z.urls b ≡ handed_in y.urls mid.moment.arrays b ++ part settings.buckets b ys =
-                subst (λ (s : Settings). b < s.buckets → list_at z.urls b ≡ handed_in y.urls mid.moment.arrays b ++ part s.buckets b ys) still.settings (has.0 b) within in
-                listed ∙ handed_more settings b xs ys (handed_in x.urls old.moment.arrays b) (handed_in y.urls mid.moment.arrays b) (first.fed.keeps b within),
-            has.1,
-          );
+      full = λ b is. subst (λ (s : Settings). (b < s.buckets) × (1 ≤ length (waiting_at second.arrays b)) × (s.cap < length_at z.urls b + length (waiting_at second.arrays b))) still.settings (second.full b is);
+      done = second.done;
     }
 
 -- ---- from what an intake's call says
@@ -143,45 +123,62 @@ goes_fed e u xs old new x holds few output printed fed = record {
   prints = ap (λ (p : ℕ). unprinted p fed.state.urls) printed;
 }
 
+-- a state that is held may be one of files, with the settings of before
+pub state_held : (old new : Moment) (x : State) → Stays old new → IsDrum new.parts.urls → HoldsState new.store.images new.parts x → IsStateOf old.parts.urls.settings x
+state_held old new x still drum holds = subst (λ (s : Settings). IsStateOf s x) still.settings (held_state new.store.images new.parts.urls x drum.settings holds)
+
 -- the state that is held is the one that is told, and that every stop leaves
-abbrev strands_fed : (e : ℕ) (u : ℕ → ℕ) (xs : List Tuple) (old new : Moment) (x : State) → IsConsistent new.store → IsDrum new.parts.urls → Fed e u xs old new x → Stranded e u xs old new x
-strands_fed e u xs old new x law drum fed = record {
+abbrev strands_fed : (e : ℕ) (u : ℕ → ℕ) (xs : List Tuple) (old new : Moment) (x : State) → IsConsistent new.store → IsDrum new.parts.urls → Stays old new → Fed e u xs old new x → Stranded e u xs old new x
+strands_fed e u xs old new x law drum still fed = record {
   state = fed.state;
   most = fed.state;
   told = λ files tells. held_has new.store.images new.parts.urls fed.state files drum fed.holds (law.told files tells);
   grows = fed.grows;
   may_grow = fed.grows;
   front = same_fronts fed.state;
+  legal = state_held old new fed.state still drum fed.holds;
+  kept = fed.state;
+  kept_grows = fed.grows;
+  kept_front = same_fronts fed.state;
+  kept_legal = state_held old new fed.state still drum fed.holds;
+  keeps = fed.keeps;
+  now = λ image left. (fed.state, held_has new.store.images new.parts.urls fed.state image drum fed.holds left, same_fronts fed.state, same_fronts fed.state, few_same old.parts.urls.settings fed.state);
   takes = λ b within. (waiting_at new.arrays b, sym (fed.keeps b within));
   stops = fed.stops;
   records_stop = fed.records_stop;
 }
 
 -- what an ending adds where the store holds a state
-pub record Closes (news : List Tuple) (old new : Place) (ending : Ending) (x state : State) : Type 0 where
+pub record Closes (old new : Place) (ending : Ending) (state : State) : Type 0 where
   pub text : List ℕ
   pub written : Appends old.output.bytes new.output.bytes text
   pub prints : IsPrefixOf text (unprinted old.printed state.urls)
   pub prints_all : IsAllPrinted ending → text ≡ unprinted old.printed state.urls
-  pub full : (b : ℕ) → ending ≡ Full b → (b < old.moment.parts.urls.settings.buckets) × (old.moment.parts.urls.settings.cap < length_at state.urls b + old.moment.parts.urls.settings.array)
-      × (old.moment.parts.urls.settings.cap < slice_index x.urls.firsts b + length (handed_in x.urls old.moment.arrays b ++ part old.moment.parts.urls.settings.buckets b news))
-  pub all : ending ≡ Done → ((b : ℕ) → b < old.moment.parts.urls.settings.buckets → list_at state.urls b ≡ handed_in x.urls old.moment.arrays b ++ part old.moment.parts.urls.settings.buckets b news) × (judged_cut state.urls ≡ lengths_of state.urls)
+  pub full : (b : ℕ) → ending ≡ Full b → (b < old.moment.parts.urls.settings.buckets) × (1 ≤ length (waiting_at new.moment.arrays b)) × (old.moment.parts.urls.settings.cap < length_at state.urls b + length (waiting_at new.moment.arrays b))
+  pub done : ending ≡ Done → ((b : ℕ) → waiting_at new.moment.arrays b ≡ []) × (judged_cut state.urls ≡ lengths_of state.urls)
 
-pub ends_fed : (e : ℕ) (u : ℕ → ℕ) (xs : List Tuple) (old new : Place) (ending : Ending) (x : State) → IsConsistent new.moment.store → IsDrum new.moment.parts.urls → (fed : Fed e u xs old.moment new.moment x) → Closes xs old new ending x fed.state → Ends e u xs old new ending x
-ends_fed e u xs old new ending x law drum fed closes = record {
-  strands = strands_fed e u xs old.moment new.moment x law drum fed;
-  kept = fed.state;
-  grows = fed.grows;
-  front = same_fronts fed.state;
-  settled = λ not. (refl, refl);
-  now = λ image left. (fed.state, held_has new.moment.store.images new.moment.parts.urls fed.state image drum fed.holds left, same_fronts fed.state, same_fronts fed.state);
-  text = closes.text;
-  written = closes.written;
-  prints = closes.prints;
-  prints_all = closes.prints_all;
-  full = closes.full;
-  all = closes.all;
-}
+pub ends_fed : (e : ℕ) (u : ℕ → ℕ) (xs : List Tuple) (old new : Place) (ending : Ending) (x : State) → IsConsistent new.moment.store → IsDrum new.moment.parts.urls → Stays old.moment new.moment → FewWait old.moment.parts.urls.settings new.moment.arrays
+    → (fed : Fed e u xs old.moment new.moment x) → Closes old new ending fed.state → Ends e u xs old new ending x
+ends_fed e u xs old new ending x law drum still few fed closes =
+    let settings = old.moment.parts.urls.settings in
+    record {
+      strands = strands_fed e u xs old.moment new.moment x law drum still fed;
+      kept = fed.state;
+      grows = fed.grows;
+      front = same_fronts fed.state;
+      legal = state_held old.moment new.moment fed.state still drum fed.holds;
+      arrays = new.moment.arrays;
+      few = few;
+      keeps = fed.keeps;
+      settled = λ not. (refl, refl);
+      now = λ image left. (fed.state, held_has new.moment.store.images new.moment.parts.urls fed.state image drum fed.holds left, same_fronts fed.state, same_fronts fed.state, few_same settings fed.state);
+      text = closes.text;
+      written = closes.written;
+      prints = closes.prints;
+      prints_all = closes.prints_all;
+      full = closes.full;
+      done = closes.done;
+    }
 
 -- an ending that is none of those for which there is more to say: nothing was printed
 pub record IsPlain (ending : Ending) : Type 0 where
@@ -189,14 +186,14 @@ pub record IsPlain (ending : Ending) : Type 0 where
   pub full : (b : ℕ) → ending ≡ Full b → ⊥
   pub done : ending ≡ Done → ⊥
 
-pub closes_plain : (xs : List Tuple) (old new : Place) (ending : Ending) (x state : State) → IsPlain ending → new.output.bytes ≡ old.output.bytes → Closes xs old new ending x state
-closes_plain xs old new ending x state plain output = record {
+pub closes_plain : (old new : Place) (ending : Ending) (state : State) → IsPlain ending → new.output.bytes ≡ old.output.bytes → Closes old new ending state
+closes_plain old new ending state plain output = record {
   text = [];
   written = subst (λ (o : Option (List ℕ)). Appends old.output.bytes o []) (sym output) (Appends-nil old.output.bytes);
   prints = (unprinted old.printed state.urls, refl);
   prints_all = λ is. absurd (plain.printed is);
   full = λ b is. absurd (plain.full b is);
-  all = λ is. absurd (plain.done is);
+  done = λ is. absurd (plain.done is);
 }
 
 disk_no_input : IsEndOfInput DiskFault → ⊥
@@ -210,22 +207,26 @@ disk_plain = record {
 }
 
 -- the store failed
-pub ends_stranded : (e : ℕ) (u : ℕ → ℕ) (xs : List Tuple) (old new : Place) (x : State) → IsConsistent new.moment.store → new.output.bytes ≡ old.output.bytes → Stranded e u xs old.moment new.moment x → Ends e u xs old new DiskFault x
-ends_stranded e u xs old new x law output strands =
-    let closes = closes_plain xs old new DiskFault x x disk_plain output in
+pub ends_stranded : (e : ℕ) (u : ℕ → ℕ) (xs : List Tuple) (old new : Place) (x : State) → FewWait old.moment.parts.urls.settings new.moment.arrays → new.output.bytes ≡ old.output.bytes → Stranded e u xs old.moment new.moment x → Ends e u xs old new DiskFault x
+ends_stranded e u xs old new x few output strands =
+    let closes = closes_plain old new DiskFault strands.kept disk_plain output in
     record {
       strands = strands;
-      kept = x;
-      grows = grows_more old.moment.parts.urls.settings 0 e x x (omega arith) (grows_same old.moment.parts.urls.settings x);
-      front = strands.grows.front;
+      kept = strands.kept;
+      grows = strands.kept_grows;
+      front = strands.kept_front;
+      legal = strands.kept_legal;
+      arrays = new.moment.arrays;
+      few = few;
+      keeps = strands.keeps;
       settled = λ not. absurd (not refl);
-      now = λ image left. left_now old.moment.store new.moment.store (HasBetween x strands.most) law strands.stops image left;
+      now = strands.now;
       text = closes.text;
       written = closes.written;
       prints = closes.prints;
       prints_all = closes.prints_all;
       full = λ b is. absurd (disk_plain.full b is);
-      all = λ is. absurd (disk_plain.done is);
+      done = λ is. absurd (disk_plain.done is);
     }
 
 -- ---- the same of each state that was held
@@ -255,5 +256,6 @@ reason_then e u xs old mid new before ending law first one two = record {
   output = record { later = omega (arith, one.output.later, two.output.later); rose = λ is. omega (arith, one.output.later, two.output.rose is) };
   opened = two.opened;
   damaged = two.damaged;
+  long = two.long;
   whole = λ f at is. none_before e u xs old mid one.stays first (two.whole f at is);
 }

@@ -19,7 +19,7 @@ use Rattle.irl_yard.specs.Standing.{HasState}
 use Rattle.irl_yard.specs.Opening.{entered_state, new_state}
 use Rattle.irl_yard.proofs.Grounds.{entered_made}
 use Rattle.irl_intake.specs.Schedule.{early_cuts, has_enough}
-use Rattle.irl_intake.specs.Feeding.{Grows, list_at, length_at}
+use Rattle.irl_intake.specs.Feeding.{FewUnjudged, Grows, list_at, length_at}
 use Rattle.irl_top.specs.Printed.{judged_count}
 use Rattle.irl_top.specs.Run.{settings_in}
 
@@ -75,9 +75,9 @@ fits_between settings x z y b first second (inr fits) =
     let firsts : slice_index y.urls.firsts b ≡ slice_index z.urls.firsts b = ap (λ (l : List ℕ). slice_index l b) second.urls.firsts in
     inr (omega (arith, fits, firsts, ap (λ (l : List Tuple). length l) two.1, length-append (list_at z.urls b) two.0))
 
--- a state between has grown too
-pub grows_between : (settings : Settings) (early : ℕ) (x z y : State) → AreFronts x z → AreFronts z y → Grows settings early x y → Grows settings early x z
-grows_between settings early x z y first second grows =
+-- a state between, in which unjudged offers don't pile up, has grown too
+pub grows_between : (settings : Settings) (early : ℕ) (x z y : State) → AreFronts x z → AreFronts z y → FewUnjudged settings x z → Grows settings early x y → Grows settings early x z
+grows_between settings early x z y first second few grows =
     let one = first.urls.cuts in
     let two = second.urls.cuts in
     let cuts : grows.cuts ≡ one.0 ++ two.0 = append_cancel_left x.urls.cuts grows.cuts (one.0 ++ two.0) (sym grows.cuts_are ∙ two.1 ∙ ap (λ (l : List (List ℕ)). l ++ two.0) one.1 ∙ append_assoc x.urls.cuts one.0 two.0) in
@@ -88,6 +88,7 @@ grows_between settings early x z y first second grows =
       cuts = one.0;
       cuts_are = one.1;
       early_are = omega (arith, grows.early_are, ap (λ (l : List (List ℕ)). early_cuts settings.trigger from l) cuts, early_front settings.trigger from one.0 two.0);
+      waits = few;
     }
 
 -- ---- what entering makes of a state

@@ -48,7 +48,7 @@ pub refused_line : (n : ℕ) (line before after : List ℕ) → TakesLine line b
 refused_line n line before after takes is few = rw (takes.law, not_refused n line is few) refl
 
 -- a line that is not given is the first that is refused
-pub first_refused : (n : ℕ) (before after : List ℕ) → RefusesLine (n + 1) before after → refused_from (n + 1) (lines before) ≡ Some (n + 1)
+pub first_refused : (n : ℕ) (before after : List ℕ) → RefusesLine (n + 1) before after → (offered_from (n + 1) (lines before) ≡ []) × (refused_from (n + 1) (lines before) ≡ Some (n + 1))
 first_refused n before after refuses =
     let first = before_first is_line_feed before in
     let bad : is_refused (n + 1) first ≡ true =
@@ -56,7 +56,7 @@ first_refused n before after refuses =
       | inl long ↦ or-left _ _ (nat_lt-true max_text (length first) long)
       | inr last ↦ or-right _ _ (nat_lt-true most_lines (n + 1) (omega (arith, last)))
     ] in
-    rw (lines_first before refuses.some, bad) refl
+    (rw (lines_first before refuses.some, bad) refl, rw (lines_first before refuses.some, bad) refl)
 
 -- a reader that has read nothing
 abbrev pub start : Progress
@@ -98,7 +98,10 @@ pub read_some : (now : Progress) (before left after : Option (List ℕ)) (news :
 read_some now before left after news ending reads not_done refuses = record {
   offers = λ input tells. let r = reads input (ap (prepend_known []) tells) in (offered_from (now.number + 1) (lines r.0), r.2.offers);
   done = λ is. absurd (not_done is);
-  line = λ n is input tells. let r = reads input (ap (prepend_known []) tells) in r.2.refuses ∙ refuses n is r.0 r.1;
+  line = λ n is input tells.
+      let r = reads input (ap (prepend_known []) tells) in
+      let e = refuses n is r.0 r.1 in
+      (sym (append-nil news) ∙ ap (λ (l : List Tuple). news ++ l) (sym e.0) ∙ sym r.2.offers, r.2.refuses ∙ e.1);
 }
 
 pub read_all : (now : Progress) (before left after : Option (List ℕ)) (news : List Tuple) (ending : Ending) → ReadsOnTold start now before left news → EndsTold now left after → ((n : ℕ) → ending ≢ LineRefused n) → HasRead news before after ending

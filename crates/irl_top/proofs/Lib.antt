@@ -5,4 +5,5 @@ pub mod Going
 pub mod Growing
 pub mod InputLines
 pub mod Opened
+pub mod Ranges
 pub mod Sinks

@@ -1,5 +1,5 @@
 -- A run over a store that was opened.
-use Rattle.std.proofs.Common.{◌≡◌, ◌≢◌, ◌∙◌, ◌⊎◌, inl, inr, ⊎_elim, ℕ, ◌+◌, ◌-◌, ◌<◌, ◌≤◌, List, [], ◌∷◌, ◌++◌, length, nat_eq, Option, None, Some, refl, sym, ap, subst, append_assoc, append-nil, length-append, arith}
+use Rattle.std.proofs.Common.{◌≡◌, ◌≢◌, ◌∙◌, ◌⊎◌, inl, inr, ⊎_elim, ℕ, ◌+◌, ◌-◌, ◌<◌, ◌≤◌, List, [], ◌∷◌, ◌++◌, length, nat_eq, Option, None, Some, refl, sym, ap, subst, append_assoc, append-nil, arith}
 use Rattle.std.specs.Prelude.{slice_index}
 use Rattle.std.specs.Option.{ForSome}
 use Rattle.std.specs.Io.KnownBytes.{Appends}
@@ -9,7 +9,7 @@ use Rattle.irl_offer.specs.Tuple.{Tuple}
 use Rattle.irl_offer.specs.declared.settings.Asked.{Asked}
 use Rattle.irl_offer.specs.declared.settings.Kind.TheVariants.{Crawl}
 use Rattle.irl_offer.specs.declared.settings.Settings.{Settings}
-use Rattle.irl_model.specs.Book.{Book, IsPrefixOf, judged_cut, lengths_of, part}
+use Rattle.irl_model.specs.Book.{Book, IsPrefixOf, part}
 use Rattle.irl_model.specs.State.{State, AreFronts, IsFrontState}
 use Rattle.irl_disk.specs.Disk.{Files}
 use Rattle.irl_disk.specs.Images.{Snapshot, IsConsistent, Leaves, LeavesBy, Follows}
@@ -41,13 +41,13 @@ use Rattle.irl_top.specs.Message.{IsAllPrinted, IsUnopened}
 use Rattle.irl_top.specs.Outside.{Lent}
 use Rattle.irl_top.specs.Printed.{added, judged_count}
 use Rattle.irl_top.specs.Records.{AddsUnevenRecords}
-use Rattle.irl_top.specs.Run.{Task, task_of, settings_in, Reaches, AddsSome, AddsAll, HasReached, Extends, Ran, IsStoreFile, IsLate, IsOpenable, StaysClosed, IsBrokenBay}
+use Rattle.irl_top.specs.Run.{Task, task_of, settings_in, Reaches, AddsSome, HasReached, TakesIn, Extends, Ran, IsStoreFile, IsLate, IsOpenable, StaysClosed, IsBrokenBay}
 use Rattle.irl_top.specs.Session.{Place, unprinted, Ends, EndsWith, HasReason, HasRead, HoldsNone}
 use Rattle.irl_top.specs.Stream.{Stream}
 use Rattle.irl_top.specs.declared.ending.Ending.{Ending}
-use Rattle.irl_top.specs.declared.ending.Ending.TheVariants.{Done, BadSettings, NotOurs, OtherSettings, DiskFault, InputFault, OutputFault, NoMemory, Full, Damaged}
+use Rattle.irl_top.specs.declared.ending.Ending.TheVariants.{Done, BadSettings, LineRefused, NotOurs, OtherSettings, DiskFault, InputFault, OutputFault, NoMemory, Full, Damaged}
 use Rattle.irl_top.proofs.Calls.{judged_number}
-use Rattle.irl_top.proofs.Growing.{Starts, starts, settings_entered, grows_between, adds_some, part_prefix, choose}
+use Rattle.irl_top.proofs.Growing.{Starts, starts, settings_entered, grows_between, adds_some, choose}
 
 -- ---- files
 -- entering changes only files of the store
@@ -129,11 +129,12 @@ uneven_from asked before old files image x was law entered told has have left = 
 abbrev pub lent_at : Place → Stream → Lent
 lent_at new input = record { store = new.moment.store; disk_faults = new.disk_faults; input = input; output = new.output }
 
-reached : (asked : Asked) (old : Place) (x most : State) (image : Files) → old.moment.parts.urls.settings ≡ settings_in asked x → Grows old.moment.parts.urls.settings 1 (entered_state asked x) most → HasBetween (entered_state asked x) most image → HasReached asked x most image
+reached : (asked : Asked) (old : Place) (x most : State) (image : Files) → old.moment.parts.urls.settings ≡ settings_in asked x → Grows old.moment.parts.urls.settings 1 (entered_state asked x) most
+    → HasBetween old.moment.parts.urls.settings (entered_state asked x) most image → HasReached asked x most image
 reached asked old x most image same grows between = (
   between.0,
   between.1,
-  inr (subst (λ (s : Settings). Grows s 1 (entered_state asked x) between.0) same (grows_between old.moment.parts.urls.settings 1 (entered_state asked x) between.0 most between.2 between.3 grows)),
+  inr (subst (λ (s : Settings). Grows s 1 (entered_state asked x) between.0) same (grows_between old.moment.parts.urls.settings 1 (entered_state asked x) between.0 most between.2 between.3 between.4 grows)),
   inr between.3,
 )
 
@@ -150,6 +151,21 @@ entered_uneven asked before new files x buckets array told has each steps = wide
   from.1,
   λ b within small records stands. (records, enters_records asked before.store.files files x from.0 image b records told has (each from.0 from.1) from.2 small stands, omega arith),
 ))
+
+-- what is taken in of an input
+takes_in : (asked : Asked) (old : Place) (new : Place) (news : List Tuple) (ending : Ending) (x : State) (input : List ℕ) (e : Ends 1 one_more news old new ending (entered_state asked x)) → old.moment.parts.urls.settings ≡ settings_in asked x → ((b : ℕ) → list_at (entered_state asked x).urls b ≡ list_at x.urls b)
+    → ((b : ℕ) → waiting_at old.moment.arrays b ≡ []) → IsPrefixOf news (offered input) → (ending ≡ Done → news ≡ offered input) → ((n : ℕ) → ending ≡ LineRefused n → news ≡ offered input) → TakesIn (task_of (Seen asked)) x e.kept input ending
+takes_in asked old new news ending x input e same lists empty prefix done line = record {
+  news = news;
+  read = prefix;
+  waiting = waiting_at e.arrays;
+  few = subst (λ (s : Settings). (b : ℕ) → b < s.buckets → length (waiting_at e.arrays b) ≤ s.array) same e.few;
+  keeps = subst (λ (s : Settings). (b : ℕ) → b < s.buckets → list_at e.kept.urls b ++ waiting_at e.arrays b ≡ list_at x.urls b ++ part s.buckets b news) same
+      (λ b within. e.keeps b within ∙ ap (λ (l : List Tuple). l ++ part old.moment.parts.urls.settings.buckets b news) (ap (λ (l : List Tuple). list_at (entered_state asked x).urls b ++ l) (empty b) ∙ append-nil (list_at (entered_state asked x).urls b) ∙ lists b));
+  whole = λ is. ⊎_elim done (λ (l : (n : ℕ) × (ending ≡ LineRefused n)). line l.0 l.1) is;
+  none = λ is b within. (e.done is).0 b;
+  full = λ b is. let f = e.full b is in (f.1, subst (λ (s : Settings). s.cap < length_at e.kept.urls b + length (waiting_at e.arrays b)) same f.2);
+}
 
 pub extends_opened : (asked : Asked) (before : Lent) (old new : Place) (input : Stream) (news : List Tuple) (ending : Ending) (files : Files) (x : State) → IsConsistent before.store → IsConsistent old.moment.store → IsConsistent new.moment.store → IsEntered asked before old → HasReason old new ending → HasRead news before.input.bytes input.bytes ending
     → before.store.files ≡ Some files → HasState x files → Ends 1 one_more news old new ending (entered_state asked x) → HoldsState old.moment.store.images old.moment.parts (entered_state asked x) → Extends (task_of (Seen asked)) before (lent_at new input) ending x
@@ -175,21 +191,19 @@ extends_opened asked before old new input news ending files x law_before law_old
       told = e.strands.told;
       reaches = (inr (subst (λ (s : Settings). Grows s 1 y e.kept) same e.grows), inr (subst (λ (s : Settings). Grows s 1 y e.strands.state) same e.strands.grows), inr (subst (λ (s : Settings). Grows s 1 y e.strands.most) same e.strands.may_grow));
       fronts = (inr e.front, inr e.strands.front);
-      settled = λ fine. e.settled (λ is. fine (omega (arith, entered.disk, reason.disk.rose is)));
+      legal = (inr (was_settings, e.legal), inr (was_settings, e.strands.legal));
+      settled = e.settled;
+      entered = λ late. e.grows.front.settings ∙ holds.settings ∙ ap (λ (s : Settings). Some s) same;
+      takes = λ bytes tells. takes_in asked old new news ending x bytes e same start.lists entered.empty (read.offers bytes tells) (λ is. (read.done is bytes tells).0) (λ n is. (read.line n is bytes tells).0);
       lists = λ bytes tells. subst (λ (s : Settings). (b : ℕ) → b < s.buckets → (more : List Tuple) × (list_at e.strands.most.urls b ≡ list_at x.urls b ++ more) × IsPrefixOf more (part s.buckets b (offered bytes))) same (λ b within.
           let takes = subst (λ (l : List Tuple). IsPrefixOf (list_at e.strands.most.urls b) (l ++ part was_settings.buckets b news)) (none b) (e.strands.takes b within) in
           let some = adds_some was_settings.buckets b y e.strands.most news (offered bytes) e.strands.may_grow.front takes (read.offers bytes tells) in
           (some.0, some.1 ∙ ap (λ (l : List Tuple). l ++ some.0) (start.lists b), some.2));
-      all = λ is.
-          let settled = e.settled (λ disk. let no : ⊥ = cc in absurd no) in
-          let whole = e.all is in (
-            settled.0,
-            settled.1,
-            λ bytes tells. subst (λ (s : Settings). (b : ℕ) → b < s.buckets → list_at e.strands.state.urls b ≡ list_at x.urls b ++ part s.buckets b (offered bytes)) same (λ b within.
-                ap (λ (s : State). list_at s.urls b) settled.0 ∙ whole.0 b within ∙ ap (λ (l : List Tuple). l ++ part was_settings.buckets b news) (none b ∙ append-nil (list_at y.urls b) ∙ start.lists b)
-                ∙ ap (λ (l : List Tuple). list_at x.urls b ++ part was_settings.buckets b l) (read.done is bytes tells).0),
-            subst (λ (s : State). judged_cut s.urls ≡ lengths_of s.urls) (sym settled.0) whole.1,
-          );
+      judged = λ is. (e.done is).1;
+      full = λ b is.
+          let f = e.full b is in
+          let few = e.few b f.0 in
+          subst (λ (s : Settings). (b < s.buckets) × (s.cap < length_at e.kept.urls b + s.array)) same (f.0, omega (arith, f.2, few));
       text = e.text;
       written = subst (λ (s : Stream). Appends s.bytes new.output.bytes e.text) entered.output e.written;
       prints = subst (λ (p : ℕ). IsPrefixOf e.text (unprinted p e.kept.urls)) printed e.prints;
@@ -202,16 +216,7 @@ extends_opened asked before old new input news ending files x law_before law_old
       records_stop = λ each. subst (λ (s : Settings). LeavesBy (AddsUnevenRecords 1 s.buckets s.array) before.store new.moment.store) same
           (joins before.store old.moment.store new.moment.store _ (entered_uneven asked before old.moment.store files x was_settings.buckets was_settings.array told has each entered.steps)
           (widens old.moment.store new.moment.store _ _ leaves (λ image left. (files, law_before.told files told, uneven_from asked before old files image x was law_old entered told has have left))));
-      now = λ each image left. let between = e.now image left in (between.0, between.1, inr between.2, inr between.3);
-      full = λ b is.
-          let f = e.full b is in
-          let listed = ap (λ (l : List Tuple). length l) (none b ∙ append-nil (list_at y.urls b)) in (
-            subst (λ (s : Settings). b < s.buckets) same f.0,
-            subst (λ (s : Settings). s.cap < length_at e.strands.state.urls b + s.array) same f.1,
-            λ bytes tells. subst (λ (s : Settings). s.cap < length_at y.urls b + length (part s.buckets b (offered bytes))) same
-                (let prefix = part_prefix was_settings.buckets b news (offered bytes) (read.offers bytes tells) in
-                omega (arith, f.2, listed, length-append (handed_in y.urls old.moment.arrays b) (part was_settings.buckets b news), ap (λ (l : List Tuple). length l) prefix.1, length-append (part was_settings.buckets b news) prefix.0)),
-          );
+      now = λ why image left. let between = e.now image left in (between.0, between.1, inr between.2, inr between.3);
     }
 
 pub ran_opened : (asked : Asked) (before : Lent) (old new : Place) (input : Stream) (news : List Tuple) (ending : Ending) → IsConsistent before.store → IsConsistent old.moment.store → IsConsistent new.moment.store → IsDrum new.moment.parts.urls → IsEntered asked before old → HasReason old new ending → HasRead news before.input.bytes input.bytes ending
@@ -219,6 +224,8 @@ pub ran_opened : (asked : Asked) (before : Lent) (old new : Place) (input : Stre
 ran_opened asked before old new input news ending law_before law_old law_new drum entered reason read cause ends =
     let urls = old.moment.parts.urls in
     let small = count_small urls.settings.buckets entered.drum.settings.buckets in
+    let openable : ForSome before.store.files (IsOpenable asked) =
+    λ files told. record { settings = urls.settings; has = entered.settings files told; valid = entered.drum.settings; agrees = entered.agrees; ours = entered.ours files told; undamaged = entered.undamaged files told } in
     let held : (files : Files) (x : State) → before.store.files ≡ Some files → HasState x files → (opened : Files) × (old.moment.store.files ≡ Some opened) × HoldsState old.moment.store.images old.moment.parts (entered_state asked x) × (old.printed ≤ judged_count (entered_state asked x).urls) = λ files x told has.
     let after = tells_from (Enters asked before.store.files) before.store.files old.moment.store.files files entered.files told in
     let holds = entered.holds files told x has in
@@ -231,20 +238,25 @@ ran_opened asked before old new input news ending law_before law_old law_new dru
           (tells_more old.moment.store.files new.moment.store.files reason.stays.others);
       others_stop = leaves_both IsStoreFile before.store old.moment.store new.moment.store law_old (enters_stops asked before.store.files before.store old.moment.store entered.steps)
           (widens old.moment.store new.moment.store _ _ reason.stays.others_stop (λ image from. (from.0, from.1, only_wider (IsFileOf urls.base urls.settings.buckets) IsStoreFile from.0 image (λ f is. bay_of_store urls.base urls.settings.buckets f entered.base small is) from.2)));
-      opened = inl (λ files told. record { settings = urls.settings; has = entered.settings files told; valid = entered.drum.settings; agrees = entered.agrees; ours = entered.ours files told; undamaged = entered.undamaged files told });
+      opened = inl openable;
       unopened = λ is. absurd (reason.opened is);
+      unopened_stop = λ is. absurd (reason.opened is);
       read = λ is bytes tells. let r = read.done is bytes tells in (r.1, r.2);
       bad = λ n is. absurd (reason.opened (inl (n, is)));
-      line = read.line;
+      line = λ n is bytes tells. (read.line n is bytes tells).1;
       not_ours = λ at is. absurd (reason.opened (inr (inl (at, is))));
       other = λ n kept wanted is. absurd (reason.opened (inr (inr (n, kept, wanted, is))));
-      damaged = λ f at is. inr (λ files told. record {
-        urls = new.moment.parts.urls;
-        drum = drum;
-        base = reason.stays.base ∙ entered.base;
-        settings = subst (λ (s : Settings). ForSome before.store.files (λ was. HasSettings asked was s)) (sym reason.stays.settings) entered.settings;
-        broken = reason.damaged f at is files told;
-      });
+      damaged = λ f at is. inr (
+        openable,
+        λ files told. record {
+          urls = new.moment.parts.urls;
+          drum = drum;
+          base = reason.stays.base ∙ entered.base;
+          settings = subst (λ (s : Settings). ForSome before.store.files (λ was. HasSettings asked was s)) (sym reason.stays.settings) entered.settings;
+          long = reason.long f at is files told;
+          broken = reason.damaged f at is files told;
+        },
+      );
       whole = λ f at is files told x has. let h = held files x told has in reason.whole f at is h.0 h.1 (entered_state asked x) h.2 h.3;
       whole_ours = λ at is. absurd (reason.opened (inr (inl (at, is))));
       disk = record { later = omega (arith, entered.disk, reason.disk.later); rose = λ is. omega (arith, entered.disk, reason.disk.rose is) };

@@ -9,19 +9,20 @@ use Rattle.irl_offer.specs.Tuple.{Tuple}
 use Rattle.irl_offer.specs.declared.settings.Asked.{Asked}
 use Rattle.irl_offer.specs.declared.settings.Settings.{Settings}
 use Rattle.irl_model.specs.Book.{Book, judged_cut, lengths_of, part, IsPrefixOf}
-use Rattle.irl_model.specs.State.{State, AreFronts, IsFrontState}
-use Rattle.irl_disk.specs.Disk.{Files}
+use Rattle.irl_model.specs.State.{State, IsFrontState, blank_state}
+use Rattle.irl_disk.specs.Disk.{Files, ChangesFile}
 use Rattle.irl_disk.specs.Images.{Leaves, LeavesBy}
+use Rattle.irl_journal.specs.Visiting.{IsOpened}
 use Rattle.irl_bay.specs.BayFiles.{IsFileOf}
 use Rattle.irl_bay.specs.Drum.{Drum, IsDrum}
-use Rattle.irl_bay.specs.Holding.{TellsOnly, TellsBy, ChangesOnly}
+use Rattle.irl_bay.specs.Holding.{IsLong, TellsOnly, TellsBy, ChangesOnly}
 use Rattle.irl_bay.specs.Spoilt.{IsSpoiltAt}
 use Rattle.irl_bay.specs.JudgedSpoilt.{IsJudgedSpoiltAt}
 use Rattle.irl_yard.specs.StoreFiles.{head_file, urls_base}
 use Rattle.irl_yard.specs.Standing.{HasState}
 use Rattle.irl_yard.specs.Entering.{Enters}
 use Rattle.irl_yard.specs.Opening.{Agrees, HasSettings, entered_state, IsNotOursAt, IsKeptOtherwise, IsBadStore, IsStoreDamagedAt}
-use Rattle.irl_intake.specs.Feeding.{Grows, list_at, length_at}
+use Rattle.irl_intake.specs.Feeding.{IsStateOf, Grows, list_at, length_at}
 use Rattle.irl_top.specs.declared.command.Command.{Command}
 use Rattle.irl_top.specs.declared.command.Command.TheVariants.{Seen}
 use Rattle.irl_top.specs.declared.ending.Ending.{Ending}
@@ -56,36 +57,65 @@ settings_in asked state = unwrap_or state.settings (settings_of asked)
 abbrev pub Reaches : Asked → State → State → Type 0
 Reaches asked x y = (y ≡ x) ⊎ Grows (settings_in asked x) 1 (entered_state asked x) y
 
--- the lists of a state are those of another, and behind each a prefix of its part of some offers, or all of it
+-- the lists of a state are those of another, and behind each a prefix of its part of some offers
 abbrev pub AddsSome : Asked → State → State → List Tuple → Type 0
 AddsSome asked x y offers = (b : ℕ) → b < (settings_in asked x).buckets → (news : List Tuple) × (list_at y.urls b ≡ list_at x.urls b ++ news) × IsPrefixOf news (part (settings_in asked x).buckets b offers)
 
-abbrev pub AddsAll : Asked → State → State → List Tuple → Type 0
-AddsAll asked x y offers = (b : ℕ) → b < (settings_in asked x).buckets → list_at y.urls b ≡ list_at x.urls b ++ part (settings_in asked x).buckets b offers
+-- a state is that of a store that wasn't made yet, or keeps what one does that files stand for
+abbrev pub IsLegal : State → Type 0
+IsLegal state = (state ≡ blank_state) ⊎ ((settings : Settings) × IsStateOf settings state)
 
 -- a joint image stands for a state that a run over the first may leave, at or below the last
 abbrev pub HasReached : Asked → State → State → Files → Type 0
 HasReached asked x most image = (z : State) × HasState z image × Reaches asked x z × IsFrontState z most
 
--- no bucket's list would pass the cap with its part of some offers
+-- no bucket that gets some of these offers would pass the cap with its part of them
 abbrev pub FitsCap : Asked → State → List Tuple → Type 0
-FitsCap asked x offers = (b : ℕ) → b < (settings_in asked x).buckets → length_at (entered_state asked x).urls b + length (part (settings_in asked x).buckets b offers) ≤ (settings_in asked x).cap
+FitsCap asked x offers = (b : ℕ) → b < (settings_in asked x).buckets → (part (settings_in asked x).buckets b offers ≡ [])
+    ⊎ (length_at (entered_state asked x).urls b + length (part (settings_in asked x).buckets b offers) ≤ (settings_in asked x).cap)
 
 -- ---- what a run leaves
+-- an ending that comes only once the store is opened
+abbrev pub IsLate : Ending → Type 0
+IsLate ending = (ending ≡ Done) ⊎ ((n : ℕ) × (ending ≡ LineRefused n)) ⊎ (ending ≡ InputFault) ⊎ (ending ≡ OutputFault) ⊎ ((b : ℕ) × (ending ≡ Full b))
+
+-- What a run takes in of an input over the first state, where the second was acknowledged last.
+pub record TakesIn (task : Task) (x kept : State) (input : List ℕ) (ending : Ending) : Type 0 where
+  -- the offers that were taken in are the first of the input's
+  pub news : List Tuple
+  pub read : IsPrefixOf news (task.offers input)
+  -- none of them is lost: what isn't in its bucket's list waited in its array
+  pub waiting : ℕ → List Tuple
+  pub few : (b : ℕ) → b < (settings_in task.asked x).buckets → length (waiting b) ≤ (settings_in task.asked x).array
+  pub keeps : (b : ℕ) → b < (settings_in task.asked x).buckets → list_at kept.urls b ++ waiting b ≡ list_at x.urls b ++ part (settings_in task.asked x).buckets b news
+  -- at the end of the input, and at a line that is refused, all were; and at the end nothing waits
+  pub whole : (ending ≡ Done) ⊎ ((n : ℕ) × (ending ≡ LineRefused n)) → news ≡ task.offers input
+  pub none : ending ≡ Done → (b : ℕ) → b < (settings_in task.asked x).buckets → waiting b ≡ []
+  -- a bucket is full only where its list would pass the cap with what waits
+  pub full : (b : ℕ) → ending ≡ Full b → (1 ≤ length (waiting b)) × ((settings_in task.asked x).cap < length_at kept.urls b + length (waiting b))
+
 -- What a run leaves of a store whose files stood for a state, whatever ends it.
 pub record Extends (task : Task) (before after : Lent) (ending : Ending) (x : State) : Type 0 where
-  -- the state whose files were acknowledged, the one that the files stand for, and the greatest that a stop left
+  -- The state that was acknowledged last, the one that the files stand for, and the greatest that a stop left. Where the store failed
+  -- the first is one at or above all that was written.
   pub kept : State
   pub state : State
   pub most : State
   pub told : ForSome after.store.files (HasState state)
   pub reaches : Reaches task.asked x kept × Reaches task.asked x state × Reaches task.asked x most
   pub fronts : IsFrontState kept state × IsFrontState state most
-  -- they differ only after a fault of the store
-  pub settled : (Rose before.disk_faults after.disk_faults → ⊥) → (state ≡ kept) × (most ≡ kept)
-  -- each list has grown by a prefix of its part of what the input offers, and at Done by all of it, and all is judged
+  -- the first and the last of them keep the laws of a state
+  pub legal : IsLegal kept × IsLegal most
+  -- they differ only where the store failed
+  pub settled : ending ≢ DiskFault → (state ≡ kept) × (most ≡ kept)
+  -- at an ending that comes only once the store is opened, it is made
+  pub entered : IsLate ending → kept.settings ≡ Some (settings_in task.asked x)
+  -- what is taken in of the input, and what of it the greatest has in its lists; at Done all is judged
+  pub takes : ForSome before.input.bytes (λ input. TakesIn task x kept input ending)
   pub lists : ForSome before.input.bytes (λ input. AddsSome task.asked x most (task.offers input))
-  pub all : ending ≡ Done → (state ≡ kept) × (most ≡ kept) × ForSome before.input.bytes (λ input. AddsAll task.asked x state (task.offers input)) × (judged_cut state.urls ≡ lengths_of state.urls)
+  pub judged : ending ≡ Done → judged_cut kept.urls ≡ lengths_of kept.urls
+  -- a bucket is full only where its list would pass the cap with an array
+  pub full : (b : ℕ) → ending ≡ Full b → (b < (settings_in task.asked x).buckets) × ((settings_in task.asked x).cap < length_at kept.urls b + (settings_in task.asked x).array)
   -- what is written is of acknowledged offers: a prefix of the text, and all of it where the store, the output and memory never failed
   pub text : List ℕ
   pub written : Appends before.output.bytes after.output.bytes text
@@ -96,15 +126,9 @@ pub record Extends (task : Task) (before after : Lent) (ending : Ending) (x : St
   -- Where each joint image stood for the state, a stop at any moment leaves one that the run reached,
   pub stops : ((image : Files) → before.store.images image → HasState x image) → Leaves before.store after.store (HasReached task.asked x most)
   pub records_stop : ((image : Files) → before.store.images image → HasState x image) → LeavesBy (AddsUnevenRecords 1 (settings_in task.asked x).buckets (settings_in task.asked x).array) before.store after.store
-  -- and a stop from now on one that is acknowledged.
-  pub now : ((image : Files) → before.store.images image → HasState x image) → (image : Files) → after.store.images image → (z : State) × HasState z image × IsFrontState kept z × IsFrontState z most
-  -- a bucket is full only where its list would pass the cap with an array, and with its part of what the input offers
-  pub full : (b : ℕ) → ending ≡ Full b → (b < (settings_in task.asked x).buckets) × ((settings_in task.asked x).cap < length_at state.urls b + (settings_in task.asked x).array)
-      × ForSome before.input.bytes (λ input. (settings_in task.asked x).cap < length_at (entered_state task.asked x).urls b + length (part (settings_in task.asked x).buckets b (task.offers input)))
-
--- an ending that comes only once the store is opened
-abbrev pub IsLate : Ending → Type 0
-IsLate ending = (ending ≡ Done) ⊎ ((n : ℕ) × (ending ≡ LineRefused n)) ⊎ (ending ≡ InputFault) ⊎ (ending ≡ OutputFault) ⊎ ((b : ℕ) × (ending ≡ Full b))
+  -- and a stop from now on one that is acknowledged; where the store was opened, as where something was written, it does whatever the
+  -- joint images were before.
+  pub now : IsLate ending ⊎ (1 ≤ length text) ⊎ ((image : Files) → before.store.images image → HasState x image) → (image : Files) → after.store.images image → (z : State) × HasState z image × IsFrontState kept z × IsFrontState z most
 
 -- the files of a store of lines or tuples
 abbrev pub IsStoreFile : ℕ → Type 0
@@ -127,12 +151,13 @@ pub record StaysClosed (asked : Asked) (before after : Lent) (ending : Ending) :
   pub output : after.output ≡ before.output
   pub late : IsLate ending → ⊥
 
--- what is told of an open bay breaks its form at this place
+-- what is told of an open bay, which is as long as the bay says, breaks its form at this place
 pub record IsBrokenBay (asked : Asked) (old : Option Files) (f at : ℕ) (files : Files) : Type 0 where
   pub urls : Drum
   pub drum : IsDrum urls
   pub base : urls.base ≡ urls_base
   pub settings : ForSome old (λ told. HasSettings asked told urls.settings)
+  pub long : IsLong urls files
   pub broken : IsSpoiltAt urls files f at ⊎ IsJudgedSpoiltAt urls files f at
 
 -- one run of a command, between what is told before it and after it
@@ -145,7 +170,9 @@ pub record Ran (task : Task) (before after : Lent) (ending : Ending) : Type 0 wh
   -- it is opened, or it stays closed
   pub opened : ForSome before.store.files (IsOpenable task.asked) ⊎ StaysClosed task.asked before after ending
   -- a store that is refused keeps its files, and nothing is read or written
-  pub unopened : IsUnopened ending → (after.store.files ≡ before.store.files) × (after.input.bytes ≡ before.input.bytes) × (after.output.bytes ≡ before.output.bytes)
+  pub unopened : IsUnopened ending → (after.store.files ≡ before.store.files) × (after.input ≡ before.input) × (after.output ≡ before.output)
+  -- and a stop leaves it, but for the head's gate
+  pub unopened_stop : IsUnopened ending → LeavesBy (ChangesFile head_file IsOpened) before.store after.store
   -- at Done the input was read to its end, and no line of it is refused
   pub read : ending ≡ Done → ForSome before.input.bytes (λ input. (after.input.bytes ≡ Some []) × (task.refuses input ≡ None))
   -- the cause of each other ending; want of memory alone has none
@@ -153,7 +180,7 @@ pub record Ran (task : Task) (before after : Lent) (ending : Ending) : Type 0 wh
   pub line : (n : ℕ) → ending ≡ LineRefused n → ForSome before.input.bytes (λ input. task.refuses input ≡ Some n)
   pub not_ours : (at : ℕ) → ending ≡ NotOurs at → ForSome before.store.files (λ files. IsNotOursAt files at)
   pub other : (n kept wanted : ℕ) → ending ≡ OtherSettings n kept wanted → ForSome before.store.files (λ files. IsKeptOtherwise task.asked files n kept wanted)
-  pub damaged : (f at : ℕ) → ending ≡ Damaged f at → ForSome before.store.files (λ files. IsStoreDamagedAt task.asked files f at) ⊎ ForSome after.store.files (IsBrokenBay task.asked before.store.files f at)
+  pub damaged : (f at : ℕ) → ending ≡ Damaged f at → ForSome before.store.files (λ files. IsStoreDamagedAt task.asked files f at) ⊎ (ForSome before.store.files (IsOpenable task.asked) × ForSome after.store.files (IsBrokenBay task.asked before.store.files f at))
   pub whole : (f at : ℕ) → ending ≡ Damaged f at → ForSome before.store.files (λ files. (x : State) → HasState x files → ⊥)
   pub whole_ours : (at : ℕ) → ending ≡ NotOurs at → ForSome before.store.files (λ files. (x : State) → HasState x files → ⊥)
   pub disk : HasCause (ending ≡ DiskFault) before.disk_faults after.disk_faults

@@ -1,19 +1,21 @@
 -- A part of a run over an open store: what it keeps, judges and prints.
-use Rattle.std.specs.Prelude.{◌≡◌, ◌≢◌, ◌⊎◌, ℕ, ◌+◌, ◌-◌, ◌<◌, ◌≤◌, List, [], ◌∷◌, ◌++◌, length, drop, slice_index, Option, None, Some}
+use Rattle.std.specs.Prelude.{◌≡◌, ◌≢◌, ◌⊎◌, ℕ, ◌+◌, ◌-◌, ◌<◌, ◌≤◌, List, [], ◌∷◌, ◌++◌, length, drop, Option, None, Some}
 use Rattle.std.specs.Option.{ForSome}
 use Rattle.std.specs.Io.KnownBytes.{Appends, prepend_known}
 use Rattle.irl_offer.specs.Faults.{HasCause}
 use Rattle.irl_offer.specs.Tuple.{Tuple}
+use Rattle.irl_offer.specs.declared.settings.Settings.{Settings}
 use Rattle.irl_array.specs.Waiting.{Waiting}
-use Rattle.irl_model.specs.Book.{Book, gone, judged, judged_cut, lengths_of, part, IsPrefixOf}
+use Rattle.irl_model.specs.Book.{Book, gone, judged, judged_cut, lengths_of, IsPrefixOf}
 use Rattle.irl_model.specs.State.{State, AreFronts}
 use Rattle.irl_disk.specs.Disk.{Files}
 use Rattle.irl_disk.specs.Images.{Snapshot}
+use Rattle.irl_bay.specs.Holding.{IsLong}
 use Rattle.irl_bay.specs.Spoilt.{IsSpoiltAt}
 use Rattle.irl_bay.specs.JudgedSpoilt.{IsJudgedSpoiltAt}
 use Rattle.irl_yard.specs.declared.parts.Parts.{Parts}
 use Rattle.irl_yard.specs.Holding.{HoldsState}
-use Rattle.irl_intake.specs.Feeding.{Moment, moment, Stays, Fed, Stranded, Grows, HasBetween, handed_in, list_at, length_at}
+use Rattle.irl_intake.specs.Feeding.{Moment, moment, Stays, Fed, Stranded, IsStateOf, Grows, Keeps, HasBetween, length_at, waiting_at}
 use Rattle.irl_io.specs.Lines.{lines}
 use Rattle.irl_io.specs.Steps.{Progress}
 use Rattle.irl_top.specs.Input.{offered, offered_from, refused, refused_from}
@@ -54,7 +56,11 @@ pub record Goes (early : ℕ) (uneven : ℕ → ℕ) (news : List Tuple) (old ne
   pub written : Appends old.output.bytes new.output.bytes text
   pub prints : text ++ unprinted new.printed fed.state.urls ≡ unprinted old.printed fed.state.urls
 
--- The store held a state, and some of these offers were handed in before the run ended.
+-- an array has at most as many offers as the setting says
+abbrev pub FewWait : Settings → List Waiting → Type 0
+FewWait settings arrays = (b : ℕ) → b < settings.buckets → length (waiting_at arrays b) ≤ settings.array
+
+-- The store held a state, and these offers were handed in before the run ended.
 pub record Ends (early : ℕ) (uneven : ℕ → ℕ) (news : List Tuple) (old new : Place) (ending : Ending) (x : State) : Type 0 where
   -- the state that is told, and the greatest that a stop left
   pub strands : Stranded early uneven news old.moment new.moment x
@@ -62,19 +68,23 @@ pub record Ends (early : ℕ) (uneven : ℕ → ℕ) (news : List Tuple) (old ne
   pub kept : State
   pub grows : Grows old.moment.parts.urls.settings early x kept
   pub front : AreFronts kept strands.state
+  pub legal : IsStateOf old.moment.parts.urls.settings kept
+  -- no offer was lost: what isn't in its lists waited in arrays
+  pub arrays : List Waiting
+  pub few : FewWait old.moment.parts.urls.settings arrays
+  pub keeps : Keeps old.moment.parts.urls.settings x old.moment.arrays kept arrays news
   pub settled : ending ≢ DiskFault → (strands.state ≡ kept) × (strands.most ≡ kept)
   -- a stop from now on leaves no less
-  pub now : (image : Files) → new.moment.store.images image → HasBetween kept strands.most image
+  pub now : (image : Files) → new.moment.store.images image → HasBetween old.moment.parts.urls.settings kept strands.most image
   -- what is printed was acknowledged
   pub text : List ℕ
   pub written : Appends old.output.bytes new.output.bytes text
   pub prints : IsPrefixOf text (unprinted old.printed kept.urls)
   pub prints_all : IsAllPrinted ending → text ≡ unprinted old.printed kept.urls
-  -- a bucket is full only where the offers that were handed in don't fit
-  pub full : (b : ℕ) → ending ≡ Full b → (b < old.moment.parts.urls.settings.buckets) × (old.moment.parts.urls.settings.cap < length_at strands.state.urls b + old.moment.parts.urls.settings.array)
-      × (old.moment.parts.urls.settings.cap < slice_index x.urls.firsts b + length (handed_in x.urls old.moment.arrays b ++ part old.moment.parts.urls.settings.buckets b news))
-  -- and at `Done` all of them are kept and judged
-  pub all : ending ≡ Done → ((b : ℕ) → b < old.moment.parts.urls.settings.buckets → list_at kept.urls b ≡ handed_in x.urls old.moment.arrays b ++ part old.moment.parts.urls.settings.buckets b news) × (judged_cut kept.urls ≡ lengths_of kept.urls)
+  -- a bucket is full only where what waited of it doesn't fit
+  pub full : (b : ℕ) → ending ≡ Full b → (b < old.moment.parts.urls.settings.buckets) × (1 ≤ length (waiting_at arrays b)) × (old.moment.parts.urls.settings.cap < length_at kept.urls b + length (waiting_at arrays b))
+  -- and at `Done` nothing waited and all is judged
+  pub done : ending ≡ Done → ((b : ℕ) → waiting_at arrays b ≡ []) × (judged_cut kept.urls ≡ lengths_of kept.urls)
 
 -- the same of each state that was held, where the store tells, and of which no more was printed than was judged
 abbrev pub GoesOn : ℕ → (ℕ → ℕ) → List Tuple → Place → Place → Type 0
@@ -93,6 +103,7 @@ pub record HasReason (old new : Place) (ending : Ending) : Type 0 where
   pub output : HasCause (ending ≡ OutputFault) old.output.faults new.output.faults
   pub opened : IsUnopened ending → ⊥
   pub damaged : (f at : ℕ) → ending ≡ Damaged f at → ForSome new.moment.store.files (λ files. IsSpoiltAt new.moment.parts.urls files f at ⊎ IsJudgedSpoiltAt new.moment.parts.urls files f at)
+  pub long : (f at : ℕ) → ending ≡ Damaged f at → ForSome new.moment.store.files (IsLong new.moment.parts.urls)
   pub whole : (f at : ℕ) → ending ≡ Damaged f at → HoldsNone old
 
 -- ---- what is read
@@ -111,10 +122,11 @@ EndsTold old left_before left_after = (before : List ℕ) → prepend_known old.
 
 -- the next line that isn't empty is refused, and has this number
 abbrev pub RefusesTold : Progress → Option (List ℕ) → ℕ → Type 0
-RefusesTold old left_before n = (before : List ℕ) → prepend_known old.ahead left_before ≡ Some before → refused_from (old.number + 1) (lines before) ≡ Some n
+RefusesTold old left_before n = (before : List ℕ) → prepend_known old.ahead left_before ≡ Some before → (offered_from (old.number + 1) (lines before) ≡ []) × (refused_from (old.number + 1) (lines before) ≡ Some n)
 
--- These offers of an input were read before a run ended so: all of them at `Done`, and then nothing is left and none is refused.
+-- These offers of an input were read before a run ended so: all of them at `Done`, and then nothing is left and none is refused; and all
+-- before a line that is refused.
 pub record HasRead (news : List Tuple) (before after : Option (List ℕ)) (ending : Ending) : Type 0 where
   pub offers : ForSome before (λ input. IsPrefixOf news (offered input))
   pub done : ending ≡ Done → ForSome before (λ input. (news ≡ offered input) × (after ≡ Some []) × (refused input ≡ None))
-  pub line : (n : ℕ) → ending ≡ LineRefused n → ForSome before (λ input. refused input ≡ Some n)
+  pub line : (n : ℕ) → ending ≡ LineRefused n → ForSome before (λ input. (news ≡ offered input) × (refused input ≡ Some n))

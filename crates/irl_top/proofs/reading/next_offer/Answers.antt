@@ -18,6 +18,6 @@ returns-in-LongLine-clause-refused g c = λ n e before tells.
     let moved : (after : List ℕ) × (prepend_known c.next.follows.lender-at-none.ahead (g.I.Source.left c.next.new.source) ≡ Some after) × RefusesLine c.in-LongLine.n rest after =
     of_some (RefusesLine c.in-LongLine.n) rest _ stepped in
     let named : c.in-LongLine.n ≡ c.lines.lines.number + 1 = c.in-LongLine.ensures.limits in
-    let refused = so_far.2.refuses ∙ first_refused c.lines.lines.number rest moved.0 (subst (λ (k : ℕ). RefusesLine k rest moved.0) named moved.2) in
+    let first = first_refused c.lines.lines.number rest moved.0 (subst (λ (k : ℕ). RefusesLine k rest moved.0) named moved.2) in
     let same : c.lines.lines.number + 1 ≡ n = let back = sym named in cc in
-    refused ∙ ap (λ (k : ℕ). Some k) same
+    (so_far.2.offers ∙ first.0, so_far.2.refuses ∙ first.1 ∙ ap (λ (k : ℕ). Some k) same)

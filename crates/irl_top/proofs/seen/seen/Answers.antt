@@ -36,6 +36,7 @@ returns-in-Err g c =
       ground = h.ground;
       whole = h.whole;
       same = h.same;
+      same_stops = h.same_stops;
       blank = h.blank_err;
       blank_stops = h.blank_stops_err;
       files = h.files_err;
@@ -74,7 +75,7 @@ returns-in-Err-new g c =
     } in
     let ran = ran_opened asked before here here input [] NoMemory (g.met.S.Store.is_consistent c.args.store) law law h.drum entered (reason_input here NoMemory law (inl refl))
     (read_some start (left c.args.input.now) (left c.args.input.now) (left c.args.input.now) [] NoMemory (told_none start (left c.args.input.now)) (λ is. let no : ⊥ = cc in absurd no) (λ n is. let no : ⊥ = cc in absurd no))
-    (record { later = omega arith; rose = λ is. let no : ⊥ = cc in absurd no }) (stop_plain here law h.drum) in
+    (record { later = omega arith; rose = λ is. let no : ⊥ = cc in absurd no }) (stop_plain here law h.drum (λ b within. omega arith)) in
     let back = c.into_store.ensures ∙ ap (λ (y : _). y.store) c.in-Err-new.ensures.refused in
     subst (λ (s : g.row.S.Denot). Ran (task_of (Seen asked)) before (told g s c.args.input.now c.args.output.now) NoMemory) (sym back) ran
 

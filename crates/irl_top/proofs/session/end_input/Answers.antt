@@ -28,7 +28,7 @@ pub returns-in_err-merged-clause-reason : goal.returns-in_err-merged-clause-reas
 returns-in_err-merged-clause-reason g c =
     let p0 = at g c.args.intake.now.yard.store c.args.intake.now.yard.parts c.args.intake.now.arrays.items c.args.output.now c.args.printed.now in
     let p1 = at g c.merge_before_end-merged.new.self.yard.store c.merge_before_end-merged.new.self.yard.parts c.merge_before_end-merged.new.self.arrays.items c.args.output.now c.args.printed.now in
-    rw (err_is c.from_residual.result (ending_of_store c.in_err-merged.field-0.0) c.from_residual.ensures.1) (reason_call p0 p1 c.in_err-merged.field-0.0 c.in_err-merged.ensures.stays (record { later = c.in_err-merged.ensures.cause.later; rose = λ e. c.in_err-merged.ensures.cause.rose (rw e refl) }) refl (λ f place e files tells. inl (c.in_err-merged.ensures.damaged f place (rw e refl) files tells)) (λ f place e. c.in_err-merged.ensures.whole f place (rw e refl)))
+    rw (err_is c.from_residual.result (ending_of_store c.in_err-merged.field-0.0) c.from_residual.ensures.1) (reason_call p0 p1 c.in_err-merged.field-0.0 c.in_err-merged.ensures.stays (record { later = c.in_err-merged.ensures.cause.later; rose = λ e. c.in_err-merged.ensures.cause.rose (rw e refl) }) refl (λ f place e files tells. inl (c.in_err-merged.ensures.damaged f place (rw e refl) files tells)) (λ f place e files tells. c.merge_before_end-merged.new.self.yard.long (c.in_err-merged.ensures.sound (λ failed. cc)).0 files tells) (λ f place e. c.in_err-merged.ensures.whole f place (rw e refl)))
 
 pub returns-in_err-merged-clause-kinds : goal.returns-in_err-merged-clause-kinds
 returns-in_err-merged-clause-kinds g c =
@@ -74,7 +74,7 @@ returns-in_err-finished-clause-ends g c =
     let r1 = reason_went p0 p1 c.in_ok-merged.ensures.stays c.in_ok-merged.ensures.cause.later (omega arith) in
     let g2 = goes_on_both 0 0 none_more none_more [] [] p0 p1 p2 r1.stays g1 c.in_ok-print_new.ensures.goes in
     let r2 = reason_then 0 none_more [] p0 p1 p2 Done Done (g.met.S.Store.is_consistent c.merge_before_end-merged.new.self.yard.store) g1 r1 c.in_ok-print_new.ensures.reason in
-    rw (err_is c.from_residual-in_err-finished.result (ending_of_store c.in_err-finished.field-0.0) c.from_residual-in_err-finished.ensures.1) (goes_on_ends 0 1 none_more one_more [] [] p0 p2 p3 (ending_of_store c.in_err-finished.field-0.0) r2.stays g2 (ends_call 1 one_more [] p2 p3 c.in_err-finished.field-0.0 (g.met.S.Store.is_consistent c.finish-finished.new.self.yard.store) c.is_sound-is_sound-2.ensures.drum c.finish-finished.new.self.arrays_are c.in_err-finished.ensures.stays refl refl (λ not. c.in_err-finished.ensures.fed (λ e. not (cc))) (λ e. c.in_err-finished.ensures.stranded (rw e refl)) (λ n e. let h = c.in_err-finished.ensures.full n (rw e refl) in (h.0, h.1)) (λ n e. omega (arith, ap (λ (l : Commit). l.judged) c.in_err-finished.ensures.judged_kept, c.in_ok-print_new.ensures.whole))))
+    rw (err_is c.from_residual-in_err-finished.result (ending_of_store c.in_err-finished.field-0.0) c.from_residual-in_err-finished.ensures.1) (goes_on_ends 0 1 none_more one_more [] [] p0 p2 p3 (ending_of_store c.in_err-finished.field-0.0) r2.stays g2 (ends_call 1 one_more [] p2 p3 c.in_err-finished.field-0.0 (g.met.S.Store.is_consistent c.finish-finished.new.self.yard.store) c.is_sound-is_sound-2.ensures.drum c.finish-finished.new.self.arrays_are c.in_err-finished.ensures.stays refl refl (λ not. c.in_err-finished.ensures.fed (λ e. not (cc))) (λ e. c.in_err-finished.ensures.stranded (rw e refl)) (λ n e. let h = c.in_err-finished.ensures.full n (rw e refl) in (h.0, h.1, h.2)) (λ n e. omega (arith, ap (λ (l : Commit). l.judged) c.in_err-finished.ensures.judged_kept, c.in_ok-print_new.ensures.whole))))
 
 pub returns-in_err-finished-clause-reason : goal.returns-in_err-finished-clause-reason
 returns-in_err-finished-clause-reason g c =
@@ -86,7 +86,7 @@ returns-in_err-finished-clause-reason g c =
     let r1 = reason_went p0 p1 c.in_ok-merged.ensures.stays c.in_ok-merged.ensures.cause.later (omega arith) in
     let g2 = goes_on_both 0 0 none_more none_more [] [] p0 p1 p2 r1.stays g1 c.in_ok-print_new.ensures.goes in
     let r2 = reason_then 0 none_more [] p0 p1 p2 Done Done (g.met.S.Store.is_consistent c.merge_before_end-merged.new.self.yard.store) g1 r1 c.in_ok-print_new.ensures.reason in
-    rw (err_is c.from_residual-in_err-finished.result (ending_of_store c.in_err-finished.field-0.0) c.from_residual-in_err-finished.ensures.1) (reason_then 0 none_more [] p0 p2 p3 Done (ending_of_store c.in_err-finished.field-0.0) (g.met.S.Store.is_consistent c.print_new.new.intake.yard.store) g2 r2 (reason_call p2 p3 c.in_err-finished.field-0.0 c.in_err-finished.ensures.stays (record { later = c.in_err-finished.ensures.cause.later; rose = λ e. c.in_err-finished.ensures.cause.rose (rw e refl) }) refl (λ f place e files tells. inl (c.in_err-finished.ensures.damaged f place (rw e refl) files tells)) (λ f place e. c.in_err-finished.ensures.whole f place (rw e refl))))
+    rw (err_is c.from_residual-in_err-finished.result (ending_of_store c.in_err-finished.field-0.0) c.from_residual-in_err-finished.ensures.1) (reason_then 0 none_more [] p0 p2 p3 Done (ending_of_store c.in_err-finished.field-0.0) (g.met.S.Store.is_consistent c.print_new.new.intake.yard.store) g2 r2 (reason_call p2 p3 c.in_err-finished.field-0.0 c.in_err-finished.ensures.stays (record { later = c.in_err-finished.ensures.cause.later; rose = λ e. c.in_err-finished.ensures.cause.rose (rw e refl) }) refl (λ f place e files tells. inl (c.in_err-finished.ensures.damaged f place (rw e refl) files tells)) (λ f place e files tells. c.finish-finished.new.self.yard.long (c.in_err-finished.ensures.sound (λ failed. cc)).0 files tells) (λ f place e. c.in_err-finished.ensures.whole f place (rw e refl))))
 
 pub returns-in_err-print_new-2-clause-ends : goal.returns-in_err-print_new-2-clause-ends
 returns-in_err-print_new-2-clause-ends g c =

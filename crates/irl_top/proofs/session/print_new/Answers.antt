@@ -50,7 +50,7 @@ returns-in_err-judged-clause-reason g c =
     let new = at g c.judged_from.new.self.yard.store c.judged_from.new.self.yard.parts c.judged_from.new.self.arrays.items c.loop-printed.output c.loop-printed.printed in
     rw (err_is c.from_residual.result (ending_of_store fault) c.from_residual.ensures.1)
     (reason_then 0 none_more [] before now new Done (ending_of_store fault) (g.met.S.Store.is_consistent c.loop-printed.intake.yard.store) i.goes i.reason
-    (reason_call now new fault h.stays (record { later = h.cause.later; rose = λ e. h.cause.rose (rw e refl) }) refl (λ f place e files tells. inr (h.damaged f place (rw e refl) files tells)) (λ f place e. h.whole f place (rw e refl))))
+    (reason_call now new fault h.stays (record { later = h.cause.later; rose = λ e. h.cause.rose (rw e refl) }) refl (λ f place e files tells. inr (h.damaged f place (rw e refl) files tells)) (λ f place e files tells. c.judged_from.new.self.yard.long (h.sound (λ failed. cc)).0 files tells) (λ f place e. h.whole f place (rw e refl))))
 
 pub returns-in_err-print_piece-clause-ends : goal.returns-in_err-print_piece-clause-ends
 returns-in_err-print_piece-clause-ends g c =
@@ -64,7 +64,7 @@ returns-in_err-print_piece-clause-ends g c =
     let part : AppendsPrefix now.output.bytes new.output.bytes (unique_lines found) = subst (λ (l : List Judged). AppendsPrefix now.output.bytes new.output.bytes (unique_lines l)) c.deref.ensures.value c.in_err-print_piece.ensures.err in
     rw (err_is c.from_residual-in_err-print_piece.result ending c.from_residual-in_err-print_piece.ensures.1)
     (goes_on_ends 0 0 none_more none_more [] [] before now new ending i.reason.stays i.goes
-    (ends_piece now new 2048 found ending (g.met.S.Store.is_consistent c.judged_from.new.self.yard.store) (subst IsDrum (sym (h.kept ∙ i.urls)) c.is_sound-is_sound.ensures.drum) (piece_plain ending c.in_err-print_piece.ensures.kinds) h.fed h.value part))
+    (ends_piece now new 2048 found ending (g.met.S.Store.is_consistent c.judged_from.new.self.yard.store) (subst IsDrum (sym (h.kept ∙ i.urls)) c.is_sound-is_sound.ensures.drum) h.stays c.judged_from.new.self.arrays_are (piece_plain ending c.in_err-print_piece.ensures.kinds) h.fed h.value part))
 
 pub returns-in_err-print_piece-clause-reason : goal.returns-in_err-print_piece-clause-reason
 returns-in_err-print_piece-clause-reason g c =
