@@ -310,6 +310,7 @@ extends_closed asked before after fault files x most law_before law_after refuse
           (records, enters_records asked before.store.files files x files new.0 b records told has has new.2 small stands, omega arith)));
       stops = λ each. widens before.store after.store _ _ (k.stops each) (λ image z. (z.0, z.1, z.2, z.4));
       records_stop = λ each. entered_uneven asked before after.store files x settings.buckets settings.array told has each refused.steps;
+      stops_any = widens before.store after.store _ _ refused.steps (λ image from. inl from);
       now = λ why image left. ⊎_elim (λ late. absurd (open_late fault late)) (λ other. ⊎_elim (λ some. absurd (omega (arith, some))) (λ each. let z = left_now before.store after.store _ law_after (k.stops each) image left in (z.0, z.1, z.3, z.4)) other) why;
     }
 

@@ -216,6 +216,8 @@ extends_opened asked before old new input news ending files x law_before law_old
       records_stop = λ each. subst (λ (s : Settings). LeavesBy (AddsUnevenRecords 1 s.buckets s.array) before.store new.moment.store) same
           (joins before.store old.moment.store new.moment.store _ (entered_uneven asked before old.moment.store files x was_settings.buckets was_settings.array told has each entered.steps)
           (widens old.moment.store new.moment.store _ _ leaves (λ image left. (files, law_before.told files told, uneven_from asked before old files image x was law_old entered told has have left))));
+      stops_any = joins before.store old.moment.store new.moment.store _ (widens before.store old.moment.store _ _ entered.steps (λ image from. inl from))
+          (widens old.moment.store new.moment.store _ _ e.strands.stops (λ image between. inr (reached asked old x e.strands.most image same e.strands.may_grow between)));
       now = λ why image left. let between = e.now image left in (between.0, between.1, inr between.2, inr between.3);
     }
 

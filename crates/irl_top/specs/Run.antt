@@ -11,7 +11,7 @@ use Rattle.irl_offer.specs.declared.settings.Settings.{Settings}
 use Rattle.irl_model.specs.Book.{Book, judged_cut, lengths_of, part, IsPrefixOf}
 use Rattle.irl_model.specs.State.{State, IsFrontState, blank_state}
 use Rattle.irl_disk.specs.Disk.{Files, ChangesFile}
-use Rattle.irl_disk.specs.Images.{Leaves, LeavesBy}
+use Rattle.irl_disk.specs.Images.{Follows, Leaves, LeavesBy}
 use Rattle.irl_journal.specs.Visiting.{IsOpened}
 use Rattle.irl_bay.specs.BayFiles.{IsFileOf}
 use Rattle.irl_bay.specs.Drum.{Drum, IsDrum}
@@ -126,6 +126,8 @@ pub record Extends (task : Task) (before after : Lent) (ending : Ending) (x : St
   -- Where each joint image stood for the state, a stop at any moment leaves one that the run reached,
   pub stops : ((image : Files) → before.store.images image → HasState x image) → Leaves before.store after.store (HasReached task.asked x most)
   pub records_stop : ((image : Files) → before.store.images image → HasState x image) → LeavesBy (AddsUnevenRecords 1 (settings_in task.asked x).buckets (settings_in task.asked x).array) before.store after.store
+  -- whatever they stood for, what entering leaves of one of them, or a state that the run reached,
+  pub stops_any : Leaves before.store after.store (λ image. Follows (Enters task.asked before.store.files) before.store.images image ⊎ HasReached task.asked x most image)
   -- and a stop from now on one that is acknowledged; where the store was opened, as where something was written, it does whatever the
   -- joint images were before.
   pub now : IsLate ending ⊎ (1 ≤ length text) ⊎ ((image : Files) → before.store.images image → HasState x image) → (image : Files) → after.store.images image → (z : State) × HasState z image × IsFrontState kept z × IsFrontState z most
