@@ -1,6 +1,5 @@
 -- What a call on an open store, and a piece that is printed, do to a run.
-use Rattle.std.proofs.Common.{◌≡◌, ◌≢◌, ◌∙◌, ◌⊎◌, ◌↔◌, inl, inr, ⊎_elim, ℕ, zero, suc, ◌+◌, ◌-◌, ◌<◌, ◌≤◌, min, List, [], ◌∷◌, ◌++◌, length, map, sum, replicate, take, drop, get_or, slice_index_or, true, Option, None, Some, refl, sym, ap, subst, append_assoc, append-nil, length-take, length-drop, arith}
-use Rattle.std.proofs.KnownBytes.{Appends-nil}
+use Rattle.std.proofs.Common.{◌≡◌, ◌≢◌, ◌∙◌, ◌⊎◌, inl, inr, ⊎_elim, ℕ, zero, suc, ◌+◌, ◌-◌, ◌<◌, ◌≤◌, List, [], ◌∷◌, ◌++◌, length, map, sum, replicate, take, drop, get_or, refl, sym, ap, subst, append_assoc, append-nil, length-take, length-drop, arith}
 use Rattle.std.proofs.lemmas.List.{take-append-drop, drop-drop, drop_all, length-map}
 use Rattle.std.specs.Prelude.{Result, Ok, Err, IfErr, IsErrOf}
 use Rattle.std.specs.Result.{IsErrAnd}
@@ -9,18 +8,18 @@ use Rattle.std.proofs.Math.Seq.{drop-append_seam}
 use Rattle.std.specs.Option.{ForSome}
 use Rattle.std.specs.Io.KnownBytes.{Appends}
 use Rattle.irl_array.specs.Waiting.{Waiting}
-use Rattle.irl_offer.specs.Faults.{HasCause, Rose}
+use Rattle.irl_offer.specs.Faults.{HasCause}
 use Rattle.irl_offer.specs.Tuple.{Tuple}
 use Rattle.irl_offer.specs.declared.settings.Settings.{Settings}
 use Rattle.irl_offer.specs.declared.receipt.Judged.{Judged}
 use Rattle.irl_offer.specs.declared.receipt.Fault.{Fault}
 use Rattle.irl_offer.specs.declared.receipt.Fault.TheVariants.{Failed as StoreFailed, Memory as StoreMemory, Full as StoreFull, Damaged as StoreDamaged}
-use Rattle.irl_model.specs.Book.{Book, IsBook, IsFront, gone, judged, judged_cut, lengths_of, part, IsPrefixOf}
-use Rattle.irl_model.specs.State.{State, AreFronts}
+use Rattle.irl_model.specs.Book.{Book, gone, judged, judged_cut, lengths_of, part}
+use Rattle.irl_model.specs.State.{State}
 use Rattle.irl_disk.specs.Images.{Snapshot, IsConsistent}
 use Rattle.irl_bay.specs.Standing.{IsBookOf}
 use Rattle.irl_bay.specs.declared.bucket.Bucket.{Bucket}
-use Rattle.irl_bay.specs.Drum.{Drum, IsDrum, HasNumbers, durable_at, durables, pending_at, judged_at, SomePending}
+use Rattle.irl_bay.specs.Drum.{IsDrum, durable_at, durables, pending_at, SomePending}
 use Rattle.irl_bay.specs.Holding.{IsLong}
 use Rattle.irl_bay.specs.Spoilt.{IsSpoiltAt}
 use Rattle.irl_bay.specs.JudgedSpoilt.{IsJudgedSpoiltAt}
@@ -34,11 +33,11 @@ use Rattle.irl_intake.proofs.Chains.{stays_same, fed_still, keeps_same, feeds_mo
 use Rattle.irl_io.specs.Written.{AppendsPrefix}
 use Rattle.irl_top.specs.Message.{ending_of, ending_of_store, IsAllPrinted, IsEndOfInput, IsUnopened}
 use Rattle.irl_top.specs.Printed.{unique_lines, judged_count}
-use Rattle.irl_top.specs.Session.{Place, unprinted, FewWait, Goes, Ends, GoesOn, EndsWith, HoldsNone, HasReason}
+use Rattle.irl_top.specs.Session.{Place, unprinted, FewWait, Goes, Ends, GoesOn, EndsWith, HasReason}
 use Rattle.irl_top.specs.Stream.{Stream}
 use Rattle.irl_top.specs.declared.ending.Ending.{Ending}
-use Rattle.irl_top.specs.declared.ending.Ending.TheVariants.{Done, BadSettings, LineRefused, NotOurs, Damaged, OtherSettings, DiskFault, InputFault, OutputFault, NoMemory, Full}
-use Rattle.irl_top.proofs.Going.{goes_on_ends, Closes, IsPlain, closes_plain, ends_fed, ends_stranded, goes_fed, judged_later, lines-append, printed_later, unprinted_more}
+use Rattle.irl_top.specs.declared.ending.Ending.TheVariants.{Done, LineRefused, Damaged, DiskFault, InputFault, OutputFault, NoMemory, Full}
+use Rattle.irl_top.proofs.Going.{goes_on_ends, IsPlain, closes_plain, ends_fed, ends_stranded, goes_fed, judged_later, lines-append, printed_later, unprinted_more}
 
 -- ---- numbers
 sum-zeros : (n : ℕ) → sum (replicate n 0) ≡ 0

@@ -1,34 +1,32 @@
 -- A run over a store that was refused.
-use Rattle.std.proofs.Common.{◌≡◌, ◌≢◌, ◌∙◌, ◌⊎◌, inl, inr, ⊎_elim, ℕ, ◌+◌, ◌≤◌, List, [], ◌∷◌, ◌++◌, Option, None, Some, refl, sym, ap, subst, append-nil, arith}
+use Rattle.std.proofs.Common.{◌≡◌, ◌≢◌, ◌∙◌, ◌⊎◌, inl, inr, ⊎_elim, ℕ, [], Option, None, Some, refl, sym, ap, subst, append-nil, arith}
 use Rattle.std.proofs.KnownBytes.{Appends-nil}
 use Rattle.std.specs.Option.{ForSome}
 use Rattle.std.specs.Io.KnownBytes.{Appends}
 use Rattle.irl_offer.specs.Faults.{HasCause}
 use Rattle.irl_offer.specs.Settings.{AreValid, settings_of}
-use Rattle.irl_offer.specs.Tuple.{Tuple}
 use Rattle.irl_offer.specs.declared.settings.Asked.{Asked}
 use Rattle.irl_offer.specs.declared.settings.Kind.TheVariants.{Crawl}
 use Rattle.irl_offer.specs.declared.settings.Settings.{Settings}
-use Rattle.irl_model.specs.Book.{Book, part}
+use Rattle.irl_model.specs.Book.{part}
 use Rattle.irl_model.specs.State.{State, IsFrontState, blank_state}
 use Rattle.irl_disk.specs.Disk.{Files, ChangesFile}
-use Rattle.irl_disk.specs.Images.{Snapshot, IsConsistent, Leaves, LeavesBy}
+use Rattle.irl_disk.specs.Images.{IsConsistent, Leaves, LeavesBy}
 use Rattle.irl_disk.proofs.Stretches.{widens, left_now}
-use Rattle.irl_disk.proofs.Frames.{among_one}
 use Rattle.irl_bay.specs.Holding.{TellsBy}
 use Rattle.irl_bay.proofs.Blank.{blank_is_book}
 use Rattle.irl_journal.specs.Visiting.{IsOpened}
 use Rattle.irl_yard.specs.StoreFiles.{head_file}
 use Rattle.irl_yard.specs.Standing.{HasState, IsBlank}
 use Rattle.irl_yard.specs.Holding.{HasOneOf}
-use Rattle.irl_yard.specs.Opening.{Agrees, HasHead, IsNotOursAt, IsKeptOtherwise, IsBadStore, entered_state, new_state}
-use Rattle.irl_yard.specs.Entering.{Enters, IsStoreJournal, HasGround, DeniesState, IsUnwanted}
+use Rattle.irl_yard.specs.Opening.{entered_state, new_state}
+use Rattle.irl_yard.specs.Entering.{Enters, HasGround, DeniesState, IsUnwanted}
 use Rattle.irl_yard.specs.declared.open_fault.OpenFault.{OpenFault}
 use Rattle.irl_yard.specs.declared.open_fault.OpenFault.TheVariants.{NotOurs as OpenNotOurs, Damaged as OpenDamaged, OtherSettings as OpenOtherSettings, BadSettings as OpenBadSettings, Failed as OpenFailed, Memory as OpenMemory}
-use Rattle.irl_yard.proofs.Grounds.{entered_made, made_has}
+use Rattle.irl_yard.proofs.Grounds.{entered_made}
 use Rattle.irl_yard.proofs.States.{state_same, entered_front}
-use Rattle.irl_yard.proofs.Entering.{head_alone, enters_keeps, enters_records, opens_keeps}
-use Rattle.irl_intake.specs.Feeding.{Grows, list_at}
+use Rattle.irl_yard.proofs.Entering.{enters_keeps, enters_records}
+use Rattle.irl_intake.specs.Feeding.{list_at}
 use Rattle.irl_intake.proofs.Chains.{grows_same, grows_more}
 use Rattle.irl_top.specs.declared.command.Command.TheVariants.{Seen}
 use Rattle.irl_top.specs.Input.{offered}
@@ -36,13 +34,12 @@ use Rattle.irl_top.specs.Message.{ending_of_open, IsAllPrinted, IsUnopened}
 use Rattle.irl_top.specs.Outside.{Lent}
 use Rattle.irl_top.specs.Printed.{added}
 use Rattle.irl_top.specs.Records.{AddsUnevenRecords}
-use Rattle.irl_top.specs.Run.{task_of, settings_in, Reaches, HasReached, IsLegal, Extends, Ran, IsStoreFile, IsLate, IsOpenable, StaysClosed}
+use Rattle.irl_top.specs.Run.{task_of, settings_in, Reaches, IsLegal, Extends, Ran, IsLate}
 use Rattle.irl_top.specs.Stream.{Stream}
-use Rattle.irl_top.specs.declared.ending.Ending.{Ending}
-use Rattle.irl_top.specs.declared.ending.Ending.TheVariants.{Done, BadSettings, LineRefused, NotOurs, OtherSettings, DiskFault, InputFault, OutputFault, NoMemory, Full, Damaged}
+use Rattle.irl_top.specs.declared.ending.Ending.TheVariants.{Done, BadSettings, LineRefused, NotOurs, OtherSettings, DiskFault, InputFault, OutputFault, Full, Damaged}
 use Rattle.irl_top.proofs.Growing.{starts}
 use Rattle.irl_top.proofs.Ranges.{valid_or_not}
-use Rattle.irl_top.proofs.Opened.{enters_told, enters_stops, reached_entering, entered_uneven}
+use Rattle.irl_top.proofs.Opened.{enters_told, enters_stops, entered_uneven}
 
 -- ---- endings
 -- no store that is refused is judged, and nothing of an input is read

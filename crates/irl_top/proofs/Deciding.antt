@@ -1,5 +1,5 @@
 -- What a run ends in, by what it says of its ending.
-use Rattle.std.proofs.Common.{◌≡◌, ◌≢◌, ◌∙◌, ◌⊎◌, inl, inr, ⊎_elim, ℕ, ◌+◌, ◌-◌, ◌<◌, ◌≤◌, List, [], length, Option, Some, None, refl, sym, ap, subst, length-append, arith}
+use Rattle.std.proofs.Common.{◌≡◌, ◌∙◌, ◌⊎◌, inl, inr, ⊎_elim, ℕ, ◌+◌, ◌-◌, ◌<◌, ◌≤◌, List, [], length, Option, Some, refl, sym, ap, subst, length-append, arith}
 use Rattle.std.specs.Prelude.{Result, Ok, Err, OnOk, OnErr, IsErr, unwrap_or, slice_index}
 use Rattle.std.specs.Io.KnownBytes.{Appends}
 use Rattle.irl_offer.specs.Faults.{HasCause}
@@ -8,7 +8,7 @@ use Rattle.irl_offer.specs.declared.settings.Asked.{Asked}
 use Rattle.irl_offer.specs.declared.settings.Settings.{Settings}
 use Rattle.irl_offer.specs.Tuple.{Tuple}
 use Rattle.irl_model.specs.Book.{part}
-use Rattle.irl_model.specs.State.{State, AreFronts, blank_state}
+use Rattle.irl_model.specs.State.{State, AreFronts}
 use Rattle.irl_disk.specs.Disk.{Files}
 use Rattle.irl_io.specs.Written.{AppendsPrefix}
 use Rattle.irl_yard.specs.Standing.{HasState}
@@ -19,7 +19,7 @@ use Rattle.irl_intake.specs.Feeding.{list_at, length_at}
 use Rattle.irl_intake.proofs.Chains.{same_fronts}
 use Rattle.irl_top.specs.Message.{Says}
 use Rattle.irl_top.specs.Outside.{Lent}
-use Rattle.irl_top.specs.Run.{Task, settings_in, Reaches, TakesIn, Ran, Completes, EndsWell}
+use Rattle.irl_top.specs.Run.{Task, settings_in, Reaches, TakesIn, Ran, Completes}
 use Rattle.irl_top.specs.Stream.{Stream}
 use Rattle.irl_top.specs.declared.ending.Ending.{Ending}
 use Rattle.irl_top.proofs.Growing.{Starts, starts, front_list, part_prefix}

@@ -1,28 +1,23 @@
 -- A part of a run after another.
-use Rattle.std.proofs.Common.{◌≡◌, ◌≢◌, ◌∙◌, ◌⊎◌, inl, inr, ℕ, ◌+◌, ◌-◌, ◌<◌, ◌≤◌, List, [], ◌∷◌, ◌++◌, length, filter, drop, Option, None, Some, refl, sym, ap, subst, append_assoc, append-nil, length-append, arith}
+use Rattle.std.proofs.Common.{◌≡◌, ◌∙◌, inl, inr, ℕ, ◌+◌, ◌-◌, ◌<◌, ◌≤◌, List, [], ◌++◌, length, drop, Option, refl, sym, ap, subst, append_assoc, length-append, arith}
 use Rattle.std.proofs.KnownBytes.{Appends-nil}
 use Rattle.std.proofs.lemmas.List.{drop-append-le}
 use Rattle.std.proofs.lemmas.Grind.{flat_map-append}
-use Rattle.std.specs.Option.{ForSome}
 use Rattle.std.specs.Io.KnownBytes.{Appends}
 use Rattle.irl_offer.specs.declared.settings.Settings.{Settings}
 use Rattle.irl_offer.specs.declared.receipt.Judged.{Judged}
 use Rattle.irl_offer.specs.Tuple.{Tuple}
 use Rattle.irl_model.specs.Book.{Book, IsBook, IsFront, gone, judged, judged_cut, lengths_of, part, IsPrefixOf}
-use Rattle.irl_model.specs.State.{State, AreFronts}
-use Rattle.irl_model.proofs.FrontLaws.{judged_front, prefix_same, prefix_both}
-use Rattle.irl_disk.specs.Disk.{Files}
-use Rattle.irl_disk.specs.Images.{Snapshot, IsConsistent, Leaves}
-use Rattle.irl_disk.proofs.Stretches.{left_now}
+use Rattle.irl_model.specs.State.{State}
+use Rattle.irl_model.proofs.FrontLaws.{judged_front}
+use Rattle.irl_disk.specs.Images.{IsConsistent}
 use Rattle.irl_bay.specs.Drum.{IsDrum}
-use Rattle.irl_yard.specs.declared.parts.Parts.{Parts}
-use Rattle.irl_yard.specs.Standing.{HasState}
 use Rattle.irl_yard.specs.Holding.{HoldsState}
 use Rattle.irl_yard.proofs.Holding.{held_has}
 use Rattle.irl_intake.specs.Feeding.{Moment, Stays, Fed, Stranded, IsStateOf, Grows, Keeps, HasBetween, length_at, waiting_at}
-use Rattle.irl_intake.proofs.Chains.{same_fronts, few_same, grows_both, grows_same, grows_more, keeps_same, keeps_both, fed_both, stranded_after, tells_on, stays_both}
+use Rattle.irl_intake.proofs.Chains.{same_fronts, few_same, grows_both, keeps_both, fed_both, stranded_after, tells_on, stays_both}
 use Rattle.irl_intake.proofs.Steps.{held_state}
-use Rattle.irl_top.specs.Message.{IsAllPrinted, IsEndOfInput, IsUnopened}
+use Rattle.irl_top.specs.Message.{IsAllPrinted, IsEndOfInput}
 use Rattle.irl_top.specs.Printed.{unique_lines, judged_count, line_if_unique}
 use Rattle.irl_top.specs.Session.{Place, unprinted, FewWait, Goes, Ends, GoesOn, EndsWith, HoldsNone, HasReason}
 use Rattle.irl_top.specs.declared.ending.Ending.{Ending}

@@ -1,5 +1,5 @@
 -- States of a run: what lies between two of them, and what entering a store makes of one.
-use Rattle.std.proofs.Common.{◌≡◌, ◌≢◌, ◌∙◌, ◌⊎◌, inl, inr, ⊎_elim, ℕ, zero, suc, ◌+◌, ◌-◌, ◌<◌, ◌≤◌, List, [], ◌∷◌, ◌++◌, length, filter, replicate, sum, get_or, nat_eq, Bool, true, false, cond, Option, None, Some, refl, sym, ap, subst, append_assoc, append-nil, length-append, arith}
+use Rattle.std.proofs.Common.{◌≡◌, ◌∙◌, ◌⊎◌, inl, inr, ⊎_elim, ℕ, zero, suc, ◌<◌, ◌≤◌, List, [], ◌∷◌, ◌++◌, length, replicate, sum, get_or, nat_eq, Bool, true, false, cond, Option, None, Some, refl, sym, ap, subst, append_assoc, append-nil, length-append, arith}
 use Rattle.std.proofs.Math.Nat.{eq-or-lt_of_le}
 use Rattle.std.proofs.lemmas.Bool.Decides.{nat_tests}
 use Rattle.std.proofs.lemmas.List.{append_cancel_left}
@@ -13,12 +13,12 @@ use Rattle.irl_offer.specs.declared.offer.Rule.TheVariants.{Keep}
 use Rattle.irl_offer.specs.declared.settings.Asked.{Asked}
 use Rattle.irl_offer.specs.declared.settings.Settings.{Settings}
 use Rattle.irl_model.specs.Book.{Book, ArePrefixes, IsPrefixOf, blank_book, part, judged_cut}
-use Rattle.irl_model.specs.State.{State, AreFronts, IsFrontState, blank_state}
+use Rattle.irl_model.specs.State.{State, AreFronts, blank_state}
 use Rattle.irl_disk.specs.Disk.{Files}
 use Rattle.irl_yard.specs.Standing.{HasState}
-use Rattle.irl_yard.specs.Opening.{entered_state, new_state}
+use Rattle.irl_yard.specs.Opening.{entered_state}
 use Rattle.irl_yard.proofs.Grounds.{entered_made}
-use Rattle.irl_intake.specs.Schedule.{early_cuts, has_enough}
+use Rattle.irl_intake.specs.Schedule.{early_cuts}
 use Rattle.irl_intake.specs.Feeding.{FewUnjudged, Grows, list_at, length_at}
 use Rattle.irl_top.specs.Printed.{judged_count}
 use Rattle.irl_top.specs.Run.{settings_in}

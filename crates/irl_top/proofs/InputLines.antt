@@ -12,7 +12,7 @@ use Rattle.irl_top.specs.Session.{ReadsOn, ReadsOnTold, EndsTold, RefusesTold, H
 use Rattle.irl_top.specs.declared.ending.Ending.{Ending}
 use Rattle.irl_top.specs.declared.ending.Ending.TheVariants.{Done, LineRefused}
 use Rattle.irl_io.proofs.LineLemmas.{lines_first}
-use Rattle.irl_top.specs.Input.{is_refused, is_some_line, line_tuple, accepted_from, refused_from, offered_from}
+use Rattle.irl_top.specs.Input.{is_refused, is_some_line, line_tuple, refused_from, offered_from}
 
 -- what known bytes become
 pub of_some : (P : List ℕ → List ℕ → Type 0) (b : List ℕ) (x : Option (List ℕ)) → OfKnown P (Some b) x → (a : List ℕ) × (x ≡ Some a) × P b a

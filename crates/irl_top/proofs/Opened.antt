@@ -1,53 +1,51 @@
 -- A run over a store that was opened.
-use Rattle.std.proofs.Common.{◌≡◌, ◌≢◌, ◌∙◌, ◌⊎◌, inl, inr, ⊎_elim, ℕ, ◌+◌, ◌-◌, ◌<◌, ◌≤◌, List, [], ◌∷◌, ◌++◌, length, nat_eq, Option, None, Some, refl, sym, ap, subst, append_assoc, append-nil, arith}
-use Rattle.std.specs.Prelude.{slice_index}
+use Rattle.std.proofs.Common.{◌≡◌, ◌≢◌, ◌∙◌, inl, inr, ⊎_elim, ℕ, ◌+◌, ◌<◌, ◌≤◌, List, [], ◌++◌, length, Option, None, Some, refl, sym, ap, subst, append-nil, arith}
 use Rattle.std.specs.Option.{ForSome}
 use Rattle.std.specs.Io.KnownBytes.{Appends}
-use Rattle.irl_offer.specs.Faults.{HasCause, Rose}
-use Rattle.irl_offer.specs.Settings.{AreValid, settings_of}
+use Rattle.irl_offer.specs.Faults.{HasCause}
+use Rattle.irl_offer.specs.Settings.{settings_of}
 use Rattle.irl_offer.specs.Tuple.{Tuple}
 use Rattle.irl_offer.specs.declared.settings.Asked.{Asked}
 use Rattle.irl_offer.specs.declared.settings.Kind.TheVariants.{Crawl}
 use Rattle.irl_offer.specs.declared.settings.Settings.{Settings}
-use Rattle.irl_model.specs.Book.{Book, IsPrefixOf, part}
-use Rattle.irl_model.specs.State.{State, AreFronts, IsFrontState}
+use Rattle.irl_model.specs.Book.{IsPrefixOf, part}
+use Rattle.irl_model.specs.State.{State, IsFrontState}
 use Rattle.irl_disk.specs.Disk.{Files}
-use Rattle.irl_disk.specs.Images.{Snapshot, IsConsistent, Leaves, LeavesBy, Follows}
+use Rattle.irl_disk.specs.Images.{Snapshot, IsConsistent, Leaves, LeavesBy}
 use Rattle.irl_disk.proofs.Stretches.{widens, joins, left_now}
 use Rattle.irl_journal.specs.Format.{StandsFor, HasRecords}
 use Rattle.irl_journal.proofs.Lists.{one_list}
 use Rattle.irl_bay.specs.BayFiles.{file_of, IsFileOf, IsPartOf}
 use Rattle.irl_bay.specs.declared.layout.files.BayFile.TheVariants.{Manifest, Cache, Judged, Texts, Journal, Aux}
 use Rattle.irl_bay.specs.declared.layout.files.BayFile.{BayFile}
-use Rattle.irl_bay.specs.Drum.{Drum, IsDrum, bucket_at}
+use Rattle.irl_bay.specs.Drum.{IsDrum, bucket_at}
 use Rattle.irl_bay.specs.Holding.{TellsOnly, TellsBy, ChangesOnly}
 use Rattle.irl_bay.specs.Making.{IsJournalOf}
 use Rattle.irl_bay.proofs.BatchWrites.{tells_wide, tells_only}
 use Rattle.irl_bay.proofs.Staying.{tells_both, leaves_both, only_wider}
-use Rattle.irl_yard.specs.StoreFiles.{head_file, urls_base}
-use Rattle.irl_yard.specs.Standing.{HasState, IsBlank}
+use Rattle.irl_yard.specs.StoreFiles.{urls_base}
+use Rattle.irl_yard.specs.Standing.{HasState}
 use Rattle.irl_yard.specs.Holding.{HoldsState, HasOneOf, HasJournal}
 use Rattle.irl_yard.specs.Opening.{Agrees, HasSettings, IsNotOursAt, IsStoreDamagedAt, entered_state}
-use Rattle.irl_yard.specs.Entering.{Enters, OpensStore, MakesStore, IsStoreJournal}
+use Rattle.irl_yard.specs.Entering.{Enters, IsStoreJournal}
 use Rattle.irl_yard.proofs.SettingNumbers.{count_small}
 use Rattle.irl_yard.proofs.States.{state_both, entered_front}
 use Rattle.irl_yard.proofs.Entering.{enters_records}
 use Rattle.irl_intake.specs.Schedule.{one_more, HaveRecords, LeavesUneven, uneven_records}
 use Rattle.irl_intake.specs.Feeding.{Grows, HasBetween, list_at, length_at, handed_in, waiting_at}
-use Rattle.irl_intake.proofs.Chains.{same_fronts, grows_same, grows_more, tells_on}
+use Rattle.irl_intake.proofs.Chains.{grows_same, grows_more}
 use Rattle.irl_top.specs.declared.command.Command.TheVariants.{Seen}
-use Rattle.irl_top.specs.Input.{offered, refused}
-use Rattle.irl_top.specs.Message.{IsAllPrinted, IsUnopened}
+use Rattle.irl_top.specs.Input.{offered}
 use Rattle.irl_top.specs.Outside.{Lent}
-use Rattle.irl_top.specs.Printed.{added, judged_count}
+use Rattle.irl_top.specs.Printed.{judged_count}
 use Rattle.irl_top.specs.Records.{AddsUnevenRecords}
-use Rattle.irl_top.specs.Run.{Task, task_of, settings_in, Reaches, AddsSome, HasReached, TakesIn, Extends, Ran, IsStoreFile, IsLate, IsOpenable, StaysClosed, IsBrokenBay}
-use Rattle.irl_top.specs.Session.{Place, unprinted, Ends, EndsWith, HasReason, HasRead, HoldsNone}
+use Rattle.irl_top.specs.Run.{task_of, settings_in, HasReached, TakesIn, Extends, Ran, IsStoreFile, IsOpenable}
+use Rattle.irl_top.specs.Session.{Place, unprinted, Ends, EndsWith, HasReason, HasRead}
 use Rattle.irl_top.specs.Stream.{Stream}
 use Rattle.irl_top.specs.declared.ending.Ending.{Ending}
-use Rattle.irl_top.specs.declared.ending.Ending.TheVariants.{Done, BadSettings, LineRefused, NotOurs, OtherSettings, DiskFault, InputFault, OutputFault, NoMemory, Full, Damaged}
+use Rattle.irl_top.specs.declared.ending.Ending.TheVariants.{Done, LineRefused, InputFault, OutputFault}
 use Rattle.irl_top.proofs.Calls.{judged_number}
-use Rattle.irl_top.proofs.Growing.{Starts, starts, settings_entered, grows_between, adds_some, choose}
+use Rattle.irl_top.proofs.Growing.{starts, settings_entered, grows_between, adds_some, choose}
 
 -- ---- files
 -- entering changes only files of the store

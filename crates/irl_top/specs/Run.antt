@@ -1,6 +1,6 @@
 -- What one run of the program does, by what the store, the source and the two sinks tell before it and after it, and by what a stop at
 -- any moment leaves of the store. Each command adds its task: what it asks of a store, what its input offers, and what it prints.
-use Rattle.std.specs.Prelude.{◌≡◌, ◌≢◌, ◌⊎◌, ◌↔◌, ℕ, ◌+◌, ◌<◌, ◌≤◌, List, [], ◌++◌, length, map, Option, None, Some, Result, Ok, Err, unwrap_or, slice_index, ⊤}
+use Rattle.std.specs.Prelude.{◌≡◌, ◌≢◌, ◌⊎◌, ℕ, ◌+◌, ◌<◌, ◌≤◌, List, [], ◌++◌, length, Option, None, Some, Result, Ok, Err, unwrap_or}
 use Rattle.std.specs.Option.{ForSome}
 use Rattle.std.specs.Io.KnownBytes.{Appends}
 use Rattle.irl_offer.specs.Faults.{Rose, HasCause}

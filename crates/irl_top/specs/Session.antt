@@ -1,5 +1,5 @@
 -- A part of a run over an open store: what it keeps, judges and prints.
-use Rattle.std.specs.Prelude.{◌≡◌, ◌≢◌, ◌⊎◌, ℕ, ◌+◌, ◌-◌, ◌<◌, ◌≤◌, List, [], ◌∷◌, ◌++◌, length, drop, Option, None, Some}
+use Rattle.std.specs.Prelude.{◌≡◌, ◌≢◌, ◌⊎◌, ℕ, ◌+◌, ◌-◌, ◌<◌, ◌≤◌, List, [], ◌++◌, length, drop, Option, None, Some}
 use Rattle.std.specs.Option.{ForSome}
 use Rattle.std.specs.Io.KnownBytes.{Appends, prepend_known}
 use Rattle.irl_offer.specs.Faults.{HasCause}
@@ -23,7 +23,7 @@ use Rattle.irl_top.specs.Message.{IsAllPrinted, IsUnopened}
 use Rattle.irl_top.specs.Printed.{unique_lines, judged_count}
 use Rattle.irl_top.specs.Stream.{Stream}
 use Rattle.irl_top.specs.declared.ending.Ending.{Ending}
-use Rattle.irl_top.specs.declared.ending.Ending.TheVariants.{Done, BadSettings, LineRefused, NotOurs, Damaged, OtherSettings, DiskFault, InputFault, OutputFault, Full}
+use Rattle.irl_top.specs.declared.ending.Ending.TheVariants.{Done, LineRefused, Damaged, DiskFault, OutputFault, Full}
 
 -- ---- where it stands
 pub record Place : Type 1 where

@@ -1,8 +1,8 @@
 use Rattle.std.proofs.Common.{◌≡◌, ◌∙◌, ℕ, Bor, List, sym, ap, subst, map}
-use Rattle.std.specs.Prelude.{Result, Ok, Err}
+use Rattle.std.specs.Prelude.{Result, Ok}
 use Rattle.std.specs.Result.{result_map_both}
 use Rattle.irl_top.specs.Command.{command_of}
-use Rattle.irl_top.specs.Outside.{Outside, outside}
+use Rattle.irl_top.specs.Outside.{outside}
 use Rattle.irl_top.specs.Run.{Answers}
 use Rattle.irl_top.specs.declared.command.Command.{Command}
 use Rattle.irl_top.proofs.Deciding.{completes, says_of}

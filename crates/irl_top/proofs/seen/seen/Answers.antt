@@ -1,12 +1,10 @@
-use Rattle.std.proofs.Common.{◌≡◌, ◌≢◌, ◌∙◌, ℕ, List, [], inl, refl, sym, ap, subst, arith}
-use Rattle.std.proofs.lemmas.Result.{err_from_is_err_and}
+use Rattle.std.proofs.Common.{◌∙◌, ℕ, List, [], inl, refl, sym, ap, subst, arith}
 use Rattle.irl_array.specs.Waiting.{Waiting}
-use Rattle.irl_offer.specs.Tuple.{Tuple}
 use Rattle.irl_yard.specs.declared.parts.Parts.{Parts}
 use Rattle.irl_top.specs.declared.command.Command.TheVariants.{Seen}
 use Rattle.irl_top.specs.declared.ending.Ending.{Ending}
 use Rattle.irl_top.specs.declared.ending.Ending.TheVariants.{NoMemory}
-use Rattle.irl_top.specs.Message.{ending_of, ending_of_open}
+use Rattle.irl_top.specs.Message.{ending_of}
 use Rattle.irl_top.specs.Outside.{Lent, lent}
 use Rattle.irl_top.specs.Run.{Ran, task_of}
 use Rattle.irl_top.specs.Session.{Place, place}

@@ -1,11 +1,11 @@
-use Rattle.std.proofs.Common.{◌≡◌, ◌≢◌, ◌∙◌, ℕ, List, [], ◌∷◌, ◌++◌, inl, inr, refl, sym, ap, subst, append-nil, arith}
+use Rattle.std.proofs.Common.{ℕ, List, [], ◌∷◌, ◌++◌, inl, inr, refl, subst, append-nil, arith}
 use Rattle.irl_array.specs.Waiting.{Waiting}
 use Rattle.irl_offer.specs.Tuple.{Tuple}
 use Rattle.irl_yard.specs.declared.parts.Parts.{Parts}
 use Rattle.irl_intake.specs.Schedule.{none_more, one_more}
-use Rattle.irl_top.specs.Session.{Place, place, ReadsOnTold, EndsTold, HasRead, EndsWith}
+use Rattle.irl_top.specs.Session.{Place, place, ReadsOnTold, EndsTold, EndsWith}
 use Rattle.irl_top.specs.Message.{ending_of}
-use Rattle.irl_top.specs.declared.ending.Ending.TheVariants.{Done, LineRefused, NoMemory}
+use Rattle.irl_top.specs.declared.ending.Ending.TheVariants.{Done, NoMemory}
 use Rattle.irl_top.proofs.InputLines.{start, told_none, told_both, read_some, read_all}
 use Rattle.irl_top.proofs.Going.{goes_on_both, goes_on_ends, reason_then}
 use Rattle.irl_top.proofs.Calls.{goes_same, reason_same, stop_here, ends_lifted, input_done, input_full, memory_plain, no_line_of, err_is}

@@ -1,7 +1,6 @@
-use Rattle.std.proofs.Common.{◌-◌, ◌≤◌, List, []}
+use Rattle.std.proofs.Common.{◌-◌, ◌≤◌, List}
 use Rattle.irl_offer.specs.Tuple.{Tuple}
 use Rattle.irl_io.specs.Lines.{most_lines}
-use Rattle.irl_io.specs.Steps.{Progress}
 use Rattle.irl_yard.specs.Holding.{IsSound}
 use Rattle.irl_intake.specs.Schedule.{none_more}
 use Rattle.irl_top.specs.Session.{place, GoesOn, HasReason, ReadsOnTold}

@@ -1,17 +1,15 @@
-use Rattle.std.proofs.Common.{◌≡◌, ◌∙◌, ◌<◌, ℕ, List, [], ◌∷◌, inl, refl, sym, ap, subst, arith}
+use Rattle.std.proofs.Common.{ℕ, List, [], inl, refl, sym, ap, subst, arith}
 use Rattle.irl_array.specs.Waiting.{Waiting}
-use Rattle.irl_offer.specs.declared.settings.Settings.{Settings}
 use Rattle.irl_bay.specs.Commits.{Commit}
 use Rattle.irl_bay.specs.Drum.{IsDrum}
 use Rattle.irl_yard.specs.declared.parts.Parts.{Parts}
-use Rattle.irl_intake.specs.Feeding.{waiting_at}
 use Rattle.irl_intake.specs.Schedule.{none_more, one_more}
 use Rattle.irl_intake.proofs.Chains.{feeds_more, strands_more}
 use Rattle.irl_top.specs.Message.{ending_of_store}
 use Rattle.irl_top.specs.Session.{Place, place}
 use Rattle.irl_top.specs.declared.ending.Ending.TheVariants.{Done}
 use Rattle.irl_top.proofs.Going.{goes_on_both, goes_on_ends, reason_then}
-use Rattle.irl_top.proofs.Calls.{goes_call, ends_call, ends_on, reason_call, reason_went, err_is, last_finished, IsOver, store_input}
+use Rattle.irl_top.proofs.Calls.{goes_call, ends_call, ends_on, reason_call, reason_went, err_is, last_finished, store_input}
 use Rattle.irl_top.proofs.session.end_input.Given.{Over}
 use Rattle.irl_top.proofs.session.end_input.Goals as goal
 
