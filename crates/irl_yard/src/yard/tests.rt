@@ -5,9 +5,12 @@ ghost use Rattle.irl_offer.specs.declared.settings.Kind.TheVariants.{Crawl};
 ghost use Rattle.irl_bay.specs.Drum.{pending_at, SomePending};
 ghost use Rattle.irl_yard.specs.Holding.{IsSound};
 
+mod damage;
+mod rows;
+
 use super::*;
 use irl_disk::MemStore;
-use irl_offer::{Asked, Kind, Offer, Op, Rule, Text, Verdict, bucket_of};
+use irl_offer::{Asked, Kind, MAX_TEXT, Offer, Op, Rule, Text, Verdict, bucket_of};
 use std::alloc::AllocError;
 use std::test::Fail;
 
@@ -43,18 +46,24 @@ fn made(alloc: Global, failing: Vec<u64>) -> Result<Yard<MemStore>, Fault> {
     opened(alloc, MemStore::new(alloc, failing), None)
 }
 
-// An array of at most two offers of value 0.
-fn array_of(alloc: Global, offers: &[(u64, &[u8; 1])]) -> Result<Array, AllocError> {
-    let mut array = Array::with_room(alloc, 2)?;
+// An offer of value 0.
+fn offer_of(alloc: Global, key: u64, text: &[u8]) -> Result<Offer, AllocError> {
+    let text = &text[..text.len().min(MAX_TEXT)];
+    Ok(Offer {
+        op: Op::Both,
+        key,
+        value: 0,
+        from: 0,
+        aux: Text::from_bytes(alloc, text)?,
+    })
+}
+
+// An array of these offers, as many as there is room for.
+fn array_of(alloc: Global, room: u32, offers: &[(u64, &[u8])]) -> Result<Array, AllocError> {
+    let mut array = Array::with_room(alloc, room)?;
     for (key, text) in offers {
         if !array.is_full() {
-            array.push(Offer {
-                op: Op::Both,
-                key: *key,
-                value: 0,
-                from: 0,
-                aux: Text::from_bytes(alloc, *text)?,
-            });
+            array.push(offer_of(alloc, *key, text)?);
         }
     }
     Ok(array)
@@ -100,12 +109,19 @@ fn flush(yard: &mut Yard<MemStore>, b: u32, array: &mut Array) -> Result<(), Fau
     yard.flush(b, array)
 }
 
-// Whether offers of bucket 0 wait to be judged.
+// Whether offers of this bucket wait to be judged.
+fn waits_in(yard: &Yard<MemStore>, b: u32) -> bool
+    ensures some { IsTrue result → SomePending yard.now.parts.urls }
+{
+    b < yard.settings().buckets && yard.pending(b) > 0
+}
+
+// Whether offers wait to be judged.
 fn can_merge(yard: &Yard<MemStore>) -> bool
     ensures sound { IsTrue result → IsSound yard.now.parts }
     ensures some { IsTrue result → SomePending yard.now.parts.urls }
 {
-    yard.is_sound() && yard.settings().buckets == 2 && yard.pending(0) > 0
+    yard.is_sound() && (waits_in(yard, 0) || waits_in(yard, 1))
 }
 
 // Judges what was flushed.
@@ -116,15 +132,14 @@ fn merge(yard: &mut Yard<MemStore>) -> Result<u64, Fault> {
     yard.merge()
 }
 
+const HIGH_TWO: [(u64, &[u8]); 2] = [(1 << 63 | 1, b"x"), (1 << 63 | 1, b"z")];
+
+const LOW_ONE: [(u64, &[u8]); 1] = [(1, b"y")];
+
 // Flushes two offers of one key to bucket 1, and another to bucket 0, and judges them.
 fn fill(alloc: Global, yard: &mut Yard<MemStore>) -> Result<u64, Fault> {
-    let high = 1 << 63 | 1;
-    flush(
-        yard,
-        1,
-        &mut array_of(alloc, &[(high, b"x"), (high, b"z")])?,
-    )?;
-    flush(yard, 0, &mut array_of(alloc, &[(1, b"y")])?)?;
+    flush(yard, 1, &mut array_of(alloc, 2, &HIGH_TWO)?)?;
+    flush(yard, 0, &mut array_of(alloc, 2, &LOW_ONE)?)?;
     merge(yard)
 }
 
@@ -243,18 +258,6 @@ fn a_failed_call_ends_the_store_and_loses_no_flush(rt: HostRuntime) -> Result<()
             "at {call}: {kept}, then {found}"
         );
     }
-    Ok(())
-}
-
-#[test]
-fn a_full_bucket_takes_no_more(rt: HostRuntime) -> Result<(), Fail> {
-    let alloc = rt.alloc();
-    let mut yard = opened(alloc, MemStore::new(alloc, Vec::new(alloc)), Some(1))?;
-    let mut array = array_of(alloc, &[(1, b"p"), (2, b"q")])?;
-    assert_eq!(rt; flush(&mut yard, 0, &mut array), Err(Fault::Full(0)));
-    assert_eq!(rt; array.len(), 2);
-    assert_eq!(rt; numbers(&yard), Some([0; 6]));
-    assert!(rt; yard.is_sound());
     Ok(())
 }
 
