@@ -1,0 +1,13 @@
+pub mod AnswerLemmas
+pub mod BodyLemmas
+pub mod ChunkLemmas
+pub mod ChunkSteps
+pub mod ChunkedLemmas
+pub mod ChunkedReads
+pub mod FieldLemmas
+pub mod HeadLemmas
+pub mod LinkLemmas
+pub mod PlainLemmas
+pub mod ReadLemmas
+pub mod StepLemmas
+pub mod WholeLemmas

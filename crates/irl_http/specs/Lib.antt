@@ -1,0 +1,12 @@
+pub mod Bodies
+pub mod Chunks
+pub mod Fields
+pub mod Heads
+pub mod Links
+pub mod Memory
+pub mod Parsing
+pub mod Reading
+pub mod Reply
+pub mod Request
+pub mod Steps
+pub mod Whole
