@@ -1,0 +1,9 @@
+pub mod Arrays
+pub mod Bounds
+pub mod Courses
+pub mod Effects
+pub mod Fresh
+pub mod Keeping
+pub mod Numbers
+pub mod Receipts
+pub mod Shown

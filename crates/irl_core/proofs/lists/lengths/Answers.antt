@@ -1,0 +1,6 @@
+use Rattle.std.proofs.Common.{◌∙◌}
+use Rattle.irl_model.proofs.QueueLemmas.{vec_lengths}
+use Rattle.irl_core.proofs.lists.lengths.Goals as goal
+
+pub returns : goal.returns
+returns c = c.in_ok-lengths.ensures ∙ vec_lengths c.args.lists.now

@@ -1,0 +1,44 @@
+-- What the fields of `Core` show, and what they keep.
+use Rattle.std.specs.Prelude.{◌≡◌, ℕ, ◌≤◌, true, List, map, length, replicate}
+use Rattle.irl_offer.specs.declared.place.Place.{Place}
+use Rattle.irl_model.specs.Book.{last_cut}
+use Rattle.irl_model.specs.Events.{Progress, Happened}
+use Rattle.irl_model.specs.Plain.{items_of, whole_book}
+use Rattle.irl_fate.specs.declared.event.Event.{Event}
+use Rattle.irl_fate.specs.Seen.{seen}
+use Rattle.irl_core.specs.declared.pure.Core.TheInside.{Inside}
+use Rattle.irl_core.specs.Steps.{CoreState, course, list_of}
+use Rattle.irl_core.specs.Laws.{IsCore}
+
+-- events with their places, as definitions have them
+abbrev pub happened : List (Event × List Place) → List Happened
+happened events = map (λ e. (seen e.0, e.1)) events
+
+abbrev pub shown : Inside → CoreState
+shown a = record {
+  settings = a.settings;
+  arrays = items_of a.arrays.items;
+  urls = whole_book a.settings.buckets a.settings.rule (items_of a.lists.items) (items_of a.cuts.items);
+  events = happened a.events.items;
+  acknowledged = a.acknowledged.items;
+}
+
+-- The fates are those of the core's events. They were told of a beginning and of sent pairs besides, which a core has no events
+-- of.
+pub record IsCourseOf (fates x : Progress) : Type 0 where
+  pub begun : fates.begun ≡ true
+  pub read : fates.read ≡ x.read
+  pub fronts : fates.fronts ≡ x.fronts
+  pub front : fates.front ≡ x.front
+  pub waiting : fates.waiting ≡ x.waiting
+  pub done : fates.done ≡ x.done
+
+pub record IsKept (a : Inside) : Type 0 where
+  pub core : IsCore (shown a)
+  pub fates : IsCourseOf a.fates (course (shown a))
+  pub read : a.read ≡ a.fates.read
+  pub fronts : a.fronts.items ≡ a.fates.fronts
+  pub fronts_long : length a.fronts.items ≡ a.settings.buckets
+  -- no list passes the cap
+  pub short : (b : ℕ) → length (list_of (shown a) b) ≤ a.settings.cap
+  pub cut : a.cut.items ≡ last_cut (replicate a.settings.buckets 0) (items_of a.cuts.items)
