@@ -26,7 +26,7 @@ int main(int argc, char **argv) {
   if (!output) return 2;
   double elapsed = (double)(to.tv_sec - from.tv_sec) + 1e-9 * (double)(to.tv_nsec - from.tv_nsec);
   double cpu = (double)(used.ru_utime.tv_sec + used.ru_stime.tv_sec) + 1e-6 * (double)(used.ru_utime.tv_usec + used.ru_stime.tv_usec);
-  fprintf(output, "%.3f %.3f %.1f\n", elapsed, cpu, (double)used.ru_maxrss / 1024);
+  fprintf(output, "%.3f %.6f %.1f\n", elapsed, cpu, (double)used.ru_maxrss / 1024);
   fclose(output);
   return WIFEXITED(status) ? WEXITSTATUS(status) : 128;
 }

@@ -1,5 +1,5 @@
 -- A schedule has one answer.
-use Rattle.std.proofs.Common.{◌≡◌, ◌∙◌, ℕ, zero, suc, ◌<◌, ◌≤◌, true, false, List, [], ◌∷◌, ◌++◌, length, Some, refl, sym, ap, subst, inl, inr, ◌⊎◌, ◌↔◌, arith}
+use Rattle.std.proofs.Common.{◌≡◌, ◌∙◌, ℕ, ◌<◌, ◌≤◌, true, false, List, [], ◌∷◌, ◌++◌, refl, sym, ap, subst, ◌↔◌, arith}
 use Rattle.std.specs.List.{All}
 use Rattle.std.proofs.lemmas.List.Elements.{All-head, All-tail}
 use Rattle.irl_key.specs.declared.web.Work.{Work}
@@ -9,9 +9,8 @@ use Rattle.irl_robots.specs.declared.host.Leave.{Leave}
 use Rattle.irl_robots.specs.declared.host.Leave.TheVariants as leave
 use Rattle.irl_polite.specs.declared.job.Job.{Job}
 use Rattle.irl_polite.specs.declared.job.Job.TheVariants.{Page, Denied, ShutOut, Robots, WaitTill, Idle}
-use Rattle.irl_polite.specs.declared.known.Known.{Known}
 use Rattle.irl_polite.specs.Schedule.{Schedule, host, fetched, refused, asked}
-use Rattle.irl_polite.specs.Answers.{IsReady, due_of, IsNext, IsKnown, IsUnknown, IsAnswered, IsAsked, IsNextDue, AllAwaited, Answers}
+use Rattle.irl_polite.specs.Answers.{IsReady, due_of, IsNext, IsUnknown, IsAnswered, IsNextDue, AllAwaited, Answers}
 use Rattle.irl_polite.specs.Inside.{answer_of}
 use Rattle.irl_polite.proofs.Lists.{same_some}
 

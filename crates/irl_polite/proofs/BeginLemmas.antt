@@ -1,14 +1,14 @@
 -- The turns that were put in so far.
 use Rattle.std.proofs.Common.{◌≡◌, ◌∙◌, ℕ, ◌+◌, ◌<◌, ◌≤◌, cond, List, [], ◌∷◌, length, Option, Some, None, refl, sym, ap, subst, inl, inr, ◌⊎◌, arith}
 use Rattle.std.specs.Prelude.{slice_get, nat_eq}
-use Rattle.std.specs.List.{All, sum_by}
+use Rattle.std.specs.List.{All}
 use Rattle.std.specs.List.Sorted.{IsPermutation}
-use Rattle.std.proofs.lemmas.Bool.{cases_eq, cases_lt}
+use Rattle.std.proofs.lemmas.Bool.{cases_eq}
 use Rattle.std.proofs.lemmas.List.Elements.{All-nil, All-cons}
 use Rattle.std.proofs.lemmas.List.Sorted.{All-permutation, sum_by-IsPermutation, length_permutation}
 use Rattle.irl_polite.specs.declared.hosts.Host.{Host}
 use Rattle.irl_polite.specs.declared.slots.Slot.{Slot}
-use Rattle.irl_polite.specs.Inside.{IsLeft, IsFirst, AreFirsts, IsTurn, AreTurns, IsReady, IsBegun, Turn, item_at, due_at, turns_at}
+use Rattle.irl_polite.specs.Inside.{IsLeft, IsFirst, AreFirsts, IsTurn, AreTurns, IsReady, IsBegun, Turn, item_at, turns_at}
 use Rattle.irl_polite.proofs.Lists.{get_within, same_some}
 use Rattle.irl_polite.proofs.TurnLemmas.{at_it, cases_at, turns_more}
 

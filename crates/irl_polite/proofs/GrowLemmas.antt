@@ -1,15 +1,14 @@
 -- Hosts that are entered, and what is read of notes.
-use Rattle.std.proofs.Common.{◌≡◌, ◌∙◌, ℕ, zero, suc, ◌+◌, ◌<◌, ◌≤◌, Bool, true, false, cond, List, [], ◌∷◌, ◌++◌, length, set, Option, Some, None, refl, sym, ap, subst, inl, inr, ◌⊎◌, arith}
+use Rattle.std.proofs.Common.{◌≡◌, ◌∙◌, ℕ, zero, suc, ◌+◌, ◌<◌, true, false, cond, List, [], ◌∷◌, ◌++◌, length, set, Option, Some, None, refl, sym, ap, inl, inr, arith}
 use Rattle.std.specs.Prelude.{slice_get, bytes_eq}
 use Rattle.std.specs.List.{All, AllZip}
-use Rattle.std.proofs.lemmas.Bool.{cases_eq, cases_lt}
+use Rattle.std.proofs.lemmas.Bool.{cases_lt}
 use Rattle.std.proofs.lemmas.List.{length-append, length-set}
 use Rattle.std.proofs.lemmas.List.Elements.{All-push}
-use Rattle.irl_key.specs.declared.web.Work.{Work}
 use Rattle.irl_polite.specs.declared.hosts.Host.{Host}
 use Rattle.irl_polite.specs.declared.known.Known.{Known}
-use Rattle.irl_polite.specs.Inside.{IsTable, IsResting, Grows, seen, seen_at, host_at, Noted}
-use Rattle.irl_polite.proofs.Lists.{get_within, get_set_same, get_set_other, same_some, cases_text}
+use Rattle.irl_polite.specs.Inside.{IsTable, IsResting, Grows, seen, host_at, Noted}
+use Rattle.irl_polite.proofs.Lists.{get_within, same_some, cases_text}
 
 pub get_left : {X : Type 0} (xs ys : List X) (i : ℕ) → i < length xs → slice_get (xs ++ ys) i ≡ slice_get xs i
 get_left [] ys i h = absurd (omega arith)

@@ -1,6 +1,6 @@
 -- What holds over each list of calls.
-use Rattle.std.proofs.Common.{◌≡◌, ◌∙◌, ℕ, zero, suc, ◌+◌, ◌<◌, ◌≤◌, Bool, true, false, cond, List, [], ◌∷◌, ◌++◌, length, Option, Some, None, refl, sym, ap, subst, inl, inr, ◌⊎◌, arith}
-use Rattle.std.specs.Prelude.{max, min, bytes_eq, slice_index_or}
+use Rattle.std.proofs.Common.{◌≡◌, ◌∙◌, ℕ, zero, suc, ◌+◌, ◌<◌, ◌≤◌, true, false, cond, List, [], ◌∷◌, ◌++◌, length, refl, sym, ap, subst, inl, inr, ◌⊎◌, arith}
+use Rattle.std.specs.Prelude.{max, min, slice_index_or}
 use Rattle.std.specs.List.{All, Any, AllPairs, fold, flat_map}
 use Rattle.std.specs.List.Sorted.{IsPermutation}
 use Rattle.std.proofs.lemmas.List.{append-nil, append_assoc}
@@ -8,17 +8,14 @@ use Rattle.std.proofs.lemmas.List.Elements.{All-nil, All-cons, All-append}
 use Rattle.std.proofs.lemmas.List.Kept.{AllPairs-cons}
 use Rattle.std.proofs.lemmas.List.Sorted.{IsPermutation-refl, IsPermutation-trans, IsPermutation-middle, IsPermutation-append_left, IsPermutation-append_right}
 use Rattle.irl_offer.specs.Notes.{IsInUse}
-use Rattle.irl_offer.specs.declared.note.Note.{Note}
 use Rattle.irl_key.specs.declared.web.Work.{Work}
-use Rattle.irl_robots.specs.declared.host.HostState.{HostState}
 use Rattle.irl_robots.specs.declared.host.Leave.{Leave}
 use Rattle.irl_robots.specs.declared.host.Leave.TheVariants as leave
 use Rattle.irl_polite.specs.declared.job.Job.{Job}
 use Rattle.irl_polite.specs.declared.job.Job.TheVariants.{Page, Denied, ShutOut, Robots, WaitTill, Idle}
-use Rattle.irl_polite.specs.declared.known.Known.{Known}
-use Rattle.irl_polite.specs.Schedule.{Schedule, host, changed, raised, loaded, fetched, refused, asked, handed_in, empty_of, last_moment, next_due, with_note}
-use Rattle.irl_polite.specs.Answers.{Answers, IsNext, IsAnswered, IsKnown, due_of}
-use Rattle.irl_polite.specs.History.{Step, Load, Take, RobotsDone, Steps, Runs, Start, loaded_by, answered_by, answered_as, started_as, started_by, starts, moment_after, AreApart, heard_by, heard, moment_of, Rests, RestsOn}
+use Rattle.irl_polite.specs.Schedule.{Schedule, host, changed, raised, loaded, fetched, refused, asked, handed_in, empty_of, last_moment}
+use Rattle.irl_polite.specs.Answers.{IsNext, IsAnswered}
+use Rattle.irl_polite.specs.History.{Step, Load, Take, RobotsDone, Steps, Runs, Start, loaded_by, answered_by, started_by, starts, moment_after, AreApart, heard_by, moment_of, Rests, RestsOn}
 use Rattle.irl_polite.proofs.Lists.{cases_text, changed_same, changed_other}
 
 -- one call more

@@ -1,15 +1,15 @@
 -- Items are linked from the last to the first.
 use Rattle.std.proofs.Common.{◌≡◌, ◌∙◌, ℕ, zero, suc, ◌+◌, ◌<◌, ◌≤◌, List, [], ◌∷◌, length, map, set, Option, Some, None, refl, sym, ap, subst, inl, inr, arith}
-use Rattle.std.specs.Prelude.{slice_get, IsSome}
+use Rattle.std.specs.Prelude.{slice_get}
 use Rattle.std.specs.List.{All}
-use Rattle.std.proofs.lemmas.Bool.{cases_eq, cases_lt}
+use Rattle.std.proofs.lemmas.Bool.{cases_eq}
 use Rattle.std.proofs.lemmas.List.{map-set, length-map}
 use Rattle.std.proofs.lemmas.Option.{get_or_from_slice_get}
 use Rattle.irl_key.specs.declared.web.Work.{Work}
 use Rattle.irl_polite.specs.declared.hosts.Host.{Host}
 use Rattle.irl_polite.specs.declared.slots.Slot.{Slot}
-use Rattle.irl_polite.specs.Inside.{IsLeft, IsFirst, AreFirsts, AreNexts, IsOwned, IsResting, bare_host, bare_slot}
-use Rattle.irl_polite.proofs.Lists.{get_within, get_some, get_set_same, get_set_other, same_some}
+use Rattle.irl_polite.specs.Inside.{IsLeft, IsFirst, AreFirsts, AreNexts, IsResting, bare_host, bare_slot}
+use Rattle.irl_polite.proofs.Lists.{get_within, get_set_same, get_set_other, same_some}
 
 pub get_map : {X Y : Type 0} (f : X → Y) (xs : List X) (i : ℕ) (x : X) → slice_get xs i ≡ Some x → slice_get (map f xs) i ≡ Some (f x)
 get_map f [] i x e = cc

@@ -1,5 +1,5 @@
 -- What a front holds before, while and after items and notes are loaded.
-use Rattle.std.proofs.Common.{◌≡◌, ◌∙◌, ℕ, zero, suc, ◌+◌, ◌<◌, ◌≤◌, Bool, true, false, List, [], ◌∷◌, ◌++◌, length, map, set, get_or, take, drop, Option, Some, None, refl, sym, ap, subst, inl, inr, ◌⊎◌, arith}
+use Rattle.std.proofs.Common.{◌≡◌, ◌∙◌, ℕ, zero, suc, ◌<◌, ◌≤◌, false, List, [], ◌∷◌, ◌++◌, length, map, set, get_or, take, drop, Option, Some, None, refl, sym, ap, subst, inl, inr, arith}
 use Rattle.std.specs.Prelude.{slice_get, IsSome, option_to_list}
 use Rattle.std.specs.List.{All, AllZip, fold}
 use Rattle.std.proofs.Math.Path.{fun_ext}
@@ -14,12 +14,11 @@ use Rattle.irl_polite.specs.declared.hosts.Host.{Host}
 use Rattle.irl_polite.specs.declared.slots.Slot.{Slot}
 use Rattle.irl_polite.specs.declared.known.Known.{Known}
 use Rattle.irl_polite.specs.Schedule.{Schedule, host, changed, with_note, loaded}
-use Rattle.irl_polite.specs.Inside.{items_of, schedule_of, seen, seen_at, host_at, Seen, IsTable, IsLeft, IsFirst, AreFirsts, AreNexts, AreOwned, IsOwner, IsTurn, AreTurns, Turn, turns_at, turn_cmp, IsSound, IsResting, Grows, IsEntered, IsRead, IsPlaced, IsOwned, IsReady, Noted, IsPrepared, IsCommitted, bare_host, bare_slot}
-use Rattle.irl_polite.proofs.Lists.{get_within, get_some, same_some, none_of, changed_to_itself}
+use Rattle.irl_polite.specs.Inside.{items_of, schedule_of, seen, seen_at, host_at, IsTable, IsLeft, IsFirst, AreFirsts, AreNexts, AreOwned, IsOwner, IsTurn, AreTurns, Turn, turns_at, turn_cmp, IsSound, IsResting, Grows, IsEntered, IsRead, IsPlaced, IsOwned, IsReady, Noted, IsPrepared, IsCommitted, bare_host, bare_slot}
+use Rattle.irl_polite.proofs.Lists.{get_some, same_some, none_of, changed_to_itself}
 use Rattle.irl_polite.proofs.Tables.{schedules, field_set, seen_here, table_set}
 use Rattle.irl_polite.proofs.Links.{items_split}
-use Rattle.irl_polite.proofs.LinkingLemmas.{get_like, get_map, like_length, all_at}
-use Rattle.irl_polite.proofs.GrowLemmas.{noted_length}
+use Rattle.irl_polite.proofs.LinkingLemmas.{get_like, like_length, all_at}
 
 -- nothing is left where there are no items
 pub none_left : (slots : List Slot) → items_of slots ≡ [] → (at place : ℕ) → IsLeft slots at place → ⊥

@@ -1,8 +1,7 @@
 -- What a front holds after an item was answered, a robots file asked for, and one handed in: it stays sound, and its meaning
 -- is that of the schedule.
-use Rattle.std.proofs.Common.{◌≡◌, ◌∙◌, ℕ, zero, suc, ◌+◌, ◌<◌, ◌≤◌, Bool, true, false, List, [], ◌∷◌, ◌++◌, length, set, take, drop, Option, Some, None, refl, sym, ap, subst, inl, inr, arith}
-use Rattle.std.specs.Prelude.{slice_get, MatchOption, nat_eq}
-use Rattle.std.specs.List.{All}
+use Rattle.std.proofs.Common.{◌≡◌, ◌∙◌, ℕ, suc, ◌+◌, ◌<◌, ◌≤◌, true, false, List, [], ◌∷◌, length, set, take, drop, Option, Some, None, refl, sym, ap, subst, inl, inr, arith}
+use Rattle.std.specs.Prelude.{slice_get, MatchOption}
 use Rattle.std.specs.List.Sorted.{IsPermutation}
 use Rattle.std.specs.BinaryHeap.{IsHeap}
 use Rattle.std.proofs.lemmas.Bool.{cases_eq}
@@ -13,7 +12,7 @@ use Rattle.irl_polite.specs.declared.hosts.Host.{Host}
 use Rattle.irl_polite.specs.declared.slots.Slot.{Slot}
 use Rattle.irl_polite.specs.declared.known.Known.{Known}
 use Rattle.irl_polite.specs.Schedule.{Schedule, host, changed, next_due, fetched, refused, asked, handed_in}
-use Rattle.irl_polite.specs.Inside.{items_of, schedule_of, seen, seen_at, IsLeft, IsFirst, AreFirsts, AreNexts, AreOwned, IsTable, IsTop, IsTurn, AreTurns, Turn, turn_cmp, item_at, due_at, turns_at, IsSound, IsReplaced}
+use Rattle.irl_polite.specs.Inside.{items_of, schedule_of, seen, seen_at, IsLeft, IsFirst, AreFirsts, IsTurn, AreTurns, Turn, turn_cmp, item_at, turns_at, IsSound, IsReplaced}
 use Rattle.irl_polite.proofs.Lists.{get_set_same, get_set_other, get_within, get_some, same_some, changed_to_itself}
 use Rattle.irl_polite.proofs.Tables.{schedules, seen_here, field_set, table_set}
 use Rattle.irl_polite.proofs.Links.{one_owner, items_split, items_without, owned_after, nexts_after, firsts_after, firsts_kept}

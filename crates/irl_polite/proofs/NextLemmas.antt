@@ -1,5 +1,5 @@
 -- The first turn is that of the item that comes next.
-use Rattle.std.proofs.Common.{◌≡◌, ◌∙◌, ℕ, zero, suc, ◌+◌, ◌<◌, ◌≤◌, Bool, true, false, cond, List, [], ◌∷◌, ◌++◌, length, set, take, drop, Option, Some, None, refl, sym, ap, subst, inl, inr, ◌⊎◌, arith}
+use Rattle.std.proofs.Common.{◌≡◌, ◌∙◌, ℕ, suc, ◌+◌, ◌<◌, ◌≤◌, true, false, List, [], ◌∷◌, set, take, drop, Option, Some, None, refl, sym, ap, subst, inl, inr, ◌⊎◌, arith}
 use Rattle.std.specs.Prelude.{slice_get}
 use Rattle.std.specs.List.{All}
 use Rattle.std.proofs.lemmas.Bool.{cases_Bool, cases_lt}
@@ -9,10 +9,10 @@ use Rattle.irl_polite.specs.declared.hosts.Host.{Host}
 use Rattle.irl_polite.specs.declared.slots.Slot.{Slot}
 use Rattle.irl_polite.specs.Schedule.{Schedule, host}
 use Rattle.irl_polite.specs.Answers.{IsNext, IsReady, due_of, AllAwaited}
-use Rattle.irl_polite.specs.Inside.{items_of, schedule_of, seen, seen_at, host_at, IsLeft, IsFirst, AreFirsts, AreNexts, AreOwned, IsTable, IsTop, IsTurn, AreTurns, Turn, item_at, due_at, turns_at, IsSound}
-use Rattle.irl_polite.proofs.Lists.{get_within, get_some, get_take, get_drop, same_some}
+use Rattle.irl_polite.specs.Inside.{items_of, schedule_of, seen, seen_at, IsLeft, IsFirst, AreFirsts, AreOwned, IsTable, IsTop, IsTurn, AreTurns, Turn, item_at, due_at, turns_at}
+use Rattle.irl_polite.proofs.Lists.{get_some, get_take, get_drop, same_some}
 use Rattle.irl_polite.proofs.Tables.{seen_here}
-use Rattle.irl_polite.proofs.Links.{one_owner, one_first, items_split, items_without, all_items}
+use Rattle.irl_polite.proofs.Links.{one_first, items_split, items_without, all_items}
 use Rattle.irl_polite.proofs.TurnLemmas.{some_at}
 
 module _ (agent : List ℕ) (delay moment : ℕ) (names : List ℕ → Option ℕ) (hosts : List Host) (slots : List Slot) (turns : List Turn)

@@ -1,12 +1,10 @@
 -- What a table of hosts says after one of them changed.
-use Rattle.std.proofs.Common.{◌≡◌, ◌∙◌, ℕ, ◌<◌, Bool, true, false, cond, List, length, set, Option, Some, None, refl, sym, ap, subst, inl, inr}
+use Rattle.std.proofs.Common.{◌≡◌, ◌∙◌, ℕ, ◌<◌, Bool, true, false, cond, List, set, Option, Some, None, refl, sym, ap, subst, inl, inr}
 use Rattle.std.proofs.Math.Path.{fun_ext}
 use Rattle.std.proofs.lemmas.Bool.{cases_eq}
 use Rattle.std.proofs.lemmas.List.{length-set}
 use Rattle.std.specs.Prelude.{slice_get, bytes_eq}
-use Rattle.irl_key.specs.declared.web.Work.{Work}
 use Rattle.irl_polite.specs.declared.hosts.Host.{Host}
-use Rattle.irl_polite.specs.declared.slots.Slot.{Slot}
 use Rattle.irl_polite.specs.Schedule.{Schedule, changed}
 use Rattle.irl_polite.specs.Inside.{host_at, seen, seen_at, Seen, IsTable}
 use Rattle.irl_polite.proofs.Lists.{get_set_same, get_set_other, same_some, cases_text}

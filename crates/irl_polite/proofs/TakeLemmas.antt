@@ -1,26 +1,20 @@
 -- The steps of `take` over what a front holds.
 use Rattle.std.proofs.Common.{◌≡◌, ◌∙◌, ℕ, suc, ◌+◌, ◌<◌, ◌≤◌, true, false, List, [], ◌∷◌, length, set, take, drop, Option, Some, None, refl, sym, ap, subst, arith}
 use Rattle.std.specs.Prelude.{slice_get}
-use Rattle.std.specs.List.Sorted.{IsPermutation}
-use Rattle.std.specs.BinaryHeap.{IsHeap}
-use Rattle.irl_offer.specs.Notes.{IsInUse}
 use Rattle.irl_key.specs.declared.web.Work.{Work}
 use Rattle.irl_key.specs.Web.{IsHost}
 use Rattle.irl_robots.specs.declared.host.Leave.{Leave}
 use Rattle.irl_robots.specs.declared.host.Leave.TheVariants as leave
 use Rattle.irl_polite.specs.declared.hosts.Host.{Host}
 use Rattle.irl_polite.specs.declared.slots.Slot.{Slot}
-use Rattle.irl_polite.specs.declared.known.Known.{Known}
-use Rattle.irl_polite.specs.declared.job.Job.{Job}
 use Rattle.irl_polite.specs.declared.job.Job.TheVariants.{Robots, WaitTill, Idle}
 use Rattle.irl_polite.specs.Schedule.{Schedule, host, next_due, asked}
-use Rattle.irl_polite.specs.Answers.{Answers, IsNext, IsKnown, IsUnknown, IsAnswered}
-use Rattle.irl_polite.specs.Inside.{items_of, schedule_of, seen, seen_at, IsSound, IsTop, IsReplaced, Turn, turn_cmp, Says, SaysNothing, answer_of, due_by}
-use Rattle.irl_polite.proofs.Lists.{same_some}
+use Rattle.irl_polite.specs.Answers.{Answers, IsNext}
+use Rattle.irl_polite.specs.Inside.{items_of, schedule_of, seen, seen_at, IsSound, IsTop, Turn, Says, SaysNothing, answer_of, due_by}
 use Rattle.std.proofs.lemmas.List.{length-append}
 use Rattle.irl_polite.proofs.Links.{items_split}
 use Rattle.irl_polite.proofs.NextLemmas.{picked, is_next, IsPicked, none_waits}
-use Rattle.irl_polite.proofs.MoveLemmas.{sound_asked, sound_answered, means_asked, means_fetched, means_refused}
+use Rattle.irl_polite.proofs.MoveLemmas.{means_asked, means_fetched, means_refused}
 use Rattle.irl_polite.proofs.AnswerLemmas.{answers_said, left_after}
 
 module _ (agent : List ℕ) (delay moment : ℕ) (names : List ℕ → Option ℕ) (hosts : List Host) (slots : List Slot) (left : ℕ) (turns : List Turn) (room : ℕ)

@@ -1,4 +1,5 @@
 use super::*;
+use irl_io::{Clock, JumpClock};
 use irl_key::{Canon, Work, canonical};
 use irl_offer::{Note, NoteState, Text};
 use std::alloc::Global;
@@ -170,16 +171,16 @@ fn two_of_each(alloc: Global) -> Result<Vec<Work>, Fail> {
     Ok(all)
 }
 
-// Does what there is to do, at moments that move on, until nothing is left. Gives the hosts of the pages with their
-// moments.
+// Does what there is to do by a clock that jumps, until nothing is left. Gives the hosts of the pages with their moments.
 fn starts(alloc: Global, front: &mut Front) -> Result<Vec<(u64, u64)>, Fail> {
-    let mut moment = 0;
+    let mut clock = JumpClock::new();
     let mut starts = Vec::new(alloc);
     for _ in 0..4 * HOSTS {
-        match take_at(front, moment) {
-            Told::Page(number) => starts.push((number % HOSTS, moment))?,
+        let now = clock.now();
+        match take_at(front, now) {
+            Told::Page(number) => starts.push((number % HOSTS, now))?,
             Told::Robots => {}
-            Told::WaitTill(till) => moment = till,
+            Told::WaitTill(till) => clock.wait_till(till),
             Told::Idle => break,
             _ => return Err(Fail::new("a page is refused")),
         }

@@ -129,8 +129,9 @@ fn a_tape_answers_in_place_of_the_network(rt: HostRuntime) -> Result<(), Fail> {
 }
 
 // Texts, and the line at which each is refused: where pages may be recorded, and where not. 0 where it is taken.
-const TEXTS: [(&[u8], u64, u64); 40] = [
+const TEXTS: [(&[u8], u64, u64); 41] = [
     (b"", 0, 0),
+    (ROW, 0, 3),
     (b"\n# a\n\n#\n", 0, 0),
     (b" # a", 1, 1),
     (b"suffix a.b-1\nsuffix com\nsuffix a.b-1", 0, 0),
@@ -189,6 +190,9 @@ fn a_text_is_refused_at_its_first_bad_line(rt: HostRuntime) -> Result<(), Fail> 
             assert_eq!(rt; refused.unwrap_or(0), line, "{text:?}");
         }
     }
+    // Without its last line it ends inside a page.
+    let unended = ROW.get(..ROW.len().saturating_sub(4)).unwrap_or(&[]);
+    assert_eq!(rt; read(alloc, unended, true, &[])?.err(), Some(31));
     // The read of this number fails.
     assert_eq!(rt; read(alloc, b"suffix a", true, &[0])?.err(), Some(0));
     assert_eq!(rt; read(alloc, b"suffix A\n", true, &[1])?.err(), Some(1));
@@ -204,10 +208,14 @@ fn repeated(
     length: usize,
     tail: &[u8],
 ) -> Result<Vec<u8>, AllocError> {
+    let filler = b"x".repeat(alloc, length)?;
     let mut text = head.to_vec(alloc)?;
     for number in 0..count {
-        let line = format!(in alloc; "{mark}{number:x<length$}\n")?;
+        let line = format!(in alloc; "{mark}{number}")?;
+        let digits = line.len().saturating_sub(mark.len());
         text.extend_from_slice(line.as_bytes())?;
+        text.extend_from_slice(filler.get(digits..).unwrap_or(&[]))?;
+        text.push(b'\n')?;
     }
     text.extend_from_slice(tail)?;
     Ok(text)
@@ -236,6 +244,17 @@ fn a_body_and_a_line_have_a_limit(rt: HostRuntime) -> Result<(), Fail> {
         let refused = read(alloc, &text, true, &[])?.err();
         assert_eq!(rt; refused.unwrap_or(0), line, "{count} of {length}");
     }
+    Ok(())
+}
+
+// Names as long as they may be. One that comes again is taken once.
+#[test]
+fn a_tape_may_have_many_suffixes(rt: HostRuntime) -> Result<(), Fail> {
+    let alloc = rt.alloc();
+    let text = repeated(alloc, b"suffix ab\n", "suffix ", 1_000, 253, b"suffix ab")?;
+    let tape = tape(alloc, &text)?;
+    // Each behind the first has a line feed before it.
+    assert_eq!(rt; tape.suffixes().bytes().len(), 2 + 1_000 * 254);
     Ok(())
 }
 

@@ -1,6 +1,5 @@
-use Rattle.std.proofs.Common.{◌≡◌, ◌∙◌, ℕ, ◌++◌, ◌∷◌, [], List, Option, Some, None, cond, length, false, refl, sym, ap, subst, rules}
-use Rattle.std.specs.Prelude.{bytes_eq, vec_len}
-use Rattle.irl_polite.specs.declared.hosts.Host.{Host}
+use Rattle.std.proofs.Common.{◌≡◌, ◌∙◌, ℕ, ◌++◌, ◌∷◌, [], List, Some, None, cond, length, false, sym, subst, rules}
+use Rattle.std.specs.Prelude.{bytes_eq}
 use Rattle.irl_polite.specs.Inside.{place_of, Grows}
 use Rattle.irl_polite.proofs.Lists.{none_of}
 use Rattle.irl_polite.proofs.TextPlaces.{value_at-insert}

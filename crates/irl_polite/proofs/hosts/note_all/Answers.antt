@@ -1,12 +1,11 @@
-use Rattle.std.proofs.Common.{◌≡◌, ◌∙◌, ℕ, ◌<◌, ◌++◌, ◌∷◌, [], List, length, Some, refl, sym, ap, subst, rules, arith}
-use Rattle.std.specs.Prelude.{slice_get, vec_len}
+use Rattle.std.proofs.Common.{◌≡◌, ◌∙◌, ℕ, ◌<◌, ◌++◌, ◌∷◌, [], List, length, sym, ap, subst, rules, arith}
+use Rattle.std.specs.Prelude.{vec_len}
 use Rattle.std.specs.List.{All}
 use Rattle.std.specs.Vec.Iter.{into_iter_items, into_iter_steps}
 use Rattle.std.specs.declared.vec.IntoIter.{IntoIter}
 use Rattle.std.specs.Iterator.{Yields}
-use Rattle.irl_polite.specs.declared.hosts.Host.{Host}
 use Rattle.irl_polite.specs.declared.known.Known.{Known}
-use Rattle.irl_polite.specs.Inside.{IsPlaced, Noted}
+use Rattle.irl_polite.specs.Inside.{IsPlaced}
 use Rattle.irl_polite.proofs.Lists.{get_some}
 use Rattle.irl_polite.proofs.AnswerLemmas.{all_middle}
 use Rattle.irl_polite.proofs.GrowLemmas.{noted_more, noted_length}

@@ -1,7 +1,6 @@
-use Rattle.std.proofs.Common.{◌≡◌, ◌∙◌, ◌++◌, ◌∷◌, [], ℕ, Some, refl, sym, ap, subst}
+use Rattle.std.proofs.Common.{◌∙◌, ◌++◌, ◌∷◌, [], ℕ, refl, sym, ap, subst}
 use Rattle.std.specs.List.{AllZip}
 use Rattle.irl_offer.specs.declared.note.Note.{Note}
-use Rattle.irl_robots.specs.Leave.{host_state}
 use Rattle.irl_polite.specs.declared.known.Known.{Known}
 use Rattle.irl_polite.specs.Inside.{place_of, Grows, IsRead}
 use Rattle.irl_polite.proofs.GrowLemmas.{grows_on, all_zip_push, all_zip_weaker}

@@ -1,8 +1,6 @@
-use Rattle.std.proofs.Common.{◌≡◌, ◌∙◌, ℕ, ◌<◌, List, length, map, refl, sym, ap, subst}
+use Rattle.std.proofs.Common.{◌≡◌, ◌∙◌, length, sym, subst}
 use Rattle.std.specs.List.{All}
-use Rattle.irl_polite.specs.declared.hosts.Host.{Host}
-use Rattle.irl_polite.specs.declared.slots.Slot.{Slot}
-use Rattle.irl_polite.specs.Inside.{IsOwned, IsReady, IsResting, bare_host, bare_slot}
+use Rattle.irl_polite.specs.Inside.{IsOwned, IsReady, bare_host}
 use Rattle.irl_polite.proofs.GrowLemmas.{noted_length}
 use Rattle.irl_polite.proofs.LinkingLemmas.{like_length}
 use Rattle.irl_polite.proofs.LoadLemmas.{noted_resting, owned_longer, owned_like, all_ready}

@@ -1,8 +1,7 @@
-use Rattle.std.specs.List.{AllZip}
 use Rattle.irl_key.specs.declared.web.Work.{Work}
 use Rattle.irl_polite.specs.declared.slots.Slot.{Slot}
 use Rattle.irl_polite.specs.Schedule.{host}
-use Rattle.irl_polite.specs.Inside.{place_of, Grows, IsEntered, IsPrepared}
+use Rattle.irl_polite.specs.Inside.{place_of, Grows, IsEntered}
 use Rattle.irl_polite.proofs.GrowLemmas.{all_zip_weaker}
 use Rattle.irl_polite.proofs.loading.prepare.Goals as goal
 

@@ -1,4 +1,4 @@
-use Rattle.std.proofs.Common.{◌≡◌, ◌∙◌, ℕ, ◌+◌, ◌-◌, ◌<◌, ◌≤◌, List, length, map, set, Some, refl, sym, ap, subst, rules, arith}
+use Rattle.std.proofs.Common.{◌≡◌, ◌∙◌, ◌+◌, ◌-◌, ◌<◌, ◌≤◌, length, map, set, Some, refl, sym, ap, subst, rules, arith}
 use Rattle.std.specs.Prelude.{slice_get, vec_len, IsSome}
 use Rattle.std.proofs.lemmas.List.{length-set}
 use Rattle.irl_key.specs.declared.web.Work.{Work}

@@ -1,4 +1,4 @@
-use Rattle.std.proofs.Common.{◌≡◌, ◌≤◌, length, map, ℕ}
+use Rattle.std.proofs.Common.{◌≡◌, ◌≤◌, length, map}
 use Rattle.irl_polite.specs.Inside.{AreFirsts, AreNexts, bare_host, bare_slot}
 use Rattle.irl_polite.proofs.slots.link.Given as goal
 

@@ -1,11 +1,7 @@
-use Rattle.std.proofs.Common.{◌≡◌, ◌∙◌, ◌++◌, ◌∷◌, [], Some, refl, sym, ap, subst, map}
+use Rattle.std.proofs.Common.{◌∙◌, ◌++◌, ◌∷◌, [], refl, sym, ap, subst}
 use Rattle.std.specs.List.{AllZip}
-use Rattle.std.proofs.lemmas.List.{map-id}
-use Rattle.std.proofs.lemmas.Iterator.Consumers.{YieldsList-end}
-use Rattle.std.proofs.lemmas.Iterator.Adapters.{YieldsList-from_vec}
 use Rattle.irl_key.specs.Web.{IsHost}
 use Rattle.irl_key.specs.declared.web.Work.{Work}
-use Rattle.irl_polite.specs.declared.slots.Slot.{Slot}
 use Rattle.irl_polite.specs.Inside.{place_of, Grows, IsEntered, IsOwner}
 use Rattle.irl_polite.specs.Schedule.{host}
 use Rattle.irl_polite.proofs.GrowLemmas.{grows_on, all_zip_push, all_zip_weaker}

@@ -1,10 +1,10 @@
-use Rattle.std.proofs.Common.{◌≡◌, ◌∙◌, ℕ, ◌+◌, ◌<◌, ◌≤◌, List, length, Some, refl, sym, ap, subst, rules, arith}
-use Rattle.std.specs.Prelude.{slice_get, vec_len, IsSome}
-use Rattle.std.specs.BinaryHeap.{heap_items, heap_capacity, heap_len}
+use Rattle.std.proofs.Common.{◌≡◌, ◌≤◌, length, Some, refl, arith}
+use Rattle.std.specs.Prelude.{slice_get}
+use Rattle.std.specs.BinaryHeap.{heap_items}
 use Rattle.std.proofs.lemmas.Option.{slice_get_read}
 use Rattle.irl_polite.specs.declared.hosts.Host.{Host}
 use Rattle.irl_polite.specs.declared.slots.Slot.{Slot}
-use Rattle.irl_polite.specs.Inside.{IsOwned, IsReady, IsLeft, IsBegun}
+use Rattle.irl_polite.specs.Inside.{IsOwned, IsReady, IsLeft}
 use Rattle.irl_polite.proofs.Lists.{some_value}
 use Rattle.irl_polite.proofs.LinkingLemmas.{all_at}
 use Rattle.irl_polite.proofs.BeginLemmas.{begun_none, begun_more, begun_all}

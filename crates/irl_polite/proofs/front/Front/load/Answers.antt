@@ -1,9 +1,5 @@
-use Rattle.std.proofs.Common.{◌≡◌, ◌∙◌, ◌≤◌, List, [], length, map, refl, sym, ap, subst, rules, arith}
-use Rattle.std.specs.Prelude.{vec_len}
+use Rattle.std.proofs.Common.{◌≡◌, ◌∙◌, ◌≤◌, [], length, map, refl, sym, ap, subst, rules, arith}
 use Rattle.std.specs.BinaryHeap.{heap_items, heap_capacity}
-use Rattle.irl_polite.specs.declared.hosts.Host.{Host}
-use Rattle.irl_polite.specs.declared.slots.Slot.{Slot}
-use Rattle.irl_polite.specs.Schedule.{Schedule}
 use Rattle.irl_polite.specs.Inside.{Held, Grows, IsPrepared, IsCommitted, place_of, schedule, schedule_of, items_of, bare_slot}
 use Rattle.irl_polite.proofs.Tables.{schedules}
 use Rattle.irl_polite.proofs.LinkingLemmas.{like_length}

@@ -1,4 +1,4 @@
-use Rattle.std.proofs.Common.{◌≡◌, ◌∙◌, ℕ, ◌<◌, ◌∷◌, List, length, set, Option, Some, false, refl, sym, ap, subst, true, rules, arith}
+use Rattle.std.proofs.Common.{◌≡◌, ◌∙◌, ℕ, ◌<◌, ◌∷◌, length, Option, Some, false, refl, sym, ap, subst, true, rules, arith}
 use Rattle.std.specs.Prelude.{IsSome}
 use Rattle.std.specs.BinaryHeap.{heap_items, heap_len, heap_capacity}
 use Rattle.std.specs.List.Sorted.{IsPermutation}

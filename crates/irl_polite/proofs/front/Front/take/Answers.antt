@@ -1,10 +1,9 @@
-use Rattle.std.proofs.Common.{◌≡◌, ◌∙◌, ℕ, ◌<◌, ◌≤◌, ◌+◌, ◌-◌, List, [], length, set, get_or, Some, true, refl, sym, ap, subst, rules, arith}
+use Rattle.std.proofs.Common.{◌≡◌, ◌∙◌, ◌<◌, ◌≤◌, ◌+◌, ◌-◌, [], length, set, get_or, true, refl, sym, ap, subst, rules, arith}
 use Rattle.std.specs.Prelude.{slice_get, vec_len, IsSome}
-use Rattle.std.specs.BinaryHeap.{heap_items, heap_capacity, heap_len}
+use Rattle.std.specs.BinaryHeap.{heap_items, heap_capacity}
 use Rattle.std.proofs.lemmas.Option.{slice_get_read, get_or_from_slice_get}
 use Rattle.irl_key.specs.Web.{IsHost}
 use Rattle.irl_key.specs.declared.web.Work.{Work}
-use Rattle.irl_robots.specs.declared.host.Leave.{Leave}
 use Rattle.irl_polite.specs.declared.hosts.Host.{Host}
 use Rattle.irl_polite.specs.declared.slots.Slot.{Slot}
 use Rattle.irl_polite.specs.declared.job.Job.{Job}
@@ -15,7 +14,7 @@ use Rattle.irl_polite.specs.Inside.{Held, IsTop, IsSound, IsReplaced, Says, Says
 use Rattle.irl_polite.proofs.Lists.{get_within, same_some}
 use Rattle.irl_polite.proofs.AnswerLemmas.{waits_iff, idle_iff}
 use Rattle.irl_polite.proofs.MoveLemmas.{sound_asked, sound_answered}
-use Rattle.irl_polite.proofs.TakeLemmas.{now, idles, found, Picked, some_left, own_name, waits, asks, answers}
+use Rattle.irl_polite.proofs.TakeLemmas.{idles, found, Picked, some_left, own_name, waits, asks, answers}
 use Rattle.irl_polite.proofs.front.Front.take.Goals as goal
 
 pub returns-in_default-clause-step : goal.returns-in_default-clause-step
