@@ -2,12 +2,12 @@
 # How long 100,000, 200,000 and 400,000 events of a crawl take to be applied, a third of them passes and a third settles.
 #   bench/fates.sh [RUNS]
 # The commit is put into a clone of its own, fates.rt.txt beside this script becomes a program `bench_fates` there, and `rt run`
-# proves what it needs and builds it as the gate does, which takes some minutes at first. The program is run RUNS times (5) up to
+# proves what it needs and builds it as the gate does, which takes some minutes at first. The program is run RUNS times (9) up to
 # the events and to the last fate, and the least of each processor time counts; the making of the events is taken off.
 # Prints a table in milliseconds of the processor. Fails where an event is refused, and where twice the events take more than 2.5
 # times as long.
 set -euo pipefail
-runs=${1:-5}
+runs=${1:-9}
 top=$(git -C "$(dirname "$0")" rev-parse --show-toplevel)
 work=$(mktemp -d)
 trap 'rm -rf "$work"' EXIT

@@ -1,14 +1,14 @@
 #!/usr/bin/env bash
-# How long a front's turns take for 10,000, 20,000 and 40,000 hosts with two pages each.
+# How long a front's turns take for 10,000, 20,000 and 40,000 hosts with twenty pages each.
 #   bench/front.sh [RUNS]
 # The commit is put into a clone of its own, front.rt.txt beside this script becomes a program `bench_front` there, with the proof
 # of front.antt.txt, and `rt run` proves what it needs and builds it as the gate does, which takes some minutes at first. The
-# program is run RUNS times (5) up to the pages, to the load and to the last answer, and the least of each processor time counts;
+# program is run RUNS times (9) up to the pages, to the load and to the last answer, and the least of each processor time counts;
 # what came before is taken off.
 # Prints a table in milliseconds of the processor. Fails where an answer is wrong, and where twice the hosts take more than 2.5
 # times as long.
 set -euo pipefail
-runs=${1:-5}
+runs=${1:-9}
 top=$(git -C "$(dirname "$0")" rev-parse --show-toplevel)
 work=$(mktemp -d)
 trap 'rm -rf "$work"' EXIT
