@@ -1,11 +1,11 @@
 -- How far a sweep has come after one offer, and after one pair more.
-use Rattle.std.proofs.Common.{◌≡◌, ◌∙◌, ℕ, zero, suc, ◌+◌, ◌<◌, ◌≤◌, List, [], ◌∷◌, ◌++◌, map, length, take, take_all, get_or, Some, None, Option, Bool, true, false, cond, refl, sym, ap, subst, arith, length-append, append_assoc}
+use Rattle.std.proofs.Common.{◌≡◌, ◌∙◌, ℕ, zero, suc, ◌+◌, ◌<◌, ◌≤◌, List, [], ◌∷◌, ◌++◌, map, length, take, take_all, get_or, Some, None, Option, Bool, cond, refl, sym, ap, subst, arith, length-append, append_assoc}
 use Rattle.std.specs.Prelude.{Vec, nat_eq, slice_index, filter}
 use Rattle.std.specs.List.{AllByRecursion}
 use Rattle.std.specs.List.Sorted.{IsNonDecreasingBy}
 use Rattle.std.specs.FinMap.{get, insert, entries, empty, len-empty, len-entries}
 use Rattle.std.specs.Ordering.{nat_cmp}
-use Rattle.std.proofs.lemmas.List.{map-append, take_more, append-nil}
+use Rattle.std.proofs.lemmas.List.{map-append, take_more}
 use Rattle.irl_offer.specs.declared.offer.Rule.{Rule}
 use Rattle.irl_offer.specs.declared.offer.Verdict.{Verdict}
 use Rattle.irl_offer.specs.declared.receipt.Pair.{Pair}
@@ -16,9 +16,10 @@ use Rattle.irl_model.proofs.JudgingLaws.{after-more, judged_on, judged_on-more, 
 use Rattle.irl_merge.specs.declared.query.Query.{Query}
 use Rattle.irl_merge.specs.declared.sweep.Sweep.{Sweep}
 use Rattle.irl_merge.specs.Queries.{numbered, tuple_of}
-use Rattle.irl_merge.specs.Pairs.{ArePairsOf, HasGiven, IsRising, IsUpTo, keys_of, pair_of}
+use Rattle.irl_model.specs.Pairs.{ArePairsOf, IsRising, keys_of, pair_of}
+use Rattle.irl_merge.specs.Pairs.{HasGiven, IsUpTo}
 use Rattle.irl_merge.specs.Sweeping.{HasAsked, HasSwept, IsBehind, judged, next_key}
-use Rattle.irl_merge.proofs.Keys.{keys_more, rising_below}
+use Rattle.irl_merge.proofs.Keys.{keys_more}
 use Rattle.irl_merge.proofs.Extending.{after_apart, judgements_apart}
 
 pub key_at : (xs : List Query) (i : ℕ) (d : Query) → i < length xs → slice_index (map (λ (a : Query). a.key) xs) i ≡ (get_or xs i d).key

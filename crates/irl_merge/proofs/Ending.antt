@@ -1,18 +1,18 @@
 -- What a sweep gives at its end.
-use Rattle.std.proofs.Common.{◌≡◌, ◌∙◌, ℕ, List, ◌++◌, map, length, Option, sym, ap, subst}
+use Rattle.std.proofs.Common.{◌≡◌, ◌∙◌, List, map, length, Option, sym, ap, subst}
 use Rattle.std.specs.Prelude.{Result, Ok, Err, IfOk, OnOk}
 use Rattle.irl_offer.specs.declared.offer.Rule.{Rule}
 use Rattle.irl_offer.specs.declared.offer.Verdict.{Verdict}
 use Rattle.irl_offer.specs.declared.receipt.Pair.{Pair}
 use Rattle.irl_offer.specs.Tuple.{Tuple}
 use Rattle.irl_model.specs.Judging.{KeyMap, after, judgements}
-use Rattle.irl_model.proofs.JudgingLaws.{judged_on, judgements-judged_on}
-use Rattle.irl_merge.specs.declared.query.Query.{Query}
+use Rattle.irl_model.proofs.JudgingLaws.{judgements-judged_on}
 use Rattle.irl_merge.specs.declared.sweep.Sweep.{Sweep}
 use Rattle.irl_merge.specs.Queries.{AreTold, numbered, tuple_of}
-use Rattle.irl_merge.specs.Pairs.{ArePairsOf, HasGiven, keys_of}
+use Rattle.irl_model.specs.Pairs.{ArePairsOf, keys_of}
+use Rattle.irl_merge.specs.Pairs.{HasGiven}
 use Rattle.irl_merge.specs.Sweeping.{HasAsked, judged}
-use Rattle.irl_merge.proofs.Keys.{keys_are}
+use Rattle.irl_model.proofs.RisingKeys.{keys_are}
 use Rattle.irl_merge.proofs.OneKey.{Told, told_on, told-judged, numbered-after}
 use Rattle.irl_merge.proofs.Unsorting.{SameByKey, after_same, right, right_is_told, told_is_right}
 use Rattle.irl_merge.proofs.Asking.{all_done}

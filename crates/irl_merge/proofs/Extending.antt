@@ -1,5 +1,5 @@
 -- A set that has one key more, above all that it is asked for, answers alike.
-use Rattle.std.proofs.Common.{◌≡◌, ◌∙◌, ℕ, ◌<◌, List, [], ◌∷◌, map, Some, None, Option, Bool, true, false, cond, refl, sym, ap, arith}
+use Rattle.std.proofs.Common.{◌≡◌, ◌∙◌, ℕ, ◌<◌, List, [], ◌∷◌, Some, Option, Bool, true, false, cond, refl, sym, ap, arith}
 use Rattle.std.specs.Prelude.{nat_eq}
 use Rattle.std.specs.List.{AllByRecursion}
 use Rattle.std.specs.FinMap.{get, insert}
@@ -9,7 +9,7 @@ use Rattle.irl_offer.specs.declared.offer.Verdict.{Verdict}
 use Rattle.irl_offer.specs.Tuple.{Tuple}
 use Rattle.irl_model.specs.Judging.{KeyMap, after, answer, combined, entered, enters, judgements}
 use Rattle.irl_model.proofs.JudgingLaws.{judged_on, judgements-judged_on}
-use Rattle.irl_merge.proofs.Keys.{get_set, same_keys}
+use Rattle.irl_model.proofs.RisingKeys.{get_set, same_keys}
 
 apart : (q a k : ℕ) (x y z : Option ℕ) → a < k → cond (nat_eq q a) x (cond (nat_eq q k) y z) ≡ cond (nat_eq q k) y (cond (nat_eq q a) x z)
 apart q a k x y z lt = grind (arith, nat_tests)

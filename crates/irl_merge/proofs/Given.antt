@@ -1,66 +1,36 @@
 -- What a sweep has given.
-use Rattle.std.proofs.Common.{◌≡◌, ◌∙◌, ℕ, zero, suc, ◌+◌, ◌<◌, List, [], ◌∷◌, ◌++◌, map, take, length, Option, Some, None, Bool, true, false, cond, refl, sym, ap, subst, arith, ◌⊎◌, inl, inr}
-use Rattle.std.specs.Prelude.{T, nat_eq, filter}
+use Rattle.std.proofs.Common.{◌≡◌, ◌∙◌, ℕ, zero, suc, ◌+◌, List, [], ◌∷◌, ◌++◌, map, take, length, Option, Some, None, Bool, true, refl, sym, ap, subst, arith, inl, inr}
+use Rattle.std.specs.Prelude.{nat_eq}
 use Rattle.std.specs.List.{AllByRecursion}
-use Rattle.std.specs.Ordering.{nat_cmp}
-use Rattle.std.specs.Cmp.{nat_cmp_total}
-use Rattle.std.specs.FinMap.{get, entries, insert, entries-insert, put, from_entries, empty}
-use Rattle.std.specs.FinMap.Entries.{by_order}
-use Rattle.std.specs.declared.cmp.Ordering.{Ordering}
-use Rattle.std.specs.declared.cmp.Ordering.TheVariants.{Less, Equal, Greater}
+use Rattle.std.specs.FinMap.{entries}
 use Rattle.std.proofs.lemmas.Bool.Decides.{nat_tests}
 use Rattle.irl_offer.specs.declared.offer.Rule.{Rule}
 use Rattle.irl_offer.specs.declared.receipt.Pair.{Pair}
 use Rattle.irl_offer.specs.Tuple.{Tuple}
-use Rattle.irl_model.specs.Judging.{KeyMap, after, combined, entered, enters}
+use Rattle.irl_model.specs.Judging.{KeyMap, after}
+use Rattle.irl_model.proofs.Adding.{Pass, pass_after, pass_insert}
 use Rattle.irl_merge.specs.declared.query.Query.{Query}
 use Rattle.irl_merge.specs.declared.sweep.Sweep.{Sweep}
 use Rattle.irl_merge.specs.Queries.{numbered, tuple_of}
-use Rattle.irl_merge.specs.Pairs.{HasGiven, IsRising, keys_of, pair_of}
+use Rattle.irl_model.specs.Pairs.{IsRising, keys_of, pair_of}
+use Rattle.irl_merge.specs.Pairs.{HasGiven}
 use Rattle.irl_merge.specs.Sweeping.{HasSwept, judged}
 use Rattle.irl_merge.proofs.Keys.{given_rises}
 use Rattle.irl_merge.proofs.Asking.{nothing_made}
 use Rattle.irl_merge.proofs.Unsorting.{Has, kept, was}
 
 module _ (test : ℕ → Bool) where
-  -- each key of entries passes
-  abbrev pub Pass : List (ℕ × ℕ) → Type 0
-  Pass es = AllByRecursion (λ (e : ℕ × ℕ). test e.0 ≡ true) es
+  pass_keys : (pairs : List Pair) → AllByRecursion (λ (p : Pair). test p.key ≡ true) pairs → Pass test (entries (keys_of pairs))
+  pass_keys [] h = subst (Pass test) (sym nothing_made.1) tt
+  pass_keys (p ∷ pairs) h = pass_insert test (keys_of pairs) p.key p.value h.0 (pass_keys pairs h.1)
 
-  pass_put : (k v : ℕ) (es : List (ℕ × ℕ)) → test k ≡ true → Pass es → Pass (put nat_cmp k v es)
-  pass_put k v [] t h = (t, tt)
-  pass_put k v (e ∷ es) t h =
-      elim (nat_cmp k e.0) as (λ (o : Ordering). Pass (by_order o ((k, v) ∷ e ∷ es) ((e.0, v) ∷ es) (e ∷ put nat_cmp k v es))) [
-        | Less ↦ (t, h)
-        | Equal ↦ (h.0, h.1)
-        | Greater ↦ (h.0, pass_put k v es t h.1)
-      ]
-
-  pass_insert : (keys : KeyMap) (k v : ℕ) → test k ≡ true → Pass (entries keys) → Pass (entries (insert keys k v))
-  pass_insert keys k v t h = subst Pass (sym (entries-insert nat_cmp_total keys k v)) (pass_put k v (entries keys) t h)
-
-  pass_entered : (rule : Rule) (keys : KeyMap) (o : Tuple) → test o.key ≡ true → Pass (entries keys) → Pass (entries (entered rule keys o))
-  pass_entered rule keys o t h =
-      elim (enters o.op) as (λ (b : Bool). Pass (entries (cond b (insert keys o.key (combined rule (get keys o.key) o.value)) keys))) [
-        | true ↦ pass_insert keys o.key (combined rule (get keys o.key) o.value) t h
-        | false ↦ h
-      ]
-
-  pass_after : (rule : Rule) (keys : KeyMap) (os : List Tuple) → AllByRecursion (λ (o : Tuple). test o.key ≡ true) os → Pass (entries keys) → Pass (entries (after rule keys os))
-  pass_after rule keys [] t h = h
-  pass_after rule keys (o ∷ os) t h = pass_after rule (entered rule keys o) os t.1 (pass_entered rule keys o t.0 h)
-
-  pass_keys : (pairs : List Pair) → AllByRecursion (λ (p : Pair). test p.key ≡ true) pairs → Pass (entries (keys_of pairs))
-  pass_keys [] h = subst Pass (sym nothing_made.1) tt
-  pass_keys (p ∷ pairs) h = pass_insert (keys_of pairs) p.key p.value h.0 (pass_keys pairs h.1)
-
-  pass_front : (given : List Pair) (es : List (ℕ × ℕ)) → Pass (map pair_of given ++ es) → AllByRecursion (λ (p : Pair). test p.key ≡ true) given
+  pass_front : (given : List Pair) (es : List (ℕ × ℕ)) → Pass test (map pair_of given ++ es) → AllByRecursion (λ (p : Pair). test p.key ≡ true) given
   pass_front [] es h = tt
   pass_front (p ∷ given) es h = (h.0, pass_front given es h.1)
 
-  pass_given : (keys : KeyMap) (given : List Pair) (last : Option Pair) → HasGiven keys given last → Pass (entries keys) → AllByRecursion (λ (p : Pair). test p.key ≡ true) given
+  pass_given : (keys : KeyMap) (given : List Pair) (last : Option Pair) → HasGiven keys given last → Pass test (entries keys) → AllByRecursion (λ (p : Pair). test p.key ≡ true) given
   pass_given keys given None has h = subst (AllByRecursion (λ (p : Pair). test p.key ≡ true)) (sym has.0) tt
-  pass_given keys given (Some p) has h = pass_front given (pair_of p ∷ []) (subst Pass has h)
+  pass_given keys given (Some p) has h = pass_front given (pair_of p ∷ []) (subst (Pass test) has h)
 
   -- what is asked is offered
   pass_numbered : (place : ℕ) (os : List Tuple) (q : Query) → AllByRecursion (λ (o : Tuple). test o.key ≡ true) os → Has (numbered place os) q → test q.key ≡ true
@@ -83,7 +53,7 @@ module _ (test : ℕ → Bool) where
       pass_numbered 0 offers q o (was (λ (x : Query). nat_eq q.key x.key) (numbered 0 offers) q
       (subst (λ (l : List Query). Has l q) (has.same q.key) (kept (λ (x : Query). nat_eq q.key x.key) queries q itself h))) in
       pass_given (after rule (keys_of fed) (judged sweep)) given sweep.last has.asked.made
-      (pass_after rule (keys_of fed) (judged sweep) (pass_queries queries offers each (length sweep.verdicts.items)) (pass_keys fed f))
+      (pass_after test rule (keys_of fed) (judged sweep) (pass_keys fed f) (pass_queries queries offers each (length sweep.verdicts.items)))
 
 pub given_is_rising : (rule : Rule) (offers : List Tuple) (fed given : List Pair) (sweep : Sweep) → HasSwept rule offers fed given sweep → IsRising given
 given_is_rising rule offers fed given sweep has = given_rises (after rule (keys_of fed) (judged sweep)) given sweep.last has.asked.made

@@ -1,67 +1,30 @@
 -- Sets whose keys are entered in their order.
-use Rattle.std.proofs.Common.{◌≡◌, ◌∙◌, ℕ, ◌<◌, ◌≤◌, List, [], ◌∷◌, ◌++◌, map, Some, None, Option, Bool, true, false, cond, refl, sym, ap, subst, arith, append_assoc, drop}
-use Rattle.std.specs.Prelude.{T, ◌&&◌, IsTrue, nat_eq}
-use Rattle.std.specs.declared.cmp.Ordering.{Ordering}
-use Rattle.std.specs.declared.cmp.Ordering.TheVariants.{Less, Equal, Greater}
+use Rattle.std.proofs.Common.{◌≡◌, ◌∙◌, ℕ, ◌<◌, ◌≤◌, List, [], ◌∷◌, ◌++◌, map, Some, None, Option, refl, sym, ap, subst, arith, append_assoc, drop}
+use Rattle.std.specs.Prelude.{T}
+use Rattle.std.specs.declared.cmp.Ordering.TheVariants.{Equal, Greater}
 use Rattle.std.specs.List.{AllByRecursion}
-use Rattle.std.specs.Ordering.{nat_cmp, eq_by_cmp, is_lt}
+use Rattle.std.specs.Ordering.{nat_cmp}
 use Rattle.std.specs.Cmp.{nat_cmp_total}
-use Rattle.std.specs.FinMap.{get, insert, find, put, entries, entries_sorted, entries-from_sorted, from_entries, from_sorted, get-from_sorted, from_entries_push, get-entries, get-from_entries, get-insert, entries-insert, same_map, nat_cmp-IsAntisymmetric, is_sorted}
+use Rattle.std.specs.FinMap.{get, insert, find, put, entries_sorted, from_entries, from_entries_push, get-entries, entries-insert, nat_cmp-IsAntisymmetric, is_sorted}
 use Rattle.std.specs.FinMap.Entries.{below_all}
-use Rattle.std.proofs.lemmas.Cmp.{ranked}
 use Rattle.std.proofs.lemmas.Bool.Decides.{nat_tests}
 use Rattle.std.proofs.lemmas.List.{append-nil, map-append}
 use Rattle.irl_offer.specs.declared.receipt.Pair.{Pair}
 use Rattle.irl_model.specs.Book.{IsPrefixOf}
 use Rattle.irl_model.specs.Judging.{KeyMap}
-use Rattle.irl_merge.specs.Pairs.{ArePairsOf, HasGiven, IsRising, keys_of, pair_of}
+use Rattle.irl_model.specs.Pairs.{IsRising, keys_of, pair_of}
+use Rattle.irl_model.proofs.RisingKeys.{first, from_T, lt_from, second, sorted_front, to_T}
+use Rattle.irl_merge.specs.Pairs.{HasGiven}
 
 abbrev pub AllBelow : ℕ → List (ℕ × ℕ) → Type 0
 AllBelow key es = AllByRecursion (λ e. e.0 < key) es
 
 -- ---- comparisons
-pub eq_cmp : (q k : ℕ) → eq_by_cmp nat_cmp q k ≡ nat_eq q k
-eq_cmp q k = grind (arith, nat_tests)
-
 greater : (k x : ℕ) → x < k → nat_cmp k x ≡ Greater
 greater k x h = grind (arith, nat_tests)
 
 tied : (k : ℕ) → nat_cmp k k ≡ Equal
 tied k = grind (arith, nat_tests)
-
-lt_from : (x y : ℕ) → T (is_lt (nat_cmp x y)) → x < y
-lt_from x y h =
-    elim (nat_cmp x y) as (λ (r : Ordering). r ≡ nat_cmp x y → T (is_lt r) → x < y) [
-      | Less ↦ λ e h. ranked x y Less e
-      | Equal ↦ λ e h. absurd h
-      | Greater ↦ λ e h. absurd h
-    ] refl h
-
-to_T : (b : Bool) → IsTrue b → T b
-to_T b e = subst T (sym e) tt
-
-from_T : (b : Bool) → T b → IsTrue b
-from_T true h = refl
-from_T false h = absurd h
-
-first : (a b : Bool) → T (a && b) → T a
-first true b p = tt
-first false b p = p
-
-second : (a b : Bool) → T (a && b) → T b
-second true b p = p
-second false b p = absurd p
-
-both : (a b : Bool) → T a → T b → T (a && b)
-both true b p q = q
-both false b p q = p
-
--- ---- what a set has at a key, in the order of numbers
-pub get_set : (keys : KeyMap) (k v q : ℕ) → get (insert keys k v) q ≡ cond (nat_eq q k) (Some v) (get keys q)
-get_set keys k v q = get-insert nat_cmp_total keys k v q ∙ ap (λ b. cond b (Some v) (get keys q)) (eq_cmp q k)
-
-pub same_keys : (a b : KeyMap) → ((q : ℕ) → get a q ≡ get b q) → a ≡ b
-same_keys a b h = same_map nat_cmp_total nat_cmp-IsAntisymmetric a b h
 
 -- ---- entries whose keys are below a key
 put_last : (es : List (ℕ × ℕ)) (k v : ℕ) → AllBelow k es → put nat_cmp k v es ≡ es ++ (k, v) ∷ []
@@ -93,18 +56,7 @@ pub below_more : (es : List (ℕ × ℕ)) (e : ℕ × ℕ) (j k : ℕ) → j ≤
 below_more [] e j k le lt h = (lt, tt)
 below_more (d ∷ es) e j k le lt h = (omega (arith, h.0), below_more es e j k le lt h.1)
 
--- ---- the front of what rises
-below_front : (x : ℕ) (es fs : List (ℕ × ℕ)) → T (below_all nat_cmp x (es ++ fs)) → T (below_all nat_cmp x es)
-below_front x [] fs h = tt
-below_front x (e ∷ es) fs h = both _ _ (first _ _ h) (below_front x es fs (second _ _ h))
-
-sorted_front : (es fs : List (ℕ × ℕ)) → T (is_sorted nat_cmp (es ++ fs)) → T (is_sorted nat_cmp es)
-sorted_front [] fs h = tt
-sorted_front (e ∷ es) fs h = both _ _ (below_front e.0 es fs (first _ _ h)) (sorted_front es fs (second _ _ h))
-
-pub rising_front : (xs ys : List Pair) → IsRising (xs ++ ys) → IsRising xs
-rising_front xs ys h = from_T _ (sorted_front (map pair_of xs) (map pair_of ys) (to_T _ (rw (map-append pair_of xs ys) at h)))
-
+-- ---- pairs
 below_pairs : (key : ℕ) (pairs : List Pair) → AllBelow key (map pair_of pairs) → AllByRecursion (λ (p : Pair). p.key < key) pairs
 below_pairs key [] h = tt
 below_pairs key (p ∷ pairs) h = (h.0, below_pairs key pairs h.1)
@@ -118,9 +70,6 @@ keys_more fed p h =
     ap (λ (es : List (ℕ × ℕ)). from_entries {R = nat_cmp} es) (map-append pair_of fed (p ∷ []))
     ∙ from_entries_push nat_cmp_total nat_cmp-IsAntisymmetric (map pair_of fed) p.key p.value
     (find_above (map pair_of fed) p.key (below_last (map pair_of fed) (pair_of p) (to_T _ (rw (map-append pair_of fed (p ∷ [])) at h))))
-
-pub keys_are : (keys : KeyMap) (fed : List Pair) → ArePairsOf keys fed → keys_of fed ≡ keys
-keys_are keys fed h = same_keys (keys_of fed) keys (λ q. get-from_entries nat_cmp_total (map pair_of fed) q ∙ ap (find nat_cmp q) h ∙ sym (get-entries keys q))
 
 -- ---- the last key of a set is held back
 held_last : (keys : KeyMap) (given : List Pair) (h : Pair) → HasGiven keys given (Some h) → AllBelow h.key (map pair_of given)
@@ -176,16 +125,7 @@ joined given xs ys zs more h k e =
     append_assoc given h.0 k.0
     ∙ ap (λ (l : List Pair). given ++ l) (same_more xs (h.0 ++ k.0) more (sym (append_assoc xs h.0 k.0) ∙ ap (λ (l : List Pair). l ++ k.0) (sym h.1) ∙ sym k.1 ∙ e))
 
--- ---- pairs whose keys rise are a set
-pub pairs_are : (pairs : List Pair) → IsRising pairs → ArePairsOf (keys_of pairs) pairs
-pairs_are pairs h =
-    let sorted = to_T _ h in
-    sym (ap entries (same_keys (keys_of pairs) (from_sorted (map pair_of pairs)) (λ q. get-from_entries nat_cmp_total (map pair_of pairs) q ∙ sym (get-from_sorted nat_cmp (map pair_of pairs) q sorted)))
-    ∙ entries-from_sorted nat_cmp (map pair_of pairs) sorted)
-
-pub pairs_rise : (keys : KeyMap) (pairs : List Pair) → ArePairsOf keys pairs → IsRising pairs
-pairs_rise keys pairs h = from_T _ (subst (λ (es : List (ℕ × ℕ)). T (is_sorted nat_cmp es)) (sym h) (entries_sorted keys))
-
+-- ---- what was given rises
 pub given_rises : (keys : KeyMap) (given : List Pair) (last : Option Pair) → HasGiven keys given last → IsRising given
 given_rises keys given None has = subst IsRising (sym has.0) refl
 given_rises keys given (Some h) has =

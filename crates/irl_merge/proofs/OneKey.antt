@@ -1,5 +1,5 @@
 -- What a set tells of one key is made of what it is asked of that key alone.
-use Rattle.std.proofs.Common.{◌≡◌, ◌∙◌, ℕ, ◌+◌, List, [], ◌∷◌, map, Some, None, Option, Bool, true, false, cond, refl, sym, ap, arith}
+use Rattle.std.proofs.Common.{◌≡◌, ◌∙◌, ℕ, ◌+◌, List, [], ◌∷◌, map, Some, Option, Bool, true, false, cond, refl, sym, ap, arith}
 use Rattle.std.specs.Prelude.{nat_eq, filter}
 use Rattle.std.specs.FinMap.{get, insert}
 use Rattle.std.proofs.lemmas.Bool.Decides.{nat_tests}
@@ -10,7 +10,7 @@ use Rattle.irl_model.specs.Judging.{KeyMap, after, answer, combined, entered, en
 use Rattle.irl_model.proofs.JudgingLaws.{judged_on}
 use Rattle.irl_merge.specs.declared.query.Query.{Query}
 use Rattle.irl_merge.specs.Queries.{numbered, tuple_of}
-use Rattle.irl_merge.proofs.Keys.{get_set, same_keys}
+use Rattle.irl_model.proofs.RisingKeys.{get_set}
 
 abbrev pub here : ℕ → Query → Bool
 here key a = nat_eq key a.key

@@ -1,5 +1,5 @@
 -- What is told in the order of the keys is what is told in the order of the places.
-use Rattle.std.proofs.Common.{◌≡◌, ◌∙◌, ℕ, zero, suc, ◌+◌, ◌<◌, List, [], ◌∷◌, map, length, get_or, Some, None, Option, Bool, true, false, cond, refl, sym, ap, subst, arith, ◌⊎◌, inl, inr}
+use Rattle.std.proofs.Common.{◌≡◌, ◌∙◌, ℕ, zero, suc, ◌<◌, List, [], ◌∷◌, map, length, get_or, None, Option, Bool, true, false, cond, refl, sym, ap, subst, arith, ◌⊎◌, inl, inr}
 use Rattle.std.specs.Prelude.{nat_eq, filter}
 use Rattle.std.specs.FinMap.{get}
 use Rattle.std.proofs.lemmas.Bool.Decides.{nat_tests}
@@ -11,9 +11,9 @@ use Rattle.irl_model.specs.Judging.{KeyMap, after, entered, judgements}
 use Rattle.irl_model.proofs.JudgingLaws.{judgements-judged_on, length-judgements}
 use Rattle.irl_merge.specs.declared.query.Query.{Query}
 use Rattle.irl_merge.specs.Queries.{AreTold, numbered, tuple_of}
-use Rattle.irl_merge.proofs.Keys.{same_keys}
+use Rattle.irl_model.proofs.RisingKeys.{same_keys}
 use Rattle.irl_merge.proofs.Numbering.{length-numbered, nothing, place_at}
-use Rattle.irl_merge.proofs.OneKey.{Told, here, told_on, told_of, value_of, told-filter, after-get, numbered-judged, numbered-after, told-judged}
+use Rattle.irl_merge.proofs.OneKey.{Told, here, told_on, told_of, value_of, told-filter, after-get, numbered-judged}
 
 -- ---- members
 abbrev pub Has : {X : Type 0} → List X → X → Type 0

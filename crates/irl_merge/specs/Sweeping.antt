@@ -1,5 +1,5 @@
 -- How far a sweep has come.
-use Rattle.std.specs.Prelude.{◌≡◌, ◌<◌, ◌≤◌, ℕ, nat_eq, List, [], ◌∷◌, ◌++◌, filter, map, length, take, slice_index, Some}
+use Rattle.std.specs.Prelude.{◌≡◌, ◌<◌, ℕ, nat_eq, List, filter, map, length, take, slice_index, Some}
 use Rattle.std.specs.List.{AllByRecursion}
 use Rattle.std.specs.List.Sorted.{IsNonDecreasingBy}
 use Rattle.irl_offer.specs.declared.offer.Rule.{Rule}
@@ -8,7 +8,8 @@ use Rattle.irl_offer.specs.Tuple.{Tuple}
 use Rattle.irl_model.specs.Judging.{KeyMap, after, judgements}
 use Rattle.irl_merge.specs.declared.sweep.Sweep.{Sweep}
 use Rattle.irl_merge.specs.Queries.{numbered, tuple_of}
-use Rattle.irl_merge.specs.Pairs.{HasGiven, IsRising, IsUpTo, keys_of}
+use Rattle.irl_model.specs.Pairs.{IsRising, keys_of}
+use Rattle.irl_merge.specs.Pairs.{HasGiven, IsUpTo}
 
 -- what was judged so far, in the order of the keys
 abbrev pub judged : Sweep → List Tuple

@@ -1,13 +1,12 @@
-//! What holds of sweeps and of the pairs that they are fed and give. Each function is empty: its contract is the law.
+//! What holds of what sweeps give. The function is empty: its contract is the law.
 
 ghost use Rattle.std.specs.Prelude.{◌≡◌, ℕ, List, Bool, true};
 ghost use Rattle.std.specs.List.{AllByRecursion};
 ghost use Rattle.irl_offer.specs.declared.offer.Rule.{Rule};
 ghost use Rattle.irl_offer.specs.declared.receipt.Pair.{Pair};
 ghost use Rattle.irl_offer.specs.Tuple.{Tuple};
-ghost use Rattle.irl_model.specs.Judging.{KeyMap};
+ghost use Rattle.irl_model.specs.Pairs.{IsRising};
 ghost use Rattle.irl_merge.specs.declared.sweep.Sweep.{Sweep};
-ghost use Rattle.irl_merge.specs.Pairs.{ArePairsOf, IsRising, keys_of};
 ghost use Rattle.irl_merge.specs.Sweeping.{HasSwept};
 
 /// What a sweep has given rises, and each of its keys was fed or offered: it passes each test that these pass.
@@ -17,10 +16,4 @@ pub fn what_is_given_rises()
     ensures within { (test : ℕ → Bool) (rule : Rule) (offers : List Tuple) (fed given : List Pair) (sweep : Sweep) →
         HasSwept rule offers fed given sweep → AllByRecursion (λ pair. test pair.key ≡ true) fed →
         AllByRecursion (λ offer. test offer.key ≡ true) offers → AllByRecursion (λ pair. test pair.key ≡ true) given }
-{}
-
-/// Pairs whose keys rise are those of one set, and those of a set rise.
-pub fn rising_pairs_are_a_set()
-    ensures are { (pairs : List Pair) → IsRising pairs → ArePairsOf (keys_of pairs) pairs }
-    ensures rise { (keys : KeyMap) (pairs : List Pair) → ArePairsOf keys pairs → IsRising pairs }
 {}

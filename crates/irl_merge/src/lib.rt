@@ -8,7 +8,7 @@ mod query;
 mod sweep;
 mod verdicts;
 
-pub use laws::{rising_pairs_are_a_set, what_is_given_rises};
+pub use laws::what_is_given_rises;
 pub use sweep::Sweep;
 
 #[cfg(test)]

@@ -4,12 +4,13 @@ ghost use Rattle.irl_offer.specs.declared.receipt.Pair.{Pair};
 ghost use Rattle.irl_offer.specs.Tuple.{Tuple};
 ghost use Rattle.irl_model.specs.Book.{IsPrefixOf};
 ghost use Rattle.irl_model.specs.Judging.{KeyMap, after, judgements};
+ghost use Rattle.irl_model.specs.Pairs.{ArePairsOf, IsRising};
 ghost use Rattle.irl_merge.specs.Queries.{AreEntriesOf};
-ghost use Rattle.irl_merge.specs.Pairs.{ArePairsOf, IsRising};
 
 use crate::last::{last_value, set_last};
 use crate::query::{Query, sorted};
-use crate::verdicts::{answer, combined, enters, in_original_order};
+use crate::verdicts::in_original_order;
+use irl_model::{answer, combined, enters};
 use irl_offer::{Entry, Pair, Rule, Verdict};
 use std::alloc::{AllocError, Global};
 

@@ -16,6 +16,7 @@ use Rattle.irl_offer.specs.Tuple.{Tuple}
 use Rattle.irl_model.specs.Judging.{KeyMap, enters, entered, answer, combined, judgements}
 use Rattle.irl_offer.specs.Buckets.{bucket_of}
 use Rattle.irl_model.specs.Book.{Book, IsBook, judged_offers, judged_cut, judged_as, is_unique, uniques, gone}
+use Rattle.irl_model.proofs.Agreeing.{Agree, both_entered, one_entered}
 use Rattle.irl_model.proofs.Stretches.{judged_here_are}
 use Rattle.irl_model.proofs.JudgingLaws.{judged_on, judgements-judged_on}
 
@@ -24,56 +25,6 @@ module _ (buckets b : ℕ) where
   abbrev pub is_here : ℕ → Bool
   is_here key = nat_eq (bucket_of buckets key) b
 
-  -- two sets have the same at each key of the bucket
-  abbrev pub Agree : KeyMap → KeyMap → Type 0
-  Agree s t = (key : ℕ) → is_here key ≡ true → get s key ≡ get t key
-
-  -- a key that was set
-  get_set : (s : KeyMap) (key value q : ℕ) → get (insert s key value) q ≡ cond (nat_eq q key) (Some value) (get s q)
-  get_set s key value q = get-insert nat_cmp_total s key value q ∙ ap (λ (test : Bool). cond test (Some value) (get s q)) (unsigned_tied q key)
-
-  same_key : (q key : ℕ) → nat_eq q key ≡ true → q ≡ key
-  same_key q key e = grind (arith, nat_tests)
-
-  other_key : (q key : ℕ) → is_here q ≡ true → is_here key ≡ false → nat_eq q key ≡ false
-  other_key q key here there = by_test (nat_eq q key) refl
-    where
-      by_test : (test : Bool) → test ≡ nat_eq q key → nat_eq q key ≡ false
-      by_test false e = sym e
-      by_test true e =
-          let same = same_key q key (sym e) in
-          let no : true ≡ false = sym here ∙ ap is_here same ∙ there in
-          absurd (cc)
-
-  both_set : (s t : KeyMap) (key x y : ℕ) → Agree s t → x ≡ y → Agree (insert s key x) (insert t key y)
-  both_set s t key x y agree same q here =
-      get_set s key x q ∙ ap (λ (v : ℕ). cond (nat_eq q key) (Some v) (get s q)) same ∙ ap (λ (o : Option ℕ). cond (nat_eq q key) (Some y) o) (agree q here) ∙ sym (get_set t key y q)
-
-  one_set : (s t : KeyMap) (key x : ℕ) → Agree s t → is_here key ≡ false → Agree (insert s key x) t
-  one_set s t key x agree there q here =
-      get_set s key x q ∙ ap (λ (test : Bool). cond test (Some x) (get s q)) (other_key q key here there) ∙ agree q here
-
-  -- an offer of the bucket keeps that
-  pub both_entered : (rule : Rule) (s t : KeyMap) (offer : Tuple) → is_here offer.key ≡ true → Agree s t → Agree (entered rule s offer) (entered rule t offer)
-  both_entered rule s t offer here agree = by_op offer.op refl
-    where
-      value_is : combined rule (get s offer.key) offer.value ≡ combined rule (get t offer.key) offer.value
-      value_is = ap (λ (o : Option ℕ). combined rule o offer.value) (agree offer.key here)
-
-      by_op : (op : Op) → offer.op ≡ op → Agree (entered rule s offer) (entered rule t offer)
-      by_op Check is = rw is agree
-      by_op Update is = rw is (both_set s t offer.key _ _ agree value_is)
-      by_op Both is = rw is (both_set s t offer.key _ _ agree value_is)
-
-  -- and so does one of another bucket in one of them
-  pub one_entered : (rule : Rule) (s t : KeyMap) (offer : Tuple) → is_here offer.key ≡ false → Agree s t → Agree (entered rule s offer) t
-  one_entered rule s t offer there agree = by_op offer.op refl
-    where
-      by_op : (op : Op) → offer.op ≡ op → Agree (entered rule s offer) t
-      by_op Check is = rw is agree
-      by_op Update is = rw is (one_set s t offer.key _ agree there)
-      by_op Both is = rw is (one_set s t offer.key _ agree there)
-
   -- the bucket's judgements, and its offers
   abbrev pub judgements_here : List (Tuple × Option Verdict) → List (Tuple × Option Verdict)
   judgements_here js = filter (λ p. is_here p.0.key) js
@@ -81,11 +32,11 @@ module _ (buckets b : ℕ) where
   abbrev pub offers_here : List Tuple → List Tuple
   offers_here offers = filter (λ offer. is_here offer.key) offers
 
-  pub judged_here : (rule : Rule) (s t : KeyMap) (offers : List Tuple) → Agree s t → judgements_here (judged_on rule s offers) ≡ judged_on rule t (offers_here offers)
+  pub judged_here : (rule : Rule) (s t : KeyMap) (offers : List Tuple) → Agree is_here s t → judgements_here (judged_on rule s offers) ≡ judged_on rule t (offers_here offers)
   judged_here rule s t [] agree = refl
   judged_here rule s t (offer ∷ offers) agree = by_test (is_here offer.key) refl
-      (λ here. judged_here rule (entered rule s offer) (entered rule t offer) offers (both_entered rule s t offer here agree))
-      (λ there. judged_here rule (entered rule s offer) t offers (one_entered rule s t offer there agree))
+      (λ here. judged_here rule (entered rule s offer) (entered rule t offer) offers (both_entered is_here rule s t offer here agree))
+      (λ there. judged_here rule (entered rule s offer) t offers (one_entered is_here rule s t offer there agree))
     where
       by_test : (test : Bool) → is_here offer.key ≡ test → (is_here offer.key ≡ true → judgements_here (judged_on rule (entered rule s offer) offers) ≡ judged_on rule (entered rule t offer) (offers_here offers))
           → (is_here offer.key ≡ false → judgements_here (judged_on rule (entered rule s offer) offers) ≡ judged_on rule t (offers_here offers)) → judgements_here (judged_on rule s (offer ∷ offers)) ≡ judged_on rule t (offers_here (offer ∷ offers))

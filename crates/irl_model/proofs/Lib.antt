@@ -1,9 +1,15 @@
+pub mod Adding
+pub mod Agreeing
 pub mod BookLaws
+pub mod BucketOrder
 pub mod Flushes
 pub mod FrontLaws
 pub mod JudgingLaws
 pub mod KeyMaps
+pub mod LinkLemmas
 pub mod Merges
+pub mod Parts
 pub mod PlainLemmas
 pub mod QueueLemmas
+pub mod RisingKeys
 pub mod Stretches

@@ -181,3 +181,7 @@ merged book = record book { cuts = book.cuts ++ lengths_of book ∷ [] }
 -- the book as it was when it had only the first of its cuts
 abbrev pub with_cuts : ℕ → Book → Book
 with_cuts n book = record book { cuts = take n book.cuts }
+
+-- the same where the dropped cuts are counted with the others, as far as it is kept
+abbrev pub at_cut : ℕ → Book → Book
+at_cut n book = with_cuts (n - book.dropped) book

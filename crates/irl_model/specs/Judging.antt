@@ -1,9 +1,9 @@
 -- One unbounded set of keys that is asked offers one after another: what DRUM's buckets, caches and merges have to
 -- equal (Lee, Leonard, Wang, Loguinov, "IRLbot: Scaling to 6 Billion Pages and Beyond", WWW 2008, section 4).
-use Rattle.std.specs.Prelude.{ℕ, ◌+◌, ◌-◌, ◌^◌, min, Bool, true, false, if◌then◌else◌, List, [], ◌∷◌, map, take, slice_get, Option, None, Some, option_and_then}
-use Rattle.std.specs.List.{enumerate_from}
+use Rattle.std.specs.Prelude.{◌≡◌, ℕ, ◌+◌, ◌-◌, ◌^◌, ◌<◌, ◌≤◌, min, Bool, true, false, if◌then◌else◌, List, [], ◌∷◌, ◌++◌, map, take, slice_get, Option, None, Some, option_and_then}
+use Rattle.std.specs.List.{AllByRecursion, enumerate_from}
 use Rattle.std.specs.Ordering.{nat_cmp}
-use Rattle.std.specs.FinMap.{FinMap, get, insert}
+use Rattle.std.specs.FinMap.{FinMap, entries, get, insert}
 use Rattle.irl_offer.specs.declared.offer.Op.{Op}
 use Rattle.irl_offer.specs.declared.offer.Op.TheVariants.{Check, Update, Both}
 use Rattle.irl_offer.specs.declared.offer.Rule.{Rule}
@@ -55,3 +55,9 @@ verdict rule base offers i =
 -- each offer with its verdict, in order
 abbrev pub judgements : Rule → KeyMap → List Tuple → List (Tuple × Option Verdict)
 judgements rule base offers = map (λ p. (p.1, verdict rule base offers p.0)) (enumerate_from 0 offers)
+
+-- a set's keys below a key are those of the one, and from it on those of the other
+pub record AreParts (cut : ℕ) (keys low high : KeyMap) : Type 0 where
+  pub joined : entries keys ≡ entries low ++ entries high
+  pub below : AllByRecursion (λ p. p.0 < cut) (entries low)
+  pub above : AllByRecursion (λ p. cut ≤ p.0) (entries high)

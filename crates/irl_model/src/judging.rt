@@ -1,6 +1,6 @@
 ghost use Rattle.std.specs.Prelude.{◌≡◌, IfOk, map};
 ghost use Rattle.std.specs.FinMap.{empty};
-ghost use Rattle.irl_model.specs.Judging.{answer as answer_of, combined as combined_of, judgements};
+ghost use Rattle.irl_model.specs.Judging.{answer as answer_of, combined as combined_of, enters as enters_of, judgements};
 
 use crate::KeySet;
 use irl_offer::{Offer, Op, Rule, Verdict};
@@ -17,7 +17,17 @@ pub fn combined(rule: Rule, known: Option<u64>, new: u64) -> u64
     }
 }
 
-/// What a set answers that has this value, or none, at the offer's key.
+/// Whether an operation enters its key.
+pub fn enters(op: Op) -> bool
+    ensures { result ≡ enters_of op }
+{
+    match op {
+        Op::Check => false,
+        Op::Update | Op::Both => true,
+    }
+}
+
+/// What a set answers that has this value, or none, at the key that is asked for.
 pub fn answer(op: Op, known: Option<u64>) -> Option<Verdict>
     ensures { result ≡ answer_of op known }
 {

@@ -2,9 +2,10 @@ ghost use Rattle.std.specs.Prelude.{◌≡◌, OnOk, OnErr, IfOk, length};
 ghost use Rattle.std.specs.Prelude.{map as list_map};
 ghost use Rattle.std.specs.FinMap as map;
 ghost use Rattle.irl_model.specs.Judging.{after, answer, combined as combined_of, entered, judgements};
+ghost use Rattle.irl_model.specs.Pairs.{ArePairsOf};
 
-use crate::judging::{answer, combined};
-use irl_offer::{Offer, Op, Pair, Rule, Verdict};
+use crate::judging::{answer, combined, enters};
+use irl_offer::{Offer, Pair, Rule, Verdict};
 use std::alloc::{AllocError, Global};
 use std::collections::BTreeMap;
 use std::marker::Model;
@@ -56,7 +57,7 @@ impl KeySet {
 
     /// The keys with their values, keys rising.
     pub fn pairs(&self, alloc: Global) -> Result<Vec<Pair>, AllocError>
-        ensures { IfOk result (λ pairs. list_map (λ p. (p.key, p.value)) pairs.items ≡ map.entries self.now) }
+        ensures { IfOk result (λ pairs. ArePairsOf self.now pairs.items) }
     {
         let mut pairs = Vec::new(alloc);
         for (key, value) in &self.values {
@@ -84,7 +85,7 @@ impl KeySet {
         ensures err { OnErr result (self.new ≡ self.old) }
     {
         let known = self.get(offer.key);
-        if offer.op != Op::Check {
+        if enters(offer.op) {
             self.enter(rule, offer.key, offer.value)?;
         }
         Ok(answer(offer.op, known))

@@ -1,11 +1,61 @@
-ghost use Rattle.std.specs.Prelude.{◌≡◌, ◌≢◌, ◌+◌, ◌-◌, ◌<◌, ◌≤◌, ◌++◌, ℕ, List, nat_eq, map, filter, take, length, sum, slice_index, slice_index_or, [], AllPairs};
+ghost use Rattle.std.specs.Prelude.{◌≡◌, ◌≢◌, ◌↔◌, ◌+◌, ◌-◌, ◌*◌, ◌/◌, ◌^◌, ◌<◌, ◌≤◌, ◌++◌, ℕ, Bool, true, List, nat_eq, map, filter, take, length, sum, slice_index, slice_index_or, [], AllPairs};
+ghost use Rattle.std.specs.FinMap.{entries};
 ghost use Rattle.std.specs.List.{AllByRecursion};
+ghost use Rattle.irl_offer.specs.declared.offer.Rule.{Rule};
+ghost use Rattle.irl_offer.specs.declared.receipt.Pair.{Pair};
 ghost use Rattle.irl_offer.specs.Tuple.{Tuple};
-ghost use Rattle.irl_model.specs.Judging.{after, judgements};
-ghost use Rattle.irl_offer.specs.Buckets.{bucket_of};
+ghost use Rattle.irl_model.specs.Judging.{AreParts, KeyMap, after, judgements};
+ghost use Rattle.irl_offer.specs.Buckets.{IsBucketCount, bucket_of};
 ghost use Rattle.irl_model.specs.Book.{Book, IsBook, IsFront, IsPrefixOf, gone, judged, judged_cut, judged_offers, lengths_of, uniques, uniques_from};
 ghost use Rattle.irl_model.specs.Book.{flushed, judged_next, merged, pending, seen, with_cuts};
+ghost use Rattle.irl_model.specs.Pairs.{ArePairsOf, IsRising, keys_of};
 ghost use Rattle.irl_model.specs.Plain.{whole_book};
+
+/// Pairs whose keys rise are those of one set, and those of a set rise.
+pub fn rising_pairs_are_a_set()
+    ensures are { (pairs : List Pair) → IsRising pairs → ArePairsOf (keys_of pairs) pairs }
+    ensures rise { (keys : KeyMap) (pairs : List Pair) → ArePairsOf keys pairs → IsRising pairs }
+    // Those below a key and those from it on are its two parts.
+    ensures parts { (cut : ℕ) (front back : List Pair) → IsRising (front ++ back) →
+        AllByRecursion (λ pair. pair.key < cut) front → AllByRecursion (λ pair. cut ≤ pair.key) back →
+        AreParts cut (keys_of (front ++ back)) (keys_of front) (keys_of back) }
+{}
+
+/// Asking a set adds keys of offers, and no others, and leaves it no fewer keys.
+pub fn asking_adds_keys()
+    // Each key then passes every test that the keys before and the offers' keys pass.
+    ensures within { (test : ℕ → Bool) (rule : Rule) (keys : KeyMap) (offers : List Tuple) →
+        AllByRecursion (λ p. test p.0 ≡ true) (entries keys) → AllByRecursion (λ offer. test offer.key ≡ true) offers →
+        AllByRecursion (λ p. test p.0 ≡ true) (entries (after rule keys offers)) }
+    ensures count { (rule : Rule) (keys : KeyMap) (offers : List Tuple) →
+        length (entries keys) ≤ length (entries (after rule keys offers)) }
+{}
+
+/// A set that is cut in two at a key is asked part by part: what is offered below the key, then what is offered from it on.
+pub fn parts_are_judged_apart()
+    ensures judged { (rule : Rule) (keys low high : KeyMap) (cut : ℕ) (before behind : List Tuple) →
+        AreParts cut keys low high →
+        AllByRecursion (λ offer. offer.key < cut) before → AllByRecursion (λ offer. cut ≤ offer.key) behind →
+        judgements rule keys (before ++ behind) ≡ judgements rule low before ++ judgements rule high behind }
+    ensures after { (rule : Rule) (keys low high : KeyMap) (cut : ℕ) (before behind : List Tuple) →
+        AreParts cut keys low high →
+        AllByRecursion (λ offer. offer.key < cut) before → AllByRecursion (λ offer. cut ≤ offer.key) behind →
+        entries (after rule keys (before ++ behind)) ≡ entries (after rule low before) ++ entries (after rule high behind) }
+    // The results are parts again.
+    ensures parts { (rule : Rule) (keys low high : KeyMap) (cut : ℕ) (before behind : List Tuple) →
+        AreParts cut keys low high →
+        AllByRecursion (λ offer. offer.key < cut) before → AllByRecursion (λ offer. cut ≤ offer.key) behind →
+        AreParts cut (after rule keys (before ++ behind)) (after rule low before) (after rule high behind) }
+{}
+
+/// Buckets lie in the order of their keys.
+pub fn buckets_follow_the_keys()
+    // The keys of the buckets below bucket b are those below b times the width of a bucket.
+    ensures border { (buckets b key : ℕ) → IsBucketCount buckets →
+        (bucket_of buckets key < b) ↔ (key < b * (2 ^ 64 / buckets)) }
+    // A key of a later bucket is above each key of an earlier one.
+    ensures rising { (buckets j k : ℕ) → bucket_of buckets j < bucket_of buckets k → j < k }
+{}
 
 /// Equal keys share a bucket, so a judged offer's verdict is what its bucket's list alone would give: of the judged offers
 /// those of a bucket are the first of its list, and they were judged as those.

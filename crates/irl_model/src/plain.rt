@@ -56,8 +56,8 @@ fn push_stretch(
     Ok(())
 }
 
-// Copies of the offers that the cuts judge, in the order in which they do.
-fn judged_offers(
+/// Copies of the offers that the cuts judge, in the order in which they do.
+pub(crate) fn judged_offers(
     alloc: Global,
     buckets: u32,
     lists: &[Vec<Offer>],

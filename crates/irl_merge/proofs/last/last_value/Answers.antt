@@ -1,6 +1,5 @@
-use Rattle.std.proofs.Common.{◌≡◌, ◌∙◌, ℕ, ◌<◌, ◌≤◌, Option, Some, None, sym, ap, subst, arith}
+use Rattle.std.proofs.Common.{◌∙◌, Option, sym, subst, arith}
 use Rattle.irl_offer.specs.declared.receipt.Pair.{Pair}
-use Rattle.irl_model.specs.Judging.{KeyMap}
 use Rattle.irl_merge.specs.Pairs.{HasGiven, IsUpTo}
 use Rattle.irl_merge.proofs.Keys.{made_none, made_here, made_above, get_at}
 use Rattle.irl_merge.proofs.last.last_value.Goals as goal

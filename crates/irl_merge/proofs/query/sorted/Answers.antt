@@ -1,4 +1,4 @@
-use Rattle.std.proofs.Common.{rules, arith, nat_eq, ◌≡◌, ◌∙◌, ◌<◌, ◌++◌, ◌∷◌, [], get_or, ℕ, List, map, length, take, take_all, sym, ap, subst}
+use Rattle.std.proofs.Common.{rules, nat_eq, ◌≡◌, ◌∙◌, ◌<◌, ◌++◌, ◌∷◌, [], get_or, ℕ, List, map, length, take_all, sym, ap, subst}
 use Rattle.std.specs.List.{All, filter}
 use Rattle.std.proofs.lemmas.List.{length-map}
 use Rattle.std.proofs.lemmas.List.Sorted.{IsNonDecreasingBy-from_sort_by_key, All-permutation, answers_always, length_permutation}

@@ -1,4 +1,4 @@
-use Rattle.std.proofs.Common.{arith, ◌≡◌, ◌∙◌, ◌<◌, ℕ, length, get_or, None}
+use Rattle.std.proofs.Common.{arith, ◌∙◌, ◌<◌, length, get_or, None}
 use Rattle.std.proofs.Math.ListN.{length-set}
 use Rattle.irl_merge.proofs.Numbering.{nothing, placed_more}
 use Rattle.irl_merge.proofs.verdicts.in_original_order.Goals as goal

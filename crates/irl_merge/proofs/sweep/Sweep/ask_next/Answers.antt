@@ -1,4 +1,4 @@
-use Rattle.std.proofs.Common.{◌≡◌, ◌∙◌, ℕ, ◌<◌, ◌≤◌, ◌++◌, ◌∷◌, [], List, Option, length, get_or, refl, sym, ap, subst, cond, true, false, arith, rules}
+use Rattle.std.proofs.Common.{◌≡◌, ◌∙◌, ℕ, ◌++◌, ◌∷◌, [], List, Option, length, get_or, refl, sym, ap, subst, true, false, rules}
 use Rattle.std.specs.FinMap.{get, insert}
 use Rattle.irl_offer.specs.declared.offer.Rule.{Rule}
 use Rattle.irl_offer.specs.declared.offer.Verdict.{Verdict}
@@ -8,7 +8,7 @@ use Rattle.irl_merge.specs.declared.query.Query.{Query}
 use Rattle.irl_merge.specs.declared.sweep.Sweep.{Sweep}
 use Rattle.irl_merge.specs.Queries.{tuple_of}
 use Rattle.irl_merge.specs.Pairs.{HasGiven, IsUpTo}
-use Rattle.irl_merge.specs.Sweeping.{HasAsked, judged}
+use Rattle.irl_merge.specs.Sweeping.{judged}
 use Rattle.irl_merge.proofs.Keys.{none_more}
 use Rattle.irl_merge.proofs.Asking.{ask_more, entered_is, next_up, up_same}
 use Rattle.irl_merge.proofs.sweep.Sweep.ask_next.Goals as goal

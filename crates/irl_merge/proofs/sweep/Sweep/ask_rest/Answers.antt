@@ -1,4 +1,4 @@
-use Rattle.std.proofs.Common.{◌≡◌, ◌∙◌, ◌++◌, [], List, arith, rules, refl, sym, subst}
+use Rattle.std.proofs.Common.{◌∙◌, ◌++◌, [], List, arith, rules, refl, sym, subst}
 use Rattle.std.proofs.lemmas.List.{append-nil}
 use Rattle.irl_offer.specs.declared.receipt.Pair.{Pair}
 use Rattle.irl_merge.specs.Sweeping.{HasAsked}

@@ -1,4 +1,4 @@
-use Rattle.std.proofs.Common.{◌≡◌, ◌∙◌, ◌++◌, ◌∷◌, [], ℕ, List, Option, Vec, Some, None, nat_eq, length, sym, ap, subst}
+use Rattle.std.proofs.Common.{◌≡◌, ◌∙◌, ◌++◌, ◌∷◌, [], List, Option, Vec, nat_eq, length, sym, ap, subst}
 use Rattle.std.specs.List.{filter}
 use Rattle.irl_offer.specs.declared.offer.Verdict.{Verdict}
 use Rattle.irl_offer.specs.declared.receipt.Pair.{Pair}
@@ -7,7 +7,8 @@ use Rattle.irl_model.specs.Judging.{after}
 use Rattle.irl_merge.specs.declared.query.Query.{Query}
 use Rattle.irl_merge.specs.declared.sweep.Sweep.{Sweep}
 use Rattle.irl_merge.specs.Queries.{AreTold}
-use Rattle.irl_merge.specs.Pairs.{ArePairsOf, HasGiven, keys_of}
+use Rattle.irl_model.specs.Pairs.{ArePairsOf, keys_of}
+use Rattle.irl_merge.specs.Pairs.{HasGiven}
 use Rattle.irl_merge.proofs.Keys.{joined, same_more}
 use Rattle.irl_merge.proofs.Asking.{made_pairs, made_empty}
 use Rattle.irl_merge.proofs.Ending.{all_told, all_made, if_both, on_ok}

@@ -1,12 +1,14 @@
-use Rattle.std.proofs.Common.{◌≡◌, ◌∙◌, ℕ, ◌+◌, ◌++◌, ◌∷◌, [], List, take, take_all, get_or, refl, sym, ap, subst, arith, rules, append_assoc}
+use Rattle.std.proofs.Common.{◌≡◌, ◌∙◌, ◌+◌, ◌++◌, ◌∷◌, [], List, take, take_all, get_or, refl, sym, ap, subst, append_assoc}
 use Rattle.std.proofs.lemmas.List.{append-nil, take_more}
 use Rattle.irl_offer.specs.declared.receipt.Pair.{Pair}
 use Rattle.std.specs.FinMap.{insert}
 use Rattle.irl_model.specs.Judging.{after}
+use Rattle.irl_model.proofs.RisingKeys.{rising_front}
 use Rattle.irl_merge.specs.declared.sweep.Sweep.{Sweep}
-use Rattle.irl_merge.specs.Pairs.{HasGiven, IsRising, IsUpTo, keys_of}
+use Rattle.irl_model.specs.Pairs.{IsRising, keys_of}
+use Rattle.irl_merge.specs.Pairs.{HasGiven, IsUpTo}
 use Rattle.irl_merge.specs.Sweeping.{HasSwept, IsBehind, judged}
-use Rattle.irl_merge.proofs.Keys.{joined, none_more, rising_below, rising_front}
+use Rattle.irl_merge.proofs.Keys.{joined, none_more, rising_below}
 use Rattle.irl_merge.proofs.Asking.{prefix_both, swept_more, up_behind}
 use Rattle.irl_merge.proofs.sweep.Sweep.feed_all.Goals as goal
 

@@ -3,7 +3,7 @@ use Rattle.irl_offer.specs.declared.offer.Rule.{Rule}
 use Rattle.irl_offer.specs.declared.receipt.Pair.{Pair}
 use Rattle.irl_offer.specs.Tuple.{Tuple}
 use Rattle.irl_model.specs.Book.{IsPrefixOf}
-use Rattle.irl_merge.specs.Pairs.{IsRising}
+use Rattle.irl_model.specs.Pairs.{IsRising}
 use Rattle.irl_merge.specs.Sweeping.{HasSwept}
 use Rattle.irl_merge.proofs.sweep.Sweep.feed_all.Given as goal
 

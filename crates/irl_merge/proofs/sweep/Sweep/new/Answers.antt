@@ -1,4 +1,4 @@
-use Rattle.std.proofs.Common.{◌∙◌, ℕ, nat_eq, refl, ap}
+use Rattle.std.proofs.Common.{◌∙◌, nat_eq, refl, ap}
 use Rattle.std.specs.List.{filter}
 use Rattle.irl_merge.specs.declared.query.Query.{Query}
 use Rattle.irl_merge.proofs.Numbering.{length_entries, numbered_entries}
