@@ -1,3 +1,4 @@
+pub mod LegalPasses
 pub mod PlaceLemmas
 pub mod Rows
 pub mod TextCounts

@@ -5,11 +5,13 @@
 mod beast;
 mod counts;
 mod item;
+mod laws;
 mod lists;
 mod placing;
 
 pub use beast::Beast;
 pub use item::Item;
+pub use laws::a_pass_is_legal;
 
 #[cfg(test)]
 mod tests;

@@ -1,23 +1,18 @@
 -- Each number stands once where its fate says, whatever is done.
-use Rattle.std.proofs.Common.{◌≡◌, ◌≢◌, ◌∙◌, ℕ, ◌+◌, ◌-◌, ◌<◌, ◌≤◌, zero, suc, List, [], ◌∷◌, ◌++◌, map, length, set, sym, ap, arith, refl, Bool, true, false, cond, not, inl, inr, subst, append_assoc}
-use Rattle.std.specs.Prelude.{◌&&◌, ◌||◌, nat_eq, Option, None, Some}
-use Rattle.std.specs.Option.{option_or}
-use Rattle.std.specs.List.{filter, list_all}
-use Rattle.std.specs.Map.{lookup}
-use Rattle.std.proofs.lemmas.Bool.{cases_Bool, cases_eq, and_parts, or_parts, eq-eqb, ne_eqb, eqb-true, eqb-false, cond-true, cond-false, false≢true, true≢false}
+use Rattle.std.proofs.Common.{◌≡◌, ◌∙◌, ℕ, ◌+◌, ◌-◌, ◌<◌, ◌≤◌, zero, suc, List, [], ◌∷◌, ◌++◌, length, set, sym, ap, arith, refl, Bool, true, false, cond, inl, inr, subst}
+use Rattle.std.specs.Prelude.{nat_eq, Option, None, Some}
+use Rattle.std.proofs.lemmas.Bool.{cases_Bool, cases_eq, eq-eqb, ne_eqb, eqb-true, cond-true, cond-false, false≢true}
 use Rattle.std.proofs.lemmas.List.{append-nil, length-set, get_or-set_same, get_or-set_other}
 use Rattle.irl_offer.specs.declared.outcome.Outcome.{Outcome}
-use Rattle.irl_offer.specs.declared.place.Place.{Place}
 use Rattle.irl_offer.specs.declared.place.Slot.{Slot}
 use Rattle.irl_offer.specs.declared.place.Slot.TheVariants.{Front as InFront, Queue as InQueue, Last as InLast}
 use Rattle.irl_model.specs.Queues.{list_at, put, FitsSlot}
-use Rattle.irl_model.specs.Events.{has_number, is_in_front, without}
+use Rattle.irl_model.specs.Events.{has_number, is_in_front}
 use Rattle.irl_fate.specs.declared.fate.Fate.{Fate}
 use Rattle.irl_fate.specs.declared.fate.Fate.TheVariants.{Fresh, Queue, Last, Front, Done}
 use Rattle.irl_fate.specs.Fates.{done_by, waits_from}
 use Rattle.irl_fate.specs.Kept.{is_front, is_listed, is_done, outcome_at, FitsFate, count, one_if, outcome_of, Agree, fate_of_slot}
-use Rattle.irl_fate.proofs.Counting.{count_push, has_of_count, absent_count, count_filter, filter_same, filter_both, one_true, one_false}
-use Rattle.irl_fate.proofs.Marking.{numbers_done, done_absent}
+use Rattle.irl_fate.proofs.Counting.{count_push, has_of_count}
 
 -- ---- fates by themselves
 no_front : (v : Fate) → v ≡ Fresh → is_front v ≡ false

@@ -1,8 +1,8 @@
 -- How often a number stands in a list.
-use Rattle.std.proofs.Common.{◌≡◌, ◌∙◌, ℕ, ◌+◌, ◌<◌, ◌≤◌, zero, suc, List, [], ◌∷◌, ◌++◌, map, length, sym, ap, arith, refl, Bool, true, false, cond, not, inl, inr, subst}
+use Rattle.std.proofs.Common.{◌≡◌, ◌∙◌, ℕ, ◌+◌, List, [], ◌∷◌, ◌++◌, length, sym, ap, arith, refl, Bool, true, false, cond, not, inl, inr, subst}
 use Rattle.std.specs.Prelude.{◌&&◌, ◌||◌, nat_eq}
-use Rattle.std.specs.List.{filter, list_any}
-use Rattle.std.proofs.lemmas.Bool.{cases_Bool, and_parts, or_parts, or_from, or_left, or_right, or_cases, eq-eqb, ne_eqb, eqb-true, eqb-false, not-true, cond-true, cond-false, not_from_false, false≢true}
+use Rattle.std.specs.List.{filter}
+use Rattle.std.proofs.lemmas.Bool.{cases_Bool, and_parts, or_parts, or_from, or_left, or_right, eq-eqb, ne_eqb, eqb-true, eqb-false, not-true, cond-true, cond-false, not_from_false, false≢true}
 use Rattle.std.proofs.lemmas.List.Filters.{length-filter_both}
 use Rattle.irl_model.specs.Events.{has_number}
 use Rattle.irl_model.specs.Legal.{are_distinct}

@@ -1,6 +1,8 @@
 pub mod Agreeing
 pub mod Applying
 pub mod Counting
+pub mod Crawls
+pub mod Fresh
 pub mod Marking
 pub mod Placing
 pub mod Reading
@@ -9,3 +11,5 @@ pub mod RuleLemmas
 pub mod Settling
 pub mod Standing
 pub mod Steps
+pub mod Sums
+pub mod Waiting

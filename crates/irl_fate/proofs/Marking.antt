@@ -1,11 +1,11 @@
 -- The fates of numbers after one more change.
 use Rattle.std.proofs.Common.{◌≡◌, ◌∙◌, ℕ, ◌+◌, ◌<◌, zero, suc, List, [], ◌∷◌, ◌++◌, map, length, get_or, take, sym, ap, arith, refl, Bool, true, false, cond, not, inl, inr, subst}
-use Rattle.std.specs.Prelude.{◌&&◌, ◌||◌, nat_eq, Option, None, Some, unwrap_or, IsSome}
-use Rattle.std.specs.List.{list_any, list_all}
+use Rattle.std.specs.Prelude.{◌||◌, nat_eq, Option, None, Some, unwrap_or, IsSome}
+use Rattle.std.specs.List.{list_all}
 use Rattle.std.specs.Ordering.{nat_cmp}
 use Rattle.std.specs.BTreeMap.{is_at}
 use Rattle.std.specs.Map.{lookup}
-use Rattle.std.proofs.lemmas.Bool.{cases_Bool, and_parts, or_parts, or_from, cases_eq, eq-eqb, ne_eqb, eqb-true, eqb-false, not-true}
+use Rattle.std.proofs.lemmas.Bool.{cases_Bool, and_parts, or_parts, or_from, cases_eq, ne_eqb, eqb-true, eqb-false, not-true}
 use Rattle.std.proofs.lemmas.List.{take_more, get_or_default}
 use Rattle.std.proofs.lemmas.List.Folds.{list_any_more}
 use Rattle.irl_offer.specs.declared.outcome.Outcome.{Outcome}
@@ -13,7 +13,7 @@ use Rattle.irl_offer.specs.declared.place.Place.{Place}
 use Rattle.irl_model.specs.Events.{has_number}
 use Rattle.irl_model.specs.Legal.{are_distinct}
 use Rattle.irl_fate.specs.declared.fate.Fate.{Fate}
-use Rattle.irl_fate.specs.declared.fate.Fate.TheVariants.{Fresh, Queue, Last, Front, Done}
+use Rattle.irl_fate.specs.declared.fate.Fate.TheVariants.{Fresh, Queue, Last, Done}
 use Rattle.irl_fate.specs.Fates.{done_by}
 use Rattle.irl_fate.specs.Kept.{fate_in, is_front, HasEntry, placed_by, fate_of_slot}
 

@@ -1,5 +1,5 @@
 -- Lists and fates after one more place.
-use Rattle.std.proofs.Common.{◌≡◌, ◌∙◌, ℕ, ◌+◌, ◌<◌, List, [], ◌∷◌, ◌++◌, map, length, get_or, take, sym, ap, arith}
+use Rattle.std.proofs.Common.{◌≡◌, ◌∙◌, ℕ, ◌+◌, ◌<◌, List, [], ◌∷◌, ◌++◌, length, get_or, take, sym, ap}
 use Rattle.std.proofs.lemmas.List.{take_more, map_more, length-map}
 use Rattle.irl_offer.specs.declared.place.Place.{Place}
 use Rattle.irl_model.specs.Events.{numbers_of}

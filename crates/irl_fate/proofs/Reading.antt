@@ -1,8 +1,8 @@
 -- What a pass reads: its numbers differ, and none stands in a list once the queue is taken out.
-use Rattle.std.proofs.Common.{◌≡◌, ◌∙◌, ℕ, ◌+◌, ◌-◌, ◌<◌, ◌≤◌, zero, suc, List, [], ◌∷◌, ◌++◌, map, length, get_or, set, sym, ap, arith, refl, Bool, true, false, cond, inl, inr, subst, append_assoc, append-nil}
-use Rattle.std.specs.Prelude.{◌&&◌, ◌||◌, ◌⊎◌, nat_eq, nat_le, nat_lt}
+use Rattle.std.proofs.Common.{◌≡◌, ◌∙◌, ℕ, ◌+◌, ◌-◌, ◌<◌, ◌≤◌, zero, suc, List, [], ◌∷◌, ◌++◌, length, get_or, sym, ap, arith, refl, Bool, true, false, cond, inl, inr, subst, append_assoc, append-nil}
+use Rattle.std.specs.Prelude.{◌&&◌, ◌⊎◌, nat_eq, nat_le, nat_lt}
 use Rattle.std.specs.List.{filter, list_all}
-use Rattle.std.proofs.lemmas.Bool.{cases_Bool, cases_lt, cases_eq, and_parts, or_parts, or_from, or_left, or_right, eq-eqb, ne_eqb, eqb-true, eqb-false, ltb-true, leb-true, cond-true, cond-false, false≢true}
+use Rattle.std.proofs.lemmas.Bool.{cases_Bool, and_parts, or_parts, or_from, or_left, or_right, ne_eqb, eqb-true, eqb-false, ltb-true, leb-true, cond-true, cond-false, false≢true}
 use Rattle.std.proofs.lemmas.List.{get_or-set_other}
 use Rattle.irl_offer.specs.declared.outcome.Outcome.{Outcome}
 use Rattle.irl_offer.specs.declared.place.Place.{Place}
@@ -12,10 +12,10 @@ use Rattle.irl_model.specs.Queues.{list_at, put, delivered, FitsSlot}
 use Rattle.irl_model.specs.Events.{has_number, is_in_front, numbers_of}
 use Rattle.irl_model.specs.Legal.{are_rising, are_read, is_slot_within}
 use Rattle.irl_fate.specs.declared.fate.Fate.{Fate}
-use Rattle.irl_fate.specs.declared.fate.Fate.TheVariants.{Fresh, Queue, Last, Front, Done}
+use Rattle.irl_fate.specs.declared.fate.Fate.TheVariants.{Fresh}
 use Rattle.irl_fate.specs.Kept.{count, one_if, Agree, fate_of_slot, placed_by}
 use Rattle.irl_fate.proofs.Counting.{zero_absent, one_true}
-use Rattle.irl_fate.proofs.Agreeing.{placed_at, front_with, put_one, cleared}
+use Rattle.irl_fate.proofs.Agreeing.{placed_at, front_with, put_one}
 
 -- ---- slots
 pub slot_fits : (from to : ℕ) (s : Slot) → 1 ≤ from → to ≤ 64 → is_slot_within from to s ≡ true → FitsSlot s
@@ -39,7 +39,7 @@ slots_fit from to (place ∷ places) least most h (suc i) d lt =
 abbrev pub IsOutside : ℕ → ℕ → ℕ → Type 0
 IsOutside from to n = (n < from) ⊎ (to ≤ n)
 
-rising_absent : (from to : ℕ) (ns : List ℕ) (n : ℕ) → are_rising from to ns ≡ true → IsOutside from to n → has_number ns n ≡ false
+pub rising_absent : (from to : ℕ) (ns : List ℕ) (n : ℕ) → are_rising from to ns ≡ true → IsOutside from to n → has_number ns n ≡ false
 rising_absent from to [] n h out = refl
 rising_absent from to (m ∷ ns) n h out =
     let parts = and_parts (nat_le from m && nat_lt m to) (are_rising (m + 1) to ns) h in
@@ -187,3 +187,21 @@ delivered_before lists (place ∷ places) from to k h lt below =
     let parts = and_parts (is_slot_within from to place.slot) (list_all (λ p. is_slot_within from to p.slot) places) h in
     delivered_before (put lists place.number place.slot) places from to k parts.1 lt below
     ∙ put_before lists place.number place.slot from to k parts.0 lt below
+
+-- ---- so do the queues behind the slots
+put_after : (lists : List (List ℕ)) (n : ℕ) (s : Slot) (from to k : ℕ) → 1 ≤ from → is_slot_within from to s ≡ true → to ≤ k → k < 64 → list_at (put lists n s) k ≡ list_at lists k
+put_after lists n InFront from to k least h le below = refl
+put_after lists n (InQueue i) from to k least h le below =
+    let parts = and_parts (nat_le from i) (nat_le i to) h in
+    let low : from ≤ i = leb-true from i parts.0 in
+    let high : i ≤ to = leb-true i to parts.1 in
+    get_or-set_other lists (i - 1) k (list_at lists (i - 1) ++ n ∷ []) [] (λ e. omega arith)
+put_after lists n InLast from to k least h le below = get_or-set_other lists 64 k (list_at lists 64 ++ n ∷ []) [] (λ e. omega arith)
+
+pub delivered_after : (lists : List (List ℕ)) (places : List Place) (from to k : ℕ) → 1 ≤ from → list_all (λ p. is_slot_within from to p.slot) places ≡ true → to ≤ k → k < 64 → list_at (delivered lists (numbers_of places) places) k ≡ list_at lists k
+unfolding delivered
+delivered_after lists [] from to k least h le below = refl
+delivered_after lists (place ∷ places) from to k least h le below =
+    let parts = and_parts (is_slot_within from to place.slot) (list_all (λ p. is_slot_within from to p.slot) places) h in
+    delivered_after (put lists place.number place.slot) places from to k least parts.1 le below
+    ∙ put_after lists place.number place.slot from to k least parts.0 le below

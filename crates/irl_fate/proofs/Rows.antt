@@ -1,13 +1,12 @@
 -- The definitions on a worked row: five URLs of one domain with a budget of 1, with 2 queues; then a pass with nothing fresh.
 use Rattle.std.proofs.Common.{◌≡◌, ℕ, List, [], ◌∷◌, map, refl}
-use Rattle.std.specs.Prelude.{Option, None, Some}
+use Rattle.std.specs.Prelude.{None, Some}
 use Rattle.irl_offer.specs.declared.place.Place.{Place}
 use Rattle.irl_offer.specs.declared.place.Slot.TheVariants.{Front as InFront, Queue as InQueue, Last as InLast}
 use Rattle.irl_offer.specs.declared.outcome.Outcome.TheVariants.{Page}
 use Rattle.irl_model.specs.Queues.{delivered, queue_of, last_of}
-use Rattle.irl_model.specs.Events.{Event, Begin, Pairs, Pass, Settle, Happened, Progress, progress}
+use Rattle.irl_model.specs.Events.{Begin, Pairs, Pass, Settle, Happened, progress}
 use Rattle.irl_model.specs.Legal.{broken}
-use Rattle.irl_fate.specs.declared.fate.Fate.{Fate}
 use Rattle.irl_fate.specs.declared.fate.Fate.TheVariants.{Fresh, Queue, Last, Front, Done}
 use Rattle.irl_fate.specs.Fates.{fate_of}
 

@@ -1,10 +1,10 @@
 -- The rules, where a test settles one.
-use Rattle.std.proofs.Common.{◌≡◌, ◌∙◌, ℕ, ◌+◌, ◌<◌, List, [], ◌∷◌, ◌++◌, map, length, get_or, take, sym, ap, arith, refl, Bool, true, false, cond, not, rules}
+use Rattle.std.proofs.Common.{◌≡◌, ◌∙◌, ℕ, ◌+◌, ◌<◌, List, [], ◌∷◌, ◌++◌, length, get_or, take, sym, ap, arith, refl, Bool, true, false, cond, not, rules}
 use Rattle.std.specs.Prelude.{◌&&◌, ◌||◌, nat_eq, Option, None, Some, is_some}
 use Rattle.std.specs.Ordering.{nat_cmp}
 use Rattle.std.specs.BTreeMap.{is_at}
 use Rattle.std.proofs.lemmas.Bool.{and_right}
-use Rattle.std.proofs.lemmas.List.{take_more, map_more}
+use Rattle.std.proofs.lemmas.List.{take_more}
 use Rattle.std.proofs.lemmas.List.Folds.{list_any-append, list_any_more}
 use Rattle.irl_model.specs.Events.{has_number}
 use Rattle.irl_model.specs.Legal.{are_read, are_distinct}

@@ -1,15 +1,15 @@
 -- Numbers of the front are done.
-use Rattle.std.proofs.Common.{◌≡◌, ◌∙◌, ℕ, ◌+◌, ◌<◌, ◌≤◌, List, [], ◌∷◌, ◌++◌, map, length, sym, ap, arith, refl, Bool, true, false, cond, not, inl, inr, subst}
+use Rattle.std.proofs.Common.{◌≡◌, ◌∙◌, ℕ, ◌+◌, List, [], ◌∷◌, ◌++◌, length, sym, ap, arith, refl, Bool, true, false, cond, not, inl, inr, subst}
 use Rattle.std.specs.Prelude.{◌&&◌, ◌||◌, nat_eq, nat_lt, Option, None, Some}
 use Rattle.std.specs.Option.{option_or}
-use Rattle.std.specs.List.{filter, list_all}
+use Rattle.std.specs.List.{list_all}
 use Rattle.std.proofs.lemmas.Bool.{cases_Bool, and_parts, or_parts, or_cases, eqb-true, cond-true, cond-false, false≢true}
 use Rattle.std.proofs.lemmas.List.{length-map, map-append}
 use Rattle.irl_offer.specs.declared.outcome.Outcome.{Outcome}
 use Rattle.irl_model.specs.Events.{Progress, Settle, has_number, without}
 use Rattle.irl_model.specs.Legal.{are_distinct, none_fell, one_rose, settles}
 use Rattle.irl_fate.specs.declared.fate.Fate.{Fate}
-use Rattle.irl_fate.specs.declared.fate.Fate.TheVariants.{Fresh, Queue, Last, Front, Done}
+use Rattle.irl_fate.specs.declared.fate.Fate.TheVariants.{Fresh, Front, Done}
 use Rattle.irl_fate.specs.Fates.{done_by}
 use Rattle.irl_fate.specs.Kept.{fate_in, front_left, is_front, is_listed, is_done, outcome_at, FitsFate, count, one_if, outcome_of, Agree}
 use Rattle.irl_fate.proofs.Counting.{count_filter, filter_same, filter_both, one_true, length_without, count_append, count_distinct, absent_count}
@@ -17,12 +17,12 @@ use Rattle.irl_fate.proofs.Marking.{numbers_done, done_absent}
 use Rattle.irl_fate.proofs.Agreeing.{front_only}
 
 -- what came of a number that is among some outcomes
-record CameOf (outcomes : List (ℕ × Outcome)) (n : ℕ) (other : Fate) : Type 0 where
+pub record CameOf (outcomes : List (ℕ × Outcome)) (n : ℕ) (other : Fate) : Type 0 where
   outcome : Outcome
-  fate : done_by outcomes n other ≡ Done outcome
+  pub fate : done_by outcomes n other ≡ Done outcome
   looked : outcome_of outcomes n ≡ Some outcome
 
-came_of : (outcomes : List (ℕ × Outcome)) (n : ℕ) (other : Fate) → has_number (numbers_done outcomes) n ≡ true → CameOf outcomes n other
+pub came_of : (outcomes : List (ℕ × Outcome)) (n : ℕ) (other : Fate) → has_number (numbers_done outcomes) n ≡ true → CameOf outcomes n other
 came_of [] n other h = absurd (false≢true h)
 came_of (d ∷ outcomes) n other h = elim (cases_Bool (nat_eq d.0 n)) [
   | inl e ↦ record {

@@ -1,8 +1,8 @@
 -- What `Fates` keeps, after each of its steps.
-use Rattle.std.proofs.Common.{◌≡◌, ◌∙◌, ℕ, ◌+◌, ◌-◌, ◌<◌, ◌≤◌, List, [], ◌∷◌, ◌++◌, map, length, get_or, set, sym, ap, arith, refl, Bool, true, false, cond, not, inl, inr, subst}
+use Rattle.std.proofs.Common.{◌≡◌, ◌∙◌, ℕ, ◌+◌, ◌<◌, ◌≤◌, List, [], ◌∷◌, ◌++◌, map, length, get_or, set, sym, ap, arith, refl, Bool, true, false, inl, inr, subst}
 use Rattle.std.specs.Prelude.{◌&&◌, nat_eq}
-use Rattle.std.specs.List.{filter, list_all}
-use Rattle.std.proofs.lemmas.Bool.{cases_Bool, cases_lt, cases_eq, and_parts, eq-eqb, eqb-true, cond-true, cond-false, false≢true, true≢false}
+use Rattle.std.specs.List.{list_all}
+use Rattle.std.proofs.lemmas.Bool.{cases_lt, cases_eq, and_parts, eq-eqb, eqb-true, cond-true, cond-false, false≢true}
 use Rattle.std.proofs.lemmas.List.Folds.{list_any_at}
 use Rattle.std.proofs.lemmas.List.{get_or-set_same, get_or-set_other, get_or-replicate, get_or_past}
 use Rattle.irl_offer.specs.declared.outcome.Outcome.{Outcome}
@@ -15,7 +15,7 @@ use Rattle.irl_fate.specs.declared.fate.Fate.TheVariants.{Fresh, Queue, Last, Fr
 use Rattle.irl_fate.specs.Kept.{fate_in, is_front, is_listed, is_done, FitsFate, count, one_if, outcome_of, outcome_at, Agree, front_left, placed_by}
 use Rattle.irl_fate.proofs.Counting.{filter_all, filter_same}
 use Rattle.irl_fate.proofs.Agreeing.{in_front, in_list, same_fates, cleared, take_out, turned, turn_front}
-use Rattle.irl_fate.proofs.Reading.{Clear, clear_read, front_places, put_places, placed_none, placed_same, read_absent, read_whole, delivered_before}
+use Rattle.irl_fate.proofs.Reading.{Clear, clear_read, front_places, put_places, placed_none, placed_same, read_absent, read_whole, delivered_before, delivered_after}
 
 one_most : (b : Bool) → one_if b ≤ 1
 one_most true = omega arith
@@ -128,6 +128,11 @@ module _ (old entered new : List (ℕ × Fate)) (front : List ℕ) (lists : List
         | inr other ↦ get_or-set_other lists p k [] [] other ∙ r.spent k (omega arith)
       ]
 
+  pub reads_unused : Reads → ((k : ℕ) → j ≤ k → k < 64 → list_at lists k ≡ []) → p < j → (k : ℕ) → j ≤ k → k < 64 → list_at after k ≡ []
+  reads_unused r unused round k le lt =
+      delivered_after (set lists p []) places (p + 2) j k (omega arith) r.slots le lt
+      ∙ get_or-set_other lists p k [] [] (λ e. omega arith) ∙ unused k le lt
+
 -- ---- a round has ended
 last_only : (v : Fate) → FitsFate v → is_listed 64 v ≡ true → v ≡ Last
 last_only Fresh fits h = absurd (false≢true h)
@@ -160,7 +165,7 @@ turned_fresh f front lists done n a fresh =
 pub none_fresh : (entries : List (ℕ × Fate)) → entries ≡ [] → (n : ℕ) → 0 ≤ n → fate_in entries n ≡ Fresh
 none_fresh entries e n le = ap (λ (t : List (ℕ × Fate)). fate_in t n) e
 
-empty_at : (k : ℕ) → list_at {X = ℕ} empty_lists k ≡ []
+pub empty_at : (k : ℕ) → list_at {X = ℕ} empty_lists k ≡ []
 empty_at k = elim (cases_lt k 65) [
   | inl lt ↦ get_or-replicate 65 k [] [] lt
   | inr le ↦ let many : length (empty_lists {X = ℕ}) ≡ 65 = refl in get_or_past empty_lists k [] (omega arith)

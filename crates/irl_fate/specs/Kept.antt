@@ -1,5 +1,5 @@
 -- What the fields of `Fates` show, and what they keep.
-use Rattle.std.specs.Prelude.{◌≡◌, ℕ, ◌+◌, ◌≤◌, ◌<◌, nat_eq, Bool, true, false, List, [], ◌∷◌, map, length, unwrap_or, Vec, vec_len, Option, None, Some, IsSome, if◌then◌else◌}
+use Rattle.std.specs.Prelude.{◌≡◌, ℕ, ◌+◌, ◌≤◌, ◌<◌, nat_eq, Bool, true, false, List, [], ◌∷◌, map, length, unwrap_or, vec_len, Option, None, Some, IsSome, if◌then◌else◌}
 use Rattle.std.specs.List.{filter}
 use Rattle.std.specs.Ordering.{nat_cmp}
 use Rattle.std.specs.BTreeMap.{is_at}
@@ -93,6 +93,8 @@ pub record IsKept (a : Inside) : Type 0 where
   pub sent : a.read ≤ a.sent
   -- the queues that the round has read are empty
   pub spent : (k : ℕ) → k < a.passes → list_at (items_of a.lists.items) k ≡ []
+  -- and so are those that are not in use
+  pub unused : (k : ℕ) → a.queues ≤ k → k < 64 → list_at (items_of a.lists.items) k ≡ []
   pub left : a.left ≡ length (front_left a.fates.entries a.front.items)
   pub len : vec_len a.lists ≡ 65
   pub most : a.queues ≤ 64

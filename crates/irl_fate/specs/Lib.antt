@@ -1,5 +1,7 @@
+pub mod Counting
 pub mod Fates
 pub mod Kept
 pub mod Passing
+pub mod Reads
 pub mod Seen
 pub mod Standing

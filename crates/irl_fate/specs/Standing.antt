@@ -1,6 +1,7 @@
--- How often a number stands in the lists of a crawl.
-use Rattle.std.specs.Prelude.{ℕ, ◌+◌, nat_eq, Bool, true, false, List, [], ◌∷◌, map}
+-- How often a number stands in the lists of a crawl, and which of the lists are empty.
+use Rattle.std.specs.Prelude.{◌≡◌, ℕ, ◌+◌, ◌≤◌, ◌<◌, nat_eq, Bool, true, false, List, [], ◌∷◌, map, length}
 use Rattle.irl_model.specs.Events.{Progress}
+use Rattle.irl_model.specs.Queues.{Waiting, list_at}
 use Rattle.irl_fate.specs.declared.fate.Fate.{Fate}
 use Rattle.irl_fate.specs.declared.fate.Fate.TheVariants.{Fresh, Queue, Last, Front, Done}
 
@@ -28,3 +29,13 @@ is_placed (Queue i) = true
 is_placed Last = true
 is_placed Front = true
 is_placed (Done outcome) = true
+
+-- the lists in which numbers wait, in any round
+pub record IsWaiting (w : Waiting ℕ) : Type 0 where
+  pub lists : length w.lists ≡ 65
+  pub round : w.passes < w.queues
+  pub most : w.queues ≤ 64
+  -- the queues that the round has read are empty
+  pub spent : (k : ℕ) → k < w.passes → list_at w.lists k ≡ []
+  -- and so are those that are not in use
+  pub unused : (k : ℕ) → w.queues ≤ k → k < 64 → list_at w.lists k ≡ []

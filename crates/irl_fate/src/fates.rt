@@ -7,7 +7,7 @@ ghost use Rattle.irl_fate.specs.Fates.{fate_of};
 ghost use Rattle.irl_fate.specs.Passing.{read_by, ended};
 ghost use Rattle.irl_fate.specs.Seen.{seen, HasFronts};
 ghost use Rattle.irl_fate.specs.Standing.{one_if, is_placed, stands};
-ghost use Rattle.irl_fate.specs.declared.fate.Fate.TheVariants.{Fresh as FreshFate};
+ghost use Rattle.irl_fate.specs.declared.fate.Fate.TheVariants.{Fresh as FreshFate, Queue as QueueFate};
 ghost use Rattle.irl_fate.specs.declared.fate.FateFault.TheVariants.{Illegal as IllegalFault};
 
 use crate::lists::{LAST, deliver, no_numbers, replaced, taken};
@@ -98,36 +98,16 @@ impl Fates {
             AreLegal queues buckets (events ++ (seen event.now, places.now) ∷ [])) }
         ensures fronts { length self.new.fronts ≡ length self.old.fronts }
     {
-        if let Some(rule) = self.broken_rule(event, places)? {
+        if let Some(rule) = self.broken(event, places)? {
             return Err(FateFault::Illegal(rule));
         }
         self.carry_out(event, places)?;
         Ok(())
     }
 
-    /// The fate of a number. It takes no memory.
-    pub fn fate(&self, number: u64) -> Fate
-        ensures { result ≡ fate_of self.now number }
-    {
-        fate_at(&self.fates, number)
-    }
-
-    /// A law: each number that was read stands in one list, once, and no other stands anywhere; and what else the events that
-    /// were applied keep. It does nothing.
-    pub fn stands_once(&self)
-        ensures once { (n : ℕ) → stands self.now n ≡ one_if (is_placed (fate_of self.now n)) }
-        ensures fresh { (n : ℕ) → self.now.read ≤ n → fate_of self.now n ≡ FreshFate }
-        ensures sent { self.now.read ≤ self.now.sent }
-        ensures spent { (k : ℕ) → k < self.now.waiting.passes → list_at self.now.waiting.lists k ≡ [] }
-        ensures lists { length self.now.waiting.lists ≡ 65 }
-        ensures round { self.now.waiting.passes < self.now.waiting.queues }
-        ensures most { self.now.waiting.queues ≤ 64 }
-    {
-        let _ = &self.begun;
-    }
-
-    // The least rule that an event with its places breaks, if it breaks one.
-    fn broken_rule(&self, event: &Event, places: &[Place]) -> Result<Option<u8>, AllocError>
+    /// The least rule that an event with its places breaks, if it breaks one: whether `apply` would take it. It changes
+    /// nothing. Beside an event that is no pass the places are not looked at. The one error is that memory ran out.
+    pub fn broken(&self, event: &Event, places: &[Place]) -> Result<Option<u8>, AllocError>
         requires { HasFronts (length self.now.fronts) event.now }
         ensures { IfOk result (λ rule. rule ≡ broken self.now (seen event.now) places.now) }
     {
@@ -147,6 +127,31 @@ impl Fates {
             return Ok(Some(5));
         }
         Ok(None)
+    }
+
+    /// The fate of a number. It takes no memory.
+    pub fn fate(&self, number: u64) -> Fate
+        ensures { result ≡ fate_of self.now number }
+    {
+        fate_at(&self.fates, number)
+    }
+
+    /// A law: each number that was read stands in one list, once, and no other stands anywhere; one that waits in a queue
+    /// waits in one that is in use and that this round has not read yet, and all other queues are empty; and what else the
+    /// events that were applied keep. It does nothing.
+    pub fn stands_once(&self)
+        ensures once { (n : ℕ) → stands self.now n ≡ one_if (is_placed (fate_of self.now n)) }
+        ensures fresh { (n : ℕ) → self.now.read ≤ n → fate_of self.now n ≡ FreshFate }
+        ensures sent { self.now.read ≤ self.now.sent }
+        ensures spent { (k : ℕ) → k < self.now.waiting.passes → list_at self.now.waiting.lists k ≡ [] }
+        ensures unused { (k : ℕ) → self.now.waiting.queues ≤ k → k < 64 → list_at self.now.waiting.lists k ≡ [] }
+        ensures queue { (n i : ℕ) → fate_of self.now n ≡ QueueFate i →
+            (self.now.waiting.passes < i) × (i ≤ self.now.waiting.queues) }
+        ensures lists { length self.now.waiting.lists ≡ 65 }
+        ensures round { self.now.waiting.passes < self.now.waiting.queues }
+        ensures most { self.now.waiting.queues ≤ 64 }
+    {
+        let _ = &self.begun;
     }
 
     fn keeps_begin(&self, event: &Event) -> bool

@@ -5,6 +5,7 @@ mod counts;
 mod event;
 mod fate;
 mod fates;
+mod laws;
 mod lists;
 mod numbers;
 mod rules;
@@ -13,6 +14,9 @@ pub use counts::Counts;
 pub use event::{Event, Numbers, Places, Settled};
 pub use fate::{Fate, FateFault};
 pub use fates::Fates;
+pub use laws::{
+    counts_add_up, queues_wait_for_their_pass, what_is_done_stays_done, what_was_read_stands_once,
+};
 
 #[cfg(test)]
 mod tests;

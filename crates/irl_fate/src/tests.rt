@@ -309,18 +309,20 @@ const ROWS: [Row; 30] = [
     },
 ];
 
-// Whether an event of the table is taken, or refused, as it says.
+// Whether an event of the table is told to break the rule that it says, and is taken or refused by that.
 fn is_as_said(alloc: Global, fates: &mut Fates, row: &Row) -> Result<bool, AllocError>
     requires { length fates.old.fronts ≡ 1 }
     ensures { length fates.new.fronts ≡ 1 }
 {
     let event = event(alloc, &row.step)?;
     let places = places(alloc, row.places)?;
-    Ok(match fates.apply(&event, places.items()) {
+    let told = fates.broken(&event, places.items())?.unwrap_or(0) == row.rule;
+    let taken = match fates.apply(&event, places.items()) {
         Ok(()) => row.rule == 0,
         Err(FateFault::Illegal(rule)) => rule == row.rule,
         Err(FateFault::Memory) => false,
-    })
+    };
+    Ok(told && taken)
 }
 
 // Whether the numbers from 0 on have these fates.

@@ -1,4 +1,4 @@
-use Rattle.std.proofs.Common.{◌≡◌, ◌<◌, ◌∙◌, ◌++◌, [], ℕ, List, map, length, sym, ap, subst, arith, rules}
+use Rattle.std.proofs.Common.{◌≡◌, ◌<◌, ◌∙◌, ◌++◌, [], ℕ, map, length, sym, ap, subst, arith, rules}
 use Rattle.std.specs.Prelude.{Vec, vec_len}
 use Rattle.std.proofs.lemmas.List.{append-nil, length-map}
 use Rattle.irl_model.specs.Plain.{items_of}

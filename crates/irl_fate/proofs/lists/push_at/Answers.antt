@@ -1,4 +1,4 @@
-use Rattle.std.proofs.Common.{◌≡◌, ◌<◌, ◌∙◌, ◌++◌, ◌∷◌, [], ℕ, List, length, sym, ap, rules}
+use Rattle.std.proofs.Common.{◌<◌, ◌∙◌, ◌++◌, ◌∷◌, [], ℕ, List, length, sym, ap, rules}
 use Rattle.std.specs.Prelude.{Vec}
 use Rattle.irl_model.proofs.QueueLemmas.{on_err, set_vec, at_vec, same_vec}
 use Rattle.irl_fate.proofs.lists.push_at.Goals as goal

@@ -3,7 +3,7 @@ use Rattle.std.specs.Prelude.{nat_eq}
 use Rattle.irl_offer.specs.declared.place.Place.{Place}
 use Rattle.irl_offer.specs.declared.place.Slot.TheVariants.{Front}
 use Rattle.irl_fate.specs.declared.fate.Fate.{Fate}
-use Rattle.irl_fate.specs.Kept.{fate_in, placed_by, fate_of_slot}
+use Rattle.irl_fate.specs.Kept.{fate_in, fate_of_slot}
 use Rattle.irl_fate.proofs.Marking.{placed_more}
 use Rattle.irl_fate.proofs.numbers.place_all.Goals as goal
 

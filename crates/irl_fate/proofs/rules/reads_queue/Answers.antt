@@ -1,4 +1,4 @@
-use Rattle.std.proofs.Common.{◌<◌, length, sym, arith, rules}
+use Rattle.std.proofs.Common.{◌<◌, length, sym, arith}
 use Rattle.std.proofs.lemmas.List.{length-map}
 use Rattle.irl_offer.specs.declared.place.Place.{Place}
 use Rattle.irl_model.specs.Events.{numbers_of}

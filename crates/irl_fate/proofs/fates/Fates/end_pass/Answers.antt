@@ -1,15 +1,16 @@
-use Rattle.std.proofs.Common.{◌≡◌, ◌∙◌, ◌+◌, ◌*◌, ◌≤◌, ◌<◌, ℕ, List, [], length, cond, min, set, get_or, sym, ap, subst, arith, rules, inl, inr}
-use Rattle.std.specs.Prelude.{nat_eq, nat_lt, vec_len}
+use Rattle.std.proofs.Common.{◌≡◌, ◌∙◌, ◌+◌, ◌*◌, ◌<◌, ℕ, List, [], length, cond, min, set, get_or, sym, ap, subst, arith, rules, inl, inr}
+use Rattle.std.specs.Prelude.{nat_eq, nat_lt}
 use Rattle.std.proofs.lemmas.Bool.{cases_eq, le-ltb, cond-false}
 use Rattle.irl_model.specs.Plain.{items_of}
-use Rattle.irl_model.specs.Queues.{Waiting, list_at, round_ended, next_queues}
+use Rattle.irl_model.specs.Queues.{Waiting, list_at, next_queues}
 use Rattle.irl_model.specs.Events.{Progress, has_number}
 use Rattle.irl_fate.specs.declared.fate.Fate.TheVariants.{Queue, Last}
 use Rattle.irl_fate.specs.declared.fates.Fates.TheInside.{Inside}
 use Rattle.irl_fate.specs.Kept.{shown, IsKept, Agree, fate_in, front_left}
 use Rattle.irl_fate.specs.Passing.{ended}
-use Rattle.irl_fate.proofs.Agreeing.{same_fates, turned, turn}
+use Rattle.irl_fate.proofs.Agreeing.{same_fates, turn}
 use Rattle.irl_fate.proofs.Steps.{all_last, turned_left, turned_fresh}
+use Rattle.irl_fate.proofs.Waiting.{turned_unused}
 use Rattle.irl_fate.proofs.fates.Fates.end_pass.Goals as goal
 
 -- the first queue was read too
@@ -47,6 +48,7 @@ invariant_of-self-2 c =
       fresh = λ n le. becomes n ∙ turned_fresh (fate_in old) (front_left old a.front.items) lists a.done.items n k.agree (k.fresh n le);
       sent = k.sent;
       spent = λ i lt. absurd (omega arith);
+      unused = λ i le lt. ap (λ (t : List (List ℕ)). list_at t i) now ∙ turned_unused lists i (omega arith) lt (k.unused i (omega (arith, c.queues_after-self-inside.ensures.least)) lt);
       left = k.left ∙ sym (ap length front);
       len = c.replaced.ensures.len ∙ c.taken-last.ensures.len ∙ k.len;
       most = c.queues_after-self-inside.ensures.most;

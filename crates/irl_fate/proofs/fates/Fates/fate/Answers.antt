@@ -1,4 +1,4 @@
-use Rattle.std.proofs.Common.{◌∙◌, ap, sym}
+use Rattle.std.proofs.Common.{◌∙◌, ap}
 use Rattle.irl_model.specs.Events.{Progress}
 use Rattle.irl_fate.specs.Fates.{fate_of}
 use Rattle.irl_fate.proofs.Agreeing.{stands_where}

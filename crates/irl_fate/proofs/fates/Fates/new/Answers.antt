@@ -1,7 +1,7 @@
-use Rattle.std.proofs.Common.{◌≡◌, ◌∙◌, ℕ, List, [], length, arith, refl, sym, ap, subst}
-use Rattle.irl_model.specs.Queues.{empty_lists}
-use Rattle.irl_fate.specs.Kept.{Agree, fate_in, front_left}
-use Rattle.irl_fate.proofs.Steps.{none_agree, none_fresh}
+use Rattle.std.proofs.Common.{◌∙◌, ℕ, List, length, arith, sym, ap}
+use Rattle.irl_model.specs.Queues.{list_at}
+use Rattle.irl_fate.specs.Kept.{front_left}
+use Rattle.irl_fate.proofs.Steps.{none_agree, none_fresh, empty_at}
 use Rattle.irl_fate.proofs.fates.Fates.new.Goals as goal
 
 pub invariant_of-result : goal.invariant_of-result
@@ -14,6 +14,7 @@ invariant_of-result c =
       fresh = none_fresh _ none;
       sent = omega arith;
       spent = λ k lt. absurd (omega arith);
+      unused = λ k le lt. ap (λ (t : List (List ℕ)). list_at t k) c.in_ok-lists.ensures.lists ∙ empty_at k;
       left = sym (ap (λ (t : List ℕ). length (front_left c.new.result.entries t)) front);
       len = c.in_ok-lists.ensures.len;
       most = c.requires.most;

@@ -1,4 +1,4 @@
-use Rattle.std.proofs.Common.{◌≡◌, ◌∙◌, ◌+◌, ◌++◌, ◌≤◌, ◌<◌, ℕ, List, [], length, map, true, sym, ap, subst, arith, rules, refl}
+use Rattle.std.proofs.Common.{◌≡◌, ◌∙◌, ◌+◌, ◌++◌, ◌≤◌, ◌<◌, ℕ, List, length, true, sym, ap, subst, arith, rules}
 use Rattle.std.specs.Prelude.{vec_len}
 use Rattle.irl_offer.specs.declared.place.Place.{Place}
 use Rattle.irl_model.specs.Plain.{items_of}
@@ -10,7 +10,7 @@ use Rattle.irl_fate.specs.declared.fates.Fates.TheInside.{Inside}
 use Rattle.irl_fate.specs.Kept.{shown, IsKept, Agree, fate_in, placed_by, front_left}
 use Rattle.irl_fate.specs.Passing.{read_by}
 use Rattle.irl_fate.proofs.Reading.{slots_fit, front_places}
-use Rattle.irl_fate.proofs.Steps.{PassParts, pass_parts, Reads, after, front_whole, reads_agree, reads_fresh, reads_spent, same_left}
+use Rattle.irl_fate.proofs.Steps.{PassParts, pass_parts, Reads, after, front_whole, reads_agree, reads_fresh, reads_spent, reads_unused}
 use Rattle.irl_fate.proofs.fates.Fates.read_places.Goals as goal
 
 parts : (a : Inside) (x : Progress) (judged : ℕ) (places : List Place) → shown a ≡ x → passes_on x (Pass judged) places ≡ true → PassParts (shown a) judged places
@@ -64,6 +64,7 @@ invariant_of-self-2 c =
       fresh = reads_fresh _ _ _ _ _ _ _ _ _ _ _ r;
       sent = omega arith;
       spent = λ k lt. ap (λ (t : List (List ℕ)). list_at t k) now ∙ reads_spent _ _ _ _ _ _ _ _ _ _ _ r k (omega arith);
+      unused = λ k le lt. ap (λ (t : List (List ℕ)). list_at t k) now ∙ reads_unused _ _ _ _ _ _ _ _ _ _ _ r c.self.invariant.unused c.self.invariant.round k le lt;
       left = c.len-self-inside.ensures ∙ count ∙ sym (ap length whole);
       len = c.deliver.ensures.len;
       most = c.self.invariant.most;

@@ -1,4 +1,4 @@
-use Rattle.std.proofs.Common.{◌≡◌, ◌∙◌, ◌+◌, ◌-◌, ◌++◌, ◌≤◌, ◌<◌, ℕ, List, [], length, map, true, sym, ap, subst, arith, rules, refl}
+use Rattle.std.proofs.Common.{◌≡◌, ◌∙◌, ◌++◌, ℕ, List, [], length, true, sym, ap, subst, arith, rules}
 use Rattle.std.specs.List.{list_all}
 use Rattle.irl_offer.specs.declared.outcome.Outcome.{Outcome}
 use Rattle.irl_model.specs.Plain.{items_of}
@@ -9,7 +9,7 @@ use Rattle.irl_fate.specs.Fates.{done_by}
 use Rattle.irl_fate.specs.Kept.{shown, IsKept, Agree, fate_in, is_front, front_left}
 use Rattle.irl_fate.proofs.Agreeing.{in_front, same_fates}
 use Rattle.irl_fate.proofs.Marking.{numbers_done}
-use Rattle.irl_fate.proofs.Settling.{SettleParts, settle_parts, settle_agree, settle_left, settle_front, settle_fresh, all_same}
+use Rattle.irl_fate.proofs.Settling.{settle_parts, settle_agree, settle_left, settle_front, settle_fresh, all_same}
 use Rattle.irl_fate.proofs.fates.Fates.settle.Goals as goal
 
 -- what the rule says of the fields
@@ -64,6 +64,7 @@ invariant_of-self-2 c =
       fresh = λ n le. becomes n ∙ settle_fresh (fate_in old) outcomes n s.front (c.self.invariant.fresh n le);
       sent = c.self.invariant.sent;
       spent = c.self.invariant.spent;
+      unused = c.self.invariant.unused;
       left = omega (arith, less, ap length c.items-4.ensures, ap length front);
       len = c.self.invariant.len;
       most = c.self.invariant.most;

@@ -2,9 +2,11 @@ use Rattle.std.proofs.Common.{◌≡◌, ◌∙◌, ◌≤◌, ◌<◌, ℕ, [],
 use Rattle.irl_model.specs.Queues.{list_at}
 use Rattle.irl_model.specs.Events.{Progress}
 use Rattle.irl_fate.specs.declared.fate.Fate.{Fate}
-use Rattle.irl_fate.specs.declared.fate.Fate.TheVariants.{Fresh}
+use Rattle.irl_fate.specs.declared.fate.Fate.TheVariants.{Fresh, Queue}
 use Rattle.irl_fate.specs.Fates.{fate_of}
-use Rattle.irl_fate.specs.Standing.{one_if, is_placed, stands}
+use Rattle.irl_fate.specs.Standing.{one_if, is_placed, stands, IsWaiting}
+use Rattle.irl_fate.specs.Kept.{shown}
+use Rattle.irl_fate.proofs.Fresh.{queue_within}
 use Rattle.irl_fate.proofs.Agreeing.{stands_where}
 use Rattle.irl_fate.proofs.Standing.{stands_as}
 use Rattle.irl_fate.proofs.fates.Fates.stands_once.Goals as goal
@@ -13,6 +15,7 @@ pub returns : goal.returns
 returns c =
     let k = c.self.invariant in
     let view = c.self.view_is in
+    let waits : IsWaiting (shown c.self.inside).waiting = record { lists = k.agree.many; round = k.round; most = k.most; spent = k.spent; unused = k.unused } in
     record {
       once = subst (λ (x : Progress). (n : ℕ) → stands x n ≡ one_if (is_placed (fate_of x n))) view
           (λ n. stands_as k.agree n ∙ ap (λ (v : Fate). one_if (is_placed v)) (stands_where k.agree n));
@@ -20,6 +23,9 @@ returns c =
           (λ n le. sym (stands_where k.agree n) ∙ k.fresh n le);
       sent = subst (λ (x : Progress). x.read ≤ x.sent) view k.sent;
       spent = subst (λ (x : Progress). (i : ℕ) → i < x.waiting.passes → list_at x.waiting.lists i ≡ []) view k.spent;
+      unused = subst (λ (x : Progress). (i : ℕ) → x.waiting.queues ≤ i → i < 64 → list_at x.waiting.lists i ≡ []) view k.unused;
+      queue = subst (λ (x : Progress). (n i : ℕ) → fate_of x n ≡ Queue i → (x.waiting.passes < i) × (i ≤ x.waiting.queues)) view
+          (λ n i h. queue_within (shown c.self.inside) n i waits h);
       lists = subst (λ (x : Progress). length x.waiting.lists ≡ 65) view k.agree.many;
       round = subst (λ (x : Progress). x.waiting.passes < x.waiting.queues) view k.round;
       most = subst (λ (x : Progress). x.waiting.queues ≤ 64) view k.most;
