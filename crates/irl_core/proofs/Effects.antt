@@ -2,25 +2,27 @@
 use Rattle.std.proofs.Common.{◌≡◌, ◌∙◌, ℕ, ◌+◌, ◌≤◌, List, [], ◌∷◌, ◌++◌, map, length, get_or, set, sym, ap, subst, refl, true, arith, length-append, Vec, Global}
 use Rattle.std.specs.Prelude.{◌&&◌, nat_le, nat_lt, replicate}
 use Rattle.std.proofs.lemmas.Bool.{and_parts, leb-true}
-use Rattle.std.proofs.lemmas.List.{map-append, length-replicate}
+use Rattle.std.proofs.lemmas.List.{map-append}
 use Rattle.irl_offer.specs.Settings.{AreValid}
 use Rattle.irl_offer.specs.Tuple.{Tuple}
 use Rattle.irl_offer.specs.declared.outcome.Outcome.{Outcome}
 use Rattle.irl_offer.specs.declared.place.Place.{Place}
-use Rattle.irl_model.specs.Book.{flushed_lists, last_cut, lengths_of}
-use Rattle.irl_model.specs.Events.{Event as SeenEvent, Pass as SeenPass, Settle as SeenSettle, Happened, Progress, after_event, before_all}
+use Rattle.irl_model.specs.Book.{flushed, flushed_lists, judged, judged_next, last_cut, merged}
+use Rattle.irl_model.specs.Events.{Event as SeenEvent, Pass as SeenPass, Happened, Progress, after_event, before_all}
 use Rattle.irl_model.specs.Plain.{items_of, whole_book}
 use Rattle.irl_model.proofs.Flushes.{flushed_lists-set}
-use Rattle.irl_model.proofs.Merges.{last_more}
+use Rattle.irl_model.proofs.FrontLaws.{flushed_judged}
+use Rattle.irl_model.proofs.Merges.{last_more, merged_judged}
 use Rattle.irl_fate.specs.declared.event.Event.{Event}
-use Rattle.irl_fate.specs.declared.event.Event.TheVariants.{Pass, Settle}
+use Rattle.irl_fate.specs.declared.event.Event.TheVariants.{Pass}
 use Rattle.irl_fate.specs.Seen.{seen}
 use Rattle.irl_core.specs.declared.pure.Core.TheInside.{Inside}
 use Rattle.irl_core.specs.Steps.{CoreState, new_core, array_of, course, durable_in, judged_in, pending_in, may_offer, may_flush, may_merge, may_pass, may_settle, with_offer, with_list, with_word, with_cut, with_event, emptied, pass_event, settle_event}
 use Rattle.irl_core.specs.Laws.{IsCore}
-use Rattle.irl_core.specs.Kept.{shown, happened, IsKept, IsCourseOf}
+use Rattle.irl_core.specs.Kept.{shown, happened, IsKept, AreFatesOf}
 use Rattle.irl_core.proofs.Keeping.{offer_kept, list_kept, word_kept, cut_kept, pass_kept, settle_kept, emptied_kept, course_more, room_set, new_kept, blank_at}
-use Rattle.irl_core.proofs.Shown.{lengths_are, lengths_long, durable_is_shown, told_sent, same_passed, same_settled}
+use Rattle.irl_core.proofs.Shown.{lengths_are, durable_is_shown, told_sent, told_alike}
+use Rattle.irl_core.proofs.Stores.{alike_event}
 
 -- an offer came into an array
 pub shows_offer : (a : Inside) (x : CoreState) (b : ℕ) (offer : Tuple) (arrays : List (List Tuple)) → shown a ≡ x → arrays ≡ flushed_lists b (offer ∷ []) (items_of a.arrays.items) → record (shown a) { arrays = arrays } ≡ with_offer b offer x
@@ -69,6 +71,14 @@ pub keeps_word : (a : Inside) (x : CoreState) (b : ℕ) (acknowledged : List ℕ
 keeps_word a x b acknowledged kept view is =
     subst IsCore (sym (shows_word a x b acknowledged view is)) (word_kept x b (subst IsCore view kept.core))
 
+-- and as many offers are judged as before
+pub judged_list : (a : Inside) (x : CoreState) (b : ℕ) (arrays lists : List (List Tuple)) → IsKept a → shown a ≡ x → arrays ≡ set (items_of a.arrays.items) b [] → lists ≡ flushed_lists b (get_or (items_of a.arrays.items) b []) (items_of a.lists.items)
+    → judged_in (shown a) ≤ judged_in (record (shown a) { arrays = arrays; urls = whole_book a.settings.buckets a.settings.rule lists (items_of a.cuts.items) })
+judged_list a x b arrays lists kept view array_is list_is =
+    let same : length (judged (flushed b (array_of (shown a) b) (shown a).urls)) ≡ length (judged (shown a).urls) = ap length (flushed_judged b (array_of (shown a) b) (shown a).urls kept.core.urls) in
+    let now : judged_in (record (shown a) { arrays = arrays; urls = whole_book a.settings.buckets a.settings.rule lists (items_of a.cuts.items) }) ≡ judged_in (with_list b (shown a)) = ap (λ (y : CoreState). judged_in y) (shows_list a (shown a) b arrays lists refl array_is list_is) in
+    omega arith
+
 -- all that was pending is judged
 pub shows_cut : (a : Inside) (x : CoreState) (cuts : List (List ℕ)) → IsKept a → shown a ≡ x → cuts ≡ items_of a.cuts.items ++ map length (items_of a.lists.items) ∷ []
     → record (shown a) { urls = whole_book a.settings.buckets a.settings.rule (items_of a.lists.items) cuts } ≡ with_cut x
@@ -81,6 +91,20 @@ pub keeps_cut : (a : Inside) (x : CoreState) (cuts : List (List ℕ)) → IsKept
     → IsCore (record (shown a) { urls = whole_book a.settings.buckets a.settings.rule (items_of a.lists.items) cuts })
 keeps_cut a x cuts kept view may is =
     subst IsCore (sym (shows_cut a x cuts kept view is)) (cut_kept x (subst IsCore view kept.core) may)
+
+-- and no fewer offers than before
+pub judged_more : (a : Inside) (cuts : List (List ℕ)) → IsKept a → cuts ≡ items_of a.cuts.items ++ map length (items_of a.lists.items) ∷ []
+    → judged_in (shown a) ≤ judged_in (record (shown a) { urls = whole_book a.settings.buckets a.settings.rule (items_of a.lists.items) cuts })
+judged_more a cuts kept is =
+    let longer : length (judged (merged (shown a).urls)) ≡ length (judged (shown a).urls) + length (judged_next (shown a).urls) = ap length (merged_judged (shown a).urls) ∙ length-append (judged (shown a).urls) (judged_next (shown a).urls) in
+    let now : judged_in (record (shown a) { urls = whole_book a.settings.buckets a.settings.rule (items_of a.lists.items) cuts }) ≡ judged_in (with_cut (shown a)) = ap (λ (y : CoreState). judged_in y) (shows_cut a (shown a) cuts kept refl is) in
+    omega arith
+
+-- the fates are those of the events still, where more offers are judged
+pub fates_more : (f x : Progress) (j k : ℕ) → j ≤ k → AreFatesOf f x j → AreFatesOf f x k
+fates_more f x j k more of =
+    let before : f.sent ≤ j = of.sent in
+    record { begun = of.begun; cuts = of.cuts; pairs = of.pairs; sent = omega arith; alike = of.alike }
 
 -- the last of the cuts is the one that was added
 pub last_is : (from cut : List ℕ) (old cuts : List (List ℕ)) → cuts ≡ old ++ cut ∷ [] → cut ≡ last_cut from cuts
@@ -106,22 +130,20 @@ keeps_none a x arrays kept view is = subst IsCore (sym (shows_none a x arrays vi
 pub same_events : (a : Inside) (events : Vec (Event × List Place) Global) → events.items ≡ a.events.items → record (shown a) { events = happened events.items } ≡ shown a
 same_events a events is = ap (λ (es : List (Event × List Place)). record (shown a) { events = happened es }) is
 
-pub keeps_events : (a : Inside) (events : Vec (Event × List Place) Global) (fates : Progress) → IsKept a → events.items ≡ a.events.items → IsCourseOf fates (course (shown a)) → IsKept (record a { events = events; fates = fates })
+pub keeps_events : (a : Inside) (events : Vec (Event × List Place) Global) (fates : Progress) → IsKept a → events.items ≡ a.events.items → AreFatesOf fates (course (shown a)) (judged_in (shown a)) → IsKept (record a { events = events; fates = fates })
 keeps_events a events fates k is of =
     let same = same_events a events is in
     record {
       core = subst IsCore (sym same) k.core;
-      fates = subst (λ (x : CoreState). IsCourseOf fates (course x)) (sym same) of;
-      read = k.read ∙ k.fates.read ∙ sym of.read;
-      fronts = k.fronts ∙ k.fates.fronts ∙ sym of.fronts;
-      fronts_long = k.fronts_long;
+      fates = subst (λ (x : CoreState). AreFatesOf fates (course x) (judged_in x)) (sym same) of;
+      read = k.read ∙ k.fates.alike.read ∙ sym of.alike.read;
       short = k.short;
       cut = k.cut;
     }
 
 -- what the fates are told of sent pairs says nothing of the events
-pub sent_of : (f x : Progress) (judged : ℕ) → IsCourseOf f x → IsCourseOf (told_sent f judged) x
-sent_of f x judged of = record { begun = refl; read = of.read; fronts = of.fronts; front = of.front; waiting = of.waiting; done = of.done }
+pub sent_of : (f x : Progress) (judged most : ℕ) → judged ≤ most → AreFatesOf f x most → AreFatesOf (told_sent f judged) x most
+sent_of f x judged most le of = record { begun = refl; cuts = refl; pairs = refl; sent = le; alike = told_alike f x judged of.alike }
 
 pub shows_pass : (a : Inside) (x : CoreState) (events : Vec (Event × List Place) Global) (event : Event) (places : List Place) (q : ℕ) → shown a ≡ x → q ≡ judged_in x → event ≡ Pass q → events.items ≡ a.events.items ++ (event, places) ∷ []
     → record (shown a) { events = happened events.items } ≡ with_event (pass_event x) places x
@@ -137,41 +159,40 @@ keeps_pass a x events fates event places q k view number event_is may is fates_i
     let kept = subst IsCore view k.core in
     let more : course (with_event (pass_event x) places x) ≡ after_event (course x) (SeenPass q) places = course_more x (pass_event x) places ∙ ap (λ (n : ℕ). after_event (course x) (SeenPass n) places) (sym number) in
     let told : fates ≡ after_event (told_sent a.fates q) (SeenPass q) places = fates_is ∙ ap (λ (e : Event). after_event (told_sent a.fates q) (seen e) places) event_is in
-    let of : IsCourseOf a.fates (course x) = subst (λ (y : CoreState). IsCourseOf a.fates (course y)) view k.fates in
-    let now : IsCourseOf fates (course (with_event (pass_event x) places x)) = subst (λ (p : Progress). IsCourseOf fates p) (sym more) (subst (λ (f : Progress). IsCourseOf f (after_event (course x) (SeenPass q) places)) (sym told) (same_passed a.fates (course x) q places of)) in
+    let of : AreFatesOf a.fates (course x) (judged_in x) = subst (λ (y : CoreState). AreFatesOf a.fates (course y) (judged_in y)) view k.fates in
+    let most : q ≤ judged_in x = omega arith in
+    let passed : AreFatesOf (after_event (told_sent a.fates q) (SeenPass q) places) (after_event (course x) (SeenPass q) places) (judged_in x) = record { begun = refl; cuts = refl; pairs = refl; sent = most; alike = alike_event (told_sent a.fates q) (course x) (SeenPass q) places (told_alike a.fates (course x) q of.alike) } in
+    let now : AreFatesOf fates (course (with_event (pass_event x) places x)) (judged_in x) = subst (λ (p : Progress). AreFatesOf fates p (judged_in x)) (sym more) (subst (λ (f : Progress). AreFatesOf f (after_event (course x) (SeenPass q) places) (judged_in x)) (sym told) passed) in
     record {
       core = subst IsCore (sym shows) (pass_kept x places kept may);
-      fates = subst (λ (y : CoreState). IsCourseOf fates (course y)) (sym shows) now;
+      fates = subst (λ (y : CoreState). AreFatesOf fates (course y) (judged_in y)) (sym shows) now;
       read = sym (ap (λ (f : Progress). f.read) told);
-      fronts = k.fronts ∙ sym (ap (λ (f : Progress). f.fronts) told);
-      fronts_long = k.fronts_long;
       short = k.short;
       cut = k.cut;
     }
 
-pub shows_settle : (a : Inside) (x : CoreState) (events : Vec (Event × List Place) Global) (event : Event) (fronts : List ℕ) (outcomes : List (ℕ × Outcome)) (places : List Place) → shown a ≡ x → fronts ≡ lengths_of x.urls → event ≡ Settle fronts outcomes → places ≡ [] → events.items ≡ a.events.items ++ (event, places) ∷ []
+pub shows_settle : (a : Inside) (x : CoreState) (events : Vec (Event × List Place) Global) (event : Event) (outcomes : List (ℕ × Outcome)) (places : List Place) → shown a ≡ x → seen event ≡ settle_event x outcomes → places ≡ [] → events.items ≡ a.events.items ++ (event, places) ∷ []
     → record (shown a) { events = happened events.items } ≡ with_event (settle_event x outcomes) [] x
-shows_settle a x events event fronts outcomes places view fronts_are event_is none is =
+shows_settle a x events event outcomes places view event_is none is =
     shows_event a x (settle_event x outcomes) [] (happened events.items) view
-    (ap happened is ∙ happened_more a.events.items event places ∙ ap (λ (e : Event). happened a.events.items ++ (seen e, places) ∷ []) event_is
-    ∙ ap (λ (ns : List ℕ). happened a.events.items ++ (SeenSettle ns outcomes, places) ∷ []) fronts_are
+    (ap happened is ∙ happened_more a.events.items event places ∙ ap (λ (e : SeenEvent). happened a.events.items ++ (e, places) ∷ []) event_is
     ∙ ap (λ (ps : List Place). happened a.events.items ++ (settle_event x outcomes, ps) ∷ []) none)
 
-pub keeps_settle : (a : Inside) (x : CoreState) (events : Vec (Event × List Place) Global) (fates : Progress) (fronts : Vec ℕ Global) (event : Event) (outcomes : List (ℕ × Outcome)) (places : List Place) → IsKept a → shown a ≡ x → fronts.items ≡ lengths_of x.urls → event ≡ Settle fronts.items outcomes → places ≡ [] → may_settle x outcomes ≡ true
-    → events.items ≡ a.events.items ++ (event, places) ∷ [] → fates ≡ after_event a.fates (seen event) places → IsKept (record a { events = events; fates = fates; fronts = fronts })
-keeps_settle a x events fates fronts event outcomes places k view fronts_are event_is none may is fates_is =
-    let shows = shows_settle a x events event fronts.items outcomes places view fronts_are event_is none is in
+pub keeps_settle : (a : Inside) (x : CoreState) (events : Vec (Event × List Place) Global) (fates : Progress) (event : Event) (outcomes : List (ℕ × Outcome)) (places : List Place) → IsKept a → shown a ≡ x → seen event ≡ settle_event x outcomes → places ≡ [] → may_settle x outcomes ≡ true
+    → events.items ≡ a.events.items ++ (event, places) ∷ [] → fates ≡ after_event a.fates (seen event) places → IsKept (record a { events = events; fates = fates })
+keeps_settle a x events fates event outcomes places k view event_is none may is fates_is =
+    let shows = shows_settle a x events event outcomes places view event_is none is in
     let kept = subst IsCore view k.core in
-    let more : course (with_event (settle_event x outcomes) [] x) ≡ after_event (course x) (SeenSettle fronts.items outcomes) [] = course_more x (settle_event x outcomes) [] ∙ ap (λ (ns : List ℕ). after_event (course x) (SeenSettle ns outcomes) []) (sym fronts_are) in
-    let told : fates ≡ after_event a.fates (SeenSettle fronts.items outcomes) [] = fates_is ∙ ap (λ (e : Event). after_event a.fates (seen e) places) event_is ∙ ap (λ (ps : List Place). after_event a.fates (SeenSettle fronts.items outcomes) ps) none in
-    let of : IsCourseOf a.fates (course x) = subst (λ (y : CoreState). IsCourseOf a.fates (course y)) view k.fates in
-    let now : IsCourseOf fates (course (with_event (settle_event x outcomes) [] x)) = subst (λ (p : Progress). IsCourseOf fates p) (sym more) (subst (λ (f : Progress). IsCourseOf f (after_event (course x) (SeenSettle fronts.items outcomes) [])) (sym told) (same_settled a.fates (course x) fronts.items outcomes of)) in
+    let settle : SeenEvent = settle_event x outcomes in
+    let more : course (with_event settle [] x) ≡ after_event (course x) settle [] = course_more x settle [] in
+    let told : fates ≡ after_event a.fates settle [] = fates_is ∙ ap (λ (e : SeenEvent). after_event a.fates e places) event_is ∙ ap (λ (ps : List Place). after_event a.fates settle ps) none in
+    let of : AreFatesOf a.fates (course x) (judged_in x) = subst (λ (y : CoreState). AreFatesOf a.fates (course y) (judged_in y)) view k.fates in
+    let settled : AreFatesOf (after_event a.fates settle []) (after_event (course x) settle []) (judged_in x) = record { begun = refl; cuts = of.cuts; pairs = of.pairs; sent = of.sent; alike = alike_event a.fates (course x) settle [] of.alike } in
+    let now : AreFatesOf fates (course (with_event settle [] x)) (judged_in x) = subst (λ (p : Progress). AreFatesOf fates p (judged_in x)) (sym more) (subst (λ (f : Progress). AreFatesOf f (after_event (course x) settle []) (judged_in x)) (sym told) settled) in
     record {
       core = subst IsCore (sym shows) (settle_kept x outcomes kept may);
-      fates = subst (λ (y : CoreState). IsCourseOf fates (course y)) (sym shows) now;
+      fates = subst (λ (y : CoreState). AreFatesOf fates (course y) (judged_in y)) (sym shows) now;
       read = k.read ∙ sym (ap (λ (f : Progress). f.read) told);
-      fronts = sym (ap (λ (f : Progress). f.fronts) told);
-      fronts_long = ap length (fronts_are ∙ ap (λ (y : CoreState). lengths_of y.urls) (sym view)) ∙ lengths_long a k;
       short = k.short;
       cut = k.cut;
     }
@@ -186,7 +207,6 @@ pub record IsNew (a : Inside) : Type 0 where
   pub events : a.events.items ≡ []
   pub fates : a.fates ≡ record (before_all a.settings.queues a.settings.buckets) { begun = true }
   pub read : a.read ≡ 0
-  pub fronts : a.fronts.items ≡ replicate a.settings.buckets 0
 
 new_shows : (a : Inside) → IsNew a → shown a ≡ new_core a.settings
 new_shows a n =
@@ -203,13 +223,11 @@ pub new_keeps : (a : Inside) → AreValid a.settings → IsNew a → IsKept a
 new_keeps a valid n =
     let k = a.settings.buckets in
     let shows = new_shows a n in
-    let P : Progress → Type 0 = λ f. IsCourseOf f (course (new_core a.settings)) in
+    let P : Progress → Type 0 = λ f. AreFatesOf f (course (new_core a.settings)) (judged_in (new_core a.settings)) in
     record {
       core = subst IsCore (sym shows) (new_kept a.settings valid);
-      fates = subst (λ (x : CoreState). IsCourseOf a.fates (course x)) (sym shows) (subst P (sym n.fates) (record { begun = refl; read = refl; fronts = refl; front = refl; waiting = refl; done = refl }));
+      fates = subst (λ (x : CoreState). AreFatesOf a.fates (course x) (judged_in x)) (sym shows) (subst P (sym n.fates) (record { begun = refl; cuts = refl; pairs = refl; sent = omega arith; alike = record { read = refl; fronts = refl; front = refl; waiting = refl; done = refl } }));
       read = n.read ∙ sym (ap (λ (f : Progress). f.read) n.fates);
-      fronts = n.fronts ∙ sym (ap (λ (f : Progress). f.fronts) n.fates);
-      fronts_long = ap length n.fronts ∙ length-replicate k 0;
       short = λ b. (
           let empty : length (get_or (items_of a.lists.items) b []) ≡ 0 = ap (λ (ls : List (List Tuple)). length (get_or ls b [])) n.lists ∙ ap length (blank_at k b) in
           omega arith);

@@ -19,17 +19,17 @@ use Rattle.irl_model.proofs.FrontLaws.{flushed_judged, merged_book}
 use Rattle.irl_model.proofs.Flushes.{flushed_lists-set, length-flushed_lists, flushed_book, flushed_uniques}
 use Rattle.irl_model.proofs.Merges.{merged_judged}
 use Rattle.irl_model.proofs.Stretches.{below_same, below_both}
-use Rattle.irl_fate.specs.Standing.{count, one_if, stands}
+use Rattle.irl_fate.specs.Standing.{count, one_if, stands, IsWaiting}
 use Rattle.irl_fate.proofs.Applying.{after_more}
 use Rattle.irl_fate.proofs.Settling.{settle_parts}
 use Rattle.irl_fate.proofs.Steps.{pass_parts}
+use Rattle.irl_fate.proofs.Waiting.{pass_stands, pass_waiting, settle_stands}
 use Rattle.irl_core.specs.declared.step.Step.{Step}
 use Rattle.irl_core.specs.declared.step.Step.TheVariants.{Offer, Flush, Merge, Stop, FlushStop, MergeStop, Pass as PassStep, Settle as SettleStep, SettleStop}
 use Rattle.irl_core.specs.declared.step.Reply.{Reply}
 use Rattle.irl_core.specs.Steps.{CoreState, new_core, array_of, judged_in, course, url_numbers, unread, pass_event, settle_event, may_offer, may_flush, may_merge, may_pass, may_settle}
 use Rattle.irl_core.specs.Steps.{with_offer, with_list, with_word, with_cut, with_event, emptied, stopped, taken_if, step, after_steps, core_of}
-use Rattle.irl_core.specs.Laws.{IsCore, IsCourse}
-use Rattle.irl_core.proofs.Courses.{pass_stands, pass_course, settle_stands, settle_course}
+use Rattle.irl_core.specs.Laws.{IsCore}
 use Rattle.irl_core.proofs.Numbers.{told_once, numbers_in, from_on, count_from, count_all_read, merged_unread}
 
 -- ---- lists of arrays
@@ -61,7 +61,7 @@ each_emptied : (buckets c : ℕ) (lists : List (List Tuple)) → AreOfBuckets bu
 each_emptied buckets c [] = tt
 each_emptied buckets c (list ∷ lists) = (tt, each_emptied buckets (c + 1) lists)
 
-each_blank : (buckets c n : ℕ) → AreOfBuckets buckets c (replicate n [])
+pub each_blank : (buckets c n : ℕ) → AreOfBuckets buckets c (replicate n [])
 each_blank buckets c zero = tt
 each_blank buckets c (suc n) = (tt, each_blank buckets (c + 1) n)
 
@@ -261,7 +261,7 @@ pub one_most : (b : Bool) → one_if b ≤ 1
 one_most true = omega arith
 one_most false = omega arith
 
-stands_most : (x : CoreState) → IsCore x → (n : ℕ) → stands (course x) n ≤ 1
+pub stands_most : (x : CoreState) → IsCore x → (n : ℕ) → stands (course x) n ≤ 1
 stands_most x is n =
     let before : count n (from_on (course x).read (numbers_in x.urls)) + stands (course x) n ≡ one_if (has_number (numbers_in x.urls) n) = is.once n in
     let most = one_most (has_number (numbers_in x.urls) n) in
@@ -284,6 +284,9 @@ same_numbers (n ∷ ns) (m ∷ ms) h =
     let parts = and_parts (nat_eq n m) (pointwise nat_eq ns ms) h in
     ap (λ k. k ∷ ns) (eqb-true n m parts.0) ∙ ap (λ (ks : List ℕ). m ∷ ks) (same_numbers ns ms parts.1)
 
+abbrev Waits : Progress → Type 0
+Waits p = IsWaiting p.waiting
+
 -- how far the crawl has come by one event more
 pub course_more : (x : CoreState) (event : Event) (places : List Place) → course (with_event event places x) ≡ after_event (course x) event places
 course_more x event places = after_more (before_all x.settings.queues x.settings.buckets) x.events (event, places)
@@ -305,7 +308,7 @@ pass_kept x places is may =
       each = is.each;
       room = is.room;
       acknowledged = is.acknowledged;
-      waiting = subst IsCourse (sym more) (pass_course (course x) q places is.waiting parts);
+      waiting = subst Waits (sym more) (pass_waiting (course x) q places is.waiting parts);
       read = (let P : Progress → Type 0 = λ p. p.read ≤ q in subst P (sym more) (omega arith));
       fronts = (let P : Progress → Type 0 = λ p. IsBelow p.fronts (lengths_of x.urls) in subst P (sym more) is.fronts);
       once = λ n.
@@ -333,7 +336,7 @@ settle_kept x outcomes is may =
       each = is.each;
       room = is.room;
       acknowledged = is.acknowledged;
-      waiting = subst IsCourse (sym more) (settle_course (course x) fronts outcomes is.waiting);
+      waiting = subst Waits (sym more) is.waiting;
       read = (let P : Progress → Type 0 = λ p. p.read ≤ judged_in x in subst P (sym more) is.read);
       fronts = (let P : Progress → Type 0 = λ p. IsBelow p.fronts fronts in subst P (sym more) (below_same fronts));
       once = λ n.

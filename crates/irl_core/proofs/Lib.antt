@@ -1,9 +1,13 @@
 pub mod Arrays
 pub mod Bounds
-pub mod Courses
 pub mod Effects
 pub mod Fresh
 pub mod Keeping
+pub mod Later
 pub mod Numbers
+pub mod Opened
 pub mod Receipts
 pub mod Shown
+pub mod StateLemmas
+pub mod Stores
+pub mod WorkedCrawl

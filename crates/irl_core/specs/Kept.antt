@@ -7,7 +7,8 @@ use Rattle.irl_model.specs.Plain.{items_of, whole_book}
 use Rattle.irl_fate.specs.declared.event.Event.{Event}
 use Rattle.irl_fate.specs.Seen.{seen}
 use Rattle.irl_core.specs.declared.pure.Core.TheInside.{Inside}
-use Rattle.irl_core.specs.Steps.{CoreState, course, list_of}
+use Rattle.irl_core.specs.Steps.{CoreState, course, judged_in, list_of}
+use Rattle.irl_core.specs.Stores.{AreEquallyFar}
 use Rattle.irl_core.specs.Laws.{IsCore}
 
 -- events with their places, as definitions have them
@@ -23,22 +24,19 @@ shown a = record {
   acknowledged = a.acknowledged.items;
 }
 
--- The fates are those of the core's events. They were told of a beginning and of sent pairs besides, which a core has no events
--- of.
-pub record IsCourseOf (fates x : Progress) : Type 0 where
+-- The fates are those of the core's events. They were told of a beginning, and of sent pairs of so many judged offers at most,
+-- which a core has no events of.
+pub record AreFatesOf (fates x : Progress) (judged : ℕ) : Type 0 where
   pub begun : fates.begun ≡ true
-  pub read : fates.read ≡ x.read
-  pub fronts : fates.fronts ≡ x.fronts
-  pub front : fates.front ≡ x.front
-  pub waiting : fates.waiting ≡ x.waiting
-  pub done : fates.done ≡ x.done
+  pub cuts : fates.cuts ≡ 0
+  pub pairs : fates.pairs ≡ 0
+  pub sent : fates.sent ≤ judged
+  pub alike : AreEquallyFar fates x
 
 pub record IsKept (a : Inside) : Type 0 where
   pub core : IsCore (shown a)
-  pub fates : IsCourseOf a.fates (course (shown a))
+  pub fates : AreFatesOf a.fates (course (shown a)) (judged_in (shown a))
   pub read : a.read ≡ a.fates.read
-  pub fronts : a.fronts.items ≡ a.fates.fronts
-  pub fronts_long : length a.fronts.items ≡ a.settings.buckets
   -- no list passes the cap
   pub short : (b : ℕ) → length (list_of (shown a) b) ≤ a.settings.cap
   pub cut : a.cut.items ≡ last_cut (replicate a.settings.buckets 0) (items_of a.cuts.items)

@@ -1,26 +1,15 @@
 -- What every core keeps, whatever its steps were, and what one step leaves of what was there.
-use Rattle.std.specs.Prelude.{◌≡◌, ◌≢◌, ℕ, ◌+◌, ◌<◌, ◌≤◌, Bool, true, false, List, [], ◌∷◌, ◌++◌, length, slice_get, slice_index, Some}
+use Rattle.std.specs.Prelude.{◌≡◌, ◌≢◌, ℕ, ◌+◌, ◌≤◌, Bool, true, false, List, [], ◌∷◌, ◌++◌, length, slice_get, slice_index, Some}
 use Rattle.irl_offer.specs.Settings.{AreValid}
 use Rattle.irl_offer.specs.Tuple.{Tuple}
 use Rattle.irl_offer.specs.declared.receipt.Receipt.{Receipt}
 use Rattle.irl_model.specs.Book.{IsBook, IsBelow, AreOfBuckets, lengths_of}
-use Rattle.irl_model.specs.Events.{Progress, has_number}
-use Rattle.irl_model.specs.Queues.{list_at}
-use Rattle.irl_fate.specs.Standing.{count, one_if, stands}
+use Rattle.irl_model.specs.Events.{has_number}
+use Rattle.irl_fate.specs.Standing.{count, one_if, stands, IsWaiting}
 use Rattle.irl_core.specs.declared.step.Step.{Step}
 use Rattle.irl_core.specs.declared.step.Step.TheVariants.{Offer, Flush, Merge, Stop, FlushStop, MergeStop, Pass, Settle, SettleStop}
 use Rattle.irl_core.specs.declared.step.Reply.TheVariants.{Stopped}
 use Rattle.irl_core.specs.Steps.{CoreState, array_of, list_of, judged_in, course, url_numbers, unread, step}
-
--- the lists in which numbers wait, in any round
-pub record IsCourse (x : Progress) : Type 0 where
-  pub lists : length x.waiting.lists ≡ 65
-  pub round : x.waiting.passes < x.waiting.queues
-  pub most : x.waiting.queues ≤ 64
-  -- the queues that the round has read are empty
-  pub spent : (k : ℕ) → k < x.waiting.passes → list_at x.waiting.lists k ≡ []
-  -- and so are those that are not in use
-  pub unused : (k : ℕ) → x.waiting.queues ≤ k → k < 64 → list_at x.waiting.lists k ≡ []
 
 -- Each number of a URL stands once: among those that no pass has read, or in the front, a queue, the last list or what is done.
 -- No other number stands anywhere.
@@ -37,7 +26,7 @@ pub record IsCore (x : CoreState) : Type 0 where
   pub each : AreOfBuckets x.settings.buckets 0 x.arrays
   pub room : (b : ℕ) → length (array_of x b) ≤ x.settings.array
   pub acknowledged : IsBelow x.acknowledged (lengths_of x.urls)
-  pub waiting : IsCourse (course x)
+  pub waiting : IsWaiting (course x).waiting
   pub read : (course x).read ≤ judged_in x
   -- the lists are as long as at the last settle, or longer
   pub fronts : IsBelow (course x).fronts (lengths_of x.urls)

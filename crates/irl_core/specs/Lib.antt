@@ -1,3 +1,6 @@
 pub mod Kept
 pub mod Laws
+pub mod States
 pub mod Steps
+pub mod Stores
+pub mod Worked

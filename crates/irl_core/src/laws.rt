@@ -1,16 +1,19 @@
-ghost use Rattle.std.specs.Prelude.{◌≡◌, ◌≢◌, ◌<◌, ◌≤◌, ◌+◌, ◌-◌, ℕ, List, [], map, max, true, false, slice_index, AllPairs};
+ghost use Rattle.std.specs.Prelude.{◌≡◌, ◌≢◌, ◌<◌, ◌≤◌, ◌+◌, ◌-◌, ◌++◌, ◌∷◌, ℕ, List, [], map, max, true, false, slice_index, AllPairs};
 ghost use Rattle.irl_offer.specs.Settings.{AreValid};
 ghost use Rattle.irl_offer.specs.Tuple.{Tuple};
 ghost use Rattle.irl_offer.specs.declared.outcome.Outcome.{Outcome};
 ghost use Rattle.irl_offer.specs.declared.receipt.Receipt.{Receipt};
 ghost use Rattle.irl_offer.specs.declared.settings.Settings.{Settings};
-ghost use Rattle.irl_model.specs.Book.{IsBook, IsFront, IsPrefixOf, IsBelow, lengths_of, uniques};
-ghost use Rattle.irl_model.specs.Events.{has_number};
+ghost use Rattle.irl_model.specs.Book.{Book, IsBook, IsFront, IsPrefixOf, IsBelow, judged, lengths_of, uniques};
+ghost use Rattle.irl_offer.specs.declared.place.Place.{Place};
+ghost use Rattle.irl_model.specs.Events.{Happened, Progress, Pass as PassEvent, Settle as SettleEvent, has_number, progress};
+ghost use Rattle.irl_model.specs.Legal.{broken};
 ghost use Rattle.irl_fate.specs.Fates.{fate_of};
 ghost use Rattle.irl_fate.specs.Standing.{count, one_if, stands};
-ghost use Rattle.irl_fate.specs.declared.fate.Fate.TheVariants.{Fresh as FreshFate, Queue as QueueFate};
+ghost use Rattle.irl_fate.specs.declared.fate.Fate.TheVariants.{Fresh as FreshFate, Queue as QueueFate, Done as DoneFate};
 ghost use Rattle.irl_core.specs.Laws.{IsCore, GivenAt, NoneStopped, StandsAt, given, is_stop, takes_effect};
-ghost use Rattle.irl_core.specs.Steps.{CoreState, after_steps, array_of, core_of, course, durable_in, new_core, pending_in, step, unread, url_numbers};
+ghost use Rattle.irl_core.specs.Stores.{AreEquallyFar, IsStored, is_step, steps_among, core_of_store, opened_core};
+ghost use Rattle.irl_core.specs.Steps.{CoreState, after_steps, array_of, broken_in_core, core_of, course, durable_in, new_core, pending_in, step, unread, url_numbers, with_event};
 ghost use Rattle.irl_core.specs.declared.step.Reply.TheVariants.{Receipt as ReceiptReply, Taken, Stopped, Refused};
 ghost use Rattle.irl_core.specs.declared.step.Step.{Step};
 ghost use Rattle.irl_core.specs.declared.step.Step.TheVariants.{Offer, Flush, Merge, Settle, FlushStop, MergeStop, SettleStop};
@@ -53,11 +56,17 @@ pub fn what_is_acknowledged_is_there()
         IsBelow (core_of settings steps).acknowledged (lengths_of (core_of settings steps).urls) }
 {}
 
-/// Steps take nothing from a list, and unsay no cut, no event and no acknowledgement.
+/// Steps take nothing from a list, and unsay no cut, no verdict, no event, no outcome and no acknowledgement: what is done stays
+/// done, with the same outcome.
 pub fn what_was_there_stays()
     ensures settings { (x : CoreState) (steps : List Step) → (after_steps x steps).settings ≡ x.settings }
     ensures urls { (x : CoreState) (steps : List Step) → IsFront x.urls (after_steps x steps).urls }
+    ensures verdicts { (x : CoreState) (steps : List Step) → IsCore x →
+        IsPrefixOf (judged x.urls) (judged (after_steps x steps).urls) }
     ensures events { (x : CoreState) (steps : List Step) → IsPrefixOf x.events (after_steps x steps).events }
+    ensures done { (x : CoreState) (steps : List Step) (n : ℕ) (outcome : Outcome) → IsCore x →
+        fate_of (course x) n ≡ DoneFate outcome → fate_of (course (after_steps x steps)) n ≡ DoneFate outcome }
+    ensures read { (x : CoreState) (steps : List Step) → IsCore x → (course x).read ≤ (course (after_steps x steps)).read }
     ensures acknowledged { (x : CoreState) (steps : List Step) → IsCore x →
         IsBelow x.acknowledged (after_steps x steps).acknowledged }
 {}
@@ -128,4 +137,30 @@ pub fn what_was_given_keeps_its_number()
 /// A step that is refused changes nothing.
 pub fn a_refused_step_changes_nothing()
     ensures { (x : CoreState) (s : Step) → (step x s).1 ≡ Refused → (step x s).0 ≡ x }
+{}
+
+/// A crawl's beginning, sent pairs and robots files are no steps: without them a crawl has come equally far, each number has the
+/// same fate, and the rules of passes and settles are those of a core.
+pub fn other_events_are_no_steps()
+    ensures equally_far { (queues buckets : ℕ) (events : List Happened) →
+        AreEquallyFar (progress queues buckets events) (progress queues buckets (steps_among events)) }
+    ensures fates { (x y : Progress) (n : ℕ) → AreEquallyFar x y → fate_of x n ≡ fate_of y n }
+    ensures passes { (x y : Progress) (judged : ℕ) (places : List Place) → AreEquallyFar x y → x.begun ≡ true →
+        x.sent ≡ judged → broken x (PassEvent judged) places ≡ broken_in_core y judged (PassEvent judged) places }
+    ensures settles { (x y : Progress) (judged : ℕ) (fronts : List ℕ) (outcomes : List (ℕ × Outcome)) → AreEquallyFar x y →
+        x.begun ≡ true → broken x (SettleEvent fronts outcomes) [] ≡ broken_in_core y judged (SettleEvent fronts outcomes) [] }
+    ensures others { (settings : Settings) (arrays : List (List Tuple)) (urls : Book) (events : List Happened) (h : Happened)
+        (acknowledged : List ℕ) → is_step h.0 ≡ false → core_of_store settings arrays urls (events ++ h ∷ []) acknowledged
+        ≡ core_of_store settings arrays urls events acknowledged }
+    ensures steps { (settings : Settings) (arrays : List (List Tuple)) (urls : Book) (events : List Happened) (h : Happened)
+        (acknowledged : List ℕ) → is_step h.0 ≡ true → core_of_store settings arrays urls (events ++ h ∷ []) acknowledged
+        ≡ with_event h.0 h.1 (core_of_store settings arrays urls events acknowledged) }
+{}
+
+/// A store that was opened is a core, from which the other laws go on, where its settings are valid, its URLs are a book, its
+/// events break no rule, each pass has read the next queue and the URLs that none had read, and no event tells of more offers
+/// than are there.
+pub fn an_opened_store_is_a_core()
+    ensures { (settings : Settings) (urls : Book) (events : List Happened) → IsStored settings urls events →
+        IsCore (opened_core settings urls events) }
 {}

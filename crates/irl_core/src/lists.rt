@@ -1,6 +1,6 @@
 ghost use Rattle.std.specs.Prelude.{◌≡◌, ◌<◌, ◌++◌, ◌∷◌, [], length, slice_index, slice_index_or, slice_set, replicate, vec_len, IfOk, OnOk, OnErr};
 ghost use Rattle.std.specs.Prelude.{map as list_map};
-ghost use Rattle.irl_model.specs.Legal.{one_rose, none_fell};
+ghost use Rattle.irl_model.specs.Legal.{one_rose};
 ghost use Rattle.irl_model.specs.Book.{flushed_lists};
 ghost use Rattle.irl_model.specs.Plain.{items_of};
 
@@ -105,19 +105,6 @@ pub fn set_at(numbers: &mut Vec<u64>, at: u32, number: u64)
     if (at as usize) < numbers.len() {
         numbers[at as usize] = number;
     }
-}
-
-/// Whether none of the second numbers is below the first's.
-pub fn stay(old: &[u64], new: &[u64]) -> bool
-    requires { length new.now ≡ length old.now }
-    ensures { result ≡ none_fell old.now new.now }
-{
-    for (i, front) in old.iter().enumerate() {
-        if new[i] < *front {
-            return false;
-        }
-    }
-    true
 }
 
 /// Whether one of the second numbers is above the first's.

@@ -4,13 +4,15 @@ ghost use Rattle.irl_offer.specs.Settings.{AreValid};
 ghost use Rattle.irl_model.specs.Book.{judged as judged_of};
 ghost use Rattle.irl_model.specs.Events.{numbers_of};
 ghost use Rattle.irl_fate.specs.Fates.{fate_of};
+ghost use Rattle.irl_fate.specs.Seen.{seen, HasFronts};
+ghost use Rattle.irl_core.specs.Laws.{IsCore};
 ghost use Rattle.irl_core.specs.Steps.{step as step_of, core_of, new_core, course, unread, url_numbers, judged_in, durable_in, array_of, pending_in};
 ghost use Rattle.irl_core.specs.Steps.{may_offer as may_offer_of, may_flush as may_flush_of, may_merge as may_merge_of, may_pass, may_settle as may_settle_of};
 ghost use Rattle.irl_core.specs.Steps.{with_offer, with_list, with_word, with_cut, with_event, emptied, pass_event, settle_event};
 ghost use Rattle.irl_core.specs.declared.step.Step.TheVariants.{Offer as OfferStep, Flush as FlushStep, Merge as MergeStep, Pass as PassStep, Settle as SettleStep};
 ghost use Rattle.irl_core.specs.declared.step.Step.TheVariants.{FlushStop as FlushStopStep, MergeStop as MergeStopStep, SettleStop as SettleStopStep};
 
-use crate::fates::{add_event, begun, differ, settles, tell_sent};
+use crate::fates::{add_event, begun, tell_sent};
 use crate::lists::{
     empty_all, length_at, lengths, move_to, no_offers, numbers, push_at, rise, set_at, zeros,
 };
@@ -33,10 +35,9 @@ pub struct Core {
     cut: Vec<u64>,
     acknowledged: Vec<u64>,
     events: Vec<(Event, Places)>,
-    // What the events come to, with the number of the last pass and the fronts of the last settle.
+    // What the events come to, with the number of the last pass.
     fates: Fates,
     read: u64,
-    fronts: Vec<u64>,
 }
 
 impl Model for Core {
@@ -69,7 +70,6 @@ impl Core {
         let lists = no_offers(alloc, buckets)?;
         let cut = zeros(alloc, buckets)?;
         let acknowledged = zeros(alloc, buckets)?;
-        let fronts = zeros(alloc, buckets)?;
         Ok(Core {
             alloc,
             settings,
@@ -81,7 +81,6 @@ impl Core {
             events: Vec::new(alloc),
             fates,
             read: 0,
-            fronts,
         })
     }
 
@@ -143,6 +142,13 @@ impl Core {
         &self.acknowledged
     }
 
+    /// A law: this core has what every core keeps. It does nothing.
+    pub fn is_core(&self)
+        ensures { IsCore self.now }
+    {
+        let _ = &self.read;
+    }
+
     // ---- steps
     fn offer(&mut self, bucket: u32, offer: Offer) -> Result<Reply, AllocError>
         ensures state { OnOk result (self.new ≡ (step_of self.old (OfferStep bucket offer)).0) }
@@ -197,11 +203,10 @@ impl Core {
         ensures reply { IfOk result (λ reply. reply ≡ (step_of self.old (SettleStep done)).1) }
         ensures err { OnErr result (self.new ≡ self.old) }
     {
-        if !self.may_settle(&done)? {
-            return Ok(Reply::Refused);
+        if self.add_settle(done)? {
+            return Ok(Reply::Taken);
         }
-        self.add_settle(done)?;
-        Ok(Reply::Taken)
+        Ok(Reply::Refused)
     }
 
     fn stop(&mut self) -> Reply
@@ -245,11 +250,13 @@ impl Core {
         ensures reply { IfOk result (λ reply. reply ≡ (step_of self.old (SettleStopStep done took)).1) }
         ensures err { OnErr result (self.new ≡ self.old) }
     {
-        if !self.may_settle(&done)? {
+        let may = if took {
+            self.add_settle(done)?
+        } else {
+            self.may_settle(done)?
+        };
+        if !may {
             return Ok(Reply::Refused);
-        }
-        if took {
-            self.add_settle(done)?;
         }
         Ok(self.stop())
     }
@@ -327,13 +334,21 @@ impl Core {
         Ok(given == wanted)
     }
 
-    fn may_settle(&self, done: &Settled) -> Result<bool, AllocError>
-        ensures { IfOk result (λ may. may ≡ may_settle_of self.now done.now) }
+    // A settle of these outcomes, at the lengths that the lists have.
+    fn settle_event(&self, done: Settled) -> Result<Event, AllocError>
+        ensures event { IfOk result (λ event. seen event ≡ settle_event self.now done) }
+        ensures fronts { IfOk result (λ event. HasFronts self.now.settings.buckets event) }
     {
-        let done = done.items();
-        let fronts = lengths(self.alloc, &self.lists)?;
-        let differ = differ(self.alloc, done)?;
-        Ok(settles(&self.fates, &self.fronts, &fronts, done, differ))
+        let lengths = lengths(self.alloc, &self.lists)?;
+        let fronts = numbers(self.alloc, &lengths)?;
+        Ok(Event::Settle { fronts, done })
+    }
+
+    fn may_settle(&self, done: Settled) -> Result<bool, AllocError>
+        ensures { IfOk result (λ may. may ≡ may_settle_of self.now done) }
+    {
+        let event = self.settle_event(done)?;
+        Ok(self.fates.broken(&event, &[])?.is_none())
     }
 
     // ---- what it does
@@ -396,23 +411,18 @@ impl Core {
         Ok(true)
     }
 
-    // Adds a settle that breaks no rule.
-    fn add_settle(&mut self, done: Settled) -> Result<(), AllocError>
-        requires { may_settle_of self.old done ≡ true }
-        ensures ok { OnOk result (self.new ≡ with_event (settle_event self.old done) [] self.old) }
+    // Adds a settle, if it breaks no rule.
+    fn add_settle(&mut self, done: Settled) -> Result<bool, AllocError>
+        ensures value { IfOk result (λ took. took ≡ may_settle_of self.old done) }
+        ensures ok { IfOk result (λ took. took ≡ true → self.new ≡ with_event (settle_event self.old done) [] self.old) }
+        ensures refused { IfOk result (λ took. took ≡ false → self.new ≡ self.old) }
         ensures err { OnErr result (self.new ≡ self.old) }
     {
-        let fronts = lengths(self.alloc, &self.lists)?;
-        let event = Event::Settle {
-            fronts: numbers(self.alloc, &fronts)?,
-            done,
-        };
+        let event = self.settle_event(done)?;
         let places = Places::new(self.alloc);
         if !add_event(&mut self.events, &mut self.fates, event, places)? {
-            // It breaks no rule.
-            return Err(AllocError);
+            return Ok(false);
         }
-        self.fronts = fronts;
-        Ok(())
+        Ok(true)
     }
 }

@@ -1,3 +1,4 @@
+use Rattle.irl_core.proofs.Later.{steps_verdicts, steps_done, steps_read}
 use Rattle.irl_core.proofs.Receipts.{steps_settings, steps_front, steps_events, steps_word}
 use Rattle.irl_core.proofs.laws.what_was_there_stays.Goals as goal
 
@@ -12,3 +13,12 @@ returns-clause-events c = steps_events
 
 pub returns-clause-acknowledged : goal.returns-clause-acknowledged
 returns-clause-acknowledged c = steps_word
+
+pub returns-clause-verdicts : goal.returns-clause-verdicts
+returns-clause-verdicts c = steps_verdicts
+
+pub returns-clause-done : goal.returns-clause-done
+returns-clause-done c = steps_done
+
+pub returns-clause-read : goal.returns-clause-read
+returns-clause-read c = steps_read

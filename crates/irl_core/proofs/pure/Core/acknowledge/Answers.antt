@@ -15,8 +15,6 @@ invariant_of-self c =
       core = keeps_word a c.args.self.now b c.set_at.new.numbers.items c.self.invariant c.self.view_is (c.set_at.ensures ∙ ap (λ (n : ℕ). set a.acknowledged.items b n) durable);
       fates = c.self.invariant.fates;
       read = c.self.invariant.read;
-      fronts = c.self.invariant.fronts;
-      fronts_long = c.self.invariant.fronts_long;
       short = c.self.invariant.short;
       cut = c.self.invariant.cut;
     }

@@ -2,8 +2,9 @@ use Rattle.std.proofs.Common.{◌≡◌, ◌∙◌, ◌+◌, ◌++◌, ◌∷◌
 use Rattle.std.specs.Prelude.{Vec, vec_len, replicate}
 use Rattle.std.proofs.lemmas.List.{length-map, map-append}
 use Rattle.irl_model.specs.Plain.{items_of}
-use Rattle.irl_core.specs.Steps.{CoreState}
-use Rattle.irl_core.proofs.Effects.{keeps_cut, shows_cut, last_is}
+use Rattle.irl_core.specs.Kept.{shown}
+use Rattle.irl_core.specs.Steps.{CoreState, course, judged_in}
+use Rattle.irl_core.proofs.Effects.{keeps_cut, shows_cut, judged_more, fates_more, last_is}
 use Rattle.irl_core.proofs.pure.Core.add_cut.Goals as goal
 
 pub invariant_of-self-2 : goal.invariant_of-self-2
@@ -15,10 +16,8 @@ invariant_of-self-2 c =
     let last : c.in_ok-last.last.items ≡ c.in_ok-cut.cut.items = c.in_ok-last.ensures.items ∙ c.deref-2.ensures.value in
     record {
       core = keeps_cut a c.args.self.now (items_of c.push.new.self.items) c.self.invariant c.self.view_is c.requires cuts;
-      fates = c.self.invariant.fates;
+      fates = fates_more a.fates (course (shown a)) (judged_in (shown a)) _ (judged_more a (items_of c.push.new.self.items) c.self.invariant cuts) c.self.invariant.fates;
       read = c.self.invariant.read;
-      fronts = c.self.invariant.fronts;
-      fronts_long = c.self.invariant.fronts_long;
       short = c.self.invariant.short;
       cut = last ∙ last_is (replicate a.settings.buckets 0) c.in_ok-cut.cut.items (items_of a.cuts.items) (items_of c.push.new.self.items) raw;
     }

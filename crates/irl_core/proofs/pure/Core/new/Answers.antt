@@ -13,5 +13,4 @@ invariant_of-result c =
       events = c.new-2.ensures.items;
       fates = c.in_ok-fates.ensures;
       read = refl;
-      fronts = c.in_ok-fronts.ensures;
     })

@@ -8,8 +8,6 @@ invariant_of-self-2 c =
       core = keeps_offer c.self.inside c.args.self.now c.args.bucket c.args.offer (items_of c.push_at.new.lists.items) c.self.invariant c.self.view_is c.requires.may c.in_ok-push_at.ensures.ok;
       fates = c.self.invariant.fates;
       read = c.self.invariant.read;
-      fronts = c.self.invariant.fronts;
-      fronts_long = c.self.invariant.fronts_long;
       short = c.self.invariant.short;
       cut = c.self.invariant.cut;
     }

@@ -8,8 +8,6 @@ invariant_of-self c =
       core = keeps_none c.self.inside c.args.self.now (items_of c.empty_all.new.lists.items) c.self.invariant c.self.view_is c.empty_all.ensures;
       fates = c.self.invariant.fates;
       read = c.self.invariant.read;
-      fronts = c.self.invariant.fronts;
-      fronts_long = c.self.invariant.fronts_long;
       short = c.self.invariant.short;
       cut = c.self.invariant.cut;
     }
