@@ -1,0 +1,5 @@
+pub mod Blocks
+pub mod Frames
+pub mod Growing
+pub mod Rising
+pub mod RunBytes

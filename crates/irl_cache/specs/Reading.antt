@@ -1,0 +1,57 @@
+-- A sorted run that is read in blocks.
+use Rattle.std.specs.Prelude.{◌≡◌, ◌≢◌, ℕ, ◌+◌, ◌*◌, ◌≤◌, List, [], ◌++◌, map, length, Option, None, Some}
+use Rattle.std.specs.Option.{ForSome}
+use Rattle.irl_offer.specs.declared.receipt.Pair.{Pair}
+use Rattle.irl_model.specs.Pairs.{pair_of, IsRising}
+use Rattle.irl_disk.specs.Disk.{Files}
+use Rattle.irl_journal.specs.Blob.{BeginsWith}
+use Rattle.irl_cache.specs.SortedRun.{pairs_bytes, AreWordPairs, last_from}
+
+-- a reader as contracts see it
+pub record Reader : Type 0 where
+  pub file : ℕ
+  -- how many entries the run has, and how many a block has at most
+  pub entries : ℕ
+  pub most : ℕ
+  -- how many all blocks so far had
+  pub given : ℕ
+  -- the last of them
+  pub block : List Pair
+  -- what was read behind them, and the last key that was read
+  pub ahead : List Pair
+  pub last : Option ℕ
+
+-- how many entries were read from the file
+abbrev pub read_of : Reader → ℕ
+read_of reader = reader.given + length reader.ahead
+
+-- the file has as many
+abbrev pub ReachesRead : Reader → Files → Type 0
+ReachesRead reader files = 16 * read_of reader ≤ length (files reader.file)
+
+-- The blocks so far, joined, are these pairs: with what was read ahead, their keys rise, and they are the file's first entries
+-- where a store tells its contents.
+pub record HasRead (told : Option Files) (pairs : List Pair) (reader : Reader) : Type 0 where
+  pub count : reader.given ≡ length pairs
+  pub within : read_of reader ≤ reader.entries
+  pub rising : IsRising (pairs ++ reader.ahead)
+  pub words : AreWordPairs (map pair_of (pairs ++ reader.ahead))
+  pub last : reader.last ≡ last_from None (pairs ++ reader.ahead)
+  pub bytes : ForSome told (λ files. BeginsWith (files reader.file) (pairs_bytes (map pair_of (pairs ++ reader.ahead))))
+
+-- more was read ahead, or nothing changed
+pub record IsFilled (old new : Reader) : Type 0 where
+  pub file : new.file ≡ old.file
+  pub entries : new.entries ≡ old.entries
+  pub most : new.most ≡ old.most
+  pub given : new.given ≡ old.given
+  pub ahead : read_of old ≤ read_of new
+
+-- a reader that gave no block last
+abbrev pub without_block : Reader → Reader
+without_block reader = record { file = reader.file; entries = reader.entries; most = reader.most; given = reader.given; block = []; ahead = reader.ahead; last = reader.last }
+
+-- exactly n bytes of this file were read, and none of another: as `Takes`, but without its bound, since no read gives no bound
+abbrev pub TakesExactly : ℕ → ℕ → Option (ℕ → ℕ) → Option (ℕ → ℕ) → Type 0
+TakesExactly f n None new = new ≡ None
+TakesExactly f n (Some old) new = (counts : ℕ → ℕ) × (new ≡ Some counts) × (counts f ≡ old f + n) × ((g : ℕ) → g ≢ f → counts g ≡ old g)

@@ -1,0 +1,213 @@
+ghost use Rattle.std.specs.Prelude.{◌≡◌, ◌+◌, ◌≤◌, ◌<◌, ◌^◌, ◌++◌, [], List, ℕ, true, false, Option};
+ghost use Rattle.std.specs.Prelude.{length as len, IfOk, OnOk, OnErr, IsErr};
+ghost use Rattle.std.specs.Option.{ForSome};
+ghost use Rattle.irl_offer.specs.Faults.{HasCause};
+ghost use Rattle.irl_disk.specs.Disk.{Files, Changes, ChangesFile};
+ghost use Rattle.irl_disk.specs.Images.{LeavesBy};
+ghost use Rattle.irl_journal.specs.Blob.{KeepsFront, IsCommitted};
+ghost use Rattle.irl_cache.specs.Writing.{HasPut, ReachesPlace, end_of};
+
+use irl_disk::{Failed, Store};
+use std::alloc::{AllocError, Global};
+use std::marker::Model;
+
+/// How many bytes a writer gathers, at least, before it writes them.
+pub(crate) const PIECE: usize = 65_536;
+
+/// A writer of a file's growing end, in pieces: what is put waits in memory until there is a piece, and no piece is synced
+/// by itself. Contracts see it as a `Writer`.
+#[derive(Drop)]
+pub struct FileWriter {
+    file: u16,
+    kept: u64,
+    place: u64,
+    // Its first `count` bytes wait to be written.
+    buffer: Vec<u8>,
+    count: usize,
+}
+
+impl Model for FileWriter {
+    ghost use Rattle.std.specs.Prelude.{◌+◌, ◌^◌, ◌<◌, ◌≤◌, take, vec_len};
+    ghost use Rattle.irl_cache.specs.Writing.{Writer};
+
+    ghost Value = { Writer };
+
+    ghost view = { λ w. record { file = w.file; kept = w.kept; place = w.place; waiting = take w.count w.buffer.items } };
+
+    ghost invariant = { λ w. (w.file < 10000) × (w.kept ≤ w.place) × (w.place + w.count < 2 ^ 64)
+        × (w.count ≤ vec_len w.buffer) };
+}
+
+impl FileWriter {
+    /// A writer behind the first so many bytes of a file, which stay: the file has at least as many while it is written. It
+    /// touches no file. All the memory that the other calls need is taken here.
+    pub fn at(alloc: Global, f: u16, length: u64) -> Result<FileWriter, AllocError>
+        requires { f < 10000 }
+        ensures value { IfOk result (λ writer.
+            writer ≡ record { file = f; kept = length; place = length; waiting = [] }) }
+        ensures put { IfOk result (λ writer. (told : Option Files) →
+            ForSome told (λ files. length ≤ len (files f)) → HasPut told [] writer) }
+    {
+        FileWriter::with_room(alloc, f, length, PIECE)
+    }
+
+    // A writer that gathers so many bytes.
+    pub(crate) fn with_room(
+        alloc: Global,
+        f: u16,
+        length: u64,
+        room: usize,
+    ) -> Result<FileWriter, AllocError>
+        requires { f < 10000 }
+        ensures value { IfOk result (λ writer.
+            writer ≡ record { file = f; kept = length; place = length; waiting = [] }) }
+        ensures put { IfOk result (λ writer. (told : Option Files) →
+            ForSome told (λ files. length ≤ len (files f)) → HasPut told [] writer) }
+    {
+        let buffer = vec![in alloc; 0; room]?;
+        Ok(FileWriter {
+            file: f,
+            kept: length,
+            place: length,
+            buffer,
+            count: 0,
+        })
+    }
+
+    /// Puts bytes behind those that were put. Where they pass a piece, what waits is written before them. A refusal leaves
+    /// what was put, and the bytes may be put again. It takes no memory.
+    pub fn put<S: Store>(&mut self, store: &mut S, more: &[u8]) -> Result<(), Failed>
+        requires { ForSome (S.snapshot store.old).files (ReachesPlace self.old) }
+        ensures put { OnOk result ((bytes : List ℕ) → HasPut (S.snapshot store.old).files bytes self.old →
+            HasPut (S.snapshot store.new).files (bytes ++ more.now) self.new) }
+        ensures put_before { OnErr result ((bytes : List ℕ) → HasPut (S.snapshot store.old).files bytes self.old →
+            HasPut (S.snapshot store.new).files bytes self.new) }
+        ensures end { OnOk result (end_of self.new ≡ end_of self.old + len more.now) }
+        ensures end_before { OnErr result (end_of self.new ≡ end_of self.old) }
+        ensures file { self.new.file ≡ self.old.file }
+        ensures kept { self.new.kept ≡ self.old.kept }
+        ensures long { ForSome (S.snapshot store.new).files (ReachesPlace self.new) }
+        ensures changes { Changes self.old.file (KeepsFront self.old.kept)
+            (S.snapshot store.old).files (S.snapshot store.new).files }
+        // A stop at any moment leaves the bytes that stay, and every other file as it was.
+        ensures stops { LeavesBy (ChangesFile self.old.file (KeepsFront self.old.kept))
+            (S.snapshot store.old) (S.snapshot store.new) }
+        ensures taken { S.taken store.new ≡ S.taken store.old }
+        ensures cause { HasCause (IsErr result) (S.faults store.old) (S.faults store.new) }
+    {
+        if self.gather(more) {
+            return Ok(());
+        }
+        self.flush(store)?;
+        if self.gather(more) {
+            return Ok(());
+        }
+        self.write_past(store, more)
+    }
+
+    /// How long the file is with what was put, in bytes.
+    pub fn length(&self) -> u64
+        ensures value { result ≡ end_of self.now }
+        ensures bound { result < 2 ^ 64 }
+    {
+        self.place + self.count as u64
+    }
+
+    /// Writes what waits and syncs the file, whose length it gives: each stop from then on leaves what was committed of the
+    /// bytes that stay, and behind them all that were put.
+    pub fn finish<S: Store>(mut self, store: &mut S) -> Result<u64, Failed>
+        requires { ForSome (S.snapshot store.old).files (ReachesPlace self) }
+        ensures committed { IfOk result (λ length. (bytes held : List ℕ) →
+            HasPut (S.snapshot store.old).files bytes self →
+            IsCommitted (S.snapshot store.old).images (record { file = self.file; length = self.kept }) held →
+            IsCommitted (S.snapshot store.new).images (record { file = self.file; length = length }) (held ++ bytes)) }
+        ensures length { IfOk result (λ length. length ≡ end_of self) }
+        ensures bound { IfOk result (λ length. length < 2 ^ 64) }
+        ensures long { IfOk result (λ length. ForSome (S.snapshot store.new).files (λ files.
+            length ≤ len (files self.file))) }
+        ensures changes { Changes self.file (KeepsFront self.kept)
+            (S.snapshot store.old).files (S.snapshot store.new).files }
+        // A stop at any moment leaves the bytes that stay, and every other file as it was.
+        ensures stops { LeavesBy (ChangesFile self.file (KeepsFront self.kept))
+            (S.snapshot store.old) (S.snapshot store.new) }
+        ensures taken { S.taken store.new ≡ S.taken store.old }
+        ensures cause { HasCause (IsErr result) (S.faults store.old) (S.faults store.new) }
+    {
+        self.flush(store)?;
+        store.sync(self.file)?;
+        Ok(self.place)
+    }
+
+    // Puts bytes behind those that wait, or answers false where they don't fit there, or the file would be too long.
+    fn gather(&mut self, more: &[u8]) -> bool
+        ensures gathered { result ≡ true → self.new ≡ record {
+          file = self.old.file;
+          kept = self.old.kept;
+          place = self.old.place;
+          waiting = self.old.waiting ++ more.now;
+        } }
+        ensures same { result ≡ false → self.new ≡ self.old }
+    {
+        let room = self.buffer.len() - self.count;
+        if more.len() > room || more.len() as u64 > u64::MAX - self.length() {
+            return false;
+        }
+        self.buffer[self.count..self.count + more.len()].copy_from_slice(more);
+        self.count += more.len();
+        true
+    }
+
+    // Writes what waits.
+    fn flush<S: Store>(&mut self, store: &mut S) -> Result<(), Failed>
+        requires { ForSome (S.snapshot store.old).files (ReachesPlace self.old) }
+        ensures value { OnOk result (self.new ≡ record {
+          file = self.old.file;
+          kept = self.old.kept;
+          place = end_of self.old;
+          waiting = [];
+        }) }
+        ensures same { OnErr result (self.new ≡ self.old) }
+        ensures put { (bytes : List ℕ) → HasPut (S.snapshot store.old).files bytes self.old →
+            HasPut (S.snapshot store.new).files bytes self.new }
+        ensures long { ForSome (S.snapshot store.new).files (ReachesPlace self.new) }
+        ensures changes { Changes self.old.file (KeepsFront self.old.kept)
+            (S.snapshot store.old).files (S.snapshot store.new).files }
+        ensures stops { LeavesBy (ChangesFile self.old.file (KeepsFront self.old.kept))
+            (S.snapshot store.old) (S.snapshot store.new) }
+        ensures taken { S.taken store.new ≡ S.taken store.old }
+        ensures cause { HasCause (IsErr result) (S.faults store.old) (S.faults store.new) }
+    {
+        store.write(self.file, self.place, &self.buffer[..self.count])?;
+        self.place += self.count as u64;
+        self.count = 0;
+        Ok(())
+    }
+
+    // Writes bytes behind those that were put, none of which wait.
+    fn write_past<S: Store>(&mut self, store: &mut S, more: &[u8]) -> Result<(), Failed>
+        requires none { self.old.waiting ≡ [] }
+        requires long { ForSome (S.snapshot store.old).files (ReachesPlace self.old) }
+        ensures value { OnOk result (self.new ≡ record {
+          file = self.old.file;
+          kept = self.old.kept;
+          place = self.old.place + len more.now;
+          waiting = [];
+        }) }
+        ensures same { OnErr result (self.new ≡ self.old) }
+        ensures put { OnOk result ((bytes : List ℕ) → HasPut (S.snapshot store.old).files bytes self.old →
+            HasPut (S.snapshot store.new).files (bytes ++ more.now) self.new) }
+        ensures put_before { OnErr result ((bytes : List ℕ) → HasPut (S.snapshot store.old).files bytes self.old →
+            HasPut (S.snapshot store.new).files bytes self.new) }
+        ensures long { ForSome (S.snapshot store.new).files (ReachesPlace self.new) }
+        ensures changes { Changes self.old.file (KeepsFront self.old.kept)
+            (S.snapshot store.old).files (S.snapshot store.new).files }
+        ensures stops { LeavesBy (ChangesFile self.old.file (KeepsFront self.old.kept))
+            (S.snapshot store.old) (S.snapshot store.new) }
+        ensures taken { S.taken store.new ≡ S.taken store.old }
+        ensures cause { HasCause (IsErr result) (S.faults store.old) (S.faults store.new) }
+    {
+        store.write(self.file, self.place, more)?;
+        self.place += more.len() as u64;
+        Ok(())
+    }
+}
