@@ -26,7 +26,7 @@ use Rattle.irl_bay.specs.Drum.{Drum, IsDrum, no_bucket}
 use Rattle.irl_bay.specs.Holding.{TellsBy, IsLong}
 use Rattle.irl_bay.specs.Making.{IsJournalOf}
 use Rattle.irl_bay.specs.Opening.{HasWhole, IsOpenBucket, IsLongBucket, IsJournalBelow, OpensBelow, IsFirstAbove, AdoptsTo}
-use Rattle.irl_bay.specs.Cache.{pairs_bytes}
+use Rattle.irl_cache.specs.SortedRun.{pairs_bytes}
 use Rattle.irl_bay.specs.JudgedEntries.{judged_entries}
 use Rattle.irl_journal.specs.Blob.{BeginsWith}
 use Rattle.irl_bay.specs.Runs.{run_bytes, texts_of}

@@ -22,7 +22,7 @@ use Rattle.irl_journal.proofs.Fronts.{begins_take}
 use Rattle.irl_bay.specs.BayFiles.{file_of}
 use Rattle.irl_bay.specs.declared.layout.files.BayFile.TheVariants.{Manifest, Cache, Judged, Texts, Journal, Aux}
 use Rattle.irl_bay.specs.declared.bucket.Bucket.{Bucket}
-use Rattle.irl_bay.specs.Cache.{pairs_bytes}
+use Rattle.irl_cache.specs.SortedRun.{pairs_bytes}
 use Rattle.irl_bay.specs.Commits.{Commit, IsCommit, IsCommitOf, AreCommitsOf, commit_bytes, first_commit, last_commit}
 use Rattle.irl_bay.specs.Drum.{no_bucket}
 use Rattle.irl_bay.specs.Holding.{Holds, HoldsBucket}

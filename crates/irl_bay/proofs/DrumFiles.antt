@@ -1,10 +1,12 @@
 -- The files of an open bay, each by its part.
-use Rattle.std.proofs.Common.{ℕ, ◌<◌, inl, inr, refl, Option, None, Some}
+use Rattle.std.proofs.Common.{ℕ, ◌≡◌, ◌+◌, ◌<◌, inl, inr, refl, subst, arith, Option, None, Some}
+use Rattle.irl_cache.specs.Reading.{TakesExactly}
 use Rattle.irl_disk.specs.Taken.{TakesAmong}
 use Rattle.irl_bay.specs.BayFiles.{IsFileOf}
 use Rattle.irl_bay.specs.declared.layout.files.BayFile.TheVariants.{Cache, Journal, Aux}
 use Rattle.irl_bay.specs.Drum.{Drum, IsDrum, bucket_at, cache_front}
 use Rattle.irl_bay.specs.Holding.{IsFileOfBucket}
+use Rattle.irl_bay.specs.Merging.{TakesOf}
 
 -- the live cache side is one of them
 pub side_is_file : (drum : Drum) → IsDrum drum → IsFileOf drum.base drum.settings.buckets (cache_front drum).file
@@ -19,3 +21,23 @@ bucket_is_file drum b f is lt (inr aux) = (Aux b, lt, let at = (is.buckets b lt)
 pub takes_wider : (some more : ℕ → Type 0) (old new : Option (ℕ → ℕ)) → ((f : ℕ) → some f → more f) → TakesAmong some old new → TakesAmong more old new
 takes_wider some more None new wide takes = takes
 takes_wider some more (Some old) new wide takes = (takes.0, takes.1, λ f out. takes.2 f (λ is. out (wide f is)))
+
+-- ---- how much of one file was read
+pub takes_of_none : (f : ℕ) (old new : Option (ℕ → ℕ)) → new ≡ old → TakesOf f 0 old new
+takes_of_none f None new same = same
+takes_of_none f (Some old) new same = (old, same, omega arith)
+
+pub takes_of_both : (f m n : ℕ) (old mid new : Option (ℕ → ℕ)) → TakesOf f m old mid → TakesOf f n mid new → TakesOf f (m + n) old new
+takes_of_both f m n None mid new one two = subst (λ (t : Option (ℕ → ℕ)). TakesOf f n t new) one two
+takes_of_both f m n (Some old) mid new one two =
+    let then_ = subst (λ (t : Option (ℕ → ℕ)). TakesOf f n t new) one.1 two in
+    (then_.0, then_.1, omega (arith, then_.2, one.2))
+
+pub takes_of_exactly : (f n : ℕ) (old new : Option (ℕ → ℕ)) → TakesExactly f n old new → TakesOf f n old new
+takes_of_exactly f n None new takes = takes
+takes_of_exactly f n (Some old) new takes = (takes.0, takes.1, takes.2)
+
+-- none of a file that isn't among those that were read
+pub takes_of_others : (among : ℕ → Type 0) (f : ℕ) (old new : Option (ℕ → ℕ)) → (among f → ⊥) → TakesAmong among old new → TakesOf f 0 old new
+takes_of_others among f None new out takes = takes
+takes_of_others among f (Some old) new out takes = (takes.0, takes.1, omega (arith, takes.2 f out))

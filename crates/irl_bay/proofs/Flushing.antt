@@ -24,7 +24,8 @@ use Rattle.irl_bay.specs.declared.layout.files.BayFile.TheVariants.{Manifest, Ca
 use Rattle.irl_bay.specs.BayFiles.{file_of, IsBucketFile}
 use Rattle.irl_bay.specs.Runs.{texts_of, HasBucket}
 use Rattle.irl_bay.specs.Commits.{Commit, IsCommit, IsCommitOf, AreCommitsOf, first_commit, last_commit, commit_bytes}
-use Rattle.irl_bay.specs.Cache.{HasCache, pairs_bytes}
+use Rattle.irl_bay.specs.Cache.{HasCache}
+use Rattle.irl_cache.specs.SortedRun.{pairs_bytes}
 use Rattle.irl_bay.specs.JudgedEntries.{judged_entries}
 use Rattle.irl_bay.specs.Standing.{IsBookOf, Stands}
 use Rattle.irl_bay.specs.Drum.{Drum, IsDrum, IsBucket, bucket_at, judged_at, durables, no_bucket, cache_front, judged_front, texts_front}

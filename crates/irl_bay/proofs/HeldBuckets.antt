@@ -10,24 +10,11 @@ use Rattle.std.proofs.lemmas.List.{take_more, length-map, get_or-map}
 use Rattle.std.proofs.lemmas.List.Sums.{sum_by-append}
 use Rattle.irl_disk.specs.Disk.{Files}
 use Rattle.irl_bay.specs.declared.bucket.Bucket.{Bucket}
-use Rattle.irl_bay.specs.Cache.{AreWords, HasCache}
+use Rattle.irl_bay.specs.Cache.{HasCache}
+use Rattle.irl_cache.specs.SortedRun.{AreWords}
 use Rattle.irl_bay.specs.Drum.{Drum, IsDrum, bucket_at, no_bucket, durable_at, durables, judged_at, pending_at}
 use Rattle.irl_bay.specs.Holding.{Holds, HoldsBucket}
 use Rattle.irl_bay.proofs.Words.{words_seen}
-
-pub bucket_within : (old new : Files → Type 0) (array cut : ℕ) (bucket : Bucket) (list : List Tuple) → ((image : Files) → new image → old image) → HoldsBucket old array cut bucket list → HoldsBucket new array cut bucket list
-bucket_within old new array cut bucket list sub holds = record {
-  before = holds.before;
-  behind = holds.behind;
-  are = holds.are;
-  journal = λ image now. holds.journal image (sub image now);
-  aux = record { size = holds.aux.size; each = λ image now. holds.aux.each image (sub image now) };
-  durable = holds.durable;
-  judged = holds.judged;
-  gate = holds.gate;
-  skip = holds.skip;
-  text = holds.text;
-}
 
 -- a list's offers are of its bucket
 pub of_bucket : (buckets first b : ℕ) (lists : List (List Tuple)) → AreOfBuckets buckets first lists → b < length lists → AllByRecursion (λ offer. bucket_of buckets offer.key ≡ first + b) (get_or lists b [])

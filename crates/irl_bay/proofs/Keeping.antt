@@ -1,5 +1,5 @@
 -- A merge's device calls: a batch is written, and then its record is appended to the manifest.
-use Rattle.std.proofs.Common.{◌≡◌, ◌∙◌, inl, inr, ⊎_elim, Bool, ℕ, ◌<◌, false, List, [], ◌∷◌, ◌++◌, length, map, Option, None, Some, Result, Err, refl, sym, ap, subst, arith, ◌+◌, ◌≤◌}
+use Rattle.std.proofs.Common.{◌≡◌, ◌∙◌, inl, inr, ⊎_elim, Bool, ℕ, ◌<◌, List, [], ◌∷◌, ◌++◌, length, map, Option, None, Some, Result, Err, refl, sym, ap, subst, arith, ◌+◌, ◌≤◌}
 use Rattle.std.specs.Prelude.{⊤, IsErrOf}
 use Rattle.std.specs.Option.{ForSome}
 use Rattle.irl_model.specs.Book.{Book, merged}
@@ -9,39 +9,19 @@ use Rattle.irl_disk.proofs.Frames.{told_from}
 use Rattle.irl_disk.proofs.Stretches.{widens, widens_by, joins, joins_by, same_by, left_now}
 use Rattle.irl_journal.specs.Appending.{Tail, IsOpen, HasOrGains}
 use Rattle.irl_bay.specs.BayFiles.{file_of}
-use Rattle.irl_bay.specs.declared.batch.Batch.{Batch}
+use Rattle.irl_bay.specs.Merging.{Batch}
 use Rattle.irl_bay.specs.declared.layout.files.BayFile.TheVariants.{Manifest}
 use Rattle.irl_bay.specs.Commits.{commit_bytes}
 use Rattle.irl_bay.specs.declared.bucket.Bucket.{Bucket}
 use Rattle.irl_bay.specs.Drum.{bucket_at, Drum, IsDrum}
 use Rattle.irl_bay.specs.Holding.{Holds, Becomes, ChangesOnly, TellsOnly, IsLong, TellsBy}
-use Rattle.irl_bay.specs.Merging.{IsWritten, KeepsCommitted, IsBatchFile, IsMergeFile, IsLongBatch, next_commit, next_cache, next_judged, next_texts, with_commit}
+use Rattle.irl_bay.specs.Merging.{KeepsCommitted, IsBatchFile, IsMergeFile, IsLongBatch, next_commit, next_cache, next_judged, next_texts, with_commit}
 use Rattle.irl_bay.proofs.BatchWrites.{tells_by, tells_then, tells_only}
-use Rattle.irl_bay.proofs.MergeFrames.{keeps_all, not_batch, holds_fewer, holds_written}
+use Rattle.irl_bay.proofs.MergeFrames.{keeps_all, not_batch, holds_written}
 use Rattle.irl_bay.proofs.Merges.{IsReady, Only, ready_stands, holds_merged}
 use Rattle.irl_bay.proofs.Merged.{bucket_caught_up}
 use Rattle.irl_bay.proofs.Staying.{told_before}
 use Rattle.irl_bay.proofs.Standing.{holds_stands}
-
--- ---- a bay that is said not to be sound meanwhile
-abbrev pub unsound : Drum → Drum
-unsound drum = record { base = drum.base; settings = drum.settings; is_sound = false; manifest = drum.manifest; last = drum.last; cuts = drum.cuts; buckets = drum.buckets }
-
-pub long_unsound : (drum : Drum) (told : Option Files) → ForSome told (λ files. IsLong drum files) → ForSome told (λ files. IsLong (unsound drum) files)
-long_unsound drum told long = λ files is.
-    let l = long files is in
-    record { manifest = l.manifest; cache = l.cache; judged = l.judged; texts = l.texts; journals = l.journals; auxes = l.auxes }
-
-pub stops_sound : (drum : Drum) (a b : Snapshot) → LeavesBy (KeepsCommitted (unsound drum)) a b → LeavesBy (KeepsCommitted drum) a b
-stops_sound drum a b stops = widens_by a b _ _ stops (λ y z keeps. record { others = keeps.others; judged = keeps.judged; texts = keeps.texts })
-
-pub written_sound : (drum : Drum) (batch : Batch) (old new : Files → Type 0) → IsWritten (unsound drum) batch old new → IsWritten drum batch old new
-written_sound drum batch old new written = record { cache = written.cache; judged = written.judged; texts = written.texts }
-
-pub batch_long : (drum : Drum) (batch : Batch) (told : Option Files) → ForSome told (IsLongBatch (unsound drum) batch) → ForSome told (IsLongBatch drum batch)
-batch_long drum batch told long = λ files is.
-    let l = long files is in
-    record { cache = l.cache; judged = l.judged; texts = l.texts }
 
 -- ---- while the batch is written
 module _ (drum : Drum) (a b : Snapshot) (law : IsDrum drum) (stops : LeavesBy (KeepsCommitted drum) a b) where
@@ -124,9 +104,6 @@ merge_holds drum book batch manifest a b c law_c r tells appended is_open files 
 pub same_stops : (drum : Drum) (a b : Snapshot) (x y : Book) → IsDrum drum → Holds a.images drum x → LeavesSame a b → LeavesBy (Becomes (IsMergeFile drum) drum.base drum.settings x y) a b
 same_stops drum a b x y law holds same = widens a b _ _ same (λ image was. (image, was, record { others = λ f out. refl; stands = inl (holds_stands a.images drum x image law holds was) }))
 
-pub same_holds : (drum : Drum) (a b : Snapshot) (book : Book) → IsDrum drum → IsConsistent b → Holds a.images drum book → LeavesSame a b → Holds b.images drum book
-same_holds drum a b book law law_b holds same = holds_fewer a.images b.images drum book law (λ z left. left_now a b _ law_b same z left) holds
-
 -- what a bay holds doesn't turn on whether it is said to be sound
 pub holds_said : (images : Files → Type 0) (drum : Drum) (is_sound : Bool) (book : Book) → Holds images drum book
     → Holds images (record { base = drum.base; settings = drum.settings; is_sound = is_sound; manifest = drum.manifest; last = drum.last; cuts = drum.cuts; buckets = drum.buckets }) book
@@ -144,23 +121,10 @@ holds_said images drum is_sound book holds = record {
   texts = holds.texts;
 }
 
--- a stretch that changes nothing, and one by a step
-pub after_same : (step : Files → Files → Type 0) (a b c : Snapshot) → IsConsistent b → ((x : Files) → step x x) → LeavesSame a b → LeavesBy step b c → LeavesBy step a c
-after_same step a b c law_b none same stops = joins a b c _ (same_by a b step none same) (widens b c _ _ stops (λ image from. (from.0, left_now a b _ law_b same from.0 from.1, from.2)))
-
 -- a store that tells nothing leaves no image
-told_stops : (step wide : Files → Files → Type 0) (told : Option Files) (b c : Snapshot) → b.files ≡ told → IsConsistent b → LeavesBy step b c → ((files : Files) → b.files ≡ Some files → LeavesBy wide b c) → LeavesBy wide b c
+pub told_stops : (step wide : Files → Files → Type 0) (told : Option Files) (b c : Snapshot) → b.files ≡ told → IsConsistent b → LeavesBy step b c → ((files : Files) → b.files ≡ Some files → LeavesBy wide b c) → LeavesBy wide b c
 told_stops step wide None b c is law_b stops where_told = widens b c _ _ stops (λ image from. let t = (law_b.tells from.0 from.1).1 in absurd (cc))
 told_stops step wide (Some files) b c is law_b stops where_told = where_told files is
-
--- the whole merge: it reads, and then it writes
-pub whole_stops : (drum : Drum) (x y : Book) (a b c : Snapshot) → IsDrum drum → IsConsistent b → Holds a.images drum x → LeavesSame a b → LeavesBy (ChangesOnly (IsMergeFile drum)) b c
-    → ((files : Files) → b.files ≡ Some files → LeavesBy (Becomes (IsMergeFile drum) drum.base drum.settings x y) b c) → LeavesBy (Becomes (IsMergeFile drum) drum.base drum.settings x y) a c
-whole_stops drum x y a b c law law_b holds same others where_told = joins a b c _ (same_stops drum a b x y law holds same) (widens b c _ _ (told_stops _ _ b.files b c refl law_b others where_told) (λ image from. (
-  from.0,
-  left_now a b _ law_b same from.0 from.1,
-  from.2,
-)))
 
 -- an error is the same one whatever the call would have given
 pub error_of : {T U E : Type 0} (found named : E) → IsErrOf {T = T} {E = E} (Err found) named → IsErrOf {T = U} {E = E} (Err found) named

@@ -6,6 +6,7 @@ pub mod BatchWrites
 pub mod Below
 pub mod Blank
 pub mod Bucketing
+pub mod CachePairs
 pub mod Buckets
 pub mod CommitBytes
 pub mod DrumFiles
@@ -14,11 +15,13 @@ pub mod Finding
 pub mod Flushing
 pub mod Gathered
 pub mod HeldBuckets
+pub mod InBuckets
 pub mod JudgedBooks
 pub mod JudgedBytes
 pub mod JudgedHeld
 pub mod JudgedMore
 pub mod JudgedReading
+pub mod Judges
 pub mod Keeping
 pub mod MergeFrames
 pub mod Merged
@@ -30,11 +33,10 @@ pub mod PendingRuns
 pub mod PendingTexts
 pub mod Reached
 pub mod Runs
-pub mod SideSizes
-pub mod Sides
 pub mod Spellings
 pub mod Standing
 pub mod Staying
+pub mod Sweeps
 pub mod Whole
 pub mod WordBytes
 pub mod Words

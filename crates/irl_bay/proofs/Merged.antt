@@ -1,23 +1,17 @@
 -- What a merge makes of an open bay: its commits, its numbers and its buckets are those of the book with one cut more.
-use Rattle.std.proofs.Common.{◌≡◌, ◌≢◌, ◌⊎◌, ◌∙◌, ⊎_elim, ℕ, suc, ◌+◌, ◌*◌, ◌^◌, ◌<◌, ◌≤◌, true, false, Bool, cond, List, [], ◌∷◌, ◌++◌, length, map, get_or, refl, sym, ap, subst, arith, append-nil, length-append, take_all}
+use Rattle.std.proofs.Common.{◌≡◌, ◌≢◌, ◌⊎◌, ◌∙◌, ⊎_elim, ℕ, suc, ◌+◌, ◌*◌, ◌^◌, ◌<◌, ◌≤◌, true, false, Bool, List, [], ◌∷◌, ◌++◌, length, map, get_or, refl, sym, ap, subst, arith, append-nil, length-append, take_all}
 use Rattle.std.proofs.lemmas.List.{length-map}
 use Rattle.std.proofs.Math.ListN.{get_or-map, get_or-append}
 use Rattle.std.proofs.Math.Seq.{get_or-append_seam}
 use Rattle.std.specs.List.{AllByRecursion}
-use Rattle.std.specs.Cmp.{nat_cmp_total}
-use Rattle.std.specs.FinMap.{entries, insert, len-insert, contains_key, len, len-entries}
-use Rattle.irl_offer.specs.declared.offer.Op.{Op}
-use Rattle.irl_offer.specs.declared.offer.Op.TheVariants.{Check, Update, Both}
-use Rattle.irl_offer.specs.declared.offer.Rule.{Rule}
 use Rattle.irl_offer.specs.declared.receipt.Judged.{Judged}
 use Rattle.irl_offer.specs.Tuple.{Tuple}
-use Rattle.irl_model.specs.Judging.{KeyMap, after, entered}
 use Rattle.irl_model.specs.Book.{Book, merged, with_cuts, judged, judged_offers, judged_cut, lengths_of, uniques_from, is_unique, gone}
 use Rattle.irl_model.proofs.Merges.{merged_cut, earlier_merged, earlier_all}
 use Rattle.irl_disk.specs.Disk.{Files}
 use Rattle.irl_journal.specs.Appending.{Tail, IsOpen}
 use Rattle.irl_bay.specs.BayFiles.{file_of}
-use Rattle.irl_bay.specs.declared.batch.Batch.{Batch}
+use Rattle.irl_bay.specs.Merging.{Batch}
 use Rattle.irl_bay.specs.declared.bucket.Bucket.{Bucket}
 use Rattle.irl_bay.specs.declared.layout.files.BayFile.TheVariants.{Manifest}
 use Rattle.irl_bay.specs.Runs.{run_bytes, texts_of, AreRuns}
@@ -31,26 +25,6 @@ use Rattle.irl_bay.specs.Merging.{FitsBatch, IsBatchOf, HasRoom, next_commit, ca
 pub length-judged_entries : (place : ℕ) (judged : List Judged) → length (judged_entries place judged) ≡ 48 * length judged
 length-judged_entries place [] = refl
 length-judged_entries place (one ∷ more) = omega (arith, length-append (judged_bytes place one) (judged_entries (place + length one.offer.aux) more), length-judged_entries (place + length one.offer.aux) more)
-
--- a set of keys doesn't shrink
-set_grows : (keys : KeyMap) (key value : ℕ) → length (entries keys) ≤ length (entries (insert keys key value))
-set_grows keys key value = by_test (contains_key keys key) (len-insert nat_cmp_total keys key value)
-  where
-    by_test : (test : Bool) → len (insert keys key value) ≡ cond test (len keys) (len keys + 1) → length (entries keys) ≤ length (entries (insert keys key value))
-    by_test true is = omega (arith, is, len-entries keys, len-entries (insert keys key value))
-    by_test false is = omega (arith, is, len-entries keys, len-entries (insert keys key value))
-
-entered_grows : (rule : Rule) (keys : KeyMap) (offer : Tuple) → length (entries keys) ≤ length (entries (entered rule keys offer))
-entered_grows rule keys offer = by_op offer.op refl
-  where
-    by_op : (op : Op) → offer.op ≡ op → length (entries keys) ≤ length (entries (entered rule keys offer))
-    by_op Check is = rw is (omega arith)
-    by_op Update is = rw is (set_grows keys offer.key _)
-    by_op Both is = rw is (set_grows keys offer.key _)
-
-pub keys_grow : (rule : Rule) (keys : KeyMap) (offers : List Tuple) → length (entries keys) ≤ length (entries (after rule keys offers))
-keys_grow rule keys [] = omega arith
-keys_grow rule keys (offer ∷ offers) = omega (arith, entered_grows rule keys offer, keys_grow rule (entered rule keys offer) offers)
 
 -- ---- a bay's buckets
 pub bucket_caught_up : (drum : Drum) (b : ℕ) → get_or (map caught_up drum.buckets) b no_bucket ≡ caught_up (bucket_at drum b)
@@ -89,16 +63,16 @@ drum_committed drum next manifest law room cut file sound cuts sounds = record {
 }
 
 -- the commit of a batch has its room
-pub has_room : (drum : Drum) (batch : Batch) → IsDrum drum → FitsBatch drum batch → 16 * batch.entries < 2 ^ 64 → 48 * (drum.last.judged + batch.count) < 2 ^ 64 → drum.last.texts + length batch.texts.items < 2 ^ 64 → AllByRecursion (λ (n : ℕ). n < 2 ^ 64) batch.cut.items
+pub has_room : (drum : Drum) (batch : Batch) → IsDrum drum → batch.cut ≡ durables drum → 16 * batch.entries < 2 ^ 64 → 48 * (drum.last.judged + batch.count) < 2 ^ 64 → drum.last.texts + length batch.texts < 2 ^ 64 → AllByRecursion (λ (n : ℕ). n < 2 ^ 64) batch.cut
     → HasRoom drum.settings.buckets (next_commit drum batch)
-has_room drum batch law fits entries_fit judged_fit texts_fit cut = record {
+has_room drum batch law cut_is entries_fit judged_fit texts_fit cut = record {
   form = record {
     side = omega arith;
     entries = omega arith;
     judged = omega arith;
     unique = omega arith;
     texts = texts_fit;
-    count = ap (λ (l : List ℕ). length l) fits.cut ∙ length-map drum.buckets (λ (bucket : Bucket). bucket.durable) ∙ law.count;
+    count = ap (λ (l : List ℕ). length l) cut_is ∙ length-map drum.buckets (λ (bucket : Bucket). bucket.durable) ∙ law.count;
     cut = cut;
   };
   judged = judged_fit;
@@ -185,11 +159,11 @@ few_uniques number (one ∷ more) = by_test (is_unique one.verdict) refl (few_un
 pub next_is : (drum : Drum) (book : Book) (batch : Batch) → HasNumbers drum book → FitsBatch drum batch → IsBatchOf book batch → HasRoom drum.settings.buckets (next_commit drum batch) → IsCommitOf (merged book) (next_commit drum batch)
 next_is drum book batch numbers fits is room =
     let judged_is : drum.last.judged + batch.count ≡ length (judged (merged book)) =
-    omega (arith, numbers.commit.judged, fits.judged, ap (λ (l : List ℕ). length l) is.judged_are, length-append (judged_entries 0 (judged book)) batch.judged.items, length-judged_entries 0 (judged book), length-judged_entries 0 (judged (merged book))) in
+    omega (arith, numbers.commit.judged, fits.judged, ap (λ (l : List ℕ). length l) is.judged_are, length-append (judged_entries 0 (judged book)) batch.judged, length-judged_entries 0 (judged book), length-judged_entries 0 (judged (merged book))) in
     record {
       judged = judged_is;
       unique = omega (arith, numbers.commit.unique, is.unique, few_uniques (gone (merged book)) (judged (merged book)), judged_is, room.judged);
-      texts = omega (arith, numbers.commit.texts, ap (λ (l : List ℕ). length l) is.texts, length-append (texts_of (judged_offers book)) batch.texts.items);
+      texts = omega (arith, numbers.commit.texts, ap (λ (l : List ℕ). length l) is.texts, length-append (texts_of (judged_offers book)) batch.texts);
       cut = fits.cut ∙ numbers.offers ∙ sym (merged_cut book);
     }
 

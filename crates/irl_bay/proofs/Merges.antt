@@ -3,6 +3,7 @@ use Rattle.std.proofs.Common.{◌≡◌, ◌⊎◌, ◌∙◌, inl, inr, ⊎_eli
 use Rattle.std.proofs.lemmas.List.{map-append}
 use Rattle.std.specs.FinMap.{entries}
 use Rattle.irl_model.specs.Book.{Book, merged, judged, judged_offers, seen, pending}
+use Rattle.irl_model.proofs.Adding.{keys_grow}
 use Rattle.irl_model.proofs.FrontLaws.{merged_book}
 use Rattle.irl_model.proofs.Merges.{merged_seen}
 use Rattle.irl_disk.specs.Disk.{Files, ChangesFile}
@@ -11,10 +12,10 @@ use Rattle.irl_journal.specs.Appending.{Tail, Ends, IsOpen, HasOrGains}
 use Rattle.irl_journal.specs.Blob.{Front, IsCommitted}
 use Rattle.irl_journal.specs.Format.{HasRecords, record_text, records_text}
 use Rattle.irl_journal.proofs.Gates.{length-push}
-use Rattle.irl_bay.specs.declared.batch.Batch.{Batch}
+use Rattle.irl_bay.specs.Merging.{Batch}
 use Rattle.irl_bay.specs.declared.bucket.Bucket.{Bucket}
 use Rattle.irl_bay.specs.Runs.{texts_of}
-use Rattle.irl_bay.specs.Cache.{pairs_bytes}
+use Rattle.irl_cache.specs.SortedRun.{pairs_bytes}
 use Rattle.irl_bay.specs.JudgedEntries.{judged_entries}
 use Rattle.irl_bay.specs.Commits.{Commit, IsCommit, commit_bytes, first_commit, last_commit}
 use Rattle.irl_bay.specs.Standing.{Stands}
@@ -22,7 +23,7 @@ use Rattle.irl_bay.specs.Drum.{Drum, IsDrum, SomePending, bucket_at, durable_at,
 use Rattle.irl_bay.specs.Holding.{Holds, HoldsBucket}
 use Rattle.irl_bay.specs.Merging.{FitsBatch, IsBatchOf, HasRoom, IsWritten, next_commit, caught_up, with_commit, next_cache, next_judged, next_texts}
 use Rattle.irl_bay.proofs.MergeFrames.{blob_moved, same_front, bucket_moved, holds_moved, manifest_stays}
-use Rattle.irl_bay.proofs.Merged.{keys_grow, bucket_caught_up, durable_is, drum_committed, bucket_merged, last_is, commits_more, next_is, numbers_merged, pending_differs}
+use Rattle.irl_bay.proofs.Merged.{bucket_caught_up, durable_is, drum_committed, bucket_merged, last_is, commits_more, next_is, numbers_merged, pending_differs}
 use Rattle.irl_bay.proofs.Standing.{holds_stands}
 
 -- the batch of a book is committed, and its record isn't in the manifest yet
@@ -67,8 +68,8 @@ module _ (step : List ℕ → List ℕ → Type 0) (old new : Files → Type 0) 
       let inside : b < drum.settings.buckets = omega (arith, within, r.holds.book_is.buckets) in
       let moved = bucket_moved _ _ (bucket_at drum b) _ old new (λ z is. let y = from z is in let stays = manifest_stays drum step y.0 z r.law y.2 in (y.0, y.1, stays.journals b inside, stays.auxes b inside)) (r.holds.buckets b within) in
       let all = bucket_merged new drum.settings.array _ (bucket_at drum b) (get_or book.lists b []) new_image new_left moved in
-      let cut : get_or batch.cut.items b 0 ≡ durable_at drum b = ap (λ (l : List ℕ). get_or l b 0) r.fits.cut ∙ durable_is drum b in
-      subst (λ (bucket : Bucket). HoldsBucket new drum.settings.array (get_or batch.cut.items b 0) bucket (get_or book.lists b [])) (sym (bucket_caught_up drum b))
+      let cut : get_or batch.cut b 0 ≡ durable_at drum b = ap (λ (l : List ℕ). get_or l b 0) r.fits.cut ∙ durable_is drum b in
+      subst (λ (bucket : Bucket). HoldsBucket new drum.settings.array (get_or batch.cut b 0) bucket (get_or book.lists b [])) (sym (bucket_caught_up drum b))
       (subst (λ (n : ℕ). HoldsBucket new drum.settings.array n (caught_up (bucket_at drum b)) (get_or book.lists b [])) (sym cut) all)
 
   -- the bay has the book with one cut more

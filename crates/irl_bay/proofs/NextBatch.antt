@@ -1,26 +1,31 @@
 -- What a merge judges of a book, bucket by bucket.
-use Rattle.std.proofs.Common.{◌≡◌, ◌∙◌, ℕ, zero, suc, ◌+◌, ◌<◌, ◌≤◌, List, [], ◌∷◌, ◌++◌, length, map, take, drop, get_or, refl, sym, ap, arith, length-append, take_all, replicate}
+use Rattle.std.proofs.Common.{◌≡◌, ◌∙◌, ℕ, zero, suc, ◌+◌, ◌*◌, ◌<◌, ◌≤◌, List, Option, [], ◌∷◌, ◌++◌, length, map, take, drop, get_or, refl, sym, ap, arith, length-append, take_all, replicate}
 use Rattle.std.proofs.lemmas.Grind.{flat_map-append}
 use Rattle.std.specs.FinMap.{entries}
+use Rattle.std.specs.Prelude.{sum, zip}
+use Rattle.std.proofs.lemmas.List.{length-map}
+use Rattle.std.proofs.lemmas.List.Sums.{count_by-le-length}
 use Rattle.irl_offer.specs.Tuple.{Tuple}
-use Rattle.irl_model.specs.Book.{Book, IsBook, judged, judged_as, judged_cut, judged_offers, judged_next, lengths_of, list_lengths, merged, pending, seen, stretch, uniques, uniques_from, gone}
+use Rattle.irl_offer.specs.declared.offer.Verdict.{Verdict}
+use Rattle.irl_offer.specs.declared.receipt.Pair.{Pair}
+use Rattle.irl_model.specs.Book.{Book, IsBook, judged, judged_as, judged_cut, judged_offers, judged_next, is_unique, lengths_of, list_lengths, merged, pending, seen, stretch, uniques, uniques_from, gone}
 use Rattle.irl_model.specs.Judging.{after, judgements}
+use Rattle.irl_model.specs.Pairs.{ArePairsOf, keys_of, pair_of}
+use Rattle.irl_model.proofs.JudgingLaws.{zip-judgements}
 use Rattle.irl_model.proofs.FrontLaws.{merged_offers}
 use Rattle.irl_model.proofs.Merges.{merged_judged, merged_uniques, merged_seen}
 use Rattle.irl_model.proofs.PlainLemmas.{stretch_more}
-use Rattle.irl_bay.specs.declared.batch.Batch.{Batch}
-use Rattle.irl_bay.specs.declared.judging.Judging.{Judging}
-use Rattle.irl_bay.specs.Cache.{pairs_bytes}
+use Rattle.irl_cache.specs.SortedRun.{pairs_bytes}
 use Rattle.irl_bay.specs.JudgedEntries.{judged_entries}
-use Rattle.irl_bay.specs.Merging.{HasJudged, IsBatchOf}
+use Rattle.irl_bay.specs.Judging.{batch_of, waiting}
+use Rattle.irl_bay.specs.Merging.{FitsBatch, IsBatchOf}
 use Rattle.irl_bay.specs.Runs.{texts_of}
-use Rattle.irl_bay.proofs.JudgedMore.{entries_both, offers_back, offers_of, same_count}
+use Rattle.irl_bay.proofs.JudgedMore.{entries_both, length-entries, offers_back, offers_of, same_count, with_uniques}
+use Rattle.irl_bay.proofs.CachePairs.{length-pairs}
+use Rattle.irl_bay.specs.Drum.{Drum, durables}
+use Rattle.irl_bay.specs.Telling.{judged_with}
 
 -- ---- one bucket after another
--- the offers that wait in the first buckets
-abbrev pub waiting : Book → ℕ → List Tuple
-waiting book n = stretch book.firsts (judged_cut book) (lengths_of book) (take n book.lists)
-
 length_at : (n b : ℕ) (lists : List (List Tuple)) → b < n → b < length lists → get_or (list_lengths (replicate n 0) lists) b 0 ≡ length (get_or lists b [])
 length_at zero b lists i j = absurd (omega arith)
 length_at (suc n) b [] i j = absurd (omega arith)
@@ -67,22 +72,38 @@ module _ (book : Book) (is_book : IsBook book) (dropped : book.dropped ≡ 0) (c
       nothing (first ∷ firsts) (from ∷ froms) (to ∷ tos) = refl
 
 -- ---- what is then written
-pub is_batch : (book : Book) (place : ℕ) (judging : Judging) (batch : Batch) → judging.rule ≡ book.rule → judging.buckets ≡ book.buckets → place ≡ length (texts_of (judged_offers book)) → HasJudged (seen book) place (pending book) judging
-    → batch.pairs.items ≡ pairs_bytes (entries judging.keys) → batch.entries ≡ length (entries judging.keys) → batch.judged ≡ judging.judged → batch.unique ≡ judging.unique → batch.texts ≡ judging.texts → IsBatchOf book batch
-is_batch book place judging batch rule buckets at has pairs count judged_is unique texts =
+pub is_batch : (drum : Drum) (book : Book) (fed put : List Pair) (offers : List Tuple) (verdicts : List (Option Verdict)) → drum.settings.rule ≡ book.rule → drum.settings.buckets ≡ book.buckets → drum.last.texts ≡ length (texts_of (judged_offers book)) → offers ≡ pending book → keys_of fed ≡ seen book
+    → verdicts ≡ map (λ p. p.1) (judgements drum.settings.rule (keys_of fed) offers) → ArePairsOf (after drum.settings.rule (keys_of fed) offers) put → IsBatchOf book (batch_of drum put offers verdicts)
+is_batch drum book fed put offers verdicts rule buckets at all keys told are =
     let next = judged_next book in
-    let keys : judging.keys ≡ seen (merged book) = has.keys_are ∙ ap (λ r. after r (seen book) (pending book)) rule ∙ sym (merged_seen book) in
-    let ones : map (judged_as judging.buckets) (judgements judging.rule (seen book) (pending book)) ≡ next = ap (λ n. map (judged_as n) (judgements judging.rule (seen book) (pending book))) buckets ∙ ap (λ r. map (judged_as book.buckets) (judgements r (seen book) (pending book))) rule in
+    let place = drum.last.texts in
+    let asked : after drum.settings.rule (keys_of fed) offers ≡ seen (merged book) =
+    ap (λ r. after r (keys_of fed) offers) rule ∙ ap (λ m. after book.rule m offers) keys ∙ ap (after book.rule (seen book)) all ∙ sym (merged_seen book) in
+    let judged_now : judgements drum.settings.rule (keys_of fed) offers ≡ judgements book.rule (seen book) (pending book) =
+    ap (λ r. judgements r (keys_of fed) offers) rule ∙ ap (λ m. judgements book.rule m offers) keys ∙ ap (judgements book.rule (seen book)) all in
+    let ones : judged_with drum.settings.buckets offers verdicts ≡ next =
+    ap (λ n. judged_with n offers verdicts) buckets ∙ ap (λ (v : List (Option Verdict)). map (judged_as book.buckets) (zip offers v)) told ∙ ap (map (judged_as book.buckets)) (zip-judgements drum.settings.rule (keys_of fed) offers) ∙ ap (map (judged_as book.buckets)) judged_now in
+    let pairs : map pair_of put ≡ entries (seen (merged book)) = are ∙ ap entries asked in
     let back : offers_of (judged book) ≡ judged_offers book = offers_back book.buckets book.rule book.base (judged_offers book) in
     let there : place ≡ 0 + length (texts_of (offers_of (judged book))) = at ∙ (let e : length (texts_of (judged_offers book)) ≡ 0 + length (texts_of (judged_offers book)) = omega arith in e) ∙ ap (λ (l : List Tuple). 0 + length (texts_of l)) (sym back) in
-    let more : batch.judged.items ≡ judged_entries (0 + length (texts_of (offers_of (judged book)))) next = ap (λ v. v.items) judged_is ∙ has.judged_are ∙ ap (judged_entries place) ones ∙ ap (λ n. judged_entries n next) there in
+    let more : judged_entries place (judged_with drum.settings.buckets offers verdicts) ≡ judged_entries (0 + length (texts_of (offers_of (judged book)))) next = ap (judged_entries place) ones ∙ ap (λ n. judged_entries n next) there in
     let numbers = ap length (merged_uniques book) ∙ length-append (uniques book) (uniques_from (gone book + length (judged book)) next) in
-    let found : batch.unique ≡ length (uniques_from (gone book + length (judged book)) next) = unique ∙ has.unique_are ∙ ap (λ l. length (uniques_from 0 l)) ones ∙ same_count 0 (gone book + length (judged book)) next in
-    let written : batch.texts.items ≡ texts_of (pending book) = ap (λ v. v.items) texts ∙ has.texts_are in
+    let found : length (uniques_from 0 (judged_with drum.settings.buckets offers verdicts)) ≡ length (uniques_from (gone book + length (judged book)) next) = ap (λ l. length (uniques_from 0 l)) ones ∙ same_count 0 (gone book + length (judged book)) next in
     record {
-      pairs = pairs ∙ ap (λ m. pairs_bytes (entries m)) keys;
-      entries_are = count ∙ ap (λ m. length (entries m)) keys;
+      pairs = ap pairs_bytes pairs;
+      entries_are = sym (length-map put pair_of) ∙ ap length pairs;
       judged_are = ap (λ l. judged_entries 0 (judged book) ++ l) more ∙ sym (entries_both 0 (judged book) next) ∙ ap (judged_entries 0) (sym (merged_judged book));
       unique = omega (arith, numbers, found);
-      texts = ap (λ l. texts_of (judged_offers book) ++ l) written ∙ sym (flat_map-append (λ (o : Tuple). o.aux) (judged_offers book) (pending book)) ∙ ap texts_of (sym (merged_offers book));
+      texts = ap (λ (l : List Tuple). texts_of (judged_offers book) ++ texts_of l) all ∙ sym (flat_map-append (λ (o : Tuple). o.aux) (judged_offers book) (pending book)) ∙ ap texts_of (sym (merged_offers book));
     }
+
+-- as long as it says
+pub fits_batch : (drum : Drum) (put : List Pair) (offers : List Tuple) (verdicts : List (Option Verdict)) → length verdicts ≡ length offers → drum.last.entries ≤ length put → length offers + sum drum.last.cut ≡ sum (durables drum) → FitsBatch drum (batch_of drum put offers verdicts)
+fits_batch drum put offers verdicts size grow count = record {
+  pairs = length-pairs (map pair_of put) ∙ ap (λ n. 16 * n) (length-map put pair_of);
+  entries = grow;
+  judged = length-entries drum.last.texts drum.settings.buckets offers verdicts size;
+  unique = omega (arith, with_uniques 0 drum.settings.buckets offers verdicts size, count_by-le-length is_unique verdicts, size);
+  count = count;
+  cut = refl;
+}

@@ -1,5 +1,5 @@
 -- Offers, their entries and their texts.
-use Rattle.std.proofs.Common.{◌≡◌, ◌≢◌, ◌∙◌, ℕ, suc, ◌-◌, ◌<◌, ◌≤◌, List, [], ◌∷◌, ◌++◌, length, map, take, drop, get_or, refl, sym, ap, arith, append_assoc, append-nil, length-append, length-drop, take_all, drop-cons, take-append-drop}
+use Rattle.std.proofs.Common.{◌≡◌, ◌∙◌, ℕ, ◌-◌, List, [], ◌∷◌, ◌++◌, length, map, take, drop, refl, sym, ap, arith, append_assoc, length-append, length-drop, take_all, take-append-drop}
 use Rattle.std.proofs.Math.Seq.{take-append_seam, drop-append_seam}
 use Rattle.std.proofs.lemmas.Grind.{flat_map-append}
 use Rattle.irl_offer.specs.declared.entry.Entry.{Entry}
@@ -7,7 +7,7 @@ use Rattle.irl_offer.specs.Tuple.{Tuple}
 use Rattle.irl_journal.specs.Blob.{BeginsWith}
 use Rattle.irl_bay.specs.Damage.{text_length}
 use Rattle.irl_bay.specs.Runs.{entry_of_offer, texts_of}
-use Rattle.irl_bay.proofs.EntryBytes.{text_length-cons, text_length-append}
+use Rattle.irl_bay.proofs.EntryBytes.{text_length-cons}
 
 pub length-texts : (offers : List Tuple) → length (texts_of offers) ≡ text_length (map entry_of_offer offers)
 length-texts [] = refl
@@ -36,25 +36,6 @@ same_offers (x ∷ xs) (y ∷ ys) e t =
     let from = ap (λ (z : Entry). z.from) first in
     let same : x ≡ y = λ i. record { op = op i; key = key i; value = value i; from = from i; aux = both.0 i } in
     ap (λ z. z ∷ xs) same ∙ ap (λ l. y ∷ l) (same_offers xs ys others both.1)
-
--- the lengths of entries where one of them passes what is left
-pub text_passes : (entries : List Entry) (i : ℕ) (d : Entry) (offers : List Tuple) (texts rest : List ℕ) → i < length entries → map entry_of_offer offers ≡ take i entries → texts ≡ texts_of offers ++ rest → length rest < (get_or entries i d).aux_len → text_length entries ≢ length texts
-text_passes entries i d offers texts rest lt is bytes passes same =
-    let split : entries ≡ take i entries ++ (get_or entries i d ∷ drop (suc i) entries) = sym (take-append-drop i entries) ∙ ap (λ l. take i entries ++ l) (drop-cons entries i d lt) in
-    let total = ap text_length split ∙ text_length-append (take i entries) (get_or entries i d ∷ drop (suc i) entries) in
-    let before = length-texts offers ∙ ap text_length is in
-    let all = ap length bytes ∙ length-append (texts_of offers) rest in
-    let one = text_length-cons (get_or entries i d) (drop (suc i) entries) in
-    omega (arith, total, before, all, passes, same, one)
-
-pub text_left : (entries : List Entry) (offers : List Tuple) (texts rest : List ℕ) → map entry_of_offer offers ≡ entries → texts ≡ texts_of offers ++ rest → 1 ≤ length rest → text_length entries ≢ length texts
-text_left entries offers texts rest is bytes some same =
-    let before = length-texts offers ∙ ap text_length is in
-    let all = ap length bytes ∙ length-append (texts_of offers) rest in
-    omega (arith, before, all, some, same)
-
-pub texts_more : (offers : List Tuple) (x : Tuple) → texts_of (offers ++ x ∷ []) ≡ texts_of offers ++ x.aux
-texts_more offers x = flat_map-append (λ (o : Tuple). o.aux) offers (x ∷ []) ∙ ap (λ l. texts_of offers ++ l) (append-nil x.aux)
 
 -- ---- the texts from a number on
 -- a file that begins with the texts of a list

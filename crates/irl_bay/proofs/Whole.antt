@@ -18,7 +18,7 @@ use Rattle.irl_journal.proofs.Lists.{one_list, whole_list, record_behind}
 use Rattle.irl_journal.proofs.Fronts.{begins_long}
 use Rattle.irl_bay.specs.BayFiles.{file_of}
 use Rattle.irl_bay.specs.declared.layout.files.BayFile.TheVariants.{Manifest, Cache, Judged, Texts, Journal, Aux}
-use Rattle.irl_bay.specs.Cache.{pairs_bytes}
+use Rattle.irl_cache.specs.SortedRun.{pairs_bytes}
 use Rattle.irl_bay.specs.Commits.{Commit, IsCommit, IsCommitOf, GrowFrom, commit_bytes, first_commit, last_commit}
 use Rattle.irl_bay.specs.Damage.{IsAtOrAbove, RiseFrom, AreCommitPayloads, AreRunPayloads, IsDamagedJournal, IsDamagedFront, IsDamagedBucket, IsDamagedBehind, IsDamagedAt, IsReached, IsWholeBucket, HasFronts, HasManifest, HasRuns, IsEntryRun, entries_bytes, entries_in, text_length}
 use Rattle.irl_bay.specs.JudgedEntries.{judged_entries}

@@ -11,7 +11,7 @@ use Rattle.irl_offer.specs.declared.offer.Rule.TheVariants.{Keep, Replace, Add}
 use Rattle.irl_offer.specs.Tuple.{Tuple}
 use Rattle.irl_model.specs.Book.{Book, stretch, stretches, judged_offers, seen}
 use Rattle.irl_model.specs.Judging.{KeyMap, after, combined, entered, enters}
-use Rattle.irl_bay.specs.Cache.{AreWords}
+use Rattle.irl_cache.specs.SortedRun.{AreWords}
 use Rattle.irl_bay.specs.Runs.{IsOffer}
 
 abbrev IsWord : ℕ × ℕ → Type 0

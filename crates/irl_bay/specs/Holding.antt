@@ -13,7 +13,7 @@ use Rattle.irl_journal.specs.Blob.{IsCommitted}
 use Rattle.irl_bay.specs.declared.bucket.Bucket.{Bucket}
 use Rattle.irl_bay.specs.Runs.{run_bytes, texts_of, AreRuns, HasBucket}
 use Rattle.irl_bay.specs.Commits.{Commit, commit_bytes, first_commit, last_commit, AreCommitsOf}
-use Rattle.irl_bay.specs.Cache.{pairs_bytes}
+use Rattle.irl_cache.specs.SortedRun.{pairs_bytes}
 use Rattle.irl_bay.specs.JudgedEntries.{judged_entries}
 use Rattle.irl_bay.specs.Standing.{IsBookOf, Stands}
 use Rattle.irl_bay.specs.Drum.{Drum, HasNumbers, bucket_at, judged_at, cache_front, judged_front, texts_front}

@@ -2,6 +2,7 @@
 use Rattle.std.specs.Prelude.{ℕ, ◌+◌, ◌^◌, ◌<◌, ◌≤◌, List, [], ◌∷◌, ◌++◌, length, take, drop, sum_by, Option, None, Some}
 use Rattle.byteorder.specs.Endian.{little_bytes}
 use Rattle.irl_offer.specs.Entries.{op_number}
+use Rattle.irl_offer.specs.declared.entry.Entry.{Entry}
 use Rattle.irl_offer.specs.declared.offer.Verdict.{Verdict}
 use Rattle.irl_offer.specs.declared.offer.Verdict.TheVariants.{Unique, Absent, Known}
 use Rattle.irl_offer.specs.declared.receipt.Judged.{Judged}
@@ -60,6 +61,26 @@ judged_bytes place one = entry_spelling (entry_at place one)
 abbrev pub judged_entries : ℕ → List Judged → List ℕ
 judged_entries place [] = []
 judged_entries place (one ∷ more) = judged_bytes place one ++ judged_entries (place + length one.offer.aux) more
+
+-- ---- writing them
+-- the entry of a judged offer whose text stands at this place, by the offer's own entry
+abbrev pub row : ℕ → ℕ → Entry → Option Verdict → List ℕ
+row place bucket entry verdict = entry_spelling (record {
+  bucket = bucket;
+  op = entry.op;
+  verdict = verdict;
+  aux_len = entry.aux_len;
+  key = entry.key;
+  value = entry.value;
+  from = entry.from;
+  place = place;
+})
+
+-- those of a bucket's offers, one behind the other
+abbrev pub rows : ℕ → ℕ → List Entry → List (Option Verdict) → List ℕ
+rows place bucket [] verdicts = []
+rows place bucket (entry ∷ entries) [] = []
+rows place bucket (entry ∷ entries) (verdict ∷ verdicts) = row place bucket entry verdict ++ rows (place + entry.aux_len) bucket entries verdicts
 
 -- ---- reading them back
 -- the judged offer of an entry with this text

@@ -6,6 +6,7 @@ pub mod Drum
 pub mod Faults
 pub mod Finding
 pub mod Holding
+pub mod Judging
 pub mod JudgedEntries
 pub mod JudgedSpoilt
 pub mod Making
@@ -13,5 +14,7 @@ pub mod Merging
 pub mod Opening
 pub mod Pending
 pub mod Runs
+pub mod Sides
 pub mod Spoilt
 pub mod Standing
+pub mod Telling

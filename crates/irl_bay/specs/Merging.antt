@@ -1,54 +1,55 @@
 -- What a merge writes: the keys that are then judged, the entries of the offers that it judges, and their texts.
-use Rattle.std.specs.Prelude.{◌≡◌, ◌⊎◌, ℕ, ◌+◌, ◌-◌, ◌*◌, ◌%◌, ◌^◌, ◌<◌, ◌≤◌, min, true, List, ◌++◌, map, length, sum}
+use Rattle.std.specs.Prelude.{◌≡◌, ◌⊎◌, ℕ, ◌+◌, ◌-◌, ◌*◌, ◌^◌, ◌<◌, ◌≤◌, min, true, List, ◌++◌, map, length, sum, Option, None, Some}
 use Rattle.std.specs.FinMap.{entries}
-use Rattle.irl_offer.specs.Tuple.{Tuple}
-use Rattle.irl_model.specs.Book.{Book, judged, judged_as, uniques, uniques_from, judged_offers, merged}
-use Rattle.irl_model.specs.Judging.{KeyMap, after, judgements}
+use Rattle.irl_model.specs.Book.{Book, judged, uniques, judged_offers, merged}
+use Rattle.irl_model.specs.Judging.{after}
+use Rattle.std.specs.Option.{ForSome}
 use Rattle.irl_disk.specs.Disk.{Files}
+use Rattle.irl_disk.specs.Images.{Snapshot, LeavesBy}
 use Rattle.irl_journal.specs.Appending.{Tail}
 use Rattle.irl_journal.specs.Blob.{Front, KeepsFront, IsCommitted}
 use Rattle.irl_bay.specs.BayFiles.{file_of}
 use Rattle.irl_bay.specs.declared.layout.files.BayFile.TheVariants.{Manifest, Cache, Judged, Texts}
-use Rattle.irl_bay.specs.declared.batch.Batch.{Batch}
 use Rattle.irl_bay.specs.declared.bucket.Bucket.{Bucket}
-use Rattle.irl_bay.specs.declared.judging.Judging.{Judging}
 use Rattle.irl_bay.specs.Drum.{Drum, durables, judged_front, texts_front}
 use Rattle.irl_bay.specs.Runs.{texts_of}
 use Rattle.irl_bay.specs.Commits.{Commit, IsCommit}
-use Rattle.irl_bay.specs.Holding.{ChangesOnly}
-use Rattle.irl_bay.specs.Cache.{pairs_bytes}
+use Rattle.irl_bay.specs.Holding.{ChangesOnly, Holds, TellsBy}
+use Rattle.irl_cache.specs.SortedRun.{pairs_bytes}
 use Rattle.irl_bay.specs.JudgedEntries.{judged_entries}
+
+-- what it writes behind what is committed, and to the other side of the cache: so many keys, so many entries, of which so many are
+-- Unique, and texts; and the new cut
+pub record Batch : Type 0 where
+  pub pairs : List ℕ
+  pub entries : ℕ
+  pub judged : List ℕ
+  pub count : ℕ
+  pub unique : ℕ
+  pub texts : List ℕ
+  pub cut : List ℕ
 
 -- whatever was read, it is as long as it says, and all pending offers are judged
 pub record FitsBatch (drum : Drum) (batch : Batch) : Type 0 where
-  pub pairs : length batch.pairs.items ≡ 16 * batch.entries
+  pub pairs : length batch.pairs ≡ 16 * batch.entries
   pub entries : drum.last.entries ≤ batch.entries
-  pub judged : length batch.judged.items ≡ 48 * batch.count
+  pub judged : length batch.judged ≡ 48 * batch.count
   pub unique : batch.unique ≤ batch.count
   pub count : batch.count + sum drum.last.cut ≡ sum (durables drum)
-  pub cut : batch.cut.items ≡ durables drum
+  pub cut : batch.cut ≡ durables drum
 
 -- it is what a merge adds to the files of a book
 pub record IsBatchOf (book : Book) (batch : Batch) : Type 0 where
-  pub pairs : batch.pairs.items ≡ pairs_bytes (entries (after book.rule book.base (judged_offers (merged book))))
+  pub pairs : batch.pairs ≡ pairs_bytes (entries (after book.rule book.base (judged_offers (merged book))))
   pub entries_are : batch.entries ≡ length (entries (after book.rule book.base (judged_offers (merged book))))
-  pub judged_are : judged_entries 0 (judged book) ++ batch.judged.items ≡ judged_entries 0 (judged (merged book))
+  pub judged_are : judged_entries 0 (judged book) ++ batch.judged ≡ judged_entries 0 (judged (merged book))
   pub unique : length (uniques book) + batch.unique ≡ length (uniques (merged book))
-  pub texts : texts_of (judged_offers book) ++ batch.texts.items ≡ texts_of (judged_offers (merged book))
-
--- These offers are judged: by a set that had these keys, the text of the first at this place.
-pub record HasJudged (keys : KeyMap) (place : ℕ) (offers : List Tuple) (judging : Judging) : Type 0 where
-  pub keys_are : judging.keys ≡ after judging.rule keys offers
-  pub judged_are : judging.judged.items ≡ judged_entries place (map (judged_as judging.buckets) (judgements judging.rule keys offers))
-  pub count_is : judging.count ≡ length offers
-  pub unique_are : judging.unique ≡ length (uniques_from 0 (map (judged_as judging.buckets) (judgements judging.rule keys offers)))
-  pub texts_are : judging.texts.items ≡ texts_of offers
-  pub place_is : judging.place ≡ (place + length (texts_of offers)) % 2 ^ 64
+  pub texts : texts_of (judged_offers book) ++ batch.texts ≡ texts_of (judged_offers (merged book))
 
 -- ---- what is committed then
 -- the commit of a batch
 abbrev pub next_commit : Drum → Batch → Commit
-next_commit drum batch = record { side = 1 - drum.last.side; entries = batch.entries; judged = drum.last.judged + batch.count; unique = min (drum.last.unique + batch.unique) (2 ^ 64 - 1); texts = drum.last.texts + length batch.texts.items; cut = batch.cut.items }
+next_commit drum batch = record { side = 1 - drum.last.side; entries = batch.entries; judged = drum.last.judged + batch.count; unique = min (drum.last.unique + batch.unique) (2 ^ 64 - 1); texts = drum.last.texts + length batch.texts; cut = batch.cut }
 
 -- a commit that a bay may have
 pub record HasRoom (buckets : ℕ) (commit : Commit) : Type 0 where
@@ -72,13 +73,13 @@ abbrev pub next_judged : Drum → Batch → Front
 next_judged drum batch = record { file = file_of drum.base 0 Judged; length = 48 * (drum.last.judged + batch.count) }
 
 abbrev pub next_texts : Drum → Batch → Front
-next_texts drum batch = record { file = file_of drum.base 0 Texts; length = drum.last.texts + length batch.texts.items }
+next_texts drum batch = record { file = file_of drum.base 0 Texts; length = drum.last.texts + length batch.texts }
 
 -- from the images of one moment to those of a later one, a batch was written behind what is committed, and synced
 pub record IsWritten (drum : Drum) (batch : Batch) (old new : Files → Type 0) : Type 0 where
-  pub cache : IsCommitted new (next_cache drum batch) batch.pairs.items
-  pub judged : (held : List ℕ) → IsCommitted old (judged_front drum) held → IsCommitted new (next_judged drum batch) (held ++ batch.judged.items)
-  pub texts : (held : List ℕ) → IsCommitted old (texts_front drum) held → IsCommitted new (next_texts drum batch) (held ++ batch.texts.items)
+  pub cache : IsCommitted new (next_cache drum batch) batch.pairs
+  pub judged : (held : List ℕ) → IsCommitted old (judged_front drum) held → IsCommitted new (next_judged drum batch) (held ++ batch.judged)
+  pub texts : (held : List ℕ) → IsCommitted old (texts_front drum) held → IsCommitted new (next_texts drum batch) (held ++ batch.texts)
 
 -- the files that it was written to are as long as what is committed of them then
 pub record IsLongBatch (drum : Drum) (batch : Batch) (files : Files) : Type 0 where
@@ -96,6 +97,30 @@ pub record KeepsCommitted (drum : Drum) (old new : Files) : Type 0 where
   pub others : ChangesOnly (IsBatchFile drum) old new
   pub judged : KeepsFront (judged_front drum).length (old (judged_front drum).file) (new (judged_front drum).file)
   pub texts : KeepsFront (texts_front drum).length (old (texts_front drum).file) (new (texts_front drum).file)
+
+-- from one snapshot to a later one only such writes were made
+pub record Writes (drum : Drum) (old new : Snapshot) : Type 0 where
+  pub told : TellsBy (KeepsCommitted drum) old.files new.files
+  pub stops : LeavesBy (KeepsCommitted drum) old new
+
+-- a batch is written and synced, and this is its commit
+pub record IsSynced (drum : Drum) (batch : Batch) (old new : Snapshot) (next : Commit) : Type 0 where
+  pub next_is : next ≡ next_commit drum batch
+  pub room : HasRoom drum.settings.buckets (next_commit drum batch)
+  pub written : IsWritten drum batch old.images new.images
+  pub long : ForSome new.files (IsLongBatch drum batch)
+
+-- The pending offers were judged, and a batch is written and synced, which is that of the book that the bay held.
+pub record IsJudged (drum : Drum) (old new : Snapshot) (next : Commit) : Type 0 where
+  pub batch : Batch
+  pub fits : FitsBatch drum batch
+  pub synced : IsSynced drum batch old new next
+  pub of_book : ForSome old.files (λ _. (book : Book) → Holds old.images drum book → IsBatchOf book batch)
+
+-- n bytes of this file were read, where a store tells it
+abbrev pub TakesOf : ℕ → ℕ → Option (ℕ → ℕ) → Option (ℕ → ℕ) → Type 0
+TakesOf f n None new = new ≡ None
+TakesOf f n (Some old) new = (counts : ℕ → ℕ) × (new ≡ Some counts) × (counts f ≡ old f + n)
 
 -- the files that a merge changes
 abbrev pub IsMergeFile : Drum → ℕ → Type 0

@@ -8,7 +8,7 @@ use Rattle.irl_disk.specs.Disk.{Files}
 use Rattle.irl_journal.specs.Format.{HasNoRecord, records_text, body_text, open_gate}
 use Rattle.irl_bay.specs.Damage.{IsEntryRun, entries_bytes, entries_in, text_length}
 use Rattle.irl_bay.specs.declared.bucket.Bucket.{Bucket}
-use Rattle.irl_bay.specs.Runs.{entry_of_offer}
+use Rattle.irl_bay.specs.Runs.{entry_of_offer, texts_of}
 
 -- from a gate on a file has runs of a bucket's entries in whole open records, up to this place, and then these bytes
 pub record HasRunsTo (settings : Settings) (b from : ℕ) (file : List ℕ) (runs : List (List Entry)) (at : ℕ) (behind : List ℕ) : Type 0 where
@@ -27,6 +27,11 @@ pub record HasEntries (settings : Settings) (b : ℕ) (bucket : Bucket) (files :
 pub record AreEntriesFrom (skip cut : ℕ) (list : List Tuple) (entries : List Entry) : Type 0 where
   pub entries_are : drop skip entries ≡ map entry_of_offer (drop cut list)
   pub count : length entries + cut ≡ skip + length list
+
+-- these are the entries of these offers, and their texts, one behind the other
+pub record AreOffersOf (offers : List Tuple) (entries : List Entry) (texts : List ℕ) : Type 0 where
+  pub entries_are : map entry_of_offer offers ≡ entries
+  pub texts_are : texts_of offers ≡ texts
 
 -- ---- what breaks the layout
 -- an open gate whose record passes the file's end or the limit of a payload, or no gate at all

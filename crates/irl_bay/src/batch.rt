@@ -1,114 +1,191 @@
-ghost use Rattle.std.specs.Prelude.{◌≡◌, ◌<◌, ℕ, List, [], length, drop, IfOk, OnOk, IsErrOf};
-ghost use Rattle.std.specs.List.{AllByRecursion};
+ghost use Rattle.std.specs.Prelude.{◌≡◌, ◌<◌, ◌-◌, ◌*◌, ◌^◌, ℕ, List, Option, [], length, map, drop, IfOk, OnOk, IsErr, IsErrOf};
+ghost use Rattle.std.specs.List.{All, AllByRecursion};
 ghost use Rattle.std.specs.Option.{ForSome};
-ghost use Rattle.std.specs.FinMap.{entries};
 ghost use Rattle.irl_offer.specs.Buckets.{bucket_of};
 ghost use Rattle.irl_offer.specs.Tuple.{Tuple};
 ghost use Rattle.irl_offer.specs.Faults.{HasCause};
+ghost use Rattle.irl_offer.specs.declared.offer.Verdict.{Verdict as VerdictValue};
 ghost use Rattle.irl_model.specs.Book.{Book};
-ghost use Rattle.irl_model.specs.Judging.{KeyMap};
+ghost use Rattle.irl_disk.specs.Disk.{Files};
 ghost use Rattle.irl_disk.specs.Images.{LeavesSame};
 ghost use Rattle.irl_disk.specs.Taken.{TakesAmong};
+ghost use Rattle.irl_cache.specs.Reading.{read_of};
+ghost use Rattle.irl_cache.specs.Writing.{ReachesPlace};
 ghost use Rattle.irl_bay.specs.BayFiles.{IsFileOf};
-ghost use Rattle.irl_bay.specs.Drum.{bucket_at, durables, judged_at, pending_at};
-ghost use Rattle.irl_bay.specs.Cache.{AreWords, HasCache};
+ghost use Rattle.irl_bay.specs.Damage.{text_length};
+ghost use Rattle.irl_bay.specs.Drum.{IsDrum, bucket_at, cache_front, durables, judged_at, pending_at};
 ghost use Rattle.irl_bay.specs.Holding.{Holds, HoldsBucket, IsLong};
-ghost use Rattle.irl_bay.specs.Merging.{FitsBatch, HasJudged, IsBatchOf};
+ghost use Rattle.irl_bay.specs.Judging.{HasJudged, batch_of};
+ghost use Rattle.irl_bay.specs.Merging.{IsJudged, IsSynced, TakesOf, Writes};
+ghost use Rattle.irl_bay.specs.Pending.{AreOffersOf};
+ghost use Rattle.irl_bay.specs.Sides.{HasMerged, IsSidesOf};
 ghost use Rattle.irl_bay.specs.Spoilt.{IsSpoiltAt};
+ghost use Rattle.irl_bay.specs.Telling.{HasTold, IsTellingOf};
 
 use crate::bay::Bay;
-use crate::judging::Judging;
-use crate::layout::BayFile;
-use crate::reading::read_side;
-use irl_disk::Store;
-use irl_model::KeySet;
-use irl_offer::{Fault, Offer};
+use crate::layout::{BayFile, Commit};
+use crate::pending::Pending;
+use crate::sides::Sides;
+use crate::telling::Telling;
+use irl_cache::{CacheReader, CacheWriter, FileWriter};
+use irl_disk::{Failed, Store};
+use irl_offer::Fault;
 use std::alloc::AllocError;
 
-/// What a merge writes.
-#[derive(Drop)]
-pub struct Batch {
-    /// The new cache side: so many keys with their values.
-    pub pairs: Vec<u8>,
-    pub entries: u64,
-    /// The entries of the offers that are judged, so many, of which so many are Unique.
-    pub judged: Vec<u8>,
-    pub count: u64,
-    pub unique: u64,
-    /// Their texts.
-    pub texts: Vec<u8>,
-    /// How many offers each bucket has.
-    pub cut: Vec<u64>,
-}
-
 impl Bay {
-    /// Reads the live cache side and the pending offers, judges them, bucket 0 first, and gives what a merge writes. It
-    /// changes nothing.
-    pub(crate) fn judge<S: Store>(&self, store: &mut S) -> Result<Batch, Fault>
-        requires long { ForSome (S.snapshot store.old).files (λ files. IsLong self.now files) }
-        ensures fits { IfOk result (λ batch. FitsBatch self.now batch) }
-        ensures batch { IfOk result (λ batch. ForSome (S.snapshot store.old).files (λ _. (book : Book) →
-            Holds (S.snapshot store.old).images self.now book → IsBatchOf book batch)) }
+    /// Judges the pending offers, bucket 0 first, in one pass through the live cache side. It writes the other side, and the
+    /// judged entries and their texts behind what is committed of them, and syncs the three files. Gives the commit that is
+    /// to be appended to the manifest.
+    pub(crate) fn judge<S: Store>(&self, store: &mut S) -> Result<Commit, Fault>
+        requires { ForSome (S.snapshot store.old).files (λ files. IsLong self.now files) }
+        ensures judged { IfOk result (IsJudged self.now (S.snapshot store.old) (S.snapshot store.new)) }
+        ensures writes { Writes self.now (S.snapshot store.old) (S.snapshot store.new) }
         ensures damaged { (f at : ℕ) → IsErrOf result (Fault.Damaged f at) →
             ForSome (S.snapshot store.old).files (λ files. IsSpoiltAt self.now files f at) }
         ensures whole { (f at : ℕ) → IsErrOf result (Fault.Damaged f at) →
             ForSome (S.snapshot store.old).files (λ _. (book : Book) →
             Holds (S.snapshot store.old).images self.now book → ⊥) }
         ensures full { (n : ℕ) → IsErrOf result (Fault.Full n) → ⊥ }
-        ensures same { (S.snapshot store.new).files ≡ (S.snapshot store.old).files }
-        ensures stops { LeavesSame (S.snapshot store.old) (S.snapshot store.new) }
         ensures taken { TakesAmong (IsFileOf self.now.base self.now.settings.buckets)
             (S.taken store.old) (S.taken store.new) }
+        // Each key of the live cache side is read once.
+        ensures read { OnOk result (TakesOf (cache_front self.now).file (16 * self.now.last.entries)
+            (S.taken store.old) (S.taken store.new)) }
         ensures cause { HasCause (IsErrOf result Fault.Failed) (S.faults store.old) (S.faults store.new) }
     {
-        let mut judging = self.first_judging(self.live_keys(store)?);
-        for b in 0..self.settings.buckets {
-            let offers = self.pending_of(store, b)?;
-            judging.ask_all(&offers)?;
-        }
-        Ok(judging.batch(self.alloc, self.lengths()?)?)
+        let cut = self.lengths()?;
+        let mut sides = self.sides()?;
+        let mut telling = self.telling()?;
+        self.judge_buckets(store, &mut sides, &mut telling)?;
+        Ok(self.synced(store, sides, telling, cut)?)
     }
 
-    // Nothing is judged yet by a set with these keys.
-    fn first_judging(&self, keys: KeySet) -> Judging
-        ensures none { HasJudged keys self.now.last.texts [] result }
-        ensures count { result.count ≡ 0 }
-        ensures rule { result.rule ≡ self.now.settings.rule }
-        ensures buckets { result.buckets ≡ self.now.settings.buckets }
-    {
-        Judging::new(self.alloc, keys, &self.settings, self.last.texts)
-    }
-
-    // The keys of the live cache side, with their values.
-    fn live_keys<S: Store>(&self, store: &mut S) -> Result<KeySet, Fault>
-        requires { ForSome (S.snapshot store.old).files (λ files. IsLong self.now files) }
-        ensures size { IfOk result (λ set. length (entries set) ≡ self.now.last.entries) }
-        ensures held { IfOk result (λ set. ForSome (S.snapshot store.old).files (λ files. (keys : KeyMap) →
-            AreWords keys → HasCache self.now.base self.now.last keys files → set ≡ keys)) }
+    // Judges the pending offers of each bucket.
+    fn judge_buckets<S: Store>(
+        &self,
+        store: &mut S,
+        sides: &mut Sides,
+        telling: &mut Telling,
+    ) -> Result<(), Fault>
+        requires sides { (told : Option Files) → HasMerged 0 [] [] told sides.old }
+        requires of { IsSidesOf self.now sides.old }
+        requires unread { read_of sides.old.reader ≡ 0 }
+        requires telling { HasTold self.now [] [] (S.snapshot store.old).files telling.old }
+        requires long { ForSome (S.snapshot store.old).files (λ files. IsLong self.now files) }
+        ensures judged { OnOk result (HasJudged self.now self.now.settings.buckets (S.snapshot store.old)
+            (S.snapshot store.new).files sides.new telling.new) }
+        ensures writes { Writes self.now (S.snapshot store.old) (S.snapshot store.new) }
         ensures damaged { (f at : ℕ) → IsErrOf result (Fault.Damaged f at) →
             ForSome (S.snapshot store.old).files (λ files. IsSpoiltAt self.now files f at) }
         ensures whole { (f at : ℕ) → IsErrOf result (Fault.Damaged f at) →
-            ForSome (S.snapshot store.old).files (λ files. (keys : KeyMap) →
-            AreWords keys → HasCache self.now.base self.now.last keys files → ⊥) }
+            ForSome (S.snapshot store.old).files (λ _. (book : Book) →
+            Holds (S.snapshot store.old).images self.now book → ⊥) }
         ensures full { (n : ℕ) → IsErrOf result (Fault.Full n) → ⊥ }
-        ensures same { (S.snapshot store.new).files ≡ (S.snapshot store.old).files }
-        ensures stops { LeavesSame (S.snapshot store.old) (S.snapshot store.new) }
         ensures taken { TakesAmong (IsFileOf self.now.base self.now.settings.buckets)
             (S.taken store.old) (S.taken store.new) }
+        ensures read { OnOk result (TakesOf (cache_front self.now).file (16 * read_of sides.new.reader)
+            (S.taken store.old) (S.taken store.new)) }
         ensures cause { HasCause (IsErrOf result Fault.Failed) (S.faults store.old) (S.faults store.new) }
     {
-        let side = BayFile::Cache(self.last.side).number(self.base);
-        read_side(self.alloc, store, side, self.last.entries)
+        for b in 0..self.settings.buckets {
+            let pending = self.pending_of(store, b)?;
+            let verdicts = sides.sweep(store, b, pending.entries())?;
+            telling.tell(store, b, &pending, &verdicts)?;
+        }
+        Ok(())
+    }
+
+    // The sides of the cache, of which nothing is read or written yet.
+    fn sides(&self) -> Result<Sides, AllocError>
+        ensures none { IfOk result (λ sides. (told : Option Files) → HasMerged 0 [] [] told sides) }
+        ensures of { IfOk result (IsSidesOf self.now) }
+        ensures unread { IfOk result (λ sides. read_of sides.reader ≡ 0) }
+    {
+        let from = BayFile::Cache(self.last.side).number(self.base);
+        let to = BayFile::Cache(1 - self.last.side).number(self.base);
+        let block = self.settings.block;
+        Ok(Sides {
+            alloc: self.alloc,
+            rule: self.settings.rule,
+            buckets: self.settings.buckets,
+            reader: CacheReader::new(self.alloc, from, self.last.entries, block)?,
+            fed: 0,
+            writer: CacheWriter::new(self.alloc, to, block)?,
+        })
+    }
+
+    // The files of what is judged, to which nothing is written yet.
+    fn telling(&self) -> Result<Telling, AllocError>
+        ensures { IfOk result (λ telling. (told : Option Files) → ForSome told (λ files. IsLong self.now files) →
+            HasTold self.now [] [] told telling) }
+    {
+        let judged = BayFile::Judged.number(self.base);
+        let texts = BayFile::Texts.number(self.base);
+        Ok(Telling {
+            alloc: self.alloc,
+            judged: FileWriter::at(self.alloc, judged, 48 * self.last.judged)?,
+            texts: FileWriter::at(self.alloc, texts, self.last.texts)?,
+            place: self.last.texts,
+            unique: self.last.unique,
+        })
+    }
+
+    // Syncs the three files once all offers are judged.
+    fn synced<S: Store>(
+        &self,
+        store: &mut S,
+        sides: Sides,
+        telling: Telling,
+        cut: Vec<u64>,
+    ) -> Result<Commit, Failed>
+        requires cut { cut.items ≡ durables self.now }
+        requires sides { IsSidesOf self.now sides }
+        requires telling { IsTellingOf self.now telling }
+        requires keys { ForSome (S.snapshot store.old).files (ReachesPlace sides.writer.out) }
+        requires judged { ForSome (S.snapshot store.old).files (ReachesPlace telling.judged) }
+        requires texts { ForSome (S.snapshot store.old).files (ReachesPlace telling.texts) }
+        ensures synced { IfOk result (λ next. (b : ℕ) (offers : List Tuple) (verdicts : List (Option VerdictValue))
+            (merged : HasMerged b offers verdicts (S.snapshot store.old).files sides) →
+            HasTold self.now offers verdicts (S.snapshot store.old).files telling →
+            IsSynced self.now (batch_of self.now merged.put offers verdicts) (S.snapshot store.old)
+            (S.snapshot store.new) next) }
+        ensures writes { Writes self.now (S.snapshot store.old) (S.snapshot store.new) }
+        ensures taken { S.taken store.new ≡ S.taken store.old }
+        ensures cause { HasCause (IsErr result) (S.faults store.old) (S.faults store.new) }
+    {
+        let Sides { writer, .. } = sides;
+        let Telling {
+            judged,
+            texts,
+            unique,
+            ..
+        } = telling;
+        let entries = writer.finish(store)?;
+        let judged = judged.finish(store)?;
+        let texts = texts.finish(store)?;
+        numbers_fit(&cut);
+        Ok(Commit {
+            side: 1 - self.last.side,
+            entries,
+            judged: judged / 48,
+            unique,
+            texts,
+            cut,
+        })
     }
 
     // The offers of a bucket that are not judged, in order.
-    fn pending_of<S: Store>(&self, store: &mut S, b: u32) -> Result<Vec<Offer>, Fault>
+    fn pending_of<S: Store>(&self, store: &mut S, b: u32) -> Result<Pending, Fault>
         requires bucket { b < self.now.settings.buckets }
         requires long { ForSome (S.snapshot store.old).files (λ files. IsLong self.now files) }
-        ensures count { IfOk result (λ offers. length offers.items ≡ pending_at self.now b) }
-        ensures held { IfOk result (λ offers. ForSome (S.snapshot store.old).files (λ _. (cut : ℕ) (list : List Tuple) →
+        ensures count { IfOk result (λ found. length (drop found.skip found.entries.items) ≡ pending_at self.now b) }
+        ensures texts { IfOk result (λ found.
+            text_length (drop found.skip found.entries.items) ≡ length found.texts.items) }
+        ensures here { IfOk result (λ found. All (λ entry. bucket_of self.now.settings.buckets entry.key ≡ b)
+            (drop found.skip found.entries.items)) }
+        ensures held { IfOk result (λ found. ForSome (S.snapshot store.old).files (λ _. (cut : ℕ) (list : List Tuple) →
             HoldsBucket (S.snapshot store.old).images self.now.settings.array cut (bucket_at self.now b) list →
-            offers.items ≡ drop cut list)) }
+            AreOffersOf (drop cut list) (drop found.skip found.entries.items) found.texts.items)) }
         ensures damaged { (f at : ℕ) → IsErrOf result (Fault.Damaged f at) →
             ForSome (S.snapshot store.old).files (λ files. IsSpoiltAt self.now files f at) }
         ensures whole { (f at : ℕ) → IsErrOf result (Fault.Damaged f at) →
@@ -120,6 +197,7 @@ impl Bay {
         ensures stops { LeavesSame (S.snapshot store.old) (S.snapshot store.new) }
         ensures taken { TakesAmong (IsFileOf self.now.base self.now.settings.buckets)
             (S.taken store.old) (S.taken store.new) }
+        ensures unread { TakesOf (cache_front self.now).file 0 (S.taken store.old) (S.taken store.new) }
         ensures cause { HasCause (IsErrOf result Fault.Failed) (S.faults store.old) (S.faults store.new) }
     {
         let bucket = &self.buckets[b as usize];
@@ -128,11 +206,20 @@ impl Bay {
 
     // How many offers each bucket has.
     fn lengths(&self) -> Result<Vec<u64>, AllocError>
-        ensures { IfOk result (λ lengths. lengths.items ≡ durables self.now) }
+        ensures lengths { IfOk result (λ lengths. lengths.items ≡ durables self.now) }
+        // What holds of every open bay, for who reads none of its fields.
+        ensures drum { IsDrum self.now }
     {
         self.buckets
             .iter()
             .map(|bucket| bucket.durable)
             .collect(self.alloc)
     }
+}
+
+// Numbers of 64 bits are below 2 ^ 64, which their list alone doesn't tell.
+fn numbers_fit(numbers: &[u64])
+    ensures { AllByRecursion (λ n. n < 2 ^ 64) numbers.now }
+{
+    let _numbers = numbers;
 }

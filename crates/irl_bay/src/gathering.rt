@@ -1,6 +1,4 @@
-ghost use Rattle.std.specs.Prelude.{◌≡◌, ◌≤◌, ◌++◌, List};
-ghost use Rattle.std.specs.List.{All};
-ghost use Rattle.irl_offer.specs.Limits.{max_text};
+ghost use Rattle.std.specs.Prelude.{◌≡◌, ◌++◌, List};
 ghost use Rattle.irl_offer.specs.Buckets.{IsBucketCount};
 ghost use Rattle.irl_offer.specs.declared.entry.Entry.{Entry as EntryValue};
 ghost use Rattle.irl_bay.specs.Damage.{IsEntryRun, entries_bytes};
@@ -18,7 +16,6 @@ pub struct Gathering {
     pub bucket: u32,
     pub entries: Vec<Entry>,
     ghost valid: { IsBucketCount settings.buckets },
-    ghost few: { All (λ entry. entry.aux_len ≤ max_text) entries.items },
 }
 
 impl Visit for Gathering {

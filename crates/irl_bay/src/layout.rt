@@ -1,6 +1,5 @@
 //! The files of a bay: their numbers, and what stands in them.
 
-mod cache;
 mod commit;
 mod decode;
 mod entries;
@@ -10,7 +9,6 @@ mod judged_entry;
 mod number;
 mod run;
 
-pub use cache::{PAIR_LEN, first_fall, read_keys, write_keys};
 pub use commit::{Commit, commit_len};
 pub use entries::read_run;
 pub use files::BayFile;

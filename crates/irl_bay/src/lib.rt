@@ -9,14 +9,15 @@ mod found;
 mod gathering;
 mod history;
 mod judged;
-mod judging;
 mod laws;
 mod layout;
 mod merge;
 mod parts;
 mod pending;
 mod reading;
+mod sides;
 mod tally;
+mod telling;
 
 pub use bay::Bay;
 pub use laws::{

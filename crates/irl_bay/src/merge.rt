@@ -1,25 +1,25 @@
-ghost use Rattle.std.specs.Prelude.{◌≡◌, ◌↔◌, ◌+◌, ◌*◌, ◌^◌, ◌<◌, ℕ, []};
-ghost use Rattle.std.specs.Prelude.{true, false, sum, IfOk, map, OnOk, OnErr, IsOk, IsErr, IsErrOf};
-ghost use Rattle.std.specs.List.{AllByRecursion};
+ghost use Rattle.std.specs.Prelude.{◌≡◌, ◌↔◌, ◌+◌, ◌*◌, ◌<◌, ◌++◌, ◌∷◌, ℕ, List, [], ⊤, length};
+ghost use Rattle.std.specs.Prelude.{true, false, IfOk, map, OnOk, OnErr, IsOk, IsErr, IsErrOf};
 ghost use Rattle.std.specs.Option.{ForSome};
 ghost use Rattle.irl_offer.specs.Faults.{HasCause};
 ghost use Rattle.irl_model.specs.Book.{Book, merged};
-ghost use Rattle.irl_disk.specs.Disk.{Files};
+ghost use Rattle.irl_disk.specs.Disk.{Changes, ChangesFile};
 ghost use Rattle.irl_disk.specs.Images.{LeavesBy};
 ghost use Rattle.irl_disk.specs.Taken.{TakesAmong};
+ghost use Rattle.irl_journal.specs.Appending.{HasOrGains, IsOpen};
+ghost use Rattle.irl_journal.specs.Format.{record_text};
 ghost use Rattle.irl_bay.specs.BayFiles.{IsFileOf};
-ghost use Rattle.irl_bay.specs.Drum.{IsDrum, SomePending, KeepsCounts, CountsMerge, bucket_at, durables};
+ghost use Rattle.irl_bay.specs.Drum.{IsDrum, SomePending, KeepsCounts, CountsMerge, bucket_at, cache_front, durables};
 ghost use Rattle.irl_bay.specs.Holding.{Holds, IsLong, Becomes, TellsBy, TellsOnly, ChangesOnly};
-ghost use Rattle.irl_bay.specs.Merging.{FitsBatch, IsBatchOf, HasRoom, next_commit, caught_up, with_commit};
-ghost use Rattle.irl_bay.specs.Merging.{IsWritten, IsLongBatch, IsBatchFile, IsMergeFile, KeepsCommitted};
+ghost use Rattle.irl_bay.specs.Commits.{commit_bytes};
+ghost use Rattle.irl_bay.specs.Merging.{HasRoom, IsMergeFile, KeepsCommitted, TakesOf, caught_up, with_commit};
 ghost use Rattle.irl_bay.specs.Spoilt.{IsSpoiltAt};
 
-use crate::batch::Batch;
 use crate::bay::Bay;
 use crate::bucket::Bucket;
-use crate::layout::{BayFile, Commit, commit_len};
+use crate::layout::{Commit, commit_len};
 use irl_disk::{Failed, Store};
-use irl_journal::{Blob, Frame};
+use irl_journal::Frame;
 use irl_offer::Fault;
 
 impl Bay {
@@ -73,92 +73,65 @@ impl Bay {
             (S.snapshot store.old) (S.snapshot store.new) }
         ensures taken { TakesAmong (IsFileOf self.old.base self.old.settings.buckets)
             (S.taken store.old) (S.taken store.new) }
+        // Each key of the live cache side is read once.
+        ensures read { OnOk result (TakesOf (cache_front self.old).file (16 * self.old.last.entries)
+            (S.taken store.old) (S.taken store.new)) }
         ensures cause { HasCause (IsErrOf result Fault.Failed) (S.faults store.old) (S.faults store.new) }
     {
         let mut frame = Frame::with_room(self.alloc, commit_len(self.settings.buckets))?;
-        let batch = match self.judge(store) {
-            Ok(batch) => batch,
+        let next = match self.judge(store) {
+            Ok(next) => next,
             Err(fault) => {
                 self.is_sound = !matches!(fault, Fault::Failed);
                 return Err(fault);
             }
         };
-        self.keep(store, batch, &mut frame)?;
+        self.keep(store, next, &mut frame)?;
         Ok(self.cuts)
     }
 
-    // Writes a batch and appends its record to the manifest, by a frame with room for it.
+    // Appends the record of the next commit to the manifest, by a frame with room for it.
     fn keep<S: Store>(
         &mut self,
         store: &mut S,
-        batch: Batch,
+        next: Commit,
         frame: &mut Frame,
     ) -> Result<(), Failed>
         requires sound { self.old.is_sound ≡ true }
-        requires pending { SomePending self.old }
-        requires fits { FitsBatch self.old batch }
         requires frame { frame.old ≡ record { room = 33 + 8 * self.old.settings.buckets; bytes = [] } }
-        requires long { ForSome (S.snapshot store.old).files (λ files. IsLong self.old files) }
-        ensures holds { OnOk result (ForSome (S.snapshot store.old).files (λ _. (book : Book) →
-            Holds (S.snapshot store.old).images self.old book → IsBatchOf book batch →
-            Holds (S.snapshot store.new).images self.new (merged book))) }
+        requires room { HasRoom self.old.settings.buckets next }
+        requires cut { next.cut ≡ durables self.old }
+        requires long { ForSome (S.snapshot store.old).files (λ files.
+            self.old.manifest.end < length (files self.old.manifest.file)) }
+        ensures value { OnOk result (self.new ≡ with_commit self.new.manifest next self.old) }
         ensures drum { IsDrum self.new }
-        ensures long_kept { OnOk result (ForSome (S.snapshot store.new).files (λ files. IsLong self.new files)) }
-        ensures counts { OnOk result (CountsMerge self.old self.new) }
         ensures counts_kept { OnErr result (KeepsCounts self.old self.new) }
         ensures sound { (self.new.is_sound ≡ true) ↔ IsOk result }
-        // A stop at any moment leaves files that stand for the book, with the cut or without, and no other file
-        // changes.
-        ensures stops { (book : Book) → Holds (S.snapshot store.old).images self.old book → IsBatchOf book batch →
-            LeavesBy (Becomes (IsMergeFile self.old) self.old.base self.old.settings book (merged book))
+        // The manifest has one record more.
+        ensures gains { OnOk result ((payloads : List (List ℕ)) →
+            IsOpen (S.snapshot store.old).images self.old.manifest payloads →
+            IsOpen (S.snapshot store.new).images self.new.manifest (payloads ++ commit_bytes next ∷ [])) }
+        ensures gains_stop { (payloads : List (List ℕ)) →
+            IsOpen (S.snapshot store.old).images self.old.manifest payloads →
+            LeavesBy (ChangesFile self.old.manifest.file (HasOrGains payloads (commit_bytes next)))
             (S.snapshot store.old) (S.snapshot store.new) }
-        ensures others { TellsOnly (IsMergeFile self.old) (S.snapshot store.old).files (S.snapshot store.new).files }
-        ensures others_stop { LeavesBy (ChangesOnly (IsMergeFile self.old))
+        ensures file { self.new.manifest.file ≡ self.old.manifest.file }
+        ensures end { OnOk result
+            (self.new.manifest.end ≡ self.old.manifest.end + length (record_text (commit_bytes next))) }
+        ensures long_kept { OnOk result (ForSome (S.snapshot store.new).files (λ files.
+            self.old.manifest.end + length (record_text (commit_bytes next)) < length (files self.old.manifest.file))) }
+        ensures others { Changes self.old.manifest.file (λ _ _. ⊤)
+            (S.snapshot store.old).files (S.snapshot store.new).files }
+        ensures others_stop { LeavesBy (ChangesFile self.old.manifest.file (λ _ _. ⊤))
             (S.snapshot store.old) (S.snapshot store.new) }
         ensures taken { S.taken store.new ≡ S.taken store.old }
         ensures cause { HasCause (IsErr result) (S.faults store.old) (S.faults store.new) }
     {
         self.is_sound = false;
-        let next = self.write(store, batch)?;
         next.put(frame);
         self.manifest.append(store, frame)?;
         self.commit(next);
         Ok(())
-    }
-
-    // Writes a batch behind what is committed, and the other side of the cache, and syncs the three files. Gives the
-    // commit that is to be appended to the manifest.
-    fn write<S: Store>(&self, store: &mut S, batch: Batch) -> Result<Commit, Failed>
-        requires fits { FitsBatch self.now batch }
-        requires long { ForSome (S.snapshot store.old).files (λ files. IsLong self.now files) }
-        ensures commit { IfOk result (λ next. next ≡ next_commit self.now batch) }
-        ensures room { OnOk result (HasRoom self.now.settings.buckets (next_commit self.now batch)) }
-        // Each stop from then on leaves what was committed and the batch behind it.
-        ensures written { OnOk result (IsWritten self.now batch
-            (S.snapshot store.old).images (S.snapshot store.new).images) }
-        ensures long_kept { OnOk result (ForSome (S.snapshot store.new).files (IsLongBatch self.now batch)) }
-        // A stop at any moment leaves what was committed, and every other file as it was.
-        ensures stops { LeavesBy (KeepsCommitted self.now) (S.snapshot store.old) (S.snapshot store.new) }
-        ensures others { TellsOnly (IsBatchFile self.now) (S.snapshot store.old).files (S.snapshot store.new).files }
-        ensures taken { S.taken store.new ≡ S.taken store.old }
-        ensures cause { HasCause (IsErr result) (S.faults store.old) (S.faults store.new) }
-    {
-        let side = 1 - self.last.side;
-        let mut cache = Blob::at(BayFile::Cache(side).number(self.base), 0);
-        cache.append(store, &batch.pairs)?;
-        let mut judged = Blob::at(BayFile::Judged.number(self.base), 48 * self.last.judged);
-        judged.append(store, &batch.judged)?;
-        let mut texts = Blob::at(BayFile::Texts.number(self.base), self.last.texts);
-        texts.append(store, &batch.texts)?;
-        numbers_fit(&batch.cut);
-        Ok(Commit {
-            side,
-            entries: batch.entries,
-            judged: judged.length() / 48,
-            unique: self.last.unique.saturating_add(batch.unique),
-            texts: texts.length(),
-            cut: batch.cut,
-        })
     }
 
     // One commit more, whose record the manifest has: all offers are judged.
@@ -189,13 +162,6 @@ fn catch_up(buckets: &mut [Bucket])
     for bucket in buckets.iter_mut() {
         bucket.catch_up();
     }
-}
-
-// Numbers of 64 bits are below 2 ^ 64, which their list alone doesn't tell.
-fn numbers_fit(numbers: &[u64])
-    ensures { AllByRecursion (λ n. n < 2 ^ 64) numbers.now }
-{
-    let _numbers = numbers;
 }
 
 #[cfg(test)]

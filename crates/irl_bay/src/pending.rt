@@ -1,27 +1,45 @@
-ghost use Rattle.std.specs.Prelude.{◌≡◌, ◌≢◌, ◌+◌, ◌≤◌, ℕ, List, length, map, drop, IfOk, IsErrOf, MatchOption};
+ghost use Rattle.std.specs.Prelude.{◌≡◌, ◌↔◌, ◌+◌, ◌≤◌, ℕ, List, length as list_length, drop, IfOk, IsErrOf, IsTrue};
 ghost use Rattle.std.specs.List.{All, AllByRecursion};
 ghost use Rattle.std.specs.Option.{ForSome};
-ghost use Rattle.irl_offer.specs.Buckets.{IsBucketCount, bucket_of};
+ghost use Rattle.irl_offer.specs.Buckets.{IsBucketCount, bucket_of as bucket_of_key};
 ghost use Rattle.irl_offer.specs.Faults.{HasCause};
-ghost use Rattle.irl_offer.specs.Limits.{max_text};
 ghost use Rattle.irl_offer.specs.Tuple.{Tuple};
 ghost use Rattle.irl_disk.specs.Images.{LeavesSame};
 ghost use Rattle.irl_disk.specs.Taken.{TakesAmong, TakesOnly};
 ghost use Rattle.irl_bay.specs.Damage.{text_length};
 ghost use Rattle.irl_bay.specs.Holding.{HoldsBucket, IsFileOfBucket};
-ghost use Rattle.irl_bay.specs.Pending.{HasEntries, AreEntriesFrom, IsSpoiltJournal, IsSpoiltBucket};
-ghost use Rattle.irl_bay.specs.Runs.{entry_of_offer, texts_of};
+ghost use Rattle.irl_bay.specs.Pending.{AreOffersOf, HasEntries, AreEntriesFrom, IsSpoiltJournal, IsSpoiltBucket};
 
 use crate::bucket::Bucket;
 use crate::gathering::Gathering;
 use crate::reading::read_part;
 use irl_disk::Store;
 use irl_journal::JournalFault;
-use irl_offer::{Entry, Fault, Offer, Settings, Text};
-use std::alloc::{AllocError, Global};
+use irl_offer::{Entry, Fault, Settings, bucket_of};
+use std::alloc::Global;
+
+/// The offers of a bucket that are not judged.
+#[derive(Drop)]
+pub struct Pending {
+    /// The entries of the records that have them, of which so many are judged.
+    pub entries: Vec<Entry>,
+    pub skip: usize,
+    /// The texts of the others, one behind the other.
+    pub texts: Vec<u8>,
+    ghost within: { skip ≤ list_length entries.items },
+}
+
+impl Pending {
+    /// The entries of the offers that are not judged, in order.
+    pub fn entries(&self) -> &[Entry]
+        ensures { result.now ≡ drop self.now.skip self.now.entries.items }
+    {
+        &self.entries[self.skip..]
+    }
+}
 
 impl Bucket {
-    /// The offers that are not judged, of which there are so many, in order. It changes nothing.
+    /// The offers that are not judged, of which there are so many. It changes nothing.
     pub fn pending<S: Store>(
         &self,
         alloc: Global,
@@ -29,24 +47,28 @@ impl Bucket {
         settings: &Settings,
         b: u32,
         count: u64,
-    ) -> Result<Vec<Offer>, Fault>
+    ) -> Result<Pending, Fault>
         requires settings { IsBucketCount settings.now.buckets }
         requires gate { self.now.gate ≤ self.now.journal.end }
         requires text { self.now.text ≤ self.now.aux.length }
         requires long { ForSome (S.snapshot store.old).files (λ files.
-            self.now.aux.length ≤ length (files self.now.aux.file)) }
-        ensures count { IfOk result (λ offers. length offers.items ≡ count) }
-        ensures held { IfOk result (λ offers. ForSome (S.snapshot store.old).files (λ _. (cut : ℕ) (list : List Tuple) →
+            self.now.aux.length ≤ list_length (files self.now.aux.file)) }
+        ensures count { IfOk result (λ found. list_length (drop found.skip found.entries.items) ≡ count) }
+        ensures texts { IfOk result (λ found.
+            text_length (drop found.skip found.entries.items) ≡ list_length found.texts.items) }
+        ensures here { IfOk result (λ found. All (λ entry. bucket_of_key settings.now.buckets entry.key ≡ b)
+            (drop found.skip found.entries.items)) }
+        ensures held { IfOk result (λ found. ForSome (S.snapshot store.old).files (λ _. (cut : ℕ) (list : List Tuple) →
             HoldsBucket (S.snapshot store.old).images settings.now.array cut self.now list →
-            offers.items ≡ drop cut list)) }
+            AreOffersOf (drop cut list) (drop found.skip found.entries.items) found.texts.items)) }
         ensures damaged { (f at : ℕ) → IsErrOf result (Fault.Damaged f at) →
             ForSome (S.snapshot store.old).files (λ files.
             IsSpoiltBucket settings.now b self.now count files f at) }
         ensures whole { (f at : ℕ) → IsErrOf result (Fault.Damaged f at) →
             ForSome (S.snapshot store.old).files (λ _. (cut : ℕ) (list : List Tuple) →
             HoldsBucket (S.snapshot store.old).images settings.now.array cut self.now list →
-            AllByRecursion (λ offer. bucket_of settings.now.buckets offer.key ≡ b) list →
-            count + cut ≡ length list → ⊥) }
+            AllByRecursion (λ offer. bucket_of_key settings.now.buckets offer.key ≡ b) list →
+            count + cut ≡ list_length list → ⊥) }
         ensures full { (n : ℕ) → IsErrOf result (Fault.Full n) → ⊥ }
         ensures same { (S.snapshot store.new).files ≡ (S.snapshot store.old).files }
         ensures stops { LeavesSame (S.snapshot store.old) (S.snapshot store.new) }
@@ -62,12 +84,21 @@ impl Bucket {
         if (entries.len() as u64).checked_sub(self.skip) != Some(count) {
             return Err(Fault::Damaged(self.journal.file(), self.gate));
         }
+        let skip = self.skip as usize;
+        // Where the store tells what its files have, the visitor took no others.
+        if !are_of(&entries[skip..], settings.buckets, b) {
+            return Err(Fault::Damaged(self.journal.file(), self.gate));
+        }
         let aux = self.aux.file();
         let texts = read_part(alloc, store, aux, self.text, self.aux.length() - self.text)?;
-        match cut_texts(alloc, &entries[self.skip as usize..], &texts)? {
-            Some(offers) => Ok(offers),
-            None => Err(Fault::Damaged(aux, self.text)),
+        if !have_length(&entries[skip..], texts.len() as u64) {
+            return Err(Fault::Damaged(aux, self.text));
         }
+        Ok(Pending {
+            entries,
+            skip,
+            texts,
+        })
     }
 
     // The entries of the bucket's runs, from the one with the first pending offer on.
@@ -80,7 +111,6 @@ impl Bucket {
     ) -> Result<Vec<Entry>, JournalFault>
         requires settings { IsBucketCount settings.now.buckets }
         requires gate { self.now.gate ≤ self.now.journal.end }
-        ensures few { IfOk result (λ entries. All (λ entry. entry.aux_len ≤ max_text) entries.items) }
         ensures found { IfOk result (λ entries. ForSome (S.snapshot store.old).files (λ files.
             HasEntries settings.now b self.now files entries.items)) }
         ensures held { IfOk result (λ entries. ForSome (S.snapshot store.old).files (λ _.
@@ -92,7 +122,7 @@ impl Bucket {
         ensures whole { (at : ℕ) → IsErrOf result (JournalFault.Damaged at) →
             ForSome (S.snapshot store.old).files (λ _. (cut : ℕ) (list : List Tuple) →
             HoldsBucket (S.snapshot store.old).images settings.now.array cut self.now list →
-            AllByRecursion (λ offer. bucket_of settings.now.buckets offer.key ≡ b) list → ⊥) }
+            AllByRecursion (λ offer. bucket_of_key settings.now.buckets offer.key ≡ b) list → ⊥) }
         ensures same { (S.snapshot store.new).files ≡ (S.snapshot store.old).files }
         ensures stops { LeavesSame (S.snapshot store.old) (S.snapshot store.new) }
         ensures taken { TakesOnly self.now.journal.file (S.taken store.old) (S.taken store.new) }
@@ -111,46 +141,27 @@ impl Bucket {
     }
 }
 
-// The offers of these entries, whose texts stand one behind the other, or none where the texts are not as long as the
-// entries say.
-fn cut_texts(
-    alloc: Global,
-    entries: &[Entry],
-    texts: &[u8],
-) -> Result<Option<Vec<Offer>>, AllocError>
-    requires { All (λ entry. entry.aux_len ≤ max_text) entries.now }
-    ensures { IfOk result (λ found. MatchOption found (text_length entries.now ≢ length texts.now)
-        (λ offers. (map entry_of_offer offers.items ≡ entries.now) × (texts_of offers.items ≡ texts.now))) }
+// Whether these entries are all of a bucket.
+fn are_of(entries: &[Entry], buckets: u32, b: u32) -> bool
+    requires { IsBucketCount buckets }
+    ensures { IsTrue result ↔ All (λ entry. bucket_of_key buckets entry.key ≡ b) entries.now }
 {
-    let mut offers = Vec::new(alloc);
-    let mut rest = texts;
-    for entry in entries {
-        if entry.aux_len as usize > rest.len() {
-            return Ok(None);
-        }
-        let (text, behind) = rest.split_at(entry.aux_len as usize);
-        offers.push(with_text(alloc, entry, text)?)?;
-        rest = behind;
-    }
-    if rest.is_empty() {
-        Ok(Some(offers))
-    } else {
-        Ok(None)
-    }
+    entries
+        .iter()
+        .all(|entry| bucket_of(entry.key, buckets) == b)
 }
 
-// The offer of an entry and its text.
-fn with_text(alloc: Global, entry: &Entry, text: &[u8]) -> Result<Offer, AllocError>
-    requires few { entry.now.aux_len ≤ max_text }
-    requires length_ { length text.now ≡ entry.now.aux_len }
-    ensures entry { IfOk result (λ offer. entry_of_offer offer ≡ entry.now) }
-    ensures text { IfOk result (λ offer. offer.aux ≡ text.now) }
+// Whether the texts of these entries are so long together.
+fn have_length(entries: &[Entry], length: u64) -> bool
+    ensures { IsTrue result ↔ (text_length entries.now ≡ length) }
 {
-    Ok(Offer {
-        op: entry.op,
-        key: entry.key,
-        value: entry.value,
-        from: entry.from,
-        aux: Text::from_bytes(alloc, text)?,
-    })
+    let mut rest = length;
+    for entry in entries {
+        let aux_len = u64::from(entry.aux_len);
+        if aux_len > rest {
+            return false;
+        }
+        rest -= aux_len;
+    }
+    rest == 0
 }

@@ -17,7 +17,7 @@ use Rattle.irl_bay.specs.Making.{IsUnmade, IsJournalOf}
 use Rattle.irl_yard.specs.StoreFiles.{head_file, crawl_file, urls_base, pairs_base}
 use Rattle.irl_yard.specs.Head.{head_bytes}
 use Rattle.irl_yard.specs.Standing.{IsBlank}
-use Rattle.irl_yard.specs.Opening.{IsNotOursAt, IsKeptOtherwise, IsBadStore, IsStoreDamagedAt}
+use Rattle.irl_yard.specs.Opening.{IsNotOursAt, IsKeptOtherwise, IsBadAsked, IsBadStore, IsStoreDamagedAt}
 
 -- the files of a state beside the head and the bay of URLs
 abbrev pub IsRestFile : ℕ → ℕ → Type 0
@@ -60,12 +60,12 @@ abbrev pub KeepsBlank : Files → Files → Type 0
 KeepsBlank old new = IsBlank old → IsBlank new
 
 -- ---- a refusal
--- what is told of the files is the ground of it
+-- What is told of the files is the ground of it. That no store can be made as is asked is one whatever is told.
 abbrev pub HasGround : Asked → Option Files → OpenFault → Type 0
 HasGround asked told (NotOurs at) = ForSome told (λ files. IsNotOursAt files at)
 HasGround asked told (Damaged f at) = ForSome told (λ files. IsStoreDamagedAt asked files f at)
 HasGround asked told (OtherSettings n kept wanted) = ForSome told (λ files. IsKeptOtherwise asked files n kept wanted)
-HasGround asked told (BadSettings n) = ForSome told (λ files. IsBadStore asked files n)
+HasGround asked told (BadSettings n) = ForSome told (λ files. IsBadStore asked files n) × IsBadAsked (settings_of asked) n
 HasGround asked told Failed = ⊤
 HasGround asked told Memory = ⊤
 

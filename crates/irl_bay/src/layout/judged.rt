@@ -1,11 +1,11 @@
 ghost use Rattle.std.specs.Prelude.{◌≡◌, ◌<◌, ◌≤◌, ◌++◌, length, OnOk};
 ghost use Rattle.byteorder.specs.Endian.{little_bytes};
 ghost use Rattle.irl_bay.specs.JudgedEntries.{verdict_number as number_of_verdict, known_value as value_of_verdict};
-ghost use Rattle.irl_bay.specs.JudgedEntries.{judged_bytes};
+ghost use Rattle.irl_bay.specs.JudgedEntries.{row};
 
 use super::number::push_number;
 use byteorder::{ByteOrder, LittleEndian};
-use irl_offer::{Offer, Verdict};
+use irl_offer::{Entry, Verdict};
 use std::alloc::AllocError;
 
 /// How many bytes a judged offer takes without its text.
@@ -17,20 +17,19 @@ pub fn push_judged(
     entries: &mut Vec<u8>,
     place: u64,
     bucket: u32,
-    offer: &Offer,
+    entry: &Entry,
     verdict: Option<Verdict>,
 ) -> Result<(), AllocError>
     requires { bucket < 256 }
-    ensures ok { OnOk result (entries.new.items ≡ entries.old.items
-        ++ judged_bytes place (record { bucket = bucket; offer = offer.now; verdict = verdict })) }
+    ensures ok { OnOk result (entries.new.items ≡ entries.old.items ++ row place bucket entry.now verdict) }
     ensures grows { length entries.old.items ≤ length entries.new.items }
 {
-    let text_len = length_bytes(offer.aux.bytes().len() as u32);
-    entries.extend_from_slice(&[bucket as u8, offer.op.number(), verdict_number(verdict), 0])?;
+    let text_len = length_bytes(u32::from(entry.aux_len));
+    entries.extend_from_slice(&[bucket as u8, entry.op.number(), verdict_number(verdict), 0])?;
     entries.extend_from_slice(&text_len)?;
-    push_number(entries, offer.key)?;
-    push_number(entries, offer.value)?;
-    push_number(entries, offer.from)?;
+    push_number(entries, entry.key)?;
+    push_number(entries, entry.value)?;
+    push_number(entries, entry.from)?;
     push_number(entries, known_value(verdict))?;
     push_number(entries, place)?;
     Ok(())

@@ -7,7 +7,7 @@ ghost use Rattle.irl_bay.specs.Holding.{Holds};
 use super::*;
 use crate::tests::{Waiting, flush, made, put, settings_of};
 use irl_disk::{MemStore, Part};
-use irl_journal::{Journal, Visit};
+use irl_journal::{Blob, Journal, Visit};
 use std::alloc::{AllocError, Global};
 use std::test::Fail;
 

@@ -49,7 +49,8 @@ impl Given {
     }
 }
 
-// An offer of a bucket: one of 50 keys, each operation in turn, and a text of 0 to 4 bytes.
+// An offer of a bucket: one of 50 keys, the bucket's first and last among them, each operation in turn, and a text of 0 to
+// 4 bytes.
 fn offer_of(alloc: Global, bucket: u32, i: u32) -> Result<Offer, AllocError> {
     let op = match i % 3 {
         0 => Op::Check,
@@ -57,9 +58,13 @@ fn offer_of(alloc: Global, bucket: u32, i: u32) -> Result<Offer, AllocError> {
         _ => Op::Both,
     };
     let text = i.to_le_bytes();
+    let low = match u64::from(i.wrapping_mul(40_503) >> 7) % 50 {
+        49 => u64::MAX >> 2,
+        key => key,
+    };
     Ok(Offer {
         op,
-        key: u64::from(bucket % 4) << 62 | u64::from(i.wrapping_mul(40_503) >> 7) % 50,
+        key: u64::from(bucket % 4) << 62 | low,
         value: u64::from(i % 7),
         from: u64::from(i % 2),
         aux: Text::from_bytes(alloc, &text[..(i % 5) as usize])?,
@@ -119,7 +124,13 @@ fn take_turn(alloc: Global, kept: &mut Waiting, given: &mut Given, turn: u32) ->
     requires { (book : Book) × Holds (snapshot_of kept.old.store).images kept.old.bay book }
     ensures { OnOk result ((book : Book) × Holds (snapshot_of kept.new.store).images kept.new.bay book) }
 {
-    let bucket = turn % 7 % 4;
+    // Some merges find no offer of bucket 2, or of others.
+    let bucket = match turn % 7 {
+        0 | 4 => 0,
+        1 | 3 => 3,
+        5 => 2,
+        _ => 1,
+    };
     put_three(alloc, kept, given, bucket, turn)?;
     flush(kept, bucket)?;
     if turn % 5 != 4 {
@@ -164,7 +175,7 @@ fn compared(
     if bay.judged_len() == 0 {
         return Ok((0, 0));
     }
-    let found = bay.judged_from(store, 0, 10_000)?;
+    let found = bay.judged_from(store, 0, 20_000)?;
     let expected = judged(alloc, 4, settings.rule, &given.lists, &given.cuts)?;
     let mut same = 0_usize;
     for (i, one) in found.iter().enumerate() {
@@ -178,9 +189,10 @@ fn compared(
 #[test]
 fn a_bay_judges_as_the_plain_program(rt: HostRuntime) -> Result<(), Fail> {
     let alloc = rt.alloc();
-    for rule in [Rule::Keep, Rule::Replace, Rule::Add] {
+    for (rule, block) in [(Rule::Keep, 1), (Rule::Replace, 2), (Rule::Add, 3)] {
         let settings = Settings {
             rule,
+            block,
             ..settings_of(4, 3, 10_000)
         };
         let mut kept = made(alloc, Vec::new(alloc), &settings)?;
@@ -189,5 +201,86 @@ fn a_bay_judges_as_the_plain_program(rt: HostRuntime) -> Result<(), Fail> {
         let found = compared(alloc, &mut kept.store, &settings, &given)?;
         assert_eq!(rt; found, (1_500, 1_500), "{rule:?}");
     }
+    Ok(())
+}
+
+// An offer of a bucket, of the keys that each third turn of it gives again.
+fn many_of(alloc: Global, bucket: u32, turn: u32, i: u32) -> Result<Offer, AllocError> {
+    Ok(Offer {
+        op: Op::Both,
+        key: u64::from(bucket % 4) << 62 | u64::from(turn / 4 % 3 * 1_000 + i % 1_000),
+        value: u64::from(turn),
+        from: 0,
+        aux: Text::from_bytes(alloc, b"x")?,
+    })
+}
+
+// Lets an array of offers of a bucket wait, and gives the plain program the same.
+fn put_many(
+    alloc: Global,
+    kept: &mut Waiting,
+    given: &mut Given,
+    bucket: u32,
+    turn: u32,
+) -> Result<(), AllocError>
+    requires { (book : Book) × Holds (snapshot_of kept.old.store).images kept.old.bay book }
+    ensures { (book : Book) × Holds (snapshot_of kept.new.store).images kept.new.bay book }
+{
+    for i in 0..1_000 {
+        wait(kept, many_of(alloc, bucket, turn, i)?);
+        given.push(bucket, many_of(alloc, bucket, turn, i)?)?;
+    }
+    Ok(())
+}
+
+// Flushes an array of offers, and judges all that wait at each tenth turn.
+fn take_long_turn(
+    alloc: Global,
+    kept: &mut Waiting,
+    given: &mut Given,
+    turn: u32,
+) -> Result<(), Fault>
+    requires { (book : Book) × Holds (snapshot_of kept.old.store).images kept.old.bay book }
+    ensures { OnOk result ((book : Book) × Holds (snapshot_of kept.new.store).images kept.new.bay book) }
+{
+    let bucket = turn % 4;
+    put_many(alloc, kept, given, bucket, turn)?;
+    flush(kept, bucket)?;
+    if turn % 10 != 9 {
+        return Ok(());
+    }
+    given.cut(alloc)?;
+    merge(kept, bucket)?;
+    Ok(())
+}
+
+// So many of these turns.
+fn take_long_turns(
+    alloc: Global,
+    kept: &mut Waiting,
+    given: &mut Given,
+    turns: u32,
+) -> Result<(), Fault>
+    requires { (book : Book) × Holds (snapshot_of kept.old.store).images kept.old.bay book }
+{
+    for turn in 0..turns {
+        take_long_turn(alloc, kept, given, turn)?;
+    }
+    Ok(())
+}
+
+#[test]
+fn many_keys_are_judged_in_pieces(rt: HostRuntime) -> Result<(), Fail> {
+    let alloc = rt.alloc();
+    let settings = Settings {
+        trigger: 1_048_576,
+        ..settings_of(4, 1_000, 100_000)
+    };
+    let mut kept = made(alloc, Vec::new(alloc), &settings)?;
+    let mut given = Given::none(alloc)?;
+    take_long_turns(alloc, &mut kept, &mut given, 20)?;
+    assert_eq!(rt; kept.bay.unique_len(), 12_000);
+    let found = compared(alloc, &mut kept.store, &settings, &given)?;
+    assert_eq!(rt; found, (20_000, 20_000));
     Ok(())
 }

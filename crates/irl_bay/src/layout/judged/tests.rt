@@ -1,5 +1,5 @@
 use super::*;
-use irl_offer::{Op, Text};
+use irl_offer::Op;
 use std::test::Fail;
 
 // The entry of an offer of bucket 0 that was judged Unique, whose text of one byte stands at place 5.
@@ -16,15 +16,15 @@ const ENTRY: [u8; 48] = [
 #[test]
 fn a_judged_offer_has_48_bytes(rt: HostRuntime) -> Result<(), Fail> {
     let alloc = rt.alloc();
-    let offer = Offer {
+    let entry = Entry {
         op: Op::Both,
+        aux_len: 1,
         key: 1,
         value: 7,
         from: 0,
-        aux: Text::from_bytes(alloc, b"a")?,
     };
     let mut entries = Vec::new(alloc);
-    push_judged(&mut entries, 5, 0, &offer, Some(Verdict::Unique))?;
+    push_judged(&mut entries, 5, 0, &entry, Some(Verdict::Unique))?;
     assert_eq!(rt; entries.as_slice(), ENTRY.as_slice());
     Ok(())
 }

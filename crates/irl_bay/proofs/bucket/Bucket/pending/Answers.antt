@@ -1,8 +1,16 @@
-use Rattle.std.proofs.Common.{rules, ◌≡◌, ◌∙◌, ◌+◌, ◌-◌, ℕ, List, map, take, drop, length, sym, ap, arith}
+use Rattle.std.proofs.Common.{rules, ◌≡◌, ◌∙◌, ◌+◌, ◌-◌, ◌++◌, ◌∷◌, ◌<◌, ℕ, zero, suc, List, [], Bool, true, false, take, drop, get_or, length, inl, refl, sym, ap, subst, arith}
+use Rattle.std.specs.Prelude.{◌↔◌, IsTrue}
+use Rattle.std.specs.List.{All, AllByRecursion}
+use Rattle.irl_offer.specs.Buckets.{bucket_of}
 use Rattle.irl_offer.specs.declared.entry.Entry.{Entry}
-use Rattle.irl_bay.specs.Damage.{text_length}
-use Rattle.irl_bay.specs.Runs.{entry_of_offer, texts_of}
-use Rattle.irl_bay.proofs.PendingTexts.{same_offers, texts_held, length-texts, tail_slice}
+use Rattle.irl_offer.specs.declared.settings.Settings.{Settings}
+use Rattle.irl_disk.specs.Disk.{Files}
+use Rattle.irl_disk.proofs.Frames.{takes_only}
+use Rattle.irl_bay.specs.Damage.{IsEntryOf, IsEntryRun, entries_in, text_length}
+use Rattle.irl_bay.specs.Holding.{IsFileOfBucket}
+use Rattle.irl_bay.specs.Pending.{HasEntries}
+use Rattle.irl_bay.specs.declared.bucket.Bucket.{Bucket}
+use Rattle.irl_bay.proofs.PendingTexts.{length-texts, tail_slice, texts_held}
 use Rattle.irl_bay.proofs.bucket.Bucket.pending.Goals as goal
 
 pub returns-in-Err-Damaged-clause-whole : goal.returns-in-Err-Damaged-clause-whole
@@ -14,27 +22,79 @@ returns-then-ne-clause-whole g c = λ f at e files tells cut list holds buckets 
     let other : length c.in-Ok.entries.items ≡ c.args.self.now.skip + c.args.count → ⊥ = search rules in
     other (omega (arith, (c.in-Ok.ensures.held files tells cut list holds).count, count))
 
-pub returns-in-Some-clause-held : goal.returns-in-Some-clause-held
-returns-in-Some-clause-held g c = λ files tells cut list holds.
+pub returns-clause-held : goal.returns-clause-held
+returns-clause-held g c = λ files tells cut list holds.
     let bucket = c.args.self.now in
     let now = (g.met.S.Store.is_consistent c.args.store.now).told files tells in
-    let tail = tail_slice bucket.skip c.deref.result.now in
-    let made : (map entry_of_offer c.in-Some.offers.items ≡ take (length c.deref.result.now - bucket.skip) (drop bucket.skip c.deref.result.now)) × (texts_of c.in-Some.offers.items ≡ c.deref-2.result.now) = rw c.in-Some.is at c.in_ok-offers.ensures in
     let read : c.in_ok-texts.texts.items ≡ take (c.length.result - bucket.text) (drop bucket.text (files c.file-aux.result)) = c.in_ok-texts.ensures.bytes files (c.in-Ok.ensures.same ∙ tells) in
     let there : c.in_ok-texts.texts.items ≡ take (bucket.aux.length - bucket.text) (drop bucket.text (files bucket.aux.file)) = rw (c.length.ensures, c.file-aux.ensures.value) at read in
     let texts = texts_held list cut bucket.text bucket.aux.length (files bucket.aux.file) holds.text holds.aux.size (holds.aux.each files now) in
-    same_offers c.in-Some.offers.items (drop cut list)
-    (made.0 ∙ tail ∙ ap (drop bucket.skip) c.deref.ensures.value ∙ (c.in-Ok.ensures.held files tells cut list holds).entries_are)
-    (made.1 ∙ c.deref-2.ensures.value ∙ there ∙ texts.0)
+    record {
+      entries_are = sym (c.in-Ok.ensures.held files tells cut list holds).entries_are;
+      texts_are = sym (there ∙ texts.0);
+    }
 
-pub returns-clause-whole : goal.returns-clause-whole
-returns-clause-whole g c = λ f at e files tells cut list holds buckets count.
+each_all : (P : Entry → Type 0) (l : List Entry) → AllByRecursion P l → (k : ℕ) (d : Entry) → k < length l → P (get_or l k d)
+each_all P [] all k d lt = absurd (omega arith)
+each_all P (e ∷ l) all zero d lt = all.0
+each_all P (e ∷ l) all (suc k) d lt = each_all P l all.1 k d (omega arith)
+
+-- entries of the bucket's runs are of the bucket
+no_other : (settings : Settings) (b skip : ℕ) (bucket : Bucket) (files : Files) (entries : List Entry) (slice : List Entry) (is_of : Bool) → HasEntries settings b bucket files entries → slice ≡ drop skip entries → IsTrue is_of ↔ All (λ entry. bucket_of settings.buckets entry.key ≡ b) slice → is_of ≡ false → ⊥
+no_other settings b skip bucket files entries slice is_of has is tells not =
+    let all = each_all (λ (e : Entry). bucket_of settings.buckets e.key ≡ b) slice (subst (AllByRecursion (λ (e : Entry). bucket_of settings.buckets e.key ≡ b)) (sym is) (each_drop skip entries (subst (AllByRecursion (λ (e : Entry). bucket_of settings.buckets e.key ≡ b)) (sym has.joined) (in_runs has.runs has.has.each)))) in
+    contrary is_of not (tells.1 all)
+  where
+    false_is_not : IsTrue false → ⊥
+    false_is_not is = search rules
+
+    contrary : (t : Bool) → t ≡ false → IsTrue t → ⊥
+    contrary true e is = cc
+    contrary false e is = false_is_not is
+
+    both : {X : Type 0} (P : X → Type 0) (xs ys : List X) → AllByRecursion P xs → AllByRecursion P ys → AllByRecursion P (xs ++ ys)
+    both P [] ys one two = two
+    both P (x ∷ xs) ys one two = (one.0, both P xs ys one.1 two)
+
+    in_run : (run : List Entry) → AllByRecursion (IsEntryOf settings.buckets b) run → AllByRecursion (λ (e : Entry). bucket_of settings.buckets e.key ≡ b) run
+    in_run [] each = tt
+    in_run (e ∷ run) each = (each.0.bucket, in_run run each.1)
+
+    in_runs : (runs : List (List Entry)) → AllByRecursion (IsEntryRun settings b) runs → AllByRecursion (λ (e : Entry). bucket_of settings.buckets e.key ≡ b) (entries_in runs)
+    in_runs [] each = tt
+    in_runs (run ∷ runs) each = both (λ (e : Entry). bucket_of settings.buckets e.key ≡ b) run (entries_in runs) (in_run run each.0.each) (in_runs runs each.1)
+
+    each_drop : (n : ℕ) (l : List Entry) → AllByRecursion (λ (e : Entry). bucket_of settings.buckets e.key ≡ b) l → AllByRecursion (λ (e : Entry). bucket_of settings.buckets e.key ≡ b) (drop n l)
+    each_drop zero l all = all
+    each_drop (suc n) [] all = tt
+    each_drop (suc n) (e ∷ l) all = each_drop n l all.1
+
+pub returns-then-not-are_of-clause-damaged : goal.returns-then-not-are_of-clause-damaged
+returns-then-not-are_of-clause-damaged g c = λ f at e files tells.
+    absurd (no_other c.args.settings.now c.args.b c.args.self.now.skip c.args.self.now files c.in-Ok.entries.items _ c.are_of.result (c.in-Ok.ensures.found files tells) (tail_slice c.args.self.now.skip c.deref.result.now ∙ ap (drop c.args.self.now.skip) c.deref.ensures.value) c.are_of.ensures c.if-not-are_of.true)
+
+pub returns-then-not-are_of-clause-whole : goal.returns-then-not-are_of-clause-whole
+returns-then-not-are_of-clause-whole g c = λ f at e files tells cut list holds buckets count.
+    no_other c.args.settings.now c.args.b c.args.self.now.skip c.args.self.now files c.in-Ok.entries.items _ c.are_of.result (c.in-Ok.ensures.found files tells) (tail_slice c.args.self.now.skip c.deref.result.now ∙ ap (drop c.args.self.now.skip) c.deref.ensures.value) c.are_of.ensures c.if-not-are_of.true
+
+pub returns-then-not-are_of-clause-taken : goal.returns-then-not-are_of-clause-taken
+returns-then-not-are_of-clause-taken g c = takes_only (IsFileOfBucket c.args.self.now) c.args.self.now.journal.file _ _ (inl refl) c.in-Ok.ensures.taken
+
+pub returns-then-not-have_length-clause-whole : goal.returns-then-not-have_length-clause-whole
+returns-then-not-have_length-clause-whole g c = λ f at e files tells cut list holds buckets count.
     let bucket = c.args.self.now in
     let now = (g.met.S.Store.is_consistent c.args.store.now).told files tells in
-    let tail = tail_slice bucket.skip c.deref.result.now in
-    let other : text_length (take (length c.deref.result.now - bucket.skip) (drop bucket.skip c.deref.result.now)) ≡ length c.deref-2.result.now → ⊥ = rw c.in-None.is at c.in_ok-offers.ensures in
+    let tail = tail_slice bucket.skip c.deref-2.result.now ∙ ap (drop bucket.skip) c.deref-2.ensures.value in
     let texts = texts_held list cut bucket.text bucket.aux.length (files bucket.aux.file) holds.text holds.aux.size (holds.aux.each files now) in
     let size : length c.in_ok-texts.texts.items ≡ c.length.result - bucket.text = c.in_ok-texts.ensures.size in
-    let read = ap length c.deref-2.ensures.value ∙ size ∙ ap (λ (n : ℕ). n - bucket.text) c.length.ensures ∙ texts.1 ∙ length-texts (drop cut list) in
-    let said = ap text_length tail ∙ ap (λ (l : List Entry). text_length (drop bucket.skip l)) c.deref.ensures.value ∙ ap text_length (c.in-Ok.ensures.held files tells cut list holds).entries_are in
-    other (said ∙ sym read)
+    let read : length c.in_ok-texts.texts.items ≡ text_length (drop bucket.skip c.in-Ok.entries.items) =
+    size ∙ ap (λ (n : ℕ). n - bucket.text) c.length.ensures ∙ texts.1 ∙ length-texts (drop cut list) ∙ ap text_length (sym (c.in-Ok.ensures.held files tells cut list holds).entries_are) in
+    let same : text_length (take (length c.deref-2.result.now - bucket.skip) (drop bucket.skip c.deref-2.result.now)) ≡ c.len-2.result = ap text_length tail ∙ sym read ∙ omega (arith, c.len-2.ensures, c.in_ok-texts.texts.ok) in
+    contrary c.have_length.result c.if-not-have_length.true (c.have_length.ensures.1 same)
+  where
+    false_is_not : IsTrue false → ⊥
+    false_is_not is = search rules
+
+    contrary : (t : Bool) → t ≡ false → IsTrue t → ⊥
+    contrary true e is = cc
+    contrary false e is = false_is_not is

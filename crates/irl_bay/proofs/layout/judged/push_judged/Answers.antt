@@ -1,12 +1,10 @@
-use Rattle.std.proofs.Common.{◌≡◌, ◌∙◌, List, ℕ, ◌++◌, length, ap}
+use Rattle.std.proofs.Common.{◌≡◌, ◌∙◌, List, ℕ, ◌++◌, ap}
 use Rattle.byteorder.specs.Endian.{little_bytes}
-use Rattle.irl_offer.specs.Tuple.{Tuple}
 use Rattle.irl_bay.proofs.JudgedBytes.{entry_put}
 use Rattle.irl_bay.proofs.layout.judged.push_judged.Goals as goal
 
 pub returns-clause-ok : goal.returns-clause-ok
 returns-clause-ok c =
-    let told : Tuple = record { op = c.offer.inside.op; key = c.offer.inside.key; value = c.offer.inside.value; from = c.offer.inside.from; aux = c.offer.inside.aux } in
     let more : (x y b : List ℕ) → x ≡ y → x ++ b ≡ y ++ b = λ x y b e. ap (λ l. l ++ b) e in
     c.in_ok-push_number-5.ensures.ok
     ∙ more _ _ _ (c.in_ok-push_number-4.ensures.ok
@@ -15,4 +13,4 @@ returns-clause-ok c =
     ∙ more _ _ _ (c.in_ok-push_number.ensures.ok
     ∙ more _ _ _ (c.in_ok-extend_from_slice-2.ensures.items
     ∙ more _ _ _ c.in_ok-extend_from_slice.ensures.items)))))
-    ∙ entry_put c.args.entries.now.items c.args.place c.args.bucket c.args.offer.now c.args.verdict c.number.result c.verdict_number.result c.known_value.result c.length_bytes-text_len.result told c.offer.view_is c.number.ensures c.verdict_number.ensures (c.length_bytes-text_len.ensures ∙ ap (λ (text : List ℕ). little_bytes 4 (length text)) c.bytes.ensures) c.known_value.ensures
+    ∙ entry_put c.args.entries.now.items c.args.place c.args.bucket c.args.entry.now c.args.verdict c.number.result c.verdict_number.result c.known_value.result c.length_bytes-text_len.result c.number.ensures c.verdict_number.ensures (c.length_bytes-text_len.ensures ∙ ap (little_bytes 4) c.from.ensures) c.known_value.ensures

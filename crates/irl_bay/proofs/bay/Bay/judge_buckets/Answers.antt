@@ -1,0 +1,287 @@
+use Rattle.std.proofs.Common.{◌≡◌, ◌∙◌, ◌+◌, ◌-◌, ◌*◌, ◌<◌, ◌++◌, ℕ, List, [], length, drop, get_or, refl, sym, ap, subst, arith, rules, length-append}
+use Rattle.std.proofs.lemmas.List.{length-map}
+use Rattle.std.proofs.lemmas.Result.{err_from_is_err_and}
+use Rattle.std.specs.List.{AllByRecursion}
+use Rattle.std.specs.Option.{ForSome}
+use Rattle.irl_offer.specs.Buckets.{bucket_of}
+use Rattle.irl_offer.specs.Tuple.{Tuple}
+use Rattle.irl_offer.specs.declared.entry.Entry.{Entry}
+use Rattle.irl_offer.specs.declared.receipt.Fault.TheVariants.{Damaged}
+use Rattle.irl_model.specs.Book.{judged_cut}
+use Rattle.irl_disk.proofs.Frames.{takes_both, takes_none, takes_only}
+use Rattle.irl_disk.proofs.Stretches.{stays}
+use Rattle.irl_cache.specs.Reading.{read_of}
+use Rattle.irl_cache.specs.SortedRun.{IsSpoiltRun}
+use Rattle.irl_bay.specs.BayFiles.{IsFileOf}
+use Rattle.irl_bay.specs.Drum.{IsDrum, cache_front, judged_at, pending_at}
+use Rattle.irl_bay.specs.Judging.{HasJudged, waiting}
+use Rattle.irl_bay.specs.Merging.{TakesOf}
+use Rattle.irl_bay.specs.Runs.{entry_of_offer}
+use Rattle.irl_bay.specs.Sides.{IsSidesOf}
+use Rattle.irl_bay.specs.Telling.{HasTold}
+use Rattle.irl_bay.proofs.BatchWrites.{cache_writes, step_then, writes_none}
+use Rattle.irl_bay.proofs.DrumFiles.{side_is_file, takes_of_both, takes_of_exactly, takes_of_none}
+use Rattle.irl_bay.proofs.HeldBuckets.{bucket_held, count_more, cut_held, cut_long, list_of}
+use Rattle.irl_bay.proofs.Judges.{ask_the_same, few_bytes, judged_apart, long_kept, merged_on, of_bucket_too, offers_are, offers_in, only_same, reader_apart, run_spoilt, run_whole, spoilt_first, texts_apart, told_after, told_on, writer_apart}
+use Rattle.irl_bay.proofs.Keeping.{holds_on}
+use Rattle.irl_bay.proofs.NextBatch.{waits_more, waits_none}
+use Rattle.irl_bay.proofs.PendingTexts.{same_offers}
+use Rattle.irl_bay.proofs.Sweeps.{put_reached, same_file, same_told, still_reached}
+use Rattle.irl_bay.proofs.bay.Bay.judge_buckets.Goals as goal
+
+pub loop-b-init : goal.loop-b-init
+loop-b-init g c =
+    let tells = g.S.Store.snapshot in
+    let drum = c.args.self.now in
+    let here = tells c.args.store.now in
+    record {
+      writes = writes_none drum here here refl (stays here here.images (g.met.S.Store.is_consistent c.args.store.now) (λ image was. was));
+      judged = record {
+        offers = [];
+        verdicts = [];
+        of = c.requires.of;
+        merged = c.requires.sides here.files;
+        tells = c.requires.telling;
+        count = refl;
+        of_book = λ files told book holds. sym (waits_none book holds.book_is.is_book holds.book_is.dropped (cut_long here.images drum book holds));
+      };
+      taken = takes_none _ _ _ refl;
+      read =
+          let none : 0 ≡ 16 * read_of c.args.sides.now.reader = omega (arith, c.requires.unread) in
+          let took = g.S.Store.taken c.args.store.now in
+          let file = (cache_front drum).file in
+          subst (λ (n : ℕ). TakesOf file n took took) none (takes_of_none file took took refl);
+      later = omega arith;
+    }
+
+pub pending_of-requires-clause-long : goal.pending_of-requires-clause-long
+pending_of-requires-clause-long g c =
+    let drum : IsDrum c.args.self.now = subst IsDrum c.self.view_is c.self.invariant in
+    long_kept c.args.self.now (g.S.Store.snapshot c.args.store.now) (g.S.Store.snapshot c.loop-b.store) drum c.loop-b.invariant.writes c.requires.long
+
+pub sweep-requires-clause-merged : goal.sweep-requires-clause-merged
+sweep-requires-clause-merged g c =
+    let j = c.loop-b.invariant.judged in
+    let told = (g.S.Store.snapshot c.loop-b.store).files in
+    let next = (g.S.Store.snapshot c.pending_of.new.store).files in
+    (j.offers, j.verdicts, merged_on c.loop-b.b j.offers j.verdicts told next c.loop-b.sides (same_told _ told next c.in_ok-pending.ensures.same) (same_told _ told next c.in_ok-pending.ensures.same) j.merged)
+
+pub sweep-requires-clause-entries : goal.sweep-requires-clause-entries
+sweep-requires-clause-entries g c =
+    let j = c.loop-b.invariant.judged in
+    let pending = c.in_ok-pending.pending in
+    let left = drop pending.skip pending.entries.items in
+    let news = offers_in left pending.texts.items in
+    let are = (offers_are left pending.texts.items c.in_ok-pending.ensures.texts).entries_are in
+    let same : c.entries.result.now ≡ left = c.entries.ensures in (
+      news,
+      ask_the_same news c.entries.result.now (are ∙ sym same),
+      subst (λ (n : ℕ). AllByRecursion (λ (o : Tuple). bucket_of n o.key ≡ c.loop-b.b) news) (sym j.of.buckets) (of_bucket_too c.args.self.now.settings.buckets c.loop-b.b news left are c.in_ok-pending.ensures.here),
+    )
+
+pub tell-requires-clause-bucket : goal.tell-requires-clause-bucket
+tell-requires-clause-bucket g c =
+    let drum : IsDrum c.args.self.now = subst IsDrum c.self.view_is c.self.invariant in
+    few_bytes c.args.self.now.settings.buckets c.loop-b.b drum.settings.buckets (search rules)
+
+pub tell-requires-clause-judged : goal.tell-requires-clause-judged
+tell-requires-clause-judged g c =
+    let j = c.loop-b.invariant.judged in
+    let drum : IsDrum c.args.self.now = subst IsDrum c.self.view_is c.self.invariant in
+    let told = (g.S.Store.snapshot c.loop-b.store).files in
+    let next = (g.S.Store.snapshot c.pending_of.new.store).files in
+    let then_ = (g.S.Store.snapshot c.sweep.new.store).files in
+    let file = c.loop-b.telling.judged.file in
+    still_reached next then_ c.loop-b.telling.judged (same_file c.loop-b.sides.writer.out.file file _ next then_ (judged_apart c.args.self.now c.loop-b.sides c.loop-b.telling j.of j.tells.of) c.sweep.ensures.changes)
+    (still_reached told next c.loop-b.telling.judged (same_told file told next c.in_ok-pending.ensures.same) (put_reached told _ c.loop-b.telling.judged j.tells.judged))
+
+pub tell-requires-clause-texts : goal.tell-requires-clause-texts
+tell-requires-clause-texts g c =
+    let j = c.loop-b.invariant.judged in
+    let drum : IsDrum c.args.self.now = subst IsDrum c.self.view_is c.self.invariant in
+    let told = (g.S.Store.snapshot c.loop-b.store).files in
+    let next = (g.S.Store.snapshot c.pending_of.new.store).files in
+    let then_ = (g.S.Store.snapshot c.sweep.new.store).files in
+    let file = c.loop-b.telling.texts.file in
+    still_reached next then_ c.loop-b.telling.texts (same_file c.loop-b.sides.writer.out.file file _ next then_ (texts_apart c.args.self.now c.loop-b.sides c.loop-b.telling j.of j.tells.of) c.sweep.ensures.changes)
+    (still_reached told next c.loop-b.telling.texts (same_told file told next c.in_ok-pending.ensures.same) (put_reached told _ c.loop-b.telling.texts j.tells.texts))
+
+-- the bucket couldn't be read
+pub returns-in_err-pending-clause-writes : goal.returns-in_err-pending-clause-writes
+returns-in_err-pending-clause-writes g c =
+    let tells = g.S.Store.snapshot in
+    step_then c.args.self.now (tells c.args.store.now) (tells c.loop-b.store) (tells c.pending_of.new.store) (g.met.S.Store.is_consistent c.loop-b.store) c.loop-b.invariant.writes
+    (writes_none c.args.self.now _ _ c.pending_of.ensures.same c.pending_of.ensures.stops)
+
+pub returns-in_err-pending-clause-damaged : goal.returns-in_err-pending-clause-damaged
+returns-in_err-pending-clause-damaged g c = λ f at e.
+    let drum : IsDrum c.args.self.now = subst IsDrum c.self.view_is c.self.invariant in
+    let out = err_from_is_err_and c.from_residual.result c.from_residual.ensures.1 in
+    let same : c.in_err-pending.field-0.0 ≡ Damaged f at = let is = rw (out.1, out.2) at e in cc in
+    spoilt_first c.args.self.now (g.S.Store.snapshot c.args.store.now) (g.S.Store.snapshot c.loop-b.store) f at drum c.loop-b.invariant.writes (c.in_err-pending.ensures.damaged f at (rw same refl))
+
+pub returns-in_err-pending-clause-whole : goal.returns-in_err-pending-clause-whole
+returns-in_err-pending-clause-whole g c = λ f at e files told book holds.
+    let now = c.args.self.now in
+    let drum : IsDrum now = subst IsDrum c.self.view_is c.self.invariant in
+    let tells = g.S.Store.snapshot in
+    let out = err_from_is_err_and c.from_residual.result c.from_residual.ensures.1 in
+    let same : c.in_err-pending.field-0.0 ≡ Damaged f at = let is = rw (out.1, out.2) at e in cc in
+    let b = c.loop-b.b in
+    let lt : b < now.settings.buckets = search rules in
+    let then_ = told_after _ (tells c.args.store.now).files (tells c.loop-b.store).files files c.loop-b.invariant.writes.told told in
+    let kept = holds_on now (tells c.args.store.now) (tells c.loop-b.store) drum c.loop-b.invariant.writes.stops book (g.met.S.Store.is_consistent c.loop-b.store) holds in
+    c.in_err-pending.ensures.whole f at (rw same refl) then_.0 then_.1 (get_or book.lists b []) (bucket_held _ now book kept b lt) (list_of _ now book kept b lt)
+
+pub returns-in_err-pending-clause-taken : goal.returns-in_err-pending-clause-taken
+returns-in_err-pending-clause-taken g c = takes_both (IsFileOf c.args.self.now.base c.args.self.now.settings.buckets) _ _ _ c.loop-b.invariant.taken c.pending_of.ensures.taken
+
+-- the cache couldn't be read or written
+pub returns-in_err-verdicts-clause-writes : goal.returns-in_err-verdicts-clause-writes
+returns-in_err-verdicts-clause-writes g c =
+    let now = c.args.self.now in
+    let tells = g.S.Store.snapshot in
+    let law = g.met.S.Store.is_consistent in
+    let first = step_then now (tells c.args.store.now) (tells c.loop-b.store) (tells c.pending_of.new.store) (law c.loop-b.store) c.loop-b.invariant.writes (writes_none now _ _ c.pending_of.ensures.same c.pending_of.ensures.stops) in
+    step_then now (tells c.args.store.now) (tells c.pending_of.new.store) (tells c.sweep.new.store) (law c.pending_of.new.store) first (cache_writes now c.loop-b.sides.writer.out.file _ _ c.loop-b.invariant.judged.of.to c.sweep.ensures.changes c.sweep.ensures.stops)
+
+pub returns-in_err-verdicts-clause-damaged : goal.returns-in_err-verdicts-clause-damaged
+returns-in_err-verdicts-clause-damaged g c = λ f at e.
+    let now = c.args.self.now in
+    let drum : IsDrum now = subst IsDrum c.self.view_is c.self.invariant in
+    let tells = g.S.Store.snapshot in
+    let law = g.met.S.Store.is_consistent in
+    let j = c.loop-b.invariant.judged in
+    let out = err_from_is_err_and c.from_residual-in_err-verdicts.result c.from_residual-in_err-verdicts.ensures.1 in
+    let same : c.in_err-verdicts.field-0.0 ≡ Damaged f at = let is = rw (out.1, out.2) at e in cc in
+    let first = step_then now (tells c.args.store.now) (tells c.loop-b.store) (tells c.pending_of.new.store) (law c.loop-b.store) c.loop-b.invariant.writes (writes_none now _ _ c.pending_of.ensures.same c.pending_of.ensures.stops) in
+    let long = long_kept now (tells c.args.store.now) (tells c.pending_of.new.store) drum first c.requires.long in
+    let next = (tells c.pending_of.new.store).files in
+    let there = subst (λ (n : ℕ). ForSome next (λ files. (f ≡ (cache_front now).file) × IsSpoiltRun n (files f) at)) j.of.entries
+    (subst (λ (r : ℕ). ForSome next (λ files. (f ≡ r) × IsSpoiltRun c.loop-b.sides.reader.entries (files f) at)) j.of.from (c.in_err-verdicts.ensures.damaged f at (rw same refl))) in
+    spoilt_first now (tells c.args.store.now) (tells c.pending_of.new.store) f at drum first (λ files told. run_spoilt now files f at (long files told) (there files told))
+
+pub returns-in_err-verdicts-clause-whole : goal.returns-in_err-verdicts-clause-whole
+returns-in_err-verdicts-clause-whole g c = λ f at e files told book holds.
+    let now = c.args.self.now in
+    let drum : IsDrum now = subst IsDrum c.self.view_is c.self.invariant in
+    let tells = g.S.Store.snapshot in
+    let law = g.met.S.Store.is_consistent in
+    let j = c.loop-b.invariant.judged in
+    let out = err_from_is_err_and c.from_residual-in_err-verdicts.result c.from_residual-in_err-verdicts.ensures.1 in
+    let same : c.in_err-verdicts.field-0.0 ≡ Damaged f at = let is = rw (out.1, out.2) at e in cc in
+    let first = step_then now (tells c.args.store.now) (tells c.loop-b.store) (tells c.pending_of.new.store) (law c.loop-b.store) c.loop-b.invariant.writes (writes_none now _ _ c.pending_of.ensures.same c.pending_of.ensures.stops) in
+    let next = (tells c.pending_of.new.store).files in
+    let there = subst (λ (n : ℕ). ForSome next (λ files. (f ≡ (cache_front now).file) × IsSpoiltRun n (files f) at)) j.of.entries
+    (subst (λ (r : ℕ). ForSome next (λ files. (f ≡ r) × IsSpoiltRun c.loop-b.sides.reader.entries (files f) at)) j.of.from (c.in_err-verdicts.ensures.damaged f at (rw same refl))) in
+    let then_ = told_after _ (tells c.args.store.now).files next files first.told told in
+    let kept = holds_on now (tells c.args.store.now) (tells c.pending_of.new.store) drum first.stops book (law c.pending_of.new.store) holds in
+    run_whole (tells c.pending_of.new.store).images now book then_.0 f at kept ((law c.pending_of.new.store).told then_.0 then_.1) (there then_.0 then_.1)
+
+pub returns-in_err-verdicts-clause-taken : goal.returns-in_err-verdicts-clause-taken
+returns-in_err-verdicts-clause-taken g c =
+    let now = c.args.self.now in
+    let drum : IsDrum now = subst IsDrum c.self.view_is c.self.invariant in
+    let among = IsFileOf now.base now.settings.buckets in
+    takes_both among _ _ _ (takes_both among _ _ _ c.loop-b.invariant.taken c.pending_of.ensures.taken) (takes_only among c.loop-b.sides.reader.file _ _ (subst among (sym c.loop-b.invariant.judged.of.from) (side_is_file now drum)) c.sweep.ensures.taken)
+
+-- what is judged couldn't be written
+pub returns-in_err-tell-clause-writes : goal.returns-in_err-tell-clause-writes
+returns-in_err-tell-clause-writes g c =
+    let now = c.args.self.now in
+    let tells = g.S.Store.snapshot in
+    let law = g.met.S.Store.is_consistent in
+    let j = c.loop-b.invariant.judged in
+    let first = step_then now (tells c.args.store.now) (tells c.loop-b.store) (tells c.pending_of.new.store) (law c.loop-b.store) c.loop-b.invariant.writes (writes_none now _ _ c.pending_of.ensures.same c.pending_of.ensures.stops) in
+    let second = step_then now (tells c.args.store.now) (tells c.pending_of.new.store) (tells c.sweep.new.store) (law c.pending_of.new.store) first (cache_writes now c.loop-b.sides.writer.out.file _ _ j.of.to c.sweep.ensures.changes c.sweep.ensures.stops) in
+    step_then now (tells c.args.store.now) (tells c.sweep.new.store) (tells c.tell.new.store) (law c.sweep.new.store) second (c.tell.ensures.step now j.tells.of)
+
+pub returns-in_err-tell-clause-taken : goal.returns-in_err-tell-clause-taken
+returns-in_err-tell-clause-taken g c =
+    let now = c.args.self.now in
+    let drum : IsDrum now = subst IsDrum c.self.view_is c.self.invariant in
+    let among = IsFileOf now.base now.settings.buckets in
+    let first = takes_both among _ _ _ (takes_both among _ _ _ c.loop-b.invariant.taken c.pending_of.ensures.taken) (takes_only among c.loop-b.sides.reader.file _ _ (subst among (sym c.loop-b.invariant.judged.of.from) (side_is_file now drum)) c.sweep.ensures.taken) in
+    takes_both among _ _ _ first (takes_none among _ _ c.tell.ensures.taken)
+
+-- one bucket more
+pub loop-b-preserved : goal.loop-b-preserved
+loop-b-preserved g c =
+    let now = c.args.self.now in
+    let drum : IsDrum now = subst IsDrum c.self.view_is c.self.invariant in
+    let tells = g.S.Store.snapshot in
+    let law = g.met.S.Store.is_consistent in
+    let before = c.loop-b.invariant in
+    let j = before.judged in
+    let b = c.loop-b.b in
+    let lt : b < now.settings.buckets = search rules in
+    let among = IsFileOf now.base now.settings.buckets in
+    let told = (tells c.loop-b.store).files in
+    let next = (tells c.pending_of.new.store).files in
+    let swept = (tells c.sweep.new.store).files in
+    let then_ = (tells c.tell.new.store).files in
+    let pending = c.in_ok-pending.pending in
+    let left = drop pending.skip pending.entries.items in
+    let news = offers_in left pending.texts.items in
+    let are = offers_are left pending.texts.items c.in_ok-pending.ensures.texts in
+    let here = of_bucket_too now.settings.buckets b news left are.entries_are c.in_ok-pending.ensures.here in
+    let sides = c.loop-b.sides in
+    let telling = c.loop-b.telling in
+    let same = c.in_ok-pending.ensures.same in
+    let of = j.of in
+    let kept = c.sweep.ensures.same in
+    let of_new : IsSidesOf now c.sweep.new.self = record { rule = kept.rule ∙ of.rule; buckets = kept.buckets ∙ of.buckets; from = kept.from ∙ of.from; entries = kept.entries ∙ of.entries; to = kept.to ∙ of.to } in
+    let merged_next = merged_on b j.offers j.verdicts told next sides (same_told _ told next same) (same_told _ told next same) j.merged in
+    let asked = ask_the_same news c.entries.result.now (are.entries_are ∙ sym c.entries.ensures) in
+    let here_sides = subst (λ (n : ℕ). AllByRecursion (λ (o : Tuple). bucket_of n o.key ≡ b) news) (sym of.buckets) here in
+    let merged_swept = c.in_ok-verdicts.ensures.merged j.offers j.verdicts news merged_next asked here_sides in
+    let told_next = told_on now j.offers j.verdicts told next telling (same_told _ told next same) (same_told _ told next same) j.tells in
+    let told_swept = told_on now j.offers j.verdicts next swept telling (same_file sides.writer.out.file telling.judged.file _ next swept (judged_apart now sides telling of j.tells.of) c.sweep.ensures.changes)
+    (same_file sides.writer.out.file telling.texts.file _ next swept (texts_apart now sides telling of j.tells.of) c.sweep.ensures.changes) told_next in
+    let verdicts : c.deref.result.now ≡ c.in_ok-verdicts.verdicts.items = c.deref.ensures.value in
+    let all_told = c.in_ok-tell.ensures.told now j.offers j.verdicts news told_swept are here in
+    let merged_then = merged_on (b + 1) (j.offers ++ news) (j.verdicts ++ c.in_ok-verdicts.verdicts.items) swept then_ c.sweep.new.self
+    (only_same _ c.sweep.new.self.reader.file swept then_ (reader_apart now drum c.sweep.new.self telling of_new j.tells.of) c.tell.ensures.others)
+    (only_same _ c.sweep.new.self.writer.out.file swept then_ (writer_apart now drum c.sweep.new.self telling of_new j.tells.of) c.tell.ensures.others) merged_swept in
+    let first = step_then now (tells c.args.store.now) (tells c.loop-b.store) (tells c.pending_of.new.store) (law c.loop-b.store) before.writes (writes_none now _ _ c.pending_of.ensures.same c.pending_of.ensures.stops) in
+    let second = step_then now (tells c.args.store.now) (tells c.pending_of.new.store) (tells c.sweep.new.store) (law c.pending_of.new.store) first (cache_writes now sides.writer.out.file _ _ of.to c.sweep.ensures.changes c.sweep.ensures.stops) in
+    record {
+      writes = step_then now (tells c.args.store.now) (tells c.sweep.new.store) (tells c.tell.new.store) (law c.sweep.new.store) second (c.tell.ensures.step now j.tells.of);
+      judged = record {
+        offers = j.offers ++ news;
+        verdicts = j.verdicts ++ c.in_ok-verdicts.verdicts.items;
+        of = of_new;
+        merged = merged_then;
+        tells = subst (λ v. HasTold now (j.offers ++ news) (j.verdicts ++ v) then_ c.tell.new.self) verdicts all_told;
+        count =
+            let many : length (j.offers ++ news) ≡ length j.offers + pending_at now b =
+            length-append j.offers news ∙ ap (λ (n : ℕ). length j.offers + n) (sym (length-map news entry_of_offer) ∙ ap (λ (l : List Entry). length l) are.entries_are ∙ c.in_ok-pending.ensures.count) in
+            count_more now b (length j.offers) (length (j.offers ++ news)) drum lt j.count many;
+        of_book = λ files is book holds.
+            let held = holds_on now (tells c.args.store.now) (tells c.loop-b.store) drum before.writes.stops book (law c.loop-b.store) holds in
+            let to = told_after _ (tells c.args.store.now).files told files before.writes.told is in
+            let list = get_or book.lists b [] in
+            let those = c.in_ok-pending.ensures.held to.0 to.1 (judged_at now b) list (bucket_held _ now book held b lt) in
+            let items : news ≡ drop (judged_at now b) list = same_offers news (drop (judged_at now b) list) (are.entries_are ∙ sym those.entries_are) (are.texts_are ∙ sym those.texts_are) in
+            let more = waits_more book held.book_is.is_book held.book_is.dropped (cut_long _ now book held) b (omega (arith, lt, held.book_is.buckets)) in
+            let cut : get_or (judged_cut book) b 0 ≡ judged_at now b = ap (λ (l : List ℕ). get_or l b 0) (cut_held _ now book held) in
+            ap (λ (l : List Tuple). l ++ news) (j.of_book files is book holds) ∙ ap (λ (l : List Tuple). waiting book b ++ l) items ∙ sym (more ∙ ap (λ (n : ℕ). waiting book b ++ drop n list) cut);
+      };
+      taken = takes_both among _ _ _ (takes_both among _ _ _ (takes_both among _ _ _ before.taken c.in_ok-pending.ensures.taken) (takes_only among sides.reader.file _ _ (subst among (sym of.from) (side_is_file now drum)) c.sweep.ensures.taken)) (takes_none among _ _ c.tell.ensures.taken);
+      read =
+          let more = c.in_ok-verdicts.ensures.read in
+          let file = (cache_front now).file in
+          let took = subst (λ (f : ℕ). TakesOf f (16 * (read_of c.sweep.new.self.reader - read_of sides.reader)) (g.S.Store.taken c.pending_of.new.store) (g.S.Store.taken c.sweep.new.store)) of.from (takes_of_exactly sides.reader.file _ _ _ more.1) in
+          let first = takes_of_both file _ 0 _ _ _ before.read c.in_ok-pending.ensures.unread in
+          let second = takes_of_both file _ _ _ _ _ first took in
+          let third = takes_of_both file _ 0 _ _ _ second (takes_of_none file _ _ c.tell.ensures.taken) in
+          let all : ((16 * read_of sides.reader + 0) + 16 * (read_of c.sweep.new.self.reader - read_of sides.reader)) + 0 ≡ 16 * read_of c.sweep.new.self.reader = omega (arith, more.0) in
+          subst (λ (n : ℕ). TakesOf file n (g.S.Store.taken c.args.store.now) (g.S.Store.taken c.tell.new.store)) all third;
+      later = omega (arith, before.later, c.pending_of.ensures.cause.later, c.sweep.ensures.cause.later, c.tell.ensures.cause.later);
+    }
+
+pub returns-clause-judged : goal.returns-clause-judged
+returns-clause-judged g c =
+    let tells = g.S.Store.snapshot in
+    let all : c.loop-b.b ≡ c.args.self.now.settings.buckets = search rules in
+    subst (λ (n : ℕ). HasJudged c.args.self.now n (tells c.args.store.now) (tells c.loop-b.store).files c.loop-b.sides c.loop-b.telling) all c.loop-b.invariant.judged

@@ -1,0 +1,110 @@
+ghost use Rattle.std.specs.Prelude.{◌≡◌, ◌≢◌, ◌⊎◌, ◌+◌, ◌<◌, ◌++◌, ℕ, List, Option, drop, length, count_by, IfOk, OnOk, IsErrOf};
+ghost use Rattle.std.specs.List.{AllByRecursion};
+ghost use Rattle.std.specs.Option.{ForSome};
+ghost use Rattle.irl_offer.specs.Buckets.{bucket_of};
+ghost use Rattle.irl_offer.specs.Faults.{HasCause};
+ghost use Rattle.irl_offer.specs.Tuple.{Tuple};
+ghost use Rattle.irl_offer.specs.declared.offer.Verdict.{Verdict as VerdictValue};
+ghost use Rattle.irl_model.specs.Book.{is_unique as is_unique_of};
+ghost use Rattle.irl_cache.specs.Writing.{ReachesPlace};
+ghost use Rattle.irl_bay.specs.Drum.{Drum};
+ghost use Rattle.irl_bay.specs.Holding.{TellsOnly};
+ghost use Rattle.irl_bay.specs.JudgedEntries.{rows};
+ghost use Rattle.irl_bay.specs.Merging.{Writes};
+ghost use Rattle.irl_bay.specs.Pending.{AreOffersOf};
+
+use crate::layout::push_judged;
+use crate::pending::Pending;
+use irl_cache::FileWriter;
+use irl_disk::Store;
+use irl_offer::{Entry, Fault, Verdict};
+use std::alloc::{AllocError, Global};
+
+/// The files of what is judged, while a merge writes behind what is committed of them.
+#[derive(Drop)]
+pub struct Telling {
+    pub alloc: Global,
+    pub judged: FileWriter,
+    pub texts: FileWriter,
+    /// Where the next text stands, in the 64 bits that an entry has for it.
+    pub place: u64,
+    /// How many offers were judged Unique. It stands still at its last value.
+    pub unique: u64,
+    ghost apart: { judged.file ≢ texts.file },
+}
+
+impl Telling {
+    ghost use Rattle.irl_bay.specs.Telling.{HasTold, IsTellingOf};
+
+    /// Puts the entries and the texts of a bucket's offers, on which these are the verdicts.
+    pub fn tell<S: Store>(
+        &mut self,
+        store: &mut S,
+        b: u32,
+        pending: &Pending,
+        verdicts: &[Option<Verdict>],
+    ) -> Result<(), Fault>
+        requires bucket { b < 256 }
+        requires count { length verdicts.now ≡ length (drop pending.now.skip pending.now.entries.items) }
+        requires judged { ForSome (S.snapshot store.old).files (ReachesPlace self.old.judged) }
+        requires texts { ForSome (S.snapshot store.old).files (ReachesPlace self.old.texts) }
+        ensures told { OnOk result ((drum : Drum) (offers : List Tuple) (before : List (Option VerdictValue))
+            (news : List Tuple) → HasTold drum offers before (S.snapshot store.old).files self.old →
+            AreOffersOf news (drop pending.now.skip pending.now.entries.items) pending.now.texts.items →
+            AllByRecursion (λ offer. bucket_of drum.settings.buckets offer.key ≡ b) news →
+            HasTold drum (offers ++ news) (before ++ verdicts.now) (S.snapshot store.new).files self.new) }
+        ensures damaged { (f at : ℕ) → IsErrOf result (Fault.Damaged f at) → ⊥ }
+        ensures full { (n : ℕ) → IsErrOf result (Fault.Full n) → ⊥ }
+        ensures step { (drum : Drum) → IsTellingOf drum self.old →
+            Writes drum (S.snapshot store.old) (S.snapshot store.new) }
+        ensures others { TellsOnly (λ f. (f ≡ self.old.judged.file) ⊎ (f ≡ self.old.texts.file))
+            (S.snapshot store.old).files (S.snapshot store.new).files }
+        ensures taken { S.taken store.new ≡ S.taken store.old }
+        ensures cause { HasCause (IsErrOf result Fault.Failed) (S.faults store.old) (S.faults store.new) }
+    {
+        let found = judged_rows(self.alloc, self.place, b, pending.entries(), verdicts)?;
+        self.judged.put(store, &found)?;
+        self.texts.put(store, &pending.texts)?;
+        self.place = self.place.wrapping_add(pending.texts.len() as u64);
+        self.unique = self.unique.saturating_add(count_unique(verdicts));
+        Ok(())
+    }
+}
+
+// The entries of a bucket's judged offers, the text of the first of which stands at this place.
+fn judged_rows(
+    alloc: Global,
+    place: u64,
+    b: u32,
+    entries: &[Entry],
+    verdicts: &[Option<Verdict>],
+) -> Result<Vec<u8>, AllocError>
+    requires bucket { b < 256 }
+    requires count { length verdicts.now ≡ length entries.now }
+    ensures { IfOk result (λ found. found.items ≡ rows place b entries.now verdicts.now) }
+{
+    let mut found = Vec::new(alloc);
+    let mut next = place;
+    for (i, entry) in entries.iter().enumerate() {
+        push_judged(&mut found, next, b, entry, verdicts[i])?;
+        next = next.wrapping_add(u64::from(entry.aux_len));
+    }
+    Ok(found)
+}
+
+// How many of these are verdicts on keys that were absent.
+fn count_unique(verdicts: &[Option<Verdict>]) -> u64
+    ensures { result ≡ count_by is_unique_of verdicts.now }
+{
+    verdicts
+        .iter()
+        .filter(|verdict| is_unique(**verdict))
+        .count() as u64
+}
+
+// Whether this is the verdict on a key that was absent.
+fn is_unique(verdict: Option<Verdict>) -> bool
+    ensures { result ≡ is_unique_of verdict }
+{
+    matches!(verdict, Some(Verdict::Unique))
+}
