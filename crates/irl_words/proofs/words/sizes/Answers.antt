@@ -1,0 +1,20 @@
+use Rattle.std.proofs.Common.{codes, arith}
+use Rattle.clap.specs.Words.{found_of, rows_of}
+use Rattle.irl_words.proofs.Numbers.{size_in_range}
+use Rattle.irl_words.proofs.words.sizes.Goals as goal
+
+pub returns-clause-range : goal.returns-clause-range
+returns-clause-range c = (
+  record {
+    array = rw c.size-2.ensures (size_in_range (codes "array") 8192 1024 (rows_of (found_of c.args.matches.now)) c.requires.array (omega arith) (omega arith));
+    trigger = rw c.size-3.ensures (size_in_range (codes "trigger") 1048576 16384 (rows_of (found_of c.args.matches.now)) c.requires.trigger (omega arith) (omega arith));
+    block = rw c.size-4.ensures (size_in_range (codes "block") 65536 4096 (rows_of (found_of c.args.matches.now)) c.requires.block (omega arith) (omega arith));
+    cap = rw c.large_size.ensures (size_in_range (codes "cap") 1099511627776 1099511627776 (rows_of (found_of c.args.matches.now)) c.requires.cap (omega arith) (omega arith));
+  },
+  record {
+    queues = (omega arith, omega arith);
+    base = (omega arith, omega arith);
+    most = (omega arith, omega arith);
+    ranks = (omega arith, omega arith);
+  },
+)

@@ -1,0 +1,4 @@
+pub mod Help
+pub mod Options
+pub mod Rows
+pub mod Words

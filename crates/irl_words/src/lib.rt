@@ -1,0 +1,15 @@
+//! The words of the program's command line: the command that they are, and the help that they ask for.
+#![tactic(auto)]
+
+mod command;
+mod name;
+mod options;
+mod usage;
+mod words;
+
+pub use command::{Command, WordFault};
+pub use usage::help;
+pub use words::read_words;
+
+#[cfg(test)]
+mod tests;
