@@ -1,6 +1,7 @@
 #!/bin/sh
 # Runs the built program, or the one that is named, over what a shell can hand it: closed, full and broken streams, odd
-# words, and the launcher through links. A line says how each case went; the first wrong one ends with status 1.
+# words, tuples by drum.sh beside this script, and the launcher through links. A line says how each case went; the first wrong
+# one ends with status 1.
 
 exec </dev/null
 top=$(CDPATH='' cd -- "$(dirname -- "$0")/.." && pwd -P) || exit 1
@@ -176,7 +177,7 @@ right
 
 try 'the help' ''
 "$program" --help >out 2>err
-[ "$(head -n 1 out)" = 'Usage: irl DIR COMMAND' ] || fail 'the first line is another'
+[ "$(head -n 1 out)" = 'Usage: irl DIR COMMAND [OPTIONS]' ] || fail 'the first line is another'
 mv out help
 "$program" -h >out 2>err
 gives 0 "$(tr '\n' '|' <help)" ''
@@ -188,7 +189,7 @@ right
 
 try 'the help of a command' ''
 "$program" unmade seen --help >out 2>err
-[ "$(head -n 1 out)" = 'Usage: irl DIR seen' ] || fail 'the first line is another'
+grep -qF 'irl DIR seen [OPTIONS]' out || fail 'the help has no usage'
 mv out help
 "$program" unmade seen -h >out 2>err
 gives 0 "$(tr '\n' '|' <help)" ''
@@ -253,6 +254,10 @@ if [ "$(id -u)" -ne 0 ]; then
 else
     printf 'passed over: %s, since root may read it\n' "$name"
 fi
+
+# The command drum
+
+. "$top/tests/drum.sh"
 
 # The launcher
 

@@ -1,15 +1,16 @@
 -- What the program does for what its words ask.
-use Rattle.std.specs.Prelude.{◌≡◌, ◌≢◌, ℕ, List, drop, Option}
+use Rattle.std.specs.Prelude.{◌≡◌, ◌≢◌, ℕ, Bool, true, false, List, drop, Option}
 use Rattle.std.specs.Io.KnownBytes.{Appends}
 use Rattle.irl_offer.specs.Faults.{Rose}
 use Rattle.irl_disk.specs.Images.{silent}
+use Rattle.irl_words.specs.Help.{asks_help}
 use Rattle.irl_top.specs.Message.{Says, refusal}
 use Rattle.irl_top.specs.Outside.{Outside}
 use Rattle.irl_top.specs.Run.{Runs}
 use Rattle.irl_top.specs.Stream.{Stream}
 use Rattle.irl.specs.Words.{refusing_word}
 use Rattle.irl.specs.declared.words.Request.{Request}
-use Rattle.irl.specs.declared.words.Request.TheVariants.{Help, Version, SeenHelp, Refused, Run}
+use Rattle.irl.specs.declared.words.Request.TheVariants.{Help, Version, Refused, Command}
 
 -- what the standard streams of a process tell at one moment, and how often each has failed
 pub record Streams : Type 0 where
@@ -46,11 +47,14 @@ pub record Refuses (word : List ℕ) (before after : Streams) (status : ℕ) : T
   pub input : after.input ≡ before.input
   pub output : after.output ≡ before.output
 
--- what was done for a request: one of the three texts was written, all words were refused, or those behind the folder were
--- run
-abbrev pub Obeys : Request → List ℕ → List ℕ → List ℕ → List (List ℕ) → Streams → Streams → ℕ → Type 0
-Obeys Help help seen_help version words before after status = Shows help before after status
-Obeys SeenHelp help seen_help version words before after status = Shows seen_help before after status
-Obeys Version help seen_help version words before after status = Shows version before after status
-Obeys Refused help seen_help version words before after status = Refuses (refusing_word words) before after status
-Obeys Run help seen_help version words before after status = RunsOverFiles (drop 1 words) before after status
+-- what was done for the words behind the folder: a text was written where they ask for the help of a command, else they were run
+abbrev pub ObeysCommand : Bool → List (List ℕ) → Streams → Streams → ℕ → Type 0
+ObeysCommand true words before after status = (text : List ℕ) × Shows text before after status
+ObeysCommand false words before after status = RunsOverFiles words before after status
+
+-- what was done for a request: one of the two texts was written, all words were refused, or what those behind the folder ask for
+abbrev pub Obeys : Request → List ℕ → List ℕ → List (List ℕ) → Streams → Streams → ℕ → Type 0
+Obeys Help help version words before after status = Shows help before after status
+Obeys Version help version words before after status = Shows version before after status
+Obeys Refused help version words before after status = Refuses (refusing_word words) before after status
+Obeys Command help version words before after status = ObeysCommand (asks_help (drop 1 words)) (drop 1 words) before after status

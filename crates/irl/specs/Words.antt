@@ -1,28 +1,18 @@
 -- What the words of the command line ask for.
-use Rattle.std.specs.Prelude.{ℕ, nat_eq, Bool, true, ◌||◌, ◌&&◌, List, [], ◌∷◌, codes, if◌then◌else◌}
+use Rattle.std.specs.Prelude.{ℕ, nat_eq, Bool, true, List, [], ◌∷◌, codes, if◌then◌else◌}
 use Rattle.std.specs.Cmp.Lexicographic.{pointwise}
+use Rattle.irl_words.specs.Help.{is_help_word}
 use Rattle.irl.specs.declared.words.Request.{Request}
-use Rattle.irl.specs.declared.words.Request.TheVariants.{Help, Version, SeenHelp, Refused, Run}
+use Rattle.irl.specs.declared.words.Request.TheVariants.{Help, Version, Refused, Command}
 
 -- a word is this text
 abbrev pub is_word : List ℕ → List ℕ → Bool
 is_word word text = pointwise nat_eq word text
 
--- a word that asks for help
-abbrev pub is_help_word : List ℕ → Bool
-is_help_word word = is_word word (codes "--help") || is_word word (codes "-h")
-
 -- a word that names no folder: an empty one, and one that begins with `-`
 abbrev pub names_no_folder : List ℕ → Bool
 names_no_folder [] = true
 names_no_folder (byte ∷ bytes) = nat_eq byte 45
-
--- what the words behind the folder ask for: the help of `seen` where the next word asks for help
-abbrev pub asked_behind_folder : List (List ℕ) → Request
-asked_behind_folder [] = Run
-asked_behind_folder (command ∷ []) = Run
-asked_behind_folder (command ∷ option ∷ words) =
-    if is_word command (codes "seen") && is_help_word option then SeenHelp else Run
 
 -- what all the words ask for: help or the version where the first word is so named in place of a folder, and a refusal
 -- where there is none or it names no folder
@@ -31,7 +21,7 @@ asked [] = Refused
 asked (first ∷ words) =
     if is_help_word first then Help
     else (if is_word first (codes "--version") then Version
-    else (if names_no_folder first then Refused else asked_behind_folder words))
+    else (if names_no_folder first then Refused else Command))
 
 -- the word that the words are refused with where the first names no folder: that one, or `-` where it is empty or there
 -- is none

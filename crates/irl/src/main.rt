@@ -9,13 +9,15 @@ ghost use Rattle.irl_files.specs.FileStore.{fault_count, folder_path};
 ghost use Rattle.irl_files.specs.Folder.{named_folder};
 ghost use Rattle.irl_top.specs.Message.{Says, refusal};
 ghost use Rattle.irl.specs.Words.{asked, folder_in};
-ghost use Rattle.irl.specs.Obeying.{RunsOverFiles, Obeys, streams};
+ghost use Rattle.irl_words.specs.Help.{asks_help};
+ghost use Rattle.irl.specs.Obeying.{RunsOverFiles, Obeys, ObeysCommand, streams};
 
 mod words;
 
 use irl_files::FileStore;
 use irl_io::{Failed, ReadSource, Sink, Source, WriteSink};
 use irl_top::run;
+use irl_words::help;
 use std::alloc::AllocError;
 use std::io::{self, ErrorKind};
 use std::process::ExitCode;
@@ -26,33 +28,21 @@ use std::{env, fs};
 use words::{Request, folder_and_command, refusing_word};
 
 const HELP: &str = "\
-Usage: irl DIR COMMAND
+Usage: irl DIR COMMAND [OPTIONS]
 
 Keeps what it is given in the folder DIR, which is made at the first write.
 A name that begins with - is written with its place, as ./-DIR.
 
 Commands:
   seen  prints each line of standard input that was not given before
+  drum  checks and updates keys by the lines of standard input, and prints each
+        verdict
+
+irl DIR COMMAND --help prints the options of a command.
 
 Options:
   -h, --help     prints this text
       --version  prints the version
-";
-
-const SEEN_HELP: &str = "\
-Usage: irl DIR seen
-
-Keeps the lines of standard input in the folder DIR, and prints each line that is
-new. A line has at most 2,048 bytes, and empty lines are passed over. Lines are
-judged many at once, bucket by bucket, and synced to the disk before they are
-printed.
-
-Options:
-  -h, --help  prints this text
-
-Exit status: 0 done, 1 words refused, 2 a line refused, 3 not a store, damaged or
-made with other settings, 4 disk fault, 5 input fault, 6 output fault,
-7 no memory, 8 a bucket full.
 ";
 
 const VERSION: &str = "irl 0.1.0\n";
@@ -73,11 +63,11 @@ const OUTPUT_FAULT: u8 = 6;
 const NO_MEMORY: u8 = 7;
 
 /// Writes a text, and gives the exit status.
-fn show<O: Sink, E: Sink>(output: &mut O, errors: &mut E, text: &str) -> u8
+fn show<O: Sink, E: Sink>(output: &mut O, errors: &mut E, text: &[u8]) -> u8
     ensures done { result ≡ 0 → Appends (O.written output.old) (O.written output.new) text.now }
     ensures fault { result ≢ 0 → (result ≡ OUTPUT_FAULT) × Rose (O.faults output.old) (O.faults output.new) }
 {
-    match output.write(text.as_bytes()) {
+    match output.write(text) {
         Ok(()) => 0,
         Err(_) => {
             let _ = errors.write(b"output fault\n");
@@ -158,6 +148,32 @@ where
     Ok(status)
 }
 
+/// Does what the words behind the folder ask for: shows the help of their command, or runs them. Gives the exit status.
+fn command<R, I, O, E>(
+    rt: &R,
+    words: &[&str],
+    input: &mut I,
+    output: &mut O,
+    errors: &mut E,
+) -> Result<u8, AllocError>
+where
+    R: Files + AllocGlobal + Threads + Wait + Sync,
+    I: Source,
+    O: Sink,
+    E: Sink,
+    ensures { IfOk result (λ status.
+        let tells = streams I.left I.faults O.written O.faults E.written E.faults in
+        let command = map (λ word. word.now) (drop 1 words.now) in
+        ObeysCommand (asks_help command) command
+        (tells input.old output.old errors.old) (tells input.new output.new errors.new) status) }
+{
+    let (_, command) = folder_and_command(words);
+    match help(rt.alloc(), command)? {
+        Some(text) => Ok(show(output, errors, text.bytes())),
+        None => run_in_folder(rt, words, input, output, errors),
+    }
+}
+
 /// Does what the words ask for, and gives the exit status.
 fn obey<R, I, O, E>(
     rt: &R,
@@ -174,15 +190,14 @@ where
     ensures { IfOk result (λ status.
         let tells = streams I.left I.faults O.written O.faults E.written E.faults in
         Obeys (asked (map (λ word. word.now) words.now))
-        HELP.now SEEN_HELP.now VERSION.now (map (λ word. word.now) words.now)
+        HELP.now VERSION.now (map (λ word. word.now) words.now)
         (tells input.old output.old errors.old) (tells input.new output.new errors.new) status) }
 {
     match Request::from_words(words) {
-        Request::Help => Ok(show(output, errors, HELP)),
-        Request::SeenHelp => Ok(show(output, errors, SEEN_HELP)),
-        Request::Version => Ok(show(output, errors, VERSION)),
+        Request::Help => Ok(show(output, errors, HELP.as_bytes())),
+        Request::Version => Ok(show(output, errors, VERSION.as_bytes())),
         Request::Refused => Ok(refuse(errors, refusing_word(words))),
-        Request::Run => run_in_folder(rt, words, input, output, errors),
+        Request::Command => command(rt, words, input, output, errors),
     }
 }
 

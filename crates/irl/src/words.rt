@@ -1,5 +1,6 @@
 ghost use Rattle.std.specs.Prelude.{◌≡◌, map, drop};
-ghost use Rattle.irl.specs.Words.{is_help_word, names_no_folder, asked, asked_behind_folder};
+ghost use Rattle.irl_words.specs.Help.{is_help_word};
+ghost use Rattle.irl.specs.Words.{names_no_folder, asked};
 ghost use Rattle.irl.specs.Words.{folder_in, refusing_word as refusing_word_of};
 
 /// What the words of the command line ask for.
@@ -9,12 +10,10 @@ pub enum Request {
     Help,
     /// The name of the program and its version.
     Version,
-    /// The usage of the command `seen`.
-    SeenHelp,
     /// Nothing that is known, and the first word names no folder: the words are refused.
     Refused,
-    /// A run over a folder.
-    Run,
+    /// What the words behind the folder's ask for: a run over it, or the help of a command.
+    Command,
 }
 
 impl Request {
@@ -27,17 +26,7 @@ impl Request {
             [first, ..] if is_help(first) => Request::Help,
             [first, ..] if *first == "--version" => Request::Version,
             [first, ..] if is_no_folder(first) => Request::Refused,
-            [_, command @ ..] => Request::from_command(command),
-        }
-    }
-
-    /// What the words behind the folder ask for.
-    fn from_command(words: &[&str]) -> Request
-        ensures { result ≡ asked_behind_folder (map (λ word. word.now) words.now) }
-    {
-        match words {
-            [command, option, ..] if *command == "seen" && is_help(option) => Request::SeenHelp,
-            _ => Request::Run,
+            [_, ..] => Request::Command,
         }
     }
 }

@@ -32,9 +32,10 @@ use Rattle.irl_intake.specs.Feeding.{AreArrays, Moment, Stays, Fed, Feeds, Stran
 use Rattle.irl_intake.proofs.Chains.{stays_same, fed_still, keeps_same, feeds_more, feeds_none}
 use Rattle.irl_io.specs.Written.{AppendsPrefix}
 use Rattle.irl_top.specs.Message.{ending_of, ending_of_store, IsAllPrinted, IsEndOfInput, IsUnopened}
-use Rattle.irl_top.specs.Printed.{unique_lines, judged_count}
+use Rattle.irl_top.specs.Printed.{judged_lines, judged_count}
 use Rattle.irl_top.specs.Session.{Place, unprinted, FewWait, Goes, Ends, GoesOn, EndsWith, HasReason}
 use Rattle.irl_top.specs.Stream.{Stream}
+use Rattle.irl_top.specs.declared.line.LineKind.{LineKind}
 use Rattle.irl_top.specs.declared.ending.Ending.{Ending}
 use Rattle.irl_top.specs.declared.ending.Ending.TheVariants.{Done, LineRefused, Damaged, DiskFault, InputFault, OutputFault, NoMemory, Full}
 use Rattle.irl_top.proofs.Going.{goes_on_ends, IsPlain, closes_plain, ends_fed, ends_stranded, goes_fed, judged_later, lines-append, printed_later, unprinted_more}
@@ -152,9 +153,9 @@ all_judged images parts state law holds none =
     sym numbers.commit.cut ∙ same ∙ numbers.offers
 
 -- all that was judged is printed
-pub printed_all : (images : Snapshot) (parts : Parts) (state : State) (printed : ℕ) → HoldsState images.images parts state → parts.urls.last.judged ≤ printed → unprinted printed state.urls ≡ []
-printed_all images parts state printed holds whole =
-    ap unique_lines (drop_all (printed - gone state.urls) (judged state.urls) (omega (arith, whole, judged_number images parts state holds)))
+pub printed_all : (kind : LineKind) (images : Snapshot) (parts : Parts) (state : State) (printed : ℕ) → HoldsState images.images parts state → parts.urls.last.judged ≤ printed → unprinted kind printed state.urls ≡ []
+printed_all kind images parts state printed holds whole =
+    ap (judged_lines kind) (drop_all (printed - gone state.urls) (judged state.urls) (omega (arith, whole, judged_number images parts state holds)))
 
 -- what a run adds to a part that goes on, when it ends
 pub record Last (old new : Place) (ending : Ending) : Type 0 where
@@ -162,26 +163,26 @@ pub record Last (old new : Place) (ending : Ending) : Type 0 where
   pub full : (b : ℕ) → ending ≡ Full b → IsOver old new b
   pub done : ending ≡ Done → IsFinished new
 
-pub ends_goes : (e : ℕ) (u : ℕ → ℕ) (xs : List Tuple) (old new : Place) (ending : Ending) (x : State) → IsConsistent new.moment.store → IsDrum new.moment.parts.urls → AreArrays new.moment.parts.urls.settings new.moment.arrays → Stays old.moment new.moment
-    → Last old new ending → Goes e u xs old new x → Ends e u xs old new ending x
-ends_goes e u xs old new ending x law drum arrays still last goes =
+pub ends_goes : (kind : LineKind) (e : ℕ) (u : ℕ → ℕ) (xs : List Tuple) (old new : Place) (ending : Ending) (x : State) → IsConsistent new.moment.store → IsDrum new.moment.parts.urls → AreArrays new.moment.parts.urls.settings new.moment.arrays → Stays old.moment new.moment
+    → Last old new ending → Goes kind e u xs old new x → Ends kind e u xs old new ending x
+ends_goes kind e u xs old new ending x law drum arrays still last goes =
     let y = goes.fed.state in
-    ends_fed e u xs old new ending x law drum still (few_wait old.moment new.moment.parts new.moment.arrays still.settings arrays) goes.fed (record {
+    ends_fed kind e u xs old new ending x law drum still (few_wait old.moment new.moment.parts new.moment.arrays still.settings arrays) goes.fed (record {
       text = goes.text;
       written = goes.written;
-      prints = (unprinted new.printed y.urls, sym goes.prints);
-      prints_all = λ all. sym (append-nil goes.text) ∙ ap (λ (l : List ℕ). goes.text ++ l) (sym (printed_all new.moment.store new.moment.parts y new.printed goes.fed.holds (last.printed all))) ∙ goes.prints;
+      prints = (unprinted kind new.printed y.urls, sym goes.prints);
+      prints_all = λ all. sym (append-nil goes.text) ∙ ap (λ (l : List ℕ). goes.text ++ l) (sym (printed_all kind new.moment.store new.moment.parts y new.printed goes.fed.holds (last.printed all))) ∙ goes.prints;
       full = λ b is. over_full old new y b goes.fed.holds (last.full b is);
       done = λ is. let finished = last.done is in (finished.empty, all_judged new.moment.store new.moment.parts y drum goes.fed.holds finished.judged);
     })
 
-pub ends_on : (e : ℕ) (u : ℕ → ℕ) (xs : List Tuple) (old new : Place) (ending : Ending) → IsConsistent new.moment.store → IsDrum new.moment.parts.urls → AreArrays new.moment.parts.urls.settings new.moment.arrays → Stays old.moment new.moment
-    → Last old new ending → GoesOn e u xs old new → EndsWith e u xs old new ending
-ends_on e u xs old new ending law drum arrays still last goes = λ files told x holds few. ends_goes e u xs old new ending x law drum arrays still last (goes files told x holds few)
+pub ends_on : (kind : LineKind) (e : ℕ) (u : ℕ → ℕ) (xs : List Tuple) (old new : Place) (ending : Ending) → IsConsistent new.moment.store → IsDrum new.moment.parts.urls → AreArrays new.moment.parts.urls.settings new.moment.arrays → Stays old.moment new.moment
+    → Last old new ending → GoesOn kind e u xs old new → EndsWith kind e u xs old new ending
+ends_on kind e u xs old new ending law drum arrays still last goes = λ files told x holds few. ends_goes kind e u xs old new ending x law drum arrays still last (goes files told x holds few)
 
 -- ---- an intake's call
-pub goes_call : (e : ℕ) (u : ℕ → ℕ) (xs : List Tuple) (old new : Place) → new.output.bytes ≡ old.output.bytes → new.printed ≡ old.printed → Feeds e u xs old.moment new.moment → GoesOn e u xs old new
-goes_call e u xs old new output printed feeds = λ files told x holds few. goes_fed e u xs old new x holds few output printed (feeds files told x holds)
+pub goes_call : (kind : LineKind) (e : ℕ) (u : ℕ → ℕ) (xs : List Tuple) (old new : Place) → new.output.bytes ≡ old.output.bytes → new.printed ≡ old.printed → Feeds e u xs old.moment new.moment → GoesOn kind e u xs old new
+goes_call kind e u xs old new output printed feeds = λ files told x holds few. goes_fed kind e u xs old new x holds few output printed (feeds files told x holds)
 
 pub last_of_store : (old new : Place) (fault : Fault) → ((n : ℕ) → fault ≡ StoreFull n → IsOver old new n) → ((n : ℕ) → fault ≡ StoreFull n → new.moment.parts.urls.last.judged ≤ new.printed) → Last old new (ending_of_store fault)
 last_of_store old new fault full whole = record {
@@ -191,17 +192,17 @@ last_of_store old new fault full whole = record {
 }
 
 -- a call that is refused
-pub ends_call : (e : ℕ) (u : ℕ → ℕ) (xs : List Tuple) (old new : Place) (fault : Fault) → IsConsistent new.moment.store → IsDrum new.moment.parts.urls → AreArrays new.moment.parts.urls.settings new.moment.arrays → Stays old.moment new.moment
+pub ends_call : (kind : LineKind) (e : ℕ) (u : ℕ → ℕ) (xs : List Tuple) (old new : Place) (fault : Fault) → IsConsistent new.moment.store → IsDrum new.moment.parts.urls → AreArrays new.moment.parts.urls.settings new.moment.arrays → Stays old.moment new.moment
     → new.output.bytes ≡ old.output.bytes → new.printed ≡ old.printed → ((fault ≡ StoreFailed → ⊥) → Feeds e u xs old.moment new.moment) → (fault ≡ StoreFailed → Strands e u xs old.moment new.moment) → ((n : ℕ) → fault ≡ StoreFull n → IsOver old new n)
-    → ((n : ℕ) → fault ≡ StoreFull n → new.moment.parts.urls.last.judged ≤ new.printed) → EndsWith e u xs old new (ending_of_store fault)
-ends_call e u xs old new StoreFailed law drum arrays still output printed feeds strands full whole = λ files told x holds few.
-    ends_stranded e u xs old new x (few_wait old.moment new.moment.parts new.moment.arrays still.settings arrays) output (strands refl files told x holds)
-ends_call e u xs old new StoreMemory law drum arrays still output printed feeds strands full whole =
-    ends_on e u xs old new (ending_of_store StoreMemory) law drum arrays still (last_of_store old new StoreMemory full whole) (goes_call e u xs old new output printed (feeds (λ is. cc)))
-ends_call e u xs old new (StoreFull b) law drum arrays still output printed feeds strands full whole =
-    ends_on e u xs old new (ending_of_store (StoreFull b)) law drum arrays still (last_of_store old new (StoreFull b) full whole) (goes_call e u xs old new output printed (feeds (λ is. cc)))
-ends_call e u xs old new (StoreDamaged f at) law drum arrays still output printed feeds strands full whole =
-    ends_on e u xs old new (ending_of_store (StoreDamaged f at)) law drum arrays still (last_of_store old new (StoreDamaged f at) full whole) (goes_call e u xs old new output printed (feeds (λ is. cc)))
+    → ((n : ℕ) → fault ≡ StoreFull n → new.moment.parts.urls.last.judged ≤ new.printed) → EndsWith kind e u xs old new (ending_of_store fault)
+ends_call kind e u xs old new StoreFailed law drum arrays still output printed feeds strands full whole = λ files told x holds few.
+    ends_stranded kind e u xs old new x (few_wait old.moment new.moment.parts new.moment.arrays still.settings arrays) output (strands refl files told x holds)
+ends_call kind e u xs old new StoreMemory law drum arrays still output printed feeds strands full whole =
+    ends_on kind e u xs old new (ending_of_store StoreMemory) law drum arrays still (last_of_store old new StoreMemory full whole) (goes_call kind e u xs old new output printed (feeds (λ is. cc)))
+ends_call kind e u xs old new (StoreFull b) law drum arrays still output printed feeds strands full whole =
+    ends_on kind e u xs old new (ending_of_store (StoreFull b)) law drum arrays still (last_of_store old new (StoreFull b) full whole) (goes_call kind e u xs old new output printed (feeds (λ is. cc)))
+ends_call kind e u xs old new (StoreDamaged f at) law drum arrays still output printed feeds strands full whole =
+    ends_on kind e u xs old new (ending_of_store (StoreDamaged f at)) law drum arrays still (last_of_store old new (StoreDamaged f at) full whole) (goes_call kind e u xs old new output printed (feeds (λ is. cc)))
 
 -- why it is
 pub reason_call : (old new : Place) (fault : Fault) → Stays old.moment new.moment → HasCause (fault ≡ StoreFailed) old.disk_faults new.disk_faults → new.output ≡ old.output
@@ -233,25 +234,25 @@ reason_went old new still disk output = record {
 pub reason_same : (old : Place) → IsConsistent old.moment.store → HasReason old old Done
 reason_same old law = reason_went old old (stays_same old.moment old.moment law refl refl) (omega arith) (omega arith)
 
-pub goes_same : (old : Place) → IsConsistent old.moment.store → IsDrum old.moment.parts.urls → GoesOn 0 none_more [] old old
-goes_same old law drum = λ files told x holds few.
-    goes_fed 0 none_more [] old old x holds few refl refl (fed_still [] old.moment old.moment x law drum refl refl (keeps_same old.moment.parts.urls.settings x old.moment.arrays) holds)
+pub goes_same : (kind : LineKind) (old : Place) → IsConsistent old.moment.store → IsDrum old.moment.parts.urls → GoesOn kind 0 none_more [] old old
+goes_same kind old law drum = λ files told x holds few.
+    goes_fed kind 0 none_more [] old old x holds few refl refl (fed_still [] old.moment old.moment x law drum refl refl (keeps_same old.moment.parts.urls.settings x old.moment.arrays) holds)
 
 -- ---- a piece that is printed
 -- some judged offers from one on, and those behind them
-piece_lines : (n most : ℕ) (all found : List Judged) → found ≡ take most (drop n all) → unique_lines found ++ unique_lines (drop (n + length found) all) ≡ unique_lines (drop n all)
-piece_lines n most all found is =
+piece_lines : (kind : LineKind) (n most : ℕ) (all found : List Judged) → found ≡ take most (drop n all) → judged_lines kind found ++ judged_lines kind (drop (n + length found) all) ≡ judged_lines kind (drop n all)
+piece_lines kind n most all found is =
     let rest = drop most (drop n all) in
     let whole : found ++ rest ≡ drop n all = ap (λ (l : List Judged). l ++ rest) is ∙ take-append-drop most (drop n all) in
     let behind : drop (n + length found) all ≡ rest = sym (drop-drop (length found) n all) ∙ ap (λ (l : List Judged). drop (length found) l) (sym whole) ∙ drop-append_seam found rest in
-    ap (λ (l : List Judged). unique_lines found ++ unique_lines l) behind ∙ sym (lines-append found rest) ∙ ap unique_lines whole
+    ap (λ (l : List Judged). judged_lines kind found ++ judged_lines kind l) behind ∙ sym (lines-append kind found rest) ∙ ap (judged_lines kind) whole
 
 -- the same of a book, of which no judged offer is dropped
-piece_of : (settings : Settings) (book : Book) (printed next most : ℕ) (found : List Judged) → IsBookOf settings book → found ≡ take most (drop (printed - gone book) (judged book)) → next ≡ printed + length found → unique_lines found ++ unprinted next book ≡ unprinted printed book
-piece_of settings book printed next most found is pieces next_is =
+piece_of : (kind : LineKind) (settings : Settings) (book : Book) (printed next most : ℕ) (found : List Judged) → IsBookOf settings book → found ≡ take most (drop (printed - gone book) (judged book)) → next ≡ printed + length found → judged_lines kind found ++ unprinted kind next book ≡ unprinted kind printed book
+piece_of kind settings book printed next most found is pieces next_is =
     let none = gone_none settings book is in
     let at : next - gone book ≡ (printed - gone book) + length found = omega (arith, none, next_is) in
-    ap (λ (n : ℕ). unique_lines found ++ unique_lines (drop n (judged book))) at ∙ piece_lines (printed - gone book) most (judged book) found pieces
+    ap (λ (n : ℕ). judged_lines kind found ++ judged_lines kind (drop n (judged book))) at ∙ piece_lines kind (printed - gone book) most (judged book) found pieces
 
 piece_within : (settings : Settings) (book : Book) (printed next most : ℕ) (found : List Judged) → IsBookOf settings book → found ≡ take most (drop (printed - gone book) (judged book)) → next ≡ printed + length found → printed ≤ judged_count book → next ≤ judged_count book
 piece_within settings book printed next most found is pieces next_is few =
@@ -261,38 +262,38 @@ piece_within settings book printed next most found is pieces next_is few =
 abbrev pub Finds : Place → ℕ → List Judged → Type 0
 Finds old most found = ForSome old.moment.store.files (λ _. (state : State) → HoldsState old.moment.store.images old.moment.parts state → found ≡ take most (drop (old.printed - gone state.urls) (judged state.urls)))
 
-goes_piece : (old new : Place) (most : ℕ) (found : List Judged) (x : State) → HoldsState old.moment.store.images old.moment.parts x → old.printed ≤ judged_count x.urls → Fed 0 none_more [] old.moment new.moment x → found ≡ take most (drop (old.printed - gone x.urls) (judged x.urls))
-    → new.printed ≡ old.printed + length found → Appends old.output.bytes new.output.bytes (unique_lines found) → Goes 0 none_more [] old new x
-goes_piece old new most found x holds few fed pieces next written =
+goes_piece : (kind : LineKind) (old new : Place) (most : ℕ) (found : List Judged) (x : State) → HoldsState old.moment.store.images old.moment.parts x → old.printed ≤ judged_count x.urls → Fed 0 none_more [] old.moment new.moment x → found ≡ take most (drop (old.printed - gone x.urls) (judged x.urls))
+    → new.printed ≡ old.printed + length found → Appends old.output.bytes new.output.bytes (judged_lines kind found) → Goes kind 0 none_more [] old new x
+goes_piece kind old new most found x holds few fed pieces next written =
     let is = holds.urls_hold.book_is in
     let within = piece_within old.moment.parts.urls.settings x.urls old.printed new.printed most found is pieces next few in
     record {
       fed = fed;
       later = omega (arith, next);
       ahead = omega (arith, within, judged_later x.urls fed.state.urls is.is_book fed.grows.front.urls);
-      text = unique_lines found;
+      text = judged_lines kind found;
       written = written;
-      prints = printed_later x.urls fed.state.urls old.printed new.printed (unique_lines found) is.is_book fed.grows.front.urls (omega (arith, next)) within (piece_of old.moment.parts.urls.settings x.urls old.printed new.printed most found is pieces next);
+      prints = printed_later kind x.urls fed.state.urls old.printed new.printed (judged_lines kind found) is.is_book fed.grows.front.urls (omega (arith, next)) within (piece_of kind old.moment.parts.urls.settings x.urls old.printed new.printed most found is pieces next);
     }
 
-pub goes_on_piece : (old new : Place) (most : ℕ) (found : List Judged) → Feeds 0 none_more [] old.moment new.moment → Finds old most found → new.printed ≡ old.printed + length found → Appends old.output.bytes new.output.bytes (unique_lines found) → GoesOn 0 none_more [] old new
-goes_on_piece old new most found feeds finds next written = λ files told x holds few. goes_piece old new most found x holds few (feeds files told x holds) (finds files told x holds) next written
+pub goes_on_piece : (kind : LineKind) (old new : Place) (most : ℕ) (found : List Judged) → Feeds 0 none_more [] old.moment new.moment → Finds old most found → new.printed ≡ old.printed + length found → Appends old.output.bytes new.output.bytes (judged_lines kind found) → GoesOn kind 0 none_more [] old new
+goes_on_piece kind old new most found feeds finds next written = λ files told x holds few. goes_piece kind old new most found x holds few (feeds files told x holds) (finds files told x holds) next written
 
 -- a piece of which a prefix is printed
-pub ends_piece : (old new : Place) (most : ℕ) (found : List Judged) (ending : Ending) → IsConsistent new.moment.store → IsDrum new.moment.parts.urls → Stays old.moment new.moment → AreArrays new.moment.parts.urls.settings new.moment.arrays → IsPlain ending → Feeds 0 none_more [] old.moment new.moment → Finds old most found → AppendsPrefix old.output.bytes new.output.bytes (unique_lines found)
-    → EndsWith 0 none_more [] old new ending
-ends_piece old new most found ending law drum still arrays plain feeds finds part = λ files told x holds few.
+pub ends_piece : (kind : LineKind) (old new : Place) (most : ℕ) (found : List Judged) (ending : Ending) → IsConsistent new.moment.store → IsDrum new.moment.parts.urls → Stays old.moment new.moment → AreArrays new.moment.parts.urls.settings new.moment.arrays → IsPlain ending → Feeds 0 none_more [] old.moment new.moment → Finds old most found → AppendsPrefix old.output.bytes new.output.bytes (judged_lines kind found)
+    → EndsWith kind 0 none_more [] old new ending
+ends_piece kind old new most found ending law drum still arrays plain feeds finds part = λ files told x holds few.
     let fed = feeds files told x holds in
     let pieces = finds files told x holds in
     let is = holds.urls_hold.book_is in
-    let text = take part.0 (unique_lines found) in
-    let rest = drop part.0 (unique_lines found) in
-    let more = unprinted_more x.urls fed.state.urls is.is_book fed.grows.front.urls in
-    let behind = unprinted (old.printed + length found) x.urls in
-    let whole : unprinted old.printed fed.state.urls ≡ text ++ (rest ++ (behind ++ more.0)) =
-    more.1 old.printed few ∙ ap (λ (l : List ℕ). l ++ more.0) (sym (piece_of old.moment.parts.urls.settings x.urls old.printed (old.printed + length found) most found is pieces refl))
-    ∙ append_assoc (unique_lines found) behind more.0 ∙ ap (λ (l : List ℕ). l ++ (behind ++ more.0)) (sym (take-append-drop part.0 (unique_lines found))) ∙ append_assoc text rest (behind ++ more.0) in
-    ends_fed 0 none_more [] old new ending x law drum still (few_wait old.moment new.moment.parts new.moment.arrays still.settings arrays) fed (record {
+    let text = take part.0 (judged_lines kind found) in
+    let rest = drop part.0 (judged_lines kind found) in
+    let more = unprinted_more kind x.urls fed.state.urls is.is_book fed.grows.front.urls in
+    let behind = unprinted kind (old.printed + length found) x.urls in
+    let whole : unprinted kind old.printed fed.state.urls ≡ text ++ (rest ++ (behind ++ more.0)) =
+    more.1 old.printed few ∙ ap (λ (l : List ℕ). l ++ more.0) (sym (piece_of kind old.moment.parts.urls.settings x.urls old.printed (old.printed + length found) most found is pieces refl))
+    ∙ append_assoc (judged_lines kind found) behind more.0 ∙ ap (λ (l : List ℕ). l ++ (behind ++ more.0)) (sym (take-append-drop part.0 (judged_lines kind found))) ∙ append_assoc text rest (behind ++ more.0) in
+    ends_fed kind 0 none_more [] old new ending x law drum still (few_wait old.moment new.moment.parts new.moment.arrays still.settings arrays) fed (record {
       text = text;
       written = part.1;
       prints = (rest ++ (behind ++ more.0), whole);
@@ -385,11 +386,11 @@ no_input_of (Ok x) kinds is = let no : ⊥ = cc in absurd no
 no_input_of (Err e) kinds is = kinds (inr (inr is))
 
 -- the run ends where it stands
-pub stop_here : (old : Place) (ending : Ending) → IsConsistent old.moment.store → IsDrum old.moment.parts.urls → AreArrays old.moment.parts.urls.settings old.moment.arrays → (ending ≢ Done) → ((b : ℕ) → ending ≢ Full b) → (IsAllPrinted ending → old.moment.parts.urls.last.judged ≤ old.printed)
-    → EndsWith 1 one_more [] old old ending
-stop_here old ending law drum arrays not_done not_full whole =
-    ends_on 1 one_more [] old old ending law drum arrays (stays_same old.moment old.moment law refl refl) (record { printed = whole; full = λ b is. absurd (not_full b is); done = λ is. absurd (not_done is) })
-    (goes_call 1 one_more [] old old refl refl (feeds_more 0 1 none_more one_more [] old.moment old.moment (omega arith) (λ b. omega arith) (feeds_none old.moment old.moment law drum refl refl refl)))
+pub stop_here : (kind : LineKind) (old : Place) (ending : Ending) → IsConsistent old.moment.store → IsDrum old.moment.parts.urls → AreArrays old.moment.parts.urls.settings old.moment.arrays → (ending ≢ Done) → ((b : ℕ) → ending ≢ Full b) → (IsAllPrinted ending → old.moment.parts.urls.last.judged ≤ old.printed)
+    → EndsWith kind 1 one_more [] old old ending
+stop_here kind old ending law drum arrays not_done not_full whole =
+    ends_on kind 1 one_more [] old old ending law drum arrays (stays_same old.moment old.moment law refl refl) (record { printed = whole; full = λ b is. absurd (not_full b is); done = λ is. absurd (not_done is) })
+    (goes_call kind 1 one_more [] old old refl refl (feeds_more 0 1 none_more one_more [] old.moment old.moment (omega arith) (λ b. omega arith) (feeds_none old.moment old.moment law drum refl refl refl)))
 
 -- what a step of the input can end a run with
 abbrev pub IsOfInput : Ending → Type 0
@@ -441,16 +442,16 @@ reason_input old ending law (inr (inr line)) = subst (HasReason old old) (sym li
 })
 
 -- the same numbers for the whole of an input
-lifts_goes : (old : Place) → IsConsistent old.moment.store → IsDrum old.moment.parts.urls → GoesOn 1 one_more [] old old
-lifts_goes old law drum = goes_call 1 one_more [] old old refl refl (feeds_more 0 1 none_more one_more [] old.moment old.moment (omega arith) (λ b. omega arith) (feeds_none old.moment old.moment law drum refl refl refl))
+lifts_goes : (kind : LineKind) (old : Place) → IsConsistent old.moment.store → IsDrum old.moment.parts.urls → GoesOn kind 1 one_more [] old old
+lifts_goes kind old law drum = goes_call kind 1 one_more [] old old refl refl (feeds_more 0 1 none_more one_more [] old.moment old.moment (omega arith) (λ b. omega arith) (feeds_none old.moment old.moment law drum refl refl refl))
 
-pub ends_lifted : (news : List Tuple) (old mid new : Place) (ending : Ending) → IsConsistent mid.moment.store → IsDrum mid.moment.parts.urls → Stays old.moment mid.moment → GoesOn 0 none_more news old mid → EndsWith 0 none_more [] mid new ending → EndsWith 1 one_more (news ++ []) old new ending
-ends_lifted news old mid new ending law drum still goes ends =
-    goes_on_ends 0 1 none_more one_more news [] old mid new ending still goes
-    (goes_on_ends 1 0 one_more none_more [] [] mid mid new ending (stays_same mid.moment mid.moment law refl refl) (lifts_goes mid law drum) ends)
+pub ends_lifted : (kind : LineKind) (news : List Tuple) (old mid new : Place) (ending : Ending) → IsConsistent mid.moment.store → IsDrum mid.moment.parts.urls → Stays old.moment mid.moment → GoesOn kind 0 none_more news old mid → EndsWith kind 0 none_more [] mid new ending → EndsWith kind 1 one_more (news ++ []) old new ending
+ends_lifted kind news old mid new ending law drum still goes ends =
+    goes_on_ends kind 0 1 none_more one_more news [] old mid new ending still goes
+    (goes_on_ends kind 1 0 one_more none_more [] [] mid mid new ending (stays_same mid.moment mid.moment law refl refl) (lifts_goes kind mid law drum) ends)
 
 -- nothing waits yet, and memory runs out
-pub stop_plain : (old : Place) → IsConsistent old.moment.store → IsDrum old.moment.parts.urls → FewWait old.moment.parts.urls.settings old.moment.arrays → EndsWith 1 one_more [] old old NoMemory
-stop_plain old law drum few_waiting = λ files told x holds few.
+pub stop_plain : (kind : LineKind) (old : Place) → IsConsistent old.moment.store → IsDrum old.moment.parts.urls → FewWait old.moment.parts.urls.settings old.moment.arrays → EndsWith kind 1 one_more [] old old NoMemory
+stop_plain kind old law drum few_waiting = λ files told x holds few.
     let fed = feeds_more 0 1 none_more one_more [] old.moment old.moment (omega arith) (λ b. omega arith) (feeds_none old.moment old.moment law drum refl refl refl) files told x holds in
-    ends_fed 1 one_more [] old old NoMemory x law drum (stays_same old.moment old.moment law refl refl) few_waiting fed (closes_plain old old NoMemory fed.state memory_plain refl)
+    ends_fed kind 1 one_more [] old old NoMemory x law drum (stays_same old.moment old.moment law refl refl) few_waiting fed (closes_plain kind old old NoMemory fed.state memory_plain refl)

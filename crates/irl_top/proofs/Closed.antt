@@ -28,13 +28,13 @@ use Rattle.irl_yard.proofs.States.{state_same, entered_front}
 use Rattle.irl_yard.proofs.Entering.{enters_keeps, enters_records}
 use Rattle.irl_intake.specs.Feeding.{list_at}
 use Rattle.irl_intake.proofs.Chains.{grows_same, grows_more}
-use Rattle.irl_top.specs.declared.command.Command.TheVariants.{Seen}
+use Rattle.irl_top.specs.declared.line.LineKind.{LineKind}
 use Rattle.irl_top.specs.Input.{offered}
 use Rattle.irl_top.specs.Message.{ending_of_open, IsAllPrinted, IsUnopened}
 use Rattle.irl_top.specs.Outside.{Lent}
 use Rattle.irl_top.specs.Printed.{added}
 use Rattle.irl_top.specs.Records.{AddsUnevenRecords}
-use Rattle.irl_top.specs.Run.{task_of, settings_in, Reaches, IsLegal, Extends, Ran, IsLate}
+use Rattle.irl_top.specs.Run.{line_task, settings_in, Reaches, IsLegal, Extends, Ran, IsLate}
 use Rattle.irl_top.specs.Stream.{Stream}
 use Rattle.irl_top.specs.declared.ending.Ending.TheVariants.{Done, BadSettings, LineRefused, NotOurs, OtherSettings, DiskFault, InputFault, OutputFault, Full, Damaged}
 use Rattle.irl_top.proofs.Growing.{starts}
@@ -268,9 +268,9 @@ keeps_blank asked before after fault files x refused fine told blank same = reco
   either = inl refl;
 }
 
-extends_closed : (asked : Asked) (before after : Lent) (fault : OpenFault) (files : Files) (x most : State) → IsConsistent before.store → IsConsistent after.store → IsRefused asked before after fault → before.store.files ≡ Some files → HasState x files → (k : Keeps asked before after x most)
-    → (fault ≢ OpenFailed → most ≡ x) → Extends (task_of (Seen asked)) before after (ending_of_open fault) x
-extends_closed asked before after fault files x most law_before law_after refused told has k same =
+extends_closed : (kind : LineKind) (asked : Asked) (before after : Lent) (fault : OpenFault) (files : Files) (x most : State) → IsConsistent before.store → IsConsistent after.store → IsRefused asked before after fault → before.store.files ≡ Some files → HasState x files → (k : Keeps asked before after x most)
+    → (fault ≢ OpenFailed → most ≡ x) → Extends (line_task kind asked) before after (ending_of_open fault) x
+extends_closed kind asked before after fault files x most law_before law_after refused told has k same =
     let settings = settings_in asked x in
     record {
       kept = x;
@@ -284,7 +284,7 @@ extends_closed asked before after fault files x most law_before law_after refuse
       entered = λ late. absurd (open_late fault late);
       takes = λ bytes tells. record {
         news = [];
-        read = (offered bytes, refl);
+        read = (offered kind bytes, refl);
         waiting = λ b. [];
         few = λ b within. omega arith;
         keeps = λ b within. refl;
@@ -292,12 +292,12 @@ extends_closed asked before after fault files x most law_before law_after refuse
         none = λ is b within. refl;
         full = λ b is. absurd (open_late fault (inr (inr (inr (inr (b, is))))));
       };
-      lists = λ bytes tells b within. ([], k.lists b ∙ sym (append-nil (list_at x.urls b)), (part settings.buckets b (offered bytes), refl));
+      lists = λ bytes tells b within. ([], k.lists b ∙ sym (append-nil (list_at x.urls b)), (part settings.buckets b (offered kind bytes), refl));
       judged = λ is. absurd (open_late fault (inl is));
       full = λ b is. absurd (open_late fault (inr (inr (inr (inr (b, is))))));
       text = [];
       written = subst (λ (s : Stream). Appends before.output.bytes s.bytes []) (sym refused.output) (Appends-nil before.output.bytes);
-      prints = (added x.urls x.urls, refl);
+      prints = (added kind x.urls x.urls, refl);
       prints_all = λ is. absurd (open_printed fault is);
       records = λ old_files is_old new_files is_new.
           let new = told_after asked before.store.files after.store.files files refused.files told in
@@ -313,21 +313,21 @@ extends_closed asked before after fault files x most law_before law_after refuse
 
 -- ---- the run
 -- a store that was made stays so
-extends_made : (asked : Asked) (before after : Lent) (fault : OpenFault) (files : Files) (x : State) (settings : Settings) → IsConsistent before.store → IsConsistent after.store → IsRefused asked before after fault → before.store.files ≡ Some files → HasState x files → x.settings ≡ Some settings → Extends (task_of (Seen asked)) before after (ending_of_open fault) x
-extends_made asked before after fault files x settings law_before law_after refused told has made =
+extends_made : (kind : LineKind) (asked : Asked) (before after : Lent) (fault : OpenFault) (files : Files) (x : State) (settings : Settings) → IsConsistent before.store → IsConsistent after.store → IsRefused asked before after fault → before.store.files ≡ Some files → HasState x files → x.settings ≡ Some settings → Extends (line_task kind asked) before after (ending_of_open fault) x
+extends_made kind asked before after fault files x settings law_before law_after refused told has made =
     let same = entered_made asked settings x made in
     let k = keeps_either asked before after fault files x refused told has (subst IsLegal (sym same) (legal_has x files has)) in
-    extends_closed asked before after fault files x (entered_state asked x) law_before law_after refused told has k (λ fine. same)
+    extends_closed kind asked before after fault files x (entered_state asked x) law_before law_after refused told has k (λ fine. same)
 
 -- unless a call failed, a store that wasn't made yet still isn't
-extends_blank : (asked : Asked) (before after : Lent) (fault : OpenFault) (files : Files) (x : State) → IsConsistent before.store → IsConsistent after.store → IsRefused asked before after fault → before.store.files ≡ Some files → IsBlank files → x ≡ blank_state → (fault ≢ OpenFailed) ⊎ (fault ≡ OpenFailed) → Extends (task_of (Seen asked)) before after (ending_of_open fault) x
-extends_blank asked before after fault files x law_before law_after refused told blank same (inl fine) =
-    extends_closed asked before after fault files x x law_before law_after refused told (inl (blank, same)) (keeps_blank asked before after fault files x refused fine told blank same) (λ other. refl)
-extends_blank asked before after fault files x law_before law_after refused told blank same (inr failed) = ⊎_elim
+extends_blank : (kind : LineKind) (asked : Asked) (before after : Lent) (fault : OpenFault) (files : Files) (x : State) → IsConsistent before.store → IsConsistent after.store → IsRefused asked before after fault → before.store.files ≡ Some files → IsBlank files → x ≡ blank_state → (fault ≢ OpenFailed) ⊎ (fault ≡ OpenFailed) → Extends (line_task kind asked) before after (ending_of_open fault) x
+extends_blank kind asked before after fault files x law_before law_after refused told blank same (inl fine) =
+    extends_closed kind asked before after fault files x x law_before law_after refused told (inl (blank, same)) (keeps_blank asked before after fault files x refused fine told blank same) (λ other. refl)
+extends_blank kind asked before after fault files x law_before law_after refused told blank same (inr failed) = ⊎_elim
     (λ valid.
     let k = keeps_either asked before after fault files x refused told (inl (blank, same)) (legal_entered asked x files refused.kind valid (inl (blank, same))) in
-    extends_closed asked before after fault files x (entered_state asked x) law_before law_after refused told (inl (blank, same)) k (λ fine. absurd (fine failed)))
-    (λ bad. extends_closed asked before after fault files x x law_before law_after refused told (inl (blank, same)) (keeps_unmade asked before after fault files x refused told (inl (blank, same)) same bad) (λ fine. refl))
+    extends_closed kind asked before after fault files x (entered_state asked x) law_before law_after refused told (inl (blank, same)) k (λ fine. absurd (fine failed)))
+    (λ bad. extends_closed kind asked before after fault files x x law_before law_after refused told (inl (blank, same)) (keeps_unmade asked before after fault files x refused told (inl (blank, same)) same bad) (λ fine. refl))
     (valid_or_not (settings_of asked))
 
 failed_or_not : (fault : OpenFault) → (fault ≢ OpenFailed) ⊎ (fault ≡ OpenFailed)
@@ -338,9 +338,9 @@ failed_or_not (OpenBadSettings n) = inl (λ is. cc)
 failed_or_not OpenFailed = inr refl
 failed_or_not OpenMemory = inl (λ is. cc)
 
-extends_refused : (asked : Asked) (before after : Lent) (fault : OpenFault) (files : Files) (x : State) → IsConsistent before.store → IsConsistent after.store → IsRefused asked before after fault → before.store.files ≡ Some files → HasState x files → Extends (task_of (Seen asked)) before after (ending_of_open fault) x
-extends_refused asked before after fault files x law_before law_after refused told (inl blank) = extends_blank asked before after fault files x law_before law_after refused told blank.0 blank.1 (failed_or_not fault)
-extends_refused asked before after fault files x law_before law_after refused told (inr (settings, made)) = extends_made asked before after fault files x settings law_before law_after refused told (inr (settings, made)) made.settings_are
+extends_refused : (kind : LineKind) (asked : Asked) (before after : Lent) (fault : OpenFault) (files : Files) (x : State) → IsConsistent before.store → IsConsistent after.store → IsRefused asked before after fault → before.store.files ≡ Some files → HasState x files → Extends (line_task kind asked) before after (ending_of_open fault) x
+extends_refused kind asked before after fault files x law_before law_after refused told (inl blank) = extends_blank kind asked before after fault files x law_before law_after refused told blank.0 blank.1 (failed_or_not fault)
+extends_refused kind asked before after fault files x law_before law_after refused told (inr (settings, made)) = extends_made kind asked before after fault files x settings law_before law_after refused told (inr (settings, made)) made.settings_are
 
 -- an ending that refuses the store as it is comes of a fault that does
 unwanted_open : (fault : OpenFault) → IsUnopened (ending_of_open fault) → IsUnwanted fault
@@ -355,16 +355,17 @@ ground_as asked told fault other is ground = subst (HasGround asked told) is gro
 denies_as : (fault other : OpenFault) → fault ≡ other → DeniesState other → DeniesState fault
 denies_as fault other is denies = subst DeniesState (sym is) denies
 
-pub ran_refused : (asked : Asked) (before after : Lent) (fault : OpenFault) → IsConsistent before.store → IsConsistent after.store → IsRefused asked before after fault → Ran (task_of (Seen asked)) before after (ending_of_open fault)
-ran_refused asked before after fault law_before law_after refused = record {
-  extends = λ files told x has. extends_refused asked before after fault files x law_before law_after refused told has;
+pub ran_refused : (kind : LineKind) (asked : Asked) (before after : Lent) (fault : OpenFault) → IsConsistent before.store → IsConsistent after.store → IsRefused asked before after fault → Ran (line_task kind asked) before after (ending_of_open fault)
+ran_refused kind asked before after fault law_before law_after refused = record {
+  extends = λ files told x has. extends_refused kind asked before after fault files x law_before law_after refused told has;
   others = enters_told asked before.store.files before.store.files after.store.files refused.files;
   others_stop = enters_stops asked before.store.files before.store after.store refused.steps;
   opened = inr (record { files = refused.files; steps = refused.steps; input = refused.input; output = refused.output; late = open_late fault });
   unopened = λ is. (refused.same (unwanted_open fault is), refused.input, refused.output);
   unopened_stop = λ is. refused.same_stops (unwanted_open fault is);
   read = λ is. absurd (open_late fault (inl is));
-  bad = λ n is. ground_as asked before.store.files fault (OpenBadSettings n) (open_bad fault n is) refused.ground;
+  bad = λ n is. (ground_as asked before.store.files fault (OpenBadSettings n) (open_bad fault n is) refused.ground).0;
+  bad_asked = λ n is. (ground_as asked before.store.files fault (OpenBadSettings n) (open_bad fault n is) refused.ground).1;
   line = λ n is. absurd (open_late fault (inr (inl (n, is))));
   not_ours = λ at is. ground_as asked before.store.files fault (OpenNotOurs at) (open_ours fault at is) refused.ground;
   other = λ n kept wanted is. ground_as asked before.store.files fault (OpenOtherSettings n kept wanted) (open_other fault n kept wanted is) refused.ground;

@@ -1,5 +1,5 @@
 -- What a run ends in, by what it says of its ending.
-use Rattle.std.proofs.Common.{◌≡◌, ◌∙◌, ◌⊎◌, inl, inr, ⊎_elim, ℕ, ◌+◌, ◌-◌, ◌<◌, ◌≤◌, List, [], length, Option, Some, refl, sym, ap, subst, length-append, arith}
+use Rattle.std.proofs.Common.{◌≡◌, ◌≢◌, ◌∙◌, ◌⊎◌, inl, inr, ⊎_elim, ℕ, ◌+◌, ◌-◌, ◌<◌, ◌≤◌, List, [], length, Option, Some, refl, sym, ap, subst, length-append, arith}
 use Rattle.std.specs.Prelude.{Result, Ok, Err, OnOk, OnErr, IsErr, unwrap_or, slice_index}
 use Rattle.std.specs.Io.KnownBytes.{Appends}
 use Rattle.irl_offer.specs.Faults.{HasCause}
@@ -11,15 +11,18 @@ use Rattle.irl_model.specs.Book.{part}
 use Rattle.irl_model.specs.State.{State, AreFronts}
 use Rattle.irl_disk.specs.Disk.{Files}
 use Rattle.irl_io.specs.Written.{AppendsPrefix}
+use Rattle.irl_words.specs.Words.{IsInRange, asked_of}
+use Rattle.irl_words.specs.declared.command.Command.{Command}
+use Rattle.irl_words.specs.declared.command.Command.TheVariants.{Seen, Drum as DrumOf}
 use Rattle.irl_yard.specs.Standing.{HasState}
-use Rattle.irl_yard.specs.Opening.{Agrees, IsBadStore, IsKeptOtherwise, entered_state}
+use Rattle.irl_yard.specs.Opening.{Agrees, IsBadAsked, IsBadStore, IsKeptOtherwise, entered_state}
 use Rattle.irl_yard.proofs.Grounds.{blank_has, entered_made, made_has}
 use Rattle.irl_yard.proofs.HeadBytes.{valid_numbers}
 use Rattle.irl_intake.specs.Feeding.{list_at, length_at}
 use Rattle.irl_intake.proofs.Chains.{same_fronts}
-use Rattle.irl_top.specs.Message.{Says}
+use Rattle.irl_top.specs.Message.{Says, status_of, refused_status}
 use Rattle.irl_top.specs.Outside.{Lent}
-use Rattle.irl_top.specs.Run.{Task, settings_in, Reaches, TakesIn, Ran, Completes}
+use Rattle.irl_top.specs.Run.{Task, task_of, settings_in, Reaches, TakesIn, Ran, Completes}
 use Rattle.irl_top.specs.Stream.{Stream}
 use Rattle.irl_top.specs.declared.ending.Ending.{Ending}
 use Rattle.irl_top.proofs.Growing.{Starts, starts, front_list, part_prefix}
@@ -29,12 +32,37 @@ pub says_of : {T E : Type 0} (r : Result T E) (text : List ℕ) (old new : Strea
 says_of (Ok x) text old new ok err cause = record { later = cause.later; written = inl ok }
 says_of (Err e) text old new ok err cause = record { later = cause.later; written = inr (err, cause.rose refl) }
 
+-- settings that lie in their ranges aren't refused
+not_bad_asked : (settings : Settings) (n : ℕ) → AreValid settings → IsBadAsked settings n → ⊥
+not_bad_asked settings n valid bad = bad.bad (valid_numbers settings valid n bad.within.0 bad.within.1)
+
+pub accepted : (task : Task) (before after : Lent) (ending : Ending) → Ran task before after ending → AreValid (settings_of task.asked) → status_of ending ≢ refused_status
+accepted task before after Done ran valid = λ is. omega (arith, is)
+accepted task before after (BadSettings n) ran valid = λ is. not_bad_asked (settings_of task.asked) n valid (ran.bad_asked n refl)
+accepted task before after (LineRefused n) ran valid = λ is. omega (arith, is)
+accepted task before after (NotOurs at) ran valid = λ is. omega (arith, is)
+accepted task before after (Damaged f at) ran valid = λ is. omega (arith, is)
+accepted task before after (OtherSettings n kept wanted) ran valid = λ is. omega (arith, is)
+accepted task before after DiskFault ran valid = λ is. omega (arith, is)
+accepted task before after InputFault ran valid = λ is. omega (arith, is)
+accepted task before after OutputFault ran valid = λ is. omega (arith, is)
+accepted task before after NoMemory ran valid = λ is. omega (arith, is)
+accepted task before after (Full b) ran valid = λ is. omega (arith, is)
+
+-- what a command asks is what its task does
+asked_same : (command : Command) → asked_of command ≡ (task_of command).asked
+asked_same (Seen asked) = refl
+asked_same (DrumOf asked) = refl
+
+pub task_valid : (command : Command) → IsInRange command → AreValid (settings_of (task_of command).asked)
+task_valid command range = subst (λ (asked : Asked). AreValid (settings_of asked)) (asked_same command) range.valid
+
 -- a store that can be made isn't refused for a setting
 not_bad : (asked : Asked) (files : Files) (x : State) (n : ℕ) → HasState x files → AreValid (settings_in asked x) → IsBadStore asked files n → ⊥
 not_bad asked files x n has valid bad =
     let blank = (blank_has x files bad.0.head has).1 in
     let fresh : AreValid (settings_of asked) = subst (λ (s : State). AreValid (settings_in asked s)) blank valid in
-    bad.1.bad (valid_numbers (settings_of asked) fresh n bad.1.within.0 bad.1.within.1)
+    not_bad_asked (settings_of asked) n fresh bad.1
 
 -- one that was made as is asked isn't refused for another
 not_other : (asked : Asked) (files : Files) (x : State) (n kept wanted : ℕ) → HasState x files → Agrees asked (settings_in asked x) → IsKeptOtherwise asked files n kept wanted → ⊥

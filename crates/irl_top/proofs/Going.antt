@@ -18,26 +18,27 @@ use Rattle.irl_intake.specs.Feeding.{Moment, Stays, Fed, Stranded, IsStateOf, Gr
 use Rattle.irl_intake.proofs.Chains.{same_fronts, few_same, grows_both, keeps_both, fed_both, stranded_after, tells_on, stays_both}
 use Rattle.irl_intake.proofs.Steps.{held_state}
 use Rattle.irl_top.specs.Message.{IsAllPrinted, IsEndOfInput}
-use Rattle.irl_top.specs.Printed.{unique_lines, judged_count, line_if_unique}
+use Rattle.irl_top.specs.Printed.{judged_line, judged_lines, judged_count}
 use Rattle.irl_top.specs.Session.{Place, unprinted, FewWait, Goes, Ends, GoesOn, EndsWith, HoldsNone, HasReason}
+use Rattle.irl_top.specs.declared.line.LineKind.{LineKind}
 use Rattle.irl_top.specs.declared.ending.Ending.{Ending}
 use Rattle.irl_top.specs.declared.ending.Ending.TheVariants.{Done, DiskFault, Full}
 use Rattle.irl_top.proofs.Sinks.{appends_both}
 
 -- ---- what is printed
-pub lines-append : (xs ys : List Judged) → unique_lines (xs ++ ys) ≡ unique_lines xs ++ unique_lines ys
-lines-append xs ys = flat_map-append (λ (one : Judged). line_if_unique one.offer.aux one.verdict) xs ys
+pub lines-append : (kind : LineKind) (xs ys : List Judged) → judged_lines kind (xs ++ ys) ≡ judged_lines kind xs ++ judged_lines kind ys
+lines-append kind xs ys = flat_map-append (judged_line kind) xs ys
 
-drop-more : (n : ℕ) (xs ys zs : List Judged) → zs ≡ xs ++ ys → n ≤ length xs → unique_lines (drop n zs) ≡ unique_lines (drop n xs) ++ unique_lines ys
-drop-more n xs ys zs is within = ap (λ (l : List Judged). unique_lines (drop n l)) is ∙ ap unique_lines (drop-append-le n xs ys within) ∙ lines-append (drop n xs) ys
+drop-more : (kind : LineKind) (n : ℕ) (xs ys zs : List Judged) → zs ≡ xs ++ ys → n ≤ length xs → judged_lines kind (drop n zs) ≡ judged_lines kind (drop n xs) ++ judged_lines kind ys
+drop-more kind n xs ys zs is within = ap (λ (l : List Judged). judged_lines kind (drop n l)) is ∙ ap (judged_lines kind) (drop-append-le n xs ys within) ∙ lines-append kind (drop n xs) ys
 
 -- what is judged later is printed behind what is judged
-pub unprinted_more : (x y : Book) → IsBook x → IsFront x y → (more : List ℕ) × ((p : ℕ) → p ≤ judged_count x → unprinted p y ≡ unprinted p x ++ more)
-unprinted_more x y book front =
+pub unprinted_more : (kind : LineKind) (x y : Book) → IsBook x → IsFront x y → (more : List ℕ) × ((p : ℕ) → p ≤ judged_count x → unprinted kind p y ≡ unprinted kind p x ++ more)
+unprinted_more kind x y book front =
     let prefix = judged_front x y book front in
     let same : gone y ≡ gone x = ap (λ (l : List ℕ). gone (record x { firsts = l })) front.firsts in (
-      unique_lines prefix.0,
-      λ p within. ap (λ (n : ℕ). unique_lines (drop (p - n) (judged y))) same ∙ drop-more (p - gone x) (judged x) prefix.0 (judged y) prefix.1 (omega (arith, within)),
+      judged_lines kind prefix.0,
+      λ p within. ap (λ (n : ℕ). judged_lines kind (drop (p - n) (judged y))) same ∙ drop-more kind (p - gone x) (judged x) prefix.0 (judged y) prefix.1 (omega (arith, within)),
     )
 
 -- no less is judged later
@@ -51,19 +52,19 @@ printed_then : (one two old mid new : List ℕ) → one ++ mid ≡ old → two +
 printed_then one two old mid new first second = append_assoc one two new ∙ ap (λ (l : List ℕ). one ++ l) second ∙ first
 
 -- what was printed by then, seen from a later book
-pub printed_later : (x y : Book) (p q : ℕ) (text : List ℕ) → IsBook x → IsFront x y → p ≤ q → q ≤ judged_count x → text ++ unprinted q x ≡ unprinted p x → text ++ unprinted q y ≡ unprinted p y
-printed_later x y p q text book front le within prints =
-    let more = unprinted_more x y book front in
-    ap (λ (l : List ℕ). text ++ l) (more.1 q within) ∙ sym (append_assoc text (unprinted q x) more.0) ∙ ap (λ (l : List ℕ). l ++ more.0) prints ∙ sym (more.1 p (omega (arith, le, within)))
+pub printed_later : (kind : LineKind) (x y : Book) (p q : ℕ) (text : List ℕ) → IsBook x → IsFront x y → p ≤ q → q ≤ judged_count x → text ++ unprinted kind q x ≡ unprinted kind p x → text ++ unprinted kind q y ≡ unprinted kind p y
+printed_later kind x y p q text book front le within prints =
+    let more = unprinted_more kind x y book front in
+    ap (λ (l : List ℕ). text ++ l) (more.1 q within) ∙ sym (append_assoc text (unprinted kind q x) more.0) ∙ ap (λ (l : List ℕ). l ++ more.0) prints ∙ sym (more.1 p (omega (arith, le, within)))
 
 -- a prefix of what is unprinted, behind what was printed
 prefix_then : (one two old mid : List ℕ) → one ++ mid ≡ old → IsPrefixOf two mid → IsPrefixOf (one ++ two) old
 prefix_then one two old mid first part = (part.0, sym first ∙ ap (λ (l : List ℕ). one ++ l) part.1 ∙ sym (append_assoc one two part.0))
 
 -- ---- one part after another
-pub goes_both : (e d : ℕ) (u v : ℕ → ℕ) (xs ys : List Tuple) (old mid new : Place) (x : State) → Stays old.moment mid.moment → (first : Goes e u xs old mid x) → Goes d v ys mid new first.fed.state → Goes (e + d) (λ b. u b + v b) (xs ++ ys) old new x
+pub goes_both : (kind : LineKind) (e d : ℕ) (u v : ℕ → ℕ) (xs ys : List Tuple) (old mid new : Place) (x : State) → Stays old.moment mid.moment → (first : Goes kind e u xs old mid x) → Goes kind d v ys mid new first.fed.state → Goes kind (e + d) (λ b. u b + v b) (xs ++ ys) old new x
 unfolding fed_both
-goes_both e d u v xs ys old mid new x still first second =
+goes_both kind e d u v xs ys old mid new x still first second =
     let book = first.fed.holds.urls_hold.book_is.is_book in
     let y = first.fed.state.urls in
     let z = second.fed.state.urls in
@@ -73,20 +74,20 @@ goes_both e d u v xs ys old mid new x still first second =
       ahead = second.ahead;
       text = first.text ++ second.text;
       written = appends_both _ _ _ first.text second.text first.written second.written;
-      prints = printed_then first.text second.text (unprinted old.printed z) (unprinted mid.printed z) (unprinted new.printed z) (printed_later y z old.printed mid.printed first.text book second.fed.grows.front.urls first.later first.ahead first.prints) second.prints;
+      prints = printed_then first.text second.text (unprinted kind old.printed z) (unprinted kind mid.printed z) (unprinted kind new.printed z) (printed_later kind y z old.printed mid.printed first.text book second.fed.grows.front.urls first.later first.ahead first.prints) second.prints;
     }
 
-pub goes_then_ends : (e d : ℕ) (u v : ℕ → ℕ) (xs ys : List Tuple) (old mid new : Place) (ending : Ending) (x : State) → Stays old.moment mid.moment → (first : Goes e u xs old mid x) → Ends d v ys mid new ending first.fed.state → Ends (e + d) (λ b. u b + v b) (xs ++ ys) old new ending x
+pub goes_then_ends : (kind : LineKind) (e d : ℕ) (u v : ℕ → ℕ) (xs ys : List Tuple) (old mid new : Place) (ending : Ending) (x : State) → Stays old.moment mid.moment → (first : Goes kind e u xs old mid x) → Ends kind d v ys mid new ending first.fed.state → Ends kind (e + d) (λ b. u b + v b) (xs ++ ys) old new ending x
 unfolding stranded_after
-goes_then_ends e d u v xs ys old mid new ending x still first second =
+goes_then_ends kind e d u v xs ys old mid new ending x still first second =
     let settings = old.moment.parts.urls.settings in
     let book = first.fed.holds.urls_hold.book_is.is_book in
     let y = first.fed.state in
     let z = second.kept in
     let strands = stranded_after e d u v xs ys old.moment mid.moment new.moment x still first.fed second.strands in
     let grows : Grows settings d y z = subst (λ (s : Settings). Grows s d y z) still.settings second.grows in
-    let seen : first.text ++ unprinted mid.printed z.urls ≡ unprinted old.printed z.urls =
-    printed_later y.urls z.urls old.printed mid.printed first.text book grows.front.urls first.later first.ahead first.prints in
+    let seen : first.text ++ unprinted kind mid.printed z.urls ≡ unprinted kind old.printed z.urls =
+    printed_later kind y.urls z.urls old.printed mid.printed first.text book grows.front.urls first.later first.ahead first.prints in
     record {
       strands = strands;
       kept = z;
@@ -100,7 +101,7 @@ goes_then_ends e d u v xs ys old mid new ending x still first second =
       keeps = keeps_both settings x y z old.moment.arrays mid.moment.arrays second.arrays xs ys first.fed.keeps (subst (λ (s : Settings). Keeps s y mid.moment.arrays z second.arrays ys) still.settings second.keeps);
       text = first.text ++ second.text;
       written = appends_both _ _ _ first.text second.text first.written second.written;
-      prints = prefix_then first.text second.text (unprinted old.printed z.urls) (unprinted mid.printed z.urls) seen second.prints;
+      prints = prefix_then first.text second.text (unprinted kind old.printed z.urls) (unprinted kind mid.printed z.urls) seen second.prints;
       prints_all = λ all. ap (λ (l : List ℕ). first.text ++ l) (second.prints_all all) ∙ seen;
       full = λ b is. subst (λ (s : Settings). (b < s.buckets) × (1 ≤ length (waiting_at second.arrays b)) × (s.cap < length_at z.urls b + length (waiting_at second.arrays b))) still.settings (second.full b is);
       done = second.done;
@@ -108,14 +109,14 @@ goes_then_ends e d u v xs ys old mid new ending x still first second =
 
 -- ---- from what an intake's call says
 -- nothing was printed
-pub goes_fed : (e : ℕ) (u : ℕ → ℕ) (xs : List Tuple) (old new : Place) (x : State) → HoldsState old.moment.store.images old.moment.parts x → old.printed ≤ judged_count x.urls → new.output.bytes ≡ old.output.bytes → new.printed ≡ old.printed → Fed e u xs old.moment new.moment x → Goes e u xs old new x
-goes_fed e u xs old new x holds few output printed fed = record {
+pub goes_fed : (kind : LineKind) (e : ℕ) (u : ℕ → ℕ) (xs : List Tuple) (old new : Place) (x : State) → HoldsState old.moment.store.images old.moment.parts x → old.printed ≤ judged_count x.urls → new.output.bytes ≡ old.output.bytes → new.printed ≡ old.printed → Fed e u xs old.moment new.moment x → Goes kind e u xs old new x
+goes_fed kind e u xs old new x holds few output printed fed = record {
   fed = fed;
   later = omega (arith, printed);
   ahead = omega (arith, printed, few, judged_later x.urls fed.state.urls holds.urls_hold.book_is.is_book fed.grows.front.urls);
   text = [];
   written = subst (λ (o : Option (List ℕ)). Appends old.output.bytes o []) (sym output) (Appends-nil old.output.bytes);
-  prints = ap (λ (p : ℕ). unprinted p fed.state.urls) printed;
+  prints = ap (λ (p : ℕ). unprinted kind p fed.state.urls) printed;
 }
 
 -- a state that is held may be one of files, with the settings of before
@@ -144,17 +145,17 @@ strands_fed e u xs old new x law drum still fed = record {
 }
 
 -- what an ending adds where the store holds a state
-pub record Closes (old new : Place) (ending : Ending) (state : State) : Type 0 where
+pub record Closes (kind : LineKind) (old new : Place) (ending : Ending) (state : State) : Type 0 where
   pub text : List ℕ
   pub written : Appends old.output.bytes new.output.bytes text
-  pub prints : IsPrefixOf text (unprinted old.printed state.urls)
-  pub prints_all : IsAllPrinted ending → text ≡ unprinted old.printed state.urls
+  pub prints : IsPrefixOf text (unprinted kind old.printed state.urls)
+  pub prints_all : IsAllPrinted ending → text ≡ unprinted kind old.printed state.urls
   pub full : (b : ℕ) → ending ≡ Full b → (b < old.moment.parts.urls.settings.buckets) × (1 ≤ length (waiting_at new.moment.arrays b)) × (old.moment.parts.urls.settings.cap < length_at state.urls b + length (waiting_at new.moment.arrays b))
   pub done : ending ≡ Done → ((b : ℕ) → waiting_at new.moment.arrays b ≡ []) × (judged_cut state.urls ≡ lengths_of state.urls)
 
-pub ends_fed : (e : ℕ) (u : ℕ → ℕ) (xs : List Tuple) (old new : Place) (ending : Ending) (x : State) → IsConsistent new.moment.store → IsDrum new.moment.parts.urls → Stays old.moment new.moment → FewWait old.moment.parts.urls.settings new.moment.arrays
-    → (fed : Fed e u xs old.moment new.moment x) → Closes old new ending fed.state → Ends e u xs old new ending x
-ends_fed e u xs old new ending x law drum still few fed closes =
+pub ends_fed : (kind : LineKind) (e : ℕ) (u : ℕ → ℕ) (xs : List Tuple) (old new : Place) (ending : Ending) (x : State) → IsConsistent new.moment.store → IsDrum new.moment.parts.urls → Stays old.moment new.moment → FewWait old.moment.parts.urls.settings new.moment.arrays
+    → (fed : Fed e u xs old.moment new.moment x) → Closes kind old new ending fed.state → Ends kind e u xs old new ending x
+ends_fed kind e u xs old new ending x law drum still few fed closes =
     let settings = old.moment.parts.urls.settings in
     record {
       strands = strands_fed e u xs old.moment new.moment x law drum still fed;
@@ -181,11 +182,11 @@ pub record IsPlain (ending : Ending) : Type 0 where
   pub full : (b : ℕ) → ending ≡ Full b → ⊥
   pub done : ending ≡ Done → ⊥
 
-pub closes_plain : (old new : Place) (ending : Ending) (state : State) → IsPlain ending → new.output.bytes ≡ old.output.bytes → Closes old new ending state
-closes_plain old new ending state plain output = record {
+pub closes_plain : (kind : LineKind) (old new : Place) (ending : Ending) (state : State) → IsPlain ending → new.output.bytes ≡ old.output.bytes → Closes kind old new ending state
+closes_plain kind old new ending state plain output = record {
   text = [];
   written = subst (λ (o : Option (List ℕ)). Appends old.output.bytes o []) (sym output) (Appends-nil old.output.bytes);
-  prints = (unprinted old.printed state.urls, refl);
+  prints = (unprinted kind old.printed state.urls, refl);
   prints_all = λ is. absurd (plain.printed is);
   full = λ b is. absurd (plain.full b is);
   done = λ is. absurd (plain.done is);
@@ -202,9 +203,9 @@ disk_plain = record {
 }
 
 -- the store failed
-pub ends_stranded : (e : ℕ) (u : ℕ → ℕ) (xs : List Tuple) (old new : Place) (x : State) → FewWait old.moment.parts.urls.settings new.moment.arrays → new.output.bytes ≡ old.output.bytes → Stranded e u xs old.moment new.moment x → Ends e u xs old new DiskFault x
-ends_stranded e u xs old new x few output strands =
-    let closes = closes_plain old new DiskFault strands.kept disk_plain output in
+pub ends_stranded : (kind : LineKind) (e : ℕ) (u : ℕ → ℕ) (xs : List Tuple) (old new : Place) (x : State) → FewWait old.moment.parts.urls.settings new.moment.arrays → new.output.bytes ≡ old.output.bytes → Stranded e u xs old.moment new.moment x → Ends kind e u xs old new DiskFault x
+ends_stranded kind e u xs old new x few output strands =
+    let closes = closes_plain kind old new DiskFault strands.kept disk_plain output in
     record {
       strands = strands;
       kept = strands.kept;
@@ -225,32 +226,32 @@ ends_stranded e u xs old new x few output strands =
     }
 
 -- ---- the same of each state that was held
-pub goes_on_both : (e d : ℕ) (u v : ℕ → ℕ) (xs ys : List Tuple) (old mid new : Place) → Stays old.moment mid.moment → GoesOn e u xs old mid → GoesOn d v ys mid new → GoesOn (e + d) (λ b. u b + v b) (xs ++ ys) old new
-goes_on_both e d u v xs ys old mid new still first second = λ files told x holds few.
+pub goes_on_both : (kind : LineKind) (e d : ℕ) (u v : ℕ → ℕ) (xs ys : List Tuple) (old mid new : Place) → Stays old.moment mid.moment → GoesOn kind e u xs old mid → GoesOn kind d v ys mid new → GoesOn kind (e + d) (λ b. u b + v b) (xs ++ ys) old new
+goes_on_both kind e d u v xs ys old mid new still first second = λ files told x holds few.
     let one = first files told x holds few in
     let after = tells_on _ old.moment.store.files mid.moment.store.files files still.others told in
-    goes_both e d u v xs ys old mid new x still one (second after.0 after.1 one.fed.state one.fed.holds one.ahead)
+    goes_both kind e d u v xs ys old mid new x still one (second after.0 after.1 one.fed.state one.fed.holds one.ahead)
 
-pub goes_on_ends : (e d : ℕ) (u v : ℕ → ℕ) (xs ys : List Tuple) (old mid new : Place) (ending : Ending) → Stays old.moment mid.moment → GoesOn e u xs old mid → EndsWith d v ys mid new ending → EndsWith (e + d) (λ b. u b + v b) (xs ++ ys) old new ending
-goes_on_ends e d u v xs ys old mid new ending still first second = λ files told x holds few.
+pub goes_on_ends : (kind : LineKind) (e d : ℕ) (u v : ℕ → ℕ) (xs ys : List Tuple) (old mid new : Place) (ending : Ending) → Stays old.moment mid.moment → GoesOn kind e u xs old mid → EndsWith kind d v ys mid new ending → EndsWith kind (e + d) (λ b. u b + v b) (xs ++ ys) old new ending
+goes_on_ends kind e d u v xs ys old mid new ending still first second = λ files told x holds few.
     let one = first files told x holds few in
     let after = tells_on _ old.moment.store.files mid.moment.store.files files still.others told in
-    goes_then_ends e d u v xs ys old mid new ending x still one (second after.0 after.1 one.fed.state one.fed.holds one.ahead)
+    goes_then_ends kind e d u v xs ys old mid new ending x still one (second after.0 after.1 one.fed.state one.fed.holds one.ahead)
 
 -- a store that holds none later held none
-pub none_before : (e : ℕ) (u : ℕ → ℕ) (xs : List Tuple) (old mid : Place) → Stays old.moment mid.moment → GoesOn e u xs old mid → HoldsNone mid → HoldsNone old
-none_before e u xs old mid still first none = λ files told x holds few.
+pub none_before : (kind : LineKind) (e : ℕ) (u : ℕ → ℕ) (xs : List Tuple) (old mid : Place) → Stays old.moment mid.moment → GoesOn kind e u xs old mid → HoldsNone mid → HoldsNone old
+none_before kind e u xs old mid still first none = λ files told x holds few.
     let one = first files told x holds few in
     let after = tells_on _ old.moment.store.files mid.moment.store.files files still.others told in
     none after.0 after.1 one.fed.state one.fed.holds one.ahead
 
-pub reason_then : (e : ℕ) (u : ℕ → ℕ) (xs : List Tuple) (old mid new : Place) (before ending : Ending) → IsConsistent mid.moment.store → GoesOn e u xs old mid → HasReason old mid before → HasReason mid new ending → HasReason old new ending
-reason_then e u xs old mid new before ending law first one two = record {
+pub reason_then : (kind : LineKind) (e : ℕ) (u : ℕ → ℕ) (xs : List Tuple) (old mid new : Place) (before ending : Ending) → IsConsistent mid.moment.store → GoesOn kind e u xs old mid → HasReason old mid before → HasReason mid new ending → HasReason old new ending
+reason_then kind e u xs old mid new before ending law first one two = record {
   stays = stays_both old.moment mid.moment new.moment law one.stays two.stays;
   disk = record { later = omega (arith, one.disk.later, two.disk.later); rose = λ is. omega (arith, one.disk.later, two.disk.rose is) };
   output = record { later = omega (arith, one.output.later, two.output.later); rose = λ is. omega (arith, one.output.later, two.output.rose is) };
   opened = two.opened;
   damaged = two.damaged;
   long = two.long;
-  whole = λ f at is. none_before e u xs old mid one.stays first (two.whole f at is);
+  whole = λ f at is. none_before kind e u xs old mid one.stays first (two.whole f at is);
 }

@@ -34,12 +34,12 @@ use Rattle.irl_yard.proofs.Entering.{enters_records}
 use Rattle.irl_intake.specs.Schedule.{one_more, HaveRecords, LeavesUneven, uneven_records}
 use Rattle.irl_intake.specs.Feeding.{Grows, HasBetween, list_at, length_at, handed_in, waiting_at}
 use Rattle.irl_intake.proofs.Chains.{grows_same, grows_more}
-use Rattle.irl_top.specs.declared.command.Command.TheVariants.{Seen}
+use Rattle.irl_top.specs.declared.line.LineKind.{LineKind}
 use Rattle.irl_top.specs.Input.{offered}
 use Rattle.irl_top.specs.Outside.{Lent}
 use Rattle.irl_top.specs.Printed.{judged_count}
 use Rattle.irl_top.specs.Records.{AddsUnevenRecords}
-use Rattle.irl_top.specs.Run.{task_of, settings_in, HasReached, TakesIn, Extends, Ran, IsStoreFile, IsOpenable}
+use Rattle.irl_top.specs.Run.{line_task, settings_in, HasReached, TakesIn, Extends, Ran, IsStoreFile, IsOpenable}
 use Rattle.irl_top.specs.Session.{Place, unprinted, Ends, EndsWith, HasReason, HasRead}
 use Rattle.irl_top.specs.Stream.{Stream}
 use Rattle.irl_top.specs.declared.ending.Ending.{Ending}
@@ -151,9 +151,9 @@ entered_uneven asked before new files x buckets array told has each steps = wide
 ))
 
 -- what is taken in of an input
-takes_in : (asked : Asked) (old : Place) (new : Place) (news : List Tuple) (ending : Ending) (x : State) (input : List ℕ) (e : Ends 1 one_more news old new ending (entered_state asked x)) → old.moment.parts.urls.settings ≡ settings_in asked x → ((b : ℕ) → list_at (entered_state asked x).urls b ≡ list_at x.urls b)
-    → ((b : ℕ) → waiting_at old.moment.arrays b ≡ []) → IsPrefixOf news (offered input) → (ending ≡ Done → news ≡ offered input) → ((n : ℕ) → ending ≡ LineRefused n → news ≡ offered input) → TakesIn (task_of (Seen asked)) x e.kept input ending
-takes_in asked old new news ending x input e same lists empty prefix done line = record {
+takes_in : (kind : LineKind) (asked : Asked) (old : Place) (new : Place) (news : List Tuple) (ending : Ending) (x : State) (input : List ℕ) (e : Ends kind 1 one_more news old new ending (entered_state asked x)) → old.moment.parts.urls.settings ≡ settings_in asked x → ((b : ℕ) → list_at (entered_state asked x).urls b ≡ list_at x.urls b)
+    → ((b : ℕ) → waiting_at old.moment.arrays b ≡ []) → IsPrefixOf news (offered kind input) → (ending ≡ Done → news ≡ offered kind input) → ((n : ℕ) → ending ≡ LineRefused n → news ≡ offered kind input) → TakesIn (line_task kind asked) x e.kept input ending
+takes_in kind asked old new news ending x input e same lists empty prefix done line = record {
   news = news;
   read = prefix;
   waiting = waiting_at e.arrays;
@@ -165,9 +165,9 @@ takes_in asked old new news ending x input e same lists empty prefix done line =
   full = λ b is. let f = e.full b is in (f.1, subst (λ (s : Settings). s.cap < length_at e.kept.urls b + length (waiting_at e.arrays b)) same f.2);
 }
 
-pub extends_opened : (asked : Asked) (before : Lent) (old new : Place) (input : Stream) (news : List Tuple) (ending : Ending) (files : Files) (x : State) → IsConsistent before.store → IsConsistent old.moment.store → IsConsistent new.moment.store → IsEntered asked before old → HasReason old new ending → HasRead news before.input.bytes input.bytes ending
-    → before.store.files ≡ Some files → HasState x files → Ends 1 one_more news old new ending (entered_state asked x) → HoldsState old.moment.store.images old.moment.parts (entered_state asked x) → Extends (task_of (Seen asked)) before (lent_at new input) ending x
-extends_opened asked before old new input news ending files x law_before law_old law_new entered reason read told has e holds =
+pub extends_opened : (kind : LineKind) (asked : Asked) (before : Lent) (old new : Place) (input : Stream) (news : List Tuple) (ending : Ending) (files : Files) (x : State) → IsConsistent before.store → IsConsistent old.moment.store → IsConsistent new.moment.store → IsEntered asked before old → HasReason old new ending → HasRead kind news before.input.bytes input.bytes ending
+    → before.store.files ≡ Some files → HasState x files → Ends kind 1 one_more news old new ending (entered_state asked x) → HoldsState old.moment.store.images old.moment.parts (entered_state asked x) → Extends (line_task kind asked) before (lent_at new input) ending x
+extends_opened kind asked before old new input news ending files x law_before law_old law_new entered reason read told has e holds =
     let y = entered_state asked x in
     let was_settings = old.moment.parts.urls.settings in
     let same : was_settings ≡ settings_in asked x = settings_entered asked x was_settings holds.settings in
@@ -192,10 +192,10 @@ extends_opened asked before old new input news ending files x law_before law_old
       legal = (inr (was_settings, e.legal), inr (was_settings, e.strands.legal));
       settled = e.settled;
       entered = λ late. e.grows.front.settings ∙ holds.settings ∙ ap (λ (s : Settings). Some s) same;
-      takes = λ bytes tells. takes_in asked old new news ending x bytes e same start.lists entered.empty (read.offers bytes tells) (λ is. (read.done is bytes tells).0) (λ n is. (read.line n is bytes tells).0);
-      lists = λ bytes tells. subst (λ (s : Settings). (b : ℕ) → b < s.buckets → (more : List Tuple) × (list_at e.strands.most.urls b ≡ list_at x.urls b ++ more) × IsPrefixOf more (part s.buckets b (offered bytes))) same (λ b within.
+      takes = λ bytes tells. takes_in kind asked old new news ending x bytes e same start.lists entered.empty (read.offers bytes tells) (λ is. (read.done is bytes tells).0) (λ n is. (read.line n is bytes tells).0);
+      lists = λ bytes tells. subst (λ (s : Settings). (b : ℕ) → b < s.buckets → (more : List Tuple) × (list_at e.strands.most.urls b ≡ list_at x.urls b ++ more) × IsPrefixOf more (part s.buckets b (offered kind bytes))) same (λ b within.
           let takes = subst (λ (l : List Tuple). IsPrefixOf (list_at e.strands.most.urls b) (l ++ part was_settings.buckets b news)) (none b) (e.strands.takes b within) in
-          let some = adds_some was_settings.buckets b y e.strands.most news (offered bytes) e.strands.may_grow.front takes (read.offers bytes tells) in
+          let some = adds_some was_settings.buckets b y e.strands.most news (offered kind bytes) e.strands.may_grow.front takes (read.offers bytes tells) in
           (some.0, some.1 ∙ ap (λ (l : List Tuple). l ++ some.0) (start.lists b), some.2));
       judged = λ is. (e.done is).1;
       full = λ b is.
@@ -204,8 +204,8 @@ extends_opened asked before old new input news ending files x law_before law_old
           subst (λ (s : Settings). (b < s.buckets) × (s.cap < length_at e.kept.urls b + s.array)) same (f.0, omega (arith, f.2, few));
       text = e.text;
       written = subst (λ (s : Stream). Appends s.bytes new.output.bytes e.text) entered.output e.written;
-      prints = subst (λ (p : ℕ). IsPrefixOf e.text (unprinted p e.kept.urls)) printed e.prints;
-      prints_all = λ is. e.prints_all is ∙ ap (λ (p : ℕ). unprinted p e.kept.urls) printed;
+      prints = subst (λ (p : ℕ). IsPrefixOf e.text (unprinted kind p e.kept.urls)) printed e.prints;
+      prints_all = λ is. e.prints_all is ∙ ap (λ (p : ℕ). unprinted kind p e.kept.urls) printed;
       records = λ old_files is_old new_files is_new.
           let same_files : files ≡ old_files = cc in
           subst (λ (f : Files). AddsUnevenRecords 1 (settings_in asked x).buckets (settings_in asked x).array f new_files) same_files (subst (λ (s : Settings). AddsUnevenRecords 1 s.buckets s.array files new_files) same
@@ -219,9 +219,9 @@ extends_opened asked before old new input news ending files x law_before law_old
       now = λ why image left. let between = e.now image left in (between.0, between.1, inr between.2, inr between.3);
     }
 
-pub ran_opened : (asked : Asked) (before : Lent) (old new : Place) (input : Stream) (news : List Tuple) (ending : Ending) → IsConsistent before.store → IsConsistent old.moment.store → IsConsistent new.moment.store → IsDrum new.moment.parts.urls → IsEntered asked before old → HasReason old new ending → HasRead news before.input.bytes input.bytes ending
-    → HasCause (ending ≡ InputFault) before.input.faults input.faults → EndsWith 1 one_more news old new ending → Ran (task_of (Seen asked)) before (lent_at new input) ending
-ran_opened asked before old new input news ending law_before law_old law_new drum entered reason read cause ends =
+pub ran_opened : (kind : LineKind) (asked : Asked) (before : Lent) (old new : Place) (input : Stream) (news : List Tuple) (ending : Ending) → IsConsistent before.store → IsConsistent old.moment.store → IsConsistent new.moment.store → IsDrum new.moment.parts.urls → IsEntered asked before old → HasReason old new ending → HasRead kind news before.input.bytes input.bytes ending
+    → HasCause (ending ≡ InputFault) before.input.faults input.faults → EndsWith kind 1 one_more news old new ending → Ran (line_task kind asked) before (lent_at new input) ending
+ran_opened kind asked before old new input news ending law_before law_old law_new drum entered reason read cause ends =
     let urls = old.moment.parts.urls in
     let small = count_small urls.settings.buckets entered.drum.settings.buckets in
     let openable : ForSome before.store.files (IsOpenable asked) =
@@ -233,7 +233,7 @@ ran_opened asked before old new input news ending law_before law_old law_new dru
     record {
       extends = λ files told x has.
           let h = held files x told has in
-          extends_opened asked before old new input news ending files x law_before law_old law_new entered reason read told has (ends h.0 h.1 (entered_state asked x) h.2 h.3) h.2;
+          extends_opened kind asked before old new input news ending files x law_before law_old law_new entered reason read told has (ends h.0 h.1 (entered_state asked x) h.2 h.3) h.2;
       others = tells_both IsStoreFile before.store.files old.moment.store.files new.moment.store.files (enters_told asked before.store.files before.store.files old.moment.store.files entered.files)
           (tells_more old.moment.store.files new.moment.store.files reason.stays.others);
       others_stop = leaves_both IsStoreFile before.store old.moment.store new.moment.store law_old (enters_stops asked before.store.files before.store old.moment.store entered.steps)
@@ -243,6 +243,7 @@ ran_opened asked before old new input news ending law_before law_old law_new dru
       unopened_stop = λ is. absurd (reason.opened is);
       read = λ is bytes tells. let r = read.done is bytes tells in (r.1, r.2);
       bad = λ n is. absurd (reason.opened (inl (n, is)));
+      bad_asked = λ n is. absurd (reason.opened (inl (n, is)));
       line = λ n is bytes tells. (read.line n is bytes tells).1;
       not_ours = λ at is. absurd (reason.opened (inr (inl (at, is))));
       other = λ n kept wanted is. absurd (reason.opened (inr (inr (n, kept, wanted, is))));

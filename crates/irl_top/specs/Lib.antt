@@ -1,8 +1,8 @@
-pub mod Command
 pub mod Input
 pub mod Message
 pub mod Outside
 pub mod Printed
+pub mod Reading
 pub mod Records
 pub mod Run
 pub mod Session

@@ -5,6 +5,9 @@ use Rattle.irl_offer.specs.declared.offer.Verdict.{Verdict}
 use Rattle.irl_offer.specs.declared.offer.Verdict.TheVariants.{Unique, Absent, Known}
 use Rattle.irl_offer.specs.declared.receipt.Judged.{Judged}
 use Rattle.irl_model.specs.Book.{Book, gone, judged}
+use Rattle.irl_tuple.specs.Verdicts.{verdict_line}
+use Rattle.irl_top.specs.declared.line.LineKind.{LineKind}
+use Rattle.irl_top.specs.declared.line.LineKind.TheVariants.{Text as TextLine, Tuple as TupleLine}
 
 -- a text and LF where it was judged Unique, and else nothing
 abbrev pub line_if_unique : List ℕ → Option Verdict → List ℕ
@@ -13,9 +16,14 @@ line_if_unique text (Some Unique) = text ++ 10 ∷ []
 line_if_unique text (Some Absent) = []
 line_if_unique text (Some (Known value)) = []
 
--- the texts of those that were judged Unique, in order
-abbrev pub unique_lines : List Judged → List ℕ
-unique_lines judged = flat_map (λ one. line_if_unique one.offer.aux one.verdict) judged
+-- what is printed of one: a text that was judged Unique, or the verdict of a tuple
+abbrev pub judged_line : LineKind → Judged → List ℕ
+judged_line TextLine one = line_if_unique one.offer.aux one.verdict
+judged_line TupleLine one = verdict_line one
+
+-- what is printed of some, in order
+abbrev pub judged_lines : LineKind → List Judged → List ℕ
+judged_lines kind judged = flat_map (judged_line kind) judged
 
 -- how many offers were judged, from the beginning of time
 abbrev pub judged_count : Book → ℕ
@@ -25,6 +33,6 @@ judged_count book = gone book + length (judged book)
 abbrev pub judged_since : Book → Book → List Judged
 judged_since x y = drop (judged_count x - gone y) (judged y)
 
--- the lines that `seen` prints of them
-abbrev pub added : Book → Book → List ℕ
-added x y = unique_lines (judged_since x y)
+-- the lines that a run prints of them
+abbrev pub added : LineKind → Book → Book → List ℕ
+added kind x y = judged_lines kind (judged_since x y)

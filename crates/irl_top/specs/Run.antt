@@ -21,13 +21,15 @@ use Rattle.irl_bay.specs.JudgedSpoilt.{IsJudgedSpoiltAt}
 use Rattle.irl_yard.specs.StoreFiles.{head_file, urls_base}
 use Rattle.irl_yard.specs.Standing.{HasState}
 use Rattle.irl_yard.specs.Entering.{Enters}
-use Rattle.irl_yard.specs.Opening.{Agrees, HasSettings, entered_state, IsNotOursAt, IsKeptOtherwise, IsBadStore, IsStoreDamagedAt}
+use Rattle.irl_yard.specs.Opening.{Agrees, HasSettings, entered_state, IsNotOursAt, IsKeptOtherwise, IsBadAsked, IsBadStore, IsStoreDamagedAt}
 use Rattle.irl_intake.specs.Feeding.{IsStateOf, Grows, list_at, length_at}
-use Rattle.irl_top.specs.declared.command.Command.{Command}
-use Rattle.irl_top.specs.declared.command.Command.TheVariants.{Seen}
+use Rattle.irl_words.specs.Words.{command_of}
+use Rattle.irl_words.specs.declared.command.Command.{Command}
+use Rattle.irl_words.specs.declared.command.Command.TheVariants.{Seen, Drum as DrumOf}
+use Rattle.irl_top.specs.declared.line.LineKind.{LineKind}
+use Rattle.irl_top.specs.declared.line.LineKind.TheVariants.{Text as TextLine, Tuple as TupleLine}
 use Rattle.irl_top.specs.declared.ending.Ending.{Ending}
 use Rattle.irl_top.specs.declared.ending.Ending.TheVariants.{Done, BadSettings, LineRefused, NotOurs, Damaged, OtherSettings, DiskFault, InputFault, OutputFault, NoMemory, Full}
-use Rattle.irl_top.specs.Command.{command_of}
 use Rattle.irl_top.specs.Input.{refused, offered}
 use Rattle.irl_top.specs.Message.{Says, message, refusal, status_of, refused_status, IsAllPrinted, IsUnopened}
 use Rattle.irl_top.specs.Outside.{Lent, Outside, IsUntouched}
@@ -44,8 +46,13 @@ pub record Task : Type 0 where
   -- what it prints where one book becomes another
   pub prints : Book → Book → List ℕ
 
+-- that of a command over lines of a kind
+abbrev pub line_task : LineKind → Asked → Task
+line_task kind asked = record { asked = asked; refuses = refused kind; offers = offered kind; prints = added kind }
+
 abbrev pub task_of : Command → Task
-task_of (Seen asked) = record { asked = asked; refuses = refused; offers = offered; prints = added }
+task_of (Seen asked) = line_task TextLine asked
+task_of (DrumOf asked) = line_task TupleLine asked
 
 -- ---- states
 -- the settings of a store that stands for a state, or those that it will be made with
@@ -179,6 +186,7 @@ pub record Ran (task : Task) (before after : Lent) (ending : Ending) : Type 0 wh
   pub read : ending ≡ Done → ForSome before.input.bytes (λ input. (after.input.bytes ≡ Some []) × (task.refuses input ≡ None))
   -- the cause of each other ending; want of memory alone has none
   pub bad : (n : ℕ) → ending ≡ BadSettings n → ForSome before.store.files (λ files. IsBadStore task.asked files n)
+  pub bad_asked : (n : ℕ) → ending ≡ BadSettings n → IsBadAsked (settings_of task.asked) n
   pub line : (n : ℕ) → ending ≡ LineRefused n → ForSome before.input.bytes (λ input. task.refuses input ≡ Some n)
   pub not_ours : (at : ℕ) → ending ≡ NotOurs at → ForSome before.store.files (λ files. IsNotOursAt files at)
   pub other : (n kept wanted : ℕ) → ending ≡ OtherSettings n kept wanted → ForSome before.store.files (λ files. IsKeptOtherwise task.asked files n kept wanted)
@@ -214,10 +222,17 @@ pub record Refuses (word : List ℕ) (before after : Outside) (status : ℕ) : T
   pub untouched : IsUntouched before.lent after.lent
   pub says : Says (refusal word) before.errors after.errors
 
--- one call of the program, whose words are a command or are refused
+-- memory ran out while the words were read, and nothing is called but the error sink
+pub record GivesUp (before after : Outside) (status : ℕ) : Type 0 where
+  pub status_is : status ≡ status_of NoMemory
+  pub untouched : IsUntouched before.lent after.lent
+  pub says : Says (message NoMemory) before.errors after.errors
+
+-- what is done with words that are a command, or are refused
 abbrev pub Answers : Result Command (List ℕ) → Outside → Outside → ℕ → Type 0
 Answers (Ok command) before after status = Obeys (task_of command) before after status
 Answers (Err word) before after status = Refuses word before after status
 
+-- one call of the program
 abbrev pub Runs : List (List ℕ) → Outside → Outside → ℕ → Type 0
-Runs words before after status = Answers (command_of words) before after status
+Runs words before after status = Answers (command_of words) before after status ⊎ GivesUp before after status

@@ -20,8 +20,9 @@ use Rattle.irl_io.specs.Lines.{lines}
 use Rattle.irl_io.specs.Steps.{Progress}
 use Rattle.irl_top.specs.Input.{offered, offered_from, refused, refused_from}
 use Rattle.irl_top.specs.Message.{IsAllPrinted, IsUnopened}
-use Rattle.irl_top.specs.Printed.{unique_lines, judged_count}
+use Rattle.irl_top.specs.Printed.{judged_lines, judged_count}
 use Rattle.irl_top.specs.Stream.{Stream}
+use Rattle.irl_top.specs.declared.line.LineKind.{LineKind}
 use Rattle.irl_top.specs.declared.ending.Ending.{Ending}
 use Rattle.irl_top.specs.declared.ending.Ending.TheVariants.{Done, LineRefused, Damaged, DiskFault, OutputFault, Full}
 
@@ -43,25 +44,25 @@ place snapshot faults written output_faults store parts arrays output printed =
     }
 
 -- what is printed of a book's judged offers from this number on
-abbrev pub unprinted : ℕ → Book → List ℕ
-unprinted printed book = unique_lines (drop (printed - gone book) (judged book))
+abbrev pub unprinted : LineKind → ℕ → Book → List ℕ
+unprinted kind printed book = judged_lines kind (drop (printed - gone book) (judged book))
 
 -- ---- what it keeps, judges and prints
 -- The store held a state, and these offers were handed in: it holds a later one, and some more of its judged offers are printed.
-pub record Goes (early : ℕ) (uneven : ℕ → ℕ) (news : List Tuple) (old new : Place) (x : State) : Type 0 where
+pub record Goes (kind : LineKind) (early : ℕ) (uneven : ℕ → ℕ) (news : List Tuple) (old new : Place) (x : State) : Type 0 where
   pub fed : Fed early uneven news old.moment new.moment x
   pub later : old.printed ≤ new.printed
   pub ahead : new.printed ≤ judged_count fed.state.urls
   pub text : List ℕ
   pub written : Appends old.output.bytes new.output.bytes text
-  pub prints : text ++ unprinted new.printed fed.state.urls ≡ unprinted old.printed fed.state.urls
+  pub prints : text ++ unprinted kind new.printed fed.state.urls ≡ unprinted kind old.printed fed.state.urls
 
 -- an array has at most as many offers as the setting says
 abbrev pub FewWait : Settings → List Waiting → Type 0
 FewWait settings arrays = (b : ℕ) → b < settings.buckets → length (waiting_at arrays b) ≤ settings.array
 
 -- The store held a state, and these offers were handed in before the run ended.
-pub record Ends (early : ℕ) (uneven : ℕ → ℕ) (news : List Tuple) (old new : Place) (ending : Ending) (x : State) : Type 0 where
+pub record Ends (kind : LineKind) (early : ℕ) (uneven : ℕ → ℕ) (news : List Tuple) (old new : Place) (ending : Ending) (x : State) : Type 0 where
   -- the state that is told, and the greatest that a stop left
   pub strands : Stranded early uneven news old.moment new.moment x
   -- the one that was acknowledged
@@ -79,19 +80,19 @@ pub record Ends (early : ℕ) (uneven : ℕ → ℕ) (news : List Tuple) (old ne
   -- what is printed was acknowledged
   pub text : List ℕ
   pub written : Appends old.output.bytes new.output.bytes text
-  pub prints : IsPrefixOf text (unprinted old.printed kept.urls)
-  pub prints_all : IsAllPrinted ending → text ≡ unprinted old.printed kept.urls
+  pub prints : IsPrefixOf text (unprinted kind old.printed kept.urls)
+  pub prints_all : IsAllPrinted ending → text ≡ unprinted kind old.printed kept.urls
   -- a bucket is full only where what waited of it doesn't fit
   pub full : (b : ℕ) → ending ≡ Full b → (b < old.moment.parts.urls.settings.buckets) × (1 ≤ length (waiting_at arrays b)) × (old.moment.parts.urls.settings.cap < length_at kept.urls b + length (waiting_at arrays b))
   -- and at `Done` nothing waited and all is judged
   pub done : ending ≡ Done → ((b : ℕ) → waiting_at arrays b ≡ []) × (judged_cut kept.urls ≡ lengths_of kept.urls)
 
 -- the same of each state that was held, where the store tells, and of which no more was printed than was judged
-abbrev pub GoesOn : ℕ → (ℕ → ℕ) → List Tuple → Place → Place → Type 0
-GoesOn early uneven news old new = ForSome old.moment.store.files (λ _. (x : State) → HoldsState old.moment.store.images old.moment.parts x → old.printed ≤ judged_count x.urls → Goes early uneven news old new x)
+abbrev pub GoesOn : LineKind → ℕ → (ℕ → ℕ) → List Tuple → Place → Place → Type 0
+GoesOn kind early uneven news old new = ForSome old.moment.store.files (λ _. (x : State) → HoldsState old.moment.store.images old.moment.parts x → old.printed ≤ judged_count x.urls → Goes kind early uneven news old new x)
 
-abbrev pub EndsWith : ℕ → (ℕ → ℕ) → List Tuple → Place → Place → Ending → Type 0
-EndsWith early uneven news old new ending = ForSome old.moment.store.files (λ _. (x : State) → HoldsState old.moment.store.images old.moment.parts x → old.printed ≤ judged_count x.urls → Ends early uneven news old new ending x)
+abbrev pub EndsWith : LineKind → ℕ → (ℕ → ℕ) → List Tuple → Place → Place → Ending → Type 0
+EndsWith kind early uneven news old new ending = ForSome old.moment.store.files (λ _. (x : State) → HoldsState old.moment.store.images old.moment.parts x → old.printed ≤ judged_count x.urls → Ends kind early uneven news old new ending x)
 
 abbrev pub HoldsNone : Place → Type 0
 HoldsNone old = ForSome old.moment.store.files (λ _. (x : State) → HoldsState old.moment.store.images old.moment.parts x → old.printed ≤ judged_count x.urls → ⊥)
@@ -108,25 +109,25 @@ pub record HasReason (old new : Place) (ending : Ending) : Type 0 where
 
 -- ---- what is read
 -- these offers were read from one place of the bytes left to another
-pub record ReadsOn (old new : Progress) (before after : List ℕ) (news : List Tuple) : Type 0 where
-  pub offers : offered_from (old.number + 1) (lines before) ≡ news ++ offered_from (new.number + 1) (lines after)
-  pub refuses : refused_from (old.number + 1) (lines before) ≡ refused_from (new.number + 1) (lines after)
+pub record ReadsOn (kind : LineKind) (old new : Progress) (before after : List ℕ) (news : List Tuple) : Type 0 where
+  pub offers : offered_from kind (old.number + 1) (lines before) ≡ news ++ offered_from kind (new.number + 1) (lines after)
+  pub refuses : refused_from kind (old.number + 1) (lines before) ≡ refused_from kind (new.number + 1) (lines after)
 
 -- the same where the source tells
-abbrev pub ReadsOnTold : Progress → Progress → Option (List ℕ) → Option (List ℕ) → List Tuple → Type 0
-ReadsOnTold old new left_before left_after news = (before : List ℕ) → prepend_known old.ahead left_before ≡ Some before → (after : List ℕ) × (prepend_known new.ahead left_after ≡ Some after) × ReadsOn old new before after news
+abbrev pub ReadsOnTold : LineKind → Progress → Progress → Option (List ℕ) → Option (List ℕ) → List Tuple → Type 0
+ReadsOnTold kind old new left_before left_after news = (before : List ℕ) → prepend_known old.ahead left_before ≡ Some before → (after : List ℕ) × (prepend_known new.ahead left_after ≡ Some after) × ReadsOn kind old new before after news
 
 -- no line was left
-abbrev pub EndsTold : Progress → Option (List ℕ) → Option (List ℕ) → Type 0
-EndsTold old left_before left_after = (before : List ℕ) → prepend_known old.ahead left_before ≡ Some before → (left_after ≡ Some []) × (offered_from (old.number + 1) (lines before) ≡ []) × (refused_from (old.number + 1) (lines before) ≡ None)
+abbrev pub EndsTold : LineKind → Progress → Option (List ℕ) → Option (List ℕ) → Type 0
+EndsTold kind old left_before left_after = (before : List ℕ) → prepend_known old.ahead left_before ≡ Some before → (left_after ≡ Some []) × (offered_from kind (old.number + 1) (lines before) ≡ []) × (refused_from kind (old.number + 1) (lines before) ≡ None)
 
--- the next line that isn't empty is refused, and has this number
-abbrev pub RefusesTold : Progress → Option (List ℕ) → ℕ → Type 0
-RefusesTold old left_before n = (before : List ℕ) → prepend_known old.ahead left_before ≡ Some before → (offered_from (old.number + 1) (lines before) ≡ []) × (refused_from (old.number + 1) (lines before) ≡ Some n)
+-- no line before the next one that is refused offers anything, and that one has this number
+abbrev pub RefusesTold : LineKind → Progress → Option (List ℕ) → ℕ → Type 0
+RefusesTold kind old left_before n = (before : List ℕ) → prepend_known old.ahead left_before ≡ Some before → (offered_from kind (old.number + 1) (lines before) ≡ []) × (refused_from kind (old.number + 1) (lines before) ≡ Some n)
 
 -- These offers of an input were read before a run ended so: all of them at `Done`, and then nothing is left and none is refused; and all
 -- before a line that is refused.
-pub record HasRead (news : List Tuple) (before after : Option (List ℕ)) (ending : Ending) : Type 0 where
-  pub offers : ForSome before (λ input. IsPrefixOf news (offered input))
-  pub done : ending ≡ Done → ForSome before (λ input. (news ≡ offered input) × (after ≡ Some []) × (refused input ≡ None))
-  pub line : (n : ℕ) → ending ≡ LineRefused n → ForSome before (λ input. (news ≡ offered input) × (refused input ≡ Some n))
+pub record HasRead (kind : LineKind) (news : List Tuple) (before after : Option (List ℕ)) (ending : Ending) : Type 0 where
+  pub offers : ForSome before (λ input. IsPrefixOf news (offered kind input))
+  pub done : ending ≡ Done → ForSome before (λ input. (news ≡ offered kind input) × (after ≡ Some []) × (refused kind input ≡ None))
+  pub line : (n : ℕ) → ending ≡ LineRefused n → ForSome before (λ input. (news ≡ offered kind input) × (refused kind input ≡ Some n))

@@ -1,24 +1,37 @@
 ghost use Rattle.std.specs.Prelude.{◌≡◌, ◌++◌, IfOk, OnOk};
-ghost use Rattle.irl_top.specs.Printed.{unique_lines, line_if_unique};
+ghost use Rattle.irl_top.specs.Printed.{judged_line, judged_lines, line_if_unique};
 
+use crate::line::LineKind;
 use irl_offer::{Judged, Verdict};
+use irl_tuple::push_verdict;
 use std::alloc::{AllocError, Global};
 
-/// The texts of those that were judged Unique, each followed by LF.
-pub fn unique_text(alloc: Global, judged: &[Judged]) -> Result<Vec<u8>, AllocError>
-    ensures { IfOk result (λ text. text.items ≡ unique_lines judged.now) }
+/// What is printed of judged offers, which lines of a kind were read as.
+pub fn judged_text(alloc: Global, kind: LineKind, judged: &[Judged]) -> Result<Vec<u8>, AllocError>
+    ensures { IfOk result (λ text. text.items ≡ judged_lines kind judged.now) }
 {
     let mut text = Vec::new(alloc);
     for one in judged {
-        print_if_unique(&mut text, one.offer.aux.bytes(), one.verdict)?;
+        push_judged(kind, one, &mut text)?;
     }
     Ok(text)
 }
 
-fn print_if_unique(
-    text: &mut Vec<u8>,
+// Puts behind a text what is printed of one.
+fn push_judged(kind: LineKind, one: &Judged, text: &mut Vec<u8>) -> Result<(), AllocError>
+    ensures { OnOk result (text.new.items ≡ text.old.items ++ judged_line kind one.now) }
+{
+    match kind {
+        LineKind::Text => push_if_unique(one.offer.aux.bytes(), one.verdict, text),
+        LineKind::Tuple => push_verdict(one, text),
+    }
+}
+
+// Puts behind a text a line that was judged Unique.
+fn push_if_unique(
     line: &[u8],
     verdict: Option<Verdict>,
+    text: &mut Vec<u8>,
 ) -> Result<(), AllocError>
     ensures { OnOk result (text.new.items ≡ text.old.items ++ line_if_unique line.now verdict) }
 {

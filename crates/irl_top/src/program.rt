@@ -1,23 +1,25 @@
-ghost use Rattle.std.specs.Prelude.{◌≢◌, map};
-ghost use Rattle.irl_offer.specs.declared.settings.Kind.TheVariants.{Crawl};
+ghost use Rattle.std.specs.Prelude.{◌≡◌, ◌≢◌, map};
+ghost use Rattle.irl_words.specs.Words.{IsInRange};
+ghost use Rattle.irl_top.specs.Message.{refused_status};
 ghost use Rattle.irl_top.specs.Outside.{outside, lent};
-ghost use Rattle.irl_top.specs.Run.{Runs, Ran, task_of};
+ghost use Rattle.irl_top.specs.Run.{Runs, Obeys, Ran, task_of};
 
 use crate::Ending;
-use crate::command::{Command, read_words};
 use crate::ending::REFUSED;
-use crate::seen::seen;
+use crate::filter::filter;
+use crate::line::LineKind;
 use crate::telling::{tell, tell_refused};
 use irl_disk::Store;
 use irl_io::{Sink, Source};
+use irl_words::{Command, WordFault, read_words};
 use std::alloc::Global;
 use std::sync::Wait;
 use std::thread::Threads;
 
 /// Runs the program with the words behind the folder's: answers the exit status, and hands the store back.
 ///
-/// The one command is `seen`: it keeps the lines of the input that aren't empty, and writes those that no line before
-/// them, in this run or an earlier one, has the key of.
+/// Words that are a command are carried out. Refused words have the status 1 and their line on the error sink, and where
+/// memory runs out while they are read it is 7 and that line; nothing else is called then.
 pub fn run<R, I, O, E, S>(
     _rt: &R,
     alloc: Global,
@@ -37,20 +39,43 @@ where
         Runs (map (λ word. word.now) words.now)
         (tells store input.old output.old errors.old) (tells result.1 input.new output.new errors.new) result.0 }
 {
-    match read_words(words) {
-        Ok(command) => {
-            let (ending, store) = carry_out(alloc, &command, input, output, store);
-            let _ = tell(errors, ending);
-            (ending.status(), store)
-        }
-        Err(word) => {
-            let _ = tell_refused(errors, word);
+    match read_words(alloc, words) {
+        Ok(command) => plain(alloc, &command, input, output, errors, store),
+        Err(WordFault::Refused(word)) => {
+            let _ = tell_refused(errors, word.bytes());
             (REFUSED, store)
+        }
+        Err(WordFault::Memory) => {
+            let _ = tell(errors, Ending::NoMemory);
+            (Ending::NoMemory.status(), store)
         }
     }
 }
 
-// Carries out a command.
+/// Carries out a command that waits for nobody: answers the exit status, and hands the store back.
+///
+/// `seen` keeps the lines of the input that aren't empty, and writes those that no line before them, in this run or an
+/// earlier one, has the key of. `drum` keeps the offers that the lines are, and writes the verdict on each that asks for one.
+pub fn plain<I: Source, O: Sink, E: Sink, S: Store>(
+    alloc: Global,
+    command: &Command,
+    input: &mut I,
+    output: &mut O,
+    errors: &mut E,
+    store: S,
+) -> (u8, S)
+    requires { IsInRange command.now }
+    ensures obeys { let tells = outside S.snapshot S.faults I.left I.faults O.written O.faults E.written E.faults in
+        Obeys (task_of command.now)
+        (tells store input.old output.old errors.old) (tells result.1 input.new output.new errors.new) result.0 }
+    ensures accepted { result.0 ≢ refused_status }
+{
+    let (ending, store) = carry_out(alloc, command, input, output, store);
+    let _ = tell(errors, ending);
+    (ending.status(), store)
+}
+
+// Carries out a command, and says nothing of how it ends.
 fn carry_out<I: Source, O: Sink, S: Store>(
     alloc: Global,
     command: &Command,
@@ -58,11 +83,12 @@ fn carry_out<I: Source, O: Sink, S: Store>(
     output: &mut O,
     store: S,
 ) -> (Ending, S)
-    requires kind { (task_of command.now).asked.kind ≢ Crawl }
+    requires { IsInRange command.now }
     ensures { let tells = lent S.snapshot S.faults I.left I.faults O.written O.faults in
         Ran (task_of command.now) (tells store input.old output.old) (tells result.1 input.new output.new) result.0 }
 {
     match command {
-        Command::Seen(_) => seen(alloc, &command.asked(), input, output, store),
+        Command::Seen(asked) => filter(alloc, LineKind::Text, asked, input, output, store),
+        Command::Drum(asked) => filter(alloc, LineKind::Tuple, asked, input, output, store),
     }
 }

@@ -19,7 +19,7 @@ pub fn tell<E: Sink>(errors: &mut E, ending: Ending) -> Result<(), Failed>
     let mut buffer = Buffer::new();
     match ending {
         Ending::Done => Ok(()),
-        Ending::BadSettings(n) => tell_refused(errors, option(n)),
+        Ending::BadSettings(n) => tell_refused(errors, option(n).as_bytes()),
         Ending::LineRefused(n) => say(
             errors,
             &[b"line ", buffer.format(n).as_bytes(), b" refused\n"],
@@ -55,12 +55,12 @@ pub fn tell<E: Sink>(errors: &mut E, ending: Ending) -> Result<(), Failed>
 }
 
 /// Writes the line of refused words. It takes no memory.
-pub fn tell_refused<E: Sink>(errors: &mut E, word: &str) -> Result<(), Failed>
+pub fn tell_refused<E: Sink>(errors: &mut E, word: &[u8]) -> Result<(), Failed>
     ensures ok { OnOk result (Appends (E.written errors.old) (E.written errors.new) (refusal word.now)) }
     ensures err { OnErr result (AppendsPrefix (E.written errors.old) (E.written errors.new) (refusal word.now)) }
     ensures cause { HasCause (IsErr result) (E.faults errors.old) (E.faults errors.new) }
 {
-    say(errors, &[b"words refused: ", word.as_bytes(), b"\n"])
+    say(errors, &[b"words refused: ", word, b"\n"])
 }
 
 // Writes that a store was made otherwise than is asked.

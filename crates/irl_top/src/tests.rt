@@ -1,17 +1,13 @@
-ghost use Rattle.std.specs.Prelude.{◌≡◌, ◌≢◌};
-ghost use Rattle.irl_offer.specs.declared.settings.Kind.TheVariants.{Crawl};
-
-use crate::command::LINES;
-use crate::seen::seen;
-use crate::{Ending, run};
+use crate::run;
 use irl_disk::{MemStore, Part, Store};
 use irl_io::{MemSink, MemSource};
-use irl_offer::Asked;
 use std::alloc::{AllocError, Global};
 use std::process::Abort;
 use std::sync::Wait;
 use std::test::Fail;
 use std::thread::Threads;
+
+const SEEN: &[&str] = &["seen"];
 
 const ROW: &[u8] = b"http://a.test/\nhttp://b.test/\nhttp://a.test/\n";
 
@@ -42,9 +38,9 @@ struct Case<'a> {
 }
 
 // A run on an input that writes this.
-fn lines<'a>(input: &'a [u8], output: &'a [u8]) -> Case<'a> {
+fn writes<'a>(words: &'a [&'a str], input: &'a [u8], output: &'a [u8]) -> Case<'a> {
     Case {
-        words: &["seen"],
+        words,
         input,
         status: 0,
         output,
@@ -75,15 +71,24 @@ fn new_store(alloc: Global, failing: Failing) -> Result<MemStore, AllocError> {
     Ok(MemStore::new(alloc, numbers(alloc, failing.store)?))
 }
 
-// Runs the program over a store.
-fn check<R: Threads + Wait + Sync + Abort + AllocGlobal>(
-    rt: &R,
+// What a run answers and writes, and the store that it leaves.
+#[derive(Drop)]
+struct Left {
+    status: u8,
+    output: Vec<u8>,
+    errors: Vec<u8>,
     store: MemStore,
+}
+
+// Runs the program over a store.
+fn run_over<R: Threads + Wait + Sync + AllocGlobal>(
+    rt: &R,
+    words: &[&str],
+    input: &[u8],
     failing: Failing,
-    case: Case<'_>,
-) -> Result<MemStore, AllocError> {
+    store: MemStore,
+) -> Result<Left, AllocError> {
     let alloc = rt.alloc();
-    let Case { words, input, .. } = case;
     let mut source = MemSource::new(input.to_vec(alloc)?, numbers(alloc, failing.input)?);
     let mut output = MemSink::new(alloc, numbers(alloc, failing.output)?);
     let mut errors = MemSink::new(alloc, Vec::new(alloc));
@@ -96,14 +101,31 @@ fn check<R: Threads + Wait + Sync + Abort + AllocGlobal>(
         &mut errors,
         store,
     );
-    check_written(rt, case, status, output.bytes(), errors.bytes());
-    Ok(store)
+    Ok(Left {
+        status,
+        output: output.bytes().to_vec(alloc)?,
+        errors: errors.bytes().to_vec(alloc)?,
+        store,
+    })
 }
 
-fn check_written(rt: &impl Abort, case: Case<'_>, status: u8, output: &[u8], errors: &[u8]) {
-    assert_eq!(rt; output, case.output);
-    assert_eq!(rt; errors, case.errors);
+// A run over a store, which ends so.
+fn check<R: Threads + Wait + Sync + Abort + AllocGlobal>(
+    rt: &R,
+    store: MemStore,
+    failing: Failing,
+    case: Case<'_>,
+) -> Result<MemStore, AllocError> {
+    let Left {
+        status,
+        output,
+        errors,
+        store,
+    } = run_over(rt, case.words, case.input, failing, store)?;
+    assert_eq!(rt; output.as_slice(), case.output);
+    assert_eq!(rt; errors.as_slice(), case.errors);
     assert_eq!(rt; status, case.status);
+    Ok(store)
 }
 
 // Each over what the one before it left. What is printed stands bucket by bucket, by the first four bits of SHA-1: of
@@ -113,15 +135,182 @@ fn check_written(rt: &impl Abort, case: Case<'_>, status: u8, output: &[u8], err
 fn each_run_goes_on_from_the_one_before(rt: HostRuntime) -> Result<(), Fail> {
     let mut store = new_store(rt.alloc(), NONE)?;
     for case in [
-        lines(b"", b""),
-        lines(ROW, NEW_OF_ROW),
-        lines(ROW, b""),
-        lines(b"\nhttp://c.test/\n\nlast", b"last\nhttp://c.test/\n"),
+        refusal(
+            &["seen", "--buckets", "3"],
+            1,
+            b"words refused: --buckets\n",
+        ),
+        writes(SEEN, b"", b""),
+        writes(SEEN, ROW, NEW_OF_ROW),
+        writes(SEEN, ROW, b""),
+        writes(SEEN, b"\nhttp://c.test/\n\nlast", b"last\nhttp://c.test/\n"),
         refusal(&[], 1, b"words refused: -\n"),
         refusal(&["saw"], 1, b"words refused: saw\n"),
         refusal(&["seen", "twice"], 1, b"words refused: seen\n"),
+        refusal(&["drum"], 3, b"other setting 1: kept 1, asked 2\n"),
+        refusal(
+            &["seen", "--cap", "7"],
+            3,
+            b"other setting 7: kept 1099511627776, asked 7\n",
+        ),
+        writes(&["seen", "--buckets=16"], b"\nnew\n", b"new\n"),
     ] {
         store = check(&rt, store, NONE, case)?;
+    }
+    Ok(())
+}
+
+// Each over what the one before it left. What doesn't fit is lost, and what was flushed is judged by the next run.
+#[test]
+fn settings_are_kept(rt: HostRuntime) -> Result<(), Fail> {
+    let mut store = new_store(rt.alloc(), NONE)?;
+    for case in [
+        Case {
+            words: &["seen", "--buckets", "1", "--array", "1", "--cap", "2"],
+            input: b"a\nb\nc\n",
+            status: 8,
+            output: b"",
+            errors: b"bucket 0 full\n",
+        },
+        refusal(
+            &["seen", "--buckets", "2"],
+            3,
+            b"other setting 3: kept 1, asked 2\n",
+        ),
+        writes(SEEN, b"", b"a\nb\n"),
+    ] {
+        store = check(&rt, store, NONE, case)?;
+    }
+    Ok(())
+}
+
+// ---- tuples
+// Keys and values as decided by DRUM's rules, each over an empty store: in the first three a merge comes at the end, or once a
+// bucket has two offers. A store of tuples is none of lines.
+#[test]
+fn tuples_are_judged_as_by_one_set(rt: HostRuntime) -> Result<(), Fail> {
+    for (words, input, output) in [
+        (
+            [
+                "drum",
+                "--buckets=2",
+                "--array=2",
+                "--trigger=4",
+                "--rule=keep",
+            ],
+            b"b 8000000000000001 0 x\nb 0000000000000001 0 y\nb 8000000000000001 0 z\n".as_slice(),
+            b"unique 0000000000000001 y\nunique 8000000000000001 x\nknown 8000000000000001 0 z\n".as_slice(),
+        ),
+        (
+            [
+                "drum",
+                "--buckets=2",
+                "--array=2",
+                "--trigger=2",
+                "--rule=keep",
+            ],
+            b"b 8000000000000001 0 x\nb 0000000000000001 0 y\nb 8000000000000001 0 z\nb 8000000000000002 0 w\n",
+            b"unique 8000000000000001 x\nknown 8000000000000001 0 z\nunique 0000000000000001 y\nunique 8000000000000002 w\n",
+        ),
+        (
+            [
+                "drum",
+                "--buckets=16",
+                "--array=1024",
+                "--trigger=16384",
+                "--rule=keep",
+            ],
+            b"b 02 0 q\nc 01\nb 01 7 p\nc 01\n",
+            b"unique 0000000000000002 q\nabsent 0000000000000001\nunique 0000000000000001 p\nknown 0000000000000001 7\n",
+        ),
+        (
+            [
+                "drum",
+                "--buckets=16",
+                "--array=1024",
+                "--trigger=16384",
+                "--rule=add",
+            ],
+            b"u 01 18446744073709551615\nu 01 5\nc 01\n",
+            b"known 0000000000000001 18446744073709551615\n",
+        ),
+        (
+            [
+                "drum",
+                "--buckets=1",
+                "--array=1",
+                "--trigger=1",
+                "--rule=replace",
+            ],
+            b"b 1 7\nu 1 9\nb 1 3 two words\nc 1",
+            b"unique 0000000000000001\nknown 0000000000000001 9 two words\nknown 0000000000000001 3\n",
+        ),
+    ] {
+        let store = new_store(rt.alloc(), NONE)?;
+        let store = check(&rt, store, NONE, writes(&words, input, output))?;
+        let other = refusal(SEEN, 3, b"other setting 1: kept 2, asked 1\n");
+        let _ = check(&rt, store, NONE, other)?;
+    }
+    Ok(())
+}
+
+// What stands before a refused line is taken in.
+#[test]
+fn a_line_that_is_no_tuple_is_refused(rt: HostRuntime) -> Result<(), Fail> {
+    for (input, errors) in [
+        (b"x 01".as_slice(), b"line 1 refused\n".as_slice()),
+        (b"b 01 07\n", b"line 1 refused\n"),
+        (b"c 01\n\nc 02\n", b"line 2 refused\n"),
+    ] {
+        let case = Case {
+            words: &["drum"],
+            input,
+            status: 2,
+            output: b"",
+            errors,
+        };
+        let _ = check(&rt, new_store(rt.alloc(), NONE)?, NONE, case)?;
+    }
+    Ok(())
+}
+
+// A line for each of 10,000 keys, which lie in all buckets: its operation, the key, and what stands behind it.
+fn tuples(alloc: Global, letter: u8, rest: &[u8]) -> Result<Vec<u8>, AllocError> {
+    const DIGITS: [u8; 16] = *b"0123456789abcdef";
+    let mut text = Vec::new(alloc);
+    for i in 0..10_000usize {
+        text.extend_from_slice(&[letter, b' '])?;
+        let digits = [i, i / 16, i / 256, i / 4_096].map(|digit| DIGITS[digit % 16]);
+        text.extend_from_slice(&digits)?;
+        text.extend_from_slice(rest)?;
+    }
+    Ok(text)
+}
+
+// Many flushes and merges, then one more run: each value was added to twice.
+#[test]
+fn many_tuples_are_judged(rt: HostRuntime) -> Result<(), Fail> {
+    let alloc = rt.alloc();
+    let words = ["drum", "--array=64", "--trigger=256", "--rule=add"];
+    let mut store = new_store(alloc, NONE)?;
+    for (letter, rest, verdict, last) in [
+        (b'b', b"000000000000 1\n".as_slice(), b'u', b'0'),
+        (b'b', b"000000000000 1 text\n", b'k', b't'),
+        (b'c', b"000000000000\n", b'k', b'2'),
+    ] {
+        let left = run_over(&rt, &words, &tuples(alloc, letter, rest)?, NONE, store)?;
+        assert_eq!(&rt; left.status, 0);
+        let (mut count, mut as_wanted) = (0u32, 0u32);
+        for line in left.output.split(|byte| *byte == b'\n') {
+            if let [first, .., end] = line {
+                count = count.wrapping_add(1);
+                if *first == verdict && *end == last {
+                    as_wanted = as_wanted.wrapping_add(1);
+                }
+            }
+        }
+        assert_eq!(&rt; (count, as_wanted), (10_000, 10_000));
+        store = left.store;
     }
     Ok(())
 }
@@ -141,7 +330,7 @@ fn check_length<R: Threads + Wait + Sync + Abort + AllocGlobal>(
         (2, b"".as_slice(), b"line 1 refused\n".as_slice())
     };
     let case = Case {
-        words: &["seen"],
+        words: SEEN,
         input: &line,
         status,
         output,
@@ -169,15 +358,15 @@ fn check_file<R: Threads + Wait + Sync + Abort + AllocGlobal>(
 ) -> Result<(), AllocError> {
     let mut store = new_store(rt.alloc(), NONE)?;
     if is_made {
-        store = check(rt, store, NONE, lines(b"", b""))?;
+        store = check(rt, store, NONE, writes(SEEN, b"", b""))?;
     }
     assert!(rt; file < 10_000);
     assert_eq!(rt; store.cut(file, 0), Ok(()));
     assert_eq!(rt; store.write(file, 0, bytes), Ok(()));
     let case = if errors.is_empty() {
-        lines(ROW, NEW_OF_ROW)
+        writes(SEEN, ROW, NEW_OF_ROW)
     } else {
-        refusal(&["seen"], 3, errors)
+        refusal(SEEN, 3, errors)
     };
     let _ = check(rt, store, NONE, case)?;
     Ok(())
@@ -222,9 +411,9 @@ fn calls_of_row<R: Threads + Wait + Sync + Abort + AllocGlobal>(
     errors: &[u8],
 ) -> Result<u64, AllocError> {
     let case = if status == 0 {
-        lines(ROW, NEW_OF_ROW)
+        writes(SEEN, ROW, NEW_OF_ROW)
     } else {
-        refusal(&["seen"], status, errors)
+        refusal(SEEN, status, errors)
     };
     Ok(check(rt, new_store(rt.alloc(), failing)?, failing, case)?.calls())
 }
@@ -252,76 +441,7 @@ fn a_fault_ends_the_run(rt: HostRuntime) -> Result<(), Fail> {
     Ok(())
 }
 
-// ---- other settings
-fn asked_of(buckets: u32, array: u32, trigger: Option<u32>, cap: Option<u64>) -> Asked
-    ensures { result.kind ≢ Crawl }
-{
-    Asked {
-        buckets: Some(buckets),
-        array: Some(array),
-        trigger,
-        cap,
-        ..LINES
-    }
-}
-
-// How `seen` ends on an input, what it writes, and the store that it leaves.
-fn seen_over(
-    alloc: Global,
-    asked: &Asked,
-    store: MemStore,
-    input: &[u8],
-) -> Result<(Ending, Vec<u8>, MemStore), AllocError>
-    requires { asked.now.kind ≢ Crawl }
-{
-    let mut source = MemSource::new(input.to_vec(alloc)?, Vec::new(alloc));
-    let mut output = MemSink::new(alloc, Vec::new(alloc));
-    let (ending, store) = seen(alloc, asked, &mut source, &mut output, store);
-    Ok((ending, output.bytes().to_vec(alloc)?, store))
-}
-
-// A run over a store, which ends so and writes this.
-fn check_seen(
-    rt: &impl Abort,
-    alloc: Global,
-    asked: &Asked,
-    store: MemStore,
-    expected: (&[u8], Ending, &[u8]),
-) -> Result<MemStore, AllocError>
-    requires { asked.now.kind ≢ Crawl }
-{
-    let (input, ending, written) = expected;
-    let (ended, output, store) = seen_over(alloc, asked, store, input)?;
-    assert_eq!(rt; ended, ending);
-    assert_eq!(rt; output.as_slice(), written);
-    Ok(store)
-}
-
-// Each over what the one before it left.
-#[test]
-fn settings_are_kept(rt: HostRuntime) -> Result<(), Fail> {
-    let alloc = rt.alloc();
-    let mut store = new_store(alloc, NONE)?;
-    for (asked, run) in [
-        (
-            asked_of(3, 1, None, None),
-            (b"a".as_slice(), Ending::BadSettings(3), b"".as_slice()),
-        ),
-        (
-            asked_of(1, 1, None, Some(2)),
-            (b"a\nb\nc\n", Ending::Full(0), b""),
-        ),
-        (
-            asked_of(2, 1, None, Some(2)),
-            (b"", Ending::OtherSettings(3, 1, 2), b""),
-        ),
-        (asked_of(1, 1, None, None), (b"", Ending::Done, b"a\nb\n")),
-    ] {
-        store = check_seen(&rt, alloc, &asked, store, run)?;
-    }
-    Ok(())
-}
-
+// ---- the schedule
 // The lines `l0` to `l19`, and the first ten of them again.
 fn thirty(alloc: Global) -> Result<Vec<u8>, AllocError> {
     let mut text = Vec::new(alloc);
@@ -340,22 +460,21 @@ fn thirty(alloc: Global) -> Result<Vec<u8>, AllocError> {
 // Sixteen flushes and six merges, by the rules of the schedule. A store with one bucket judges in the order of the input.
 #[test]
 fn merges_stand_in_the_order_of_the_schedule(rt: HostRuntime) -> Result<(), Fail> {
-    let alloc = rt.alloc();
-    let input = thirty(alloc)?;
+    let input = thirty(rt.alloc())?;
     for (buckets, written) in [
         (
-            2,
+            "--buckets=2",
             b"l1\nl5\nl0\nl2\nl3\nl4\nl7\nl8\nl9\nl10\nl11\nl12\nl14\nl15\nl6\nl13\nl17\nl19\nl16\nl18\n".as_slice(),
         ),
         (
-            1,
+            "--buckets=1",
             b"l0\nl1\nl2\nl3\nl4\nl5\nl6\nl7\nl8\nl9\nl10\nl11\nl12\nl13\nl14\nl15\nl16\nl17\nl18\nl19\n",
         ),
     ] {
-        let asked = asked_of(buckets, 2, Some(3), None);
-        let store = new_store(alloc, NONE)?;
-        let store = check_seen(&rt, alloc, &asked, store, (&input, Ending::Done, written))?;
-        let _ = check_seen(&rt, alloc, &asked, store, (&input, Ending::Done, b""))?;
+        let words = ["seen", buckets, "--array=2", "--trigger=3"];
+        let store = new_store(rt.alloc(), NONE)?;
+        let store = check(&rt, store, NONE, writes(&words, &input, written))?;
+        let _ = check(&rt, store, NONE, writes(&words, &input, b""))?;
     }
     Ok(())
 }
@@ -363,23 +482,24 @@ fn merges_stand_in_the_order_of_the_schedule(rt: HostRuntime) -> Result<(), Fail
 // ---- stops
 const TWO: &[u8] = b"a\nb\n";
 
+// One bucket, whose array the two lines fill.
+const SMALL: &[&str] = &["seen", "--buckets=1", "--array=2"];
+
 // What a stop in a call leaves of a store that two lines are kept in: 0 no line, 1 both, unjudged, 2 both, judged. What
 // was unjudged is judged and printed in the next run, and what was lost is new in the one after it.
-fn stage(
-    rt: &impl Abort,
-    alloc: Global,
+fn stage<R: Threads + Wait + Sync + Abort + AllocGlobal>(
+    rt: &R,
     store: &MemStore,
     call: u64,
     part: Part,
 ) -> Result<u8, AllocError> {
-    let asked = asked_of(1, 2, None, None);
     assert!(rt; call < store.calls());
-    let image = store.image(alloc, call, part)?;
-    let (ended, first, image) = seen_over(alloc, &asked, image, b"")?;
-    assert_eq!(rt; ended, Ending::Done);
-    let (ended, second, _) = seen_over(alloc, &asked, image, TWO)?;
-    assert_eq!(rt; ended, Ending::Done);
-    match (first.as_slice(), second.as_slice()) {
+    let image = store.image(rt.alloc(), call, part)?;
+    let first = run_over(rt, SMALL, b"", NONE, image)?;
+    assert_eq!(rt; first.status, 0);
+    let second = run_over(rt, SMALL, TWO, NONE, first.store)?;
+    assert_eq!(rt; second.status, 0);
+    match (first.output.as_slice(), second.output.as_slice()) {
         (b"", TWO) => Ok(0),
         (TWO, b"") => Ok(1),
         (first, second) => {
@@ -393,19 +513,17 @@ fn stage(
 // stay. Of the calls of the merge behind it the last leaves both judged.
 #[test]
 fn a_stop_leaves_whole_arrays(rt: HostRuntime) -> Result<(), Fail> {
-    let alloc = rt.alloc();
-    let asked = asked_of(1, 2, None, None);
-    let store = new_store(alloc, NONE)?;
-    let store = check_seen(&rt, alloc, &asked, store, (b"", Ending::Done, b""))?;
+    let store = new_store(rt.alloc(), NONE)?;
+    let store = check(&rt, store, NONE, writes(SMALL, b"", b""))?;
     let made = store.calls();
-    let store = check_seen(&rt, alloc, &asked, store, (b"", Ending::Done, b""))?;
+    let store = check(&rt, store, NONE, writes(SMALL, b"", b""))?;
     let opened = store.calls();
     let first = opened + opened.saturating_sub(made);
-    let store = check_seen(&rt, alloc, &asked, store, (TWO, Ending::Done, TWO))?;
+    let store = check(&rt, store, NONE, writes(SMALL, TWO, TWO))?;
     let end = store.calls();
     for call in first..end {
         for part in [Part::Old, Part::New, Part::Torn] {
-            let stage = stage(&rt, alloc, &store, call, part)?;
+            let stage = stage(&rt, &store, call, part)?;
             assert!(rt; call >= first + 4 || stage == 0, "at {call}");
             assert!(rt; call >= first + 6 || stage <= 1, "at {call}");
             assert!(rt; call < first + 5 || stage >= 1, "at {call}");
@@ -451,12 +569,12 @@ fn left_in_the_middle(
 fn a_run_is_stopped_and_resumed(rt: HostRuntime) -> Result<(), Fail> {
     let alloc = rt.alloc();
     let input = many(alloc)?;
-    let (ended, output, store) = seen_over(alloc, &LINES, new_store(alloc, NONE)?, &input)?;
-    assert_eq!(rt; ended, Ending::Done);
-    assert_eq!(rt; count_lines(&output), 2_501);
-    let image = left_in_the_middle(&rt, alloc, &store)?;
-    let (ended, _, image) = seen_over(alloc, &LINES, image, &input)?;
-    assert_eq!(rt; ended, Ending::Done);
-    let _ = check_seen(&rt, alloc, &LINES, image, (&input, Ending::Done, b""))?;
+    let left = run_over(&rt, SEEN, &input, NONE, new_store(alloc, NONE)?)?;
+    assert_eq!(&rt; left.status, 0);
+    assert_eq!(&rt; count_lines(&left.output), 2_501);
+    let image = left_in_the_middle(&rt, alloc, &left.store)?;
+    let left = run_over(&rt, SEEN, &input, NONE, image)?;
+    assert_eq!(&rt; left.status, 0);
+    let _ = check(&rt, left.store, NONE, writes(SEEN, &input, b""))?;
     Ok(())
 }

@@ -12,7 +12,7 @@ returns-in-Refused g c =
       output = refl;
     })
 
-pub returns-in-Run : goal.returns-in-Run
-returns-in-Run g c =
-    rw (← c.from_words.ensures, c.in-Run.is, drop-map (λ (word : Bor (List ℕ)). word.now) 1 c.args.words.now)
-    c.run_in_folder.ensures
+pub returns-in-Command : goal.returns-in-Command
+returns-in-Command g c =
+    rw (← c.from_words.ensures, c.in-Command.is, drop-map (λ (word : Bor (List ℕ)). word.now) 1 c.args.words.now)
+    c.command.ensures

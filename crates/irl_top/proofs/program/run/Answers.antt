@@ -1,24 +1,32 @@
-use Rattle.std.proofs.Common.{◌≡◌, ◌∙◌, ℕ, Bor, List, sym, ap, subst, map}
-use Rattle.std.specs.Prelude.{Result, Ok}
-use Rattle.std.specs.Result.{result_map_both}
-use Rattle.irl_top.specs.Command.{command_of}
-use Rattle.irl_top.specs.Outside.{outside}
+use Rattle.std.proofs.Common.{◌≡◌, ◌∙◌, ℕ, Bor, List, inl, sym, ap, subst, map, refl}
+use Rattle.std.specs.Prelude.{Result, Err}
+use Rattle.irl_words.specs.Words.{command_of}
+use Rattle.irl_words.specs.declared.command.Command.{Command}
+use Rattle.irl_top.specs.Outside.{Outside, outside}
 use Rattle.irl_top.specs.Run.{Answers}
-use Rattle.irl_top.specs.declared.command.Command.{Command}
-use Rattle.irl_top.proofs.Deciding.{completes, says_of}
+use Rattle.irl_top.proofs.Deciding.{says_of}
+use Rattle.irl_top.proofs.program.run.Given.{Over}
 use Rattle.irl_top.proofs.program.run.Goals as goal
+
+-- what is told of all that a run is handed
+abbrev told : (g : Over) → g.row.S.Denot → g.row.I.Denot → g.row.O.Denot → g.row.E.Denot → Outside
+told g store input output errors = outside g.S.Store.snapshot g.S.Store.faults g.I.Source.left g.I.Source.faults g.O.Sink.written g.O.Sink.faults g.E.Sink.written g.E.Sink.faults store input output errors
 
 pub returns-in-Ok : goal.returns-in-Ok
 returns-in-Ok g c =
-    let words = map (λ (word : Bor (List ℕ)). word.now) c.args.words.now in
-    let is : command_of words ≡ Ok c.in-Ok.command = sym c.read_words.ensures.value ∙ ap (λ (r : Result Command (Bor (List ℕ))). result_map_both (λ command. command) (λ word. word.now) r) c.in-Ok.is in
-    let tells = outside g.S.Store.snapshot g.S.Store.faults g.I.Source.left g.I.Source.faults g.O.Sink.written g.O.Sink.faults g.E.Sink.written g.E.Sink.faults in
-    let before = tells c.args.store c.args.input.now c.args.output.now c.args.errors.now in
-    let after = tells c.carry_out-ending.result.1 c.carry_out-ending.new.input c.carry_out-ending.new.output c.tell.new.errors in
-    subst (λ (r : Result Command (List ℕ)). Answers r before after c.status.result) (sym is) (record {
-      ending = c.carry_out-ending.result.0;
-      status_is = c.status.ensures;
-      ran = c.carry_out-ending.ensures;
-      completes = completes _ _ _ c.carry_out-ending.result.0 c.carry_out-ending.ensures;
-      says = says_of c.tell.result _ _ _ c.tell.ensures.ok c.tell.ensures.err c.tell.ensures.cause;
-    })
+    let before = told g c.args.store c.args.input.now c.args.output.now c.args.errors.now in
+    let after = told g c.plain.result.1 c.plain.new.input c.plain.new.output c.plain.new.errors in
+    inl (subst (λ (r : Result Command (List ℕ)). Answers r before after c.plain.result.0) (sym c.in-Ok.ensures.command) c.plain.ensures.obeys)
+
+pub returns-in-Err-Refused : goal.returns-in-Err-Refused
+returns-in-Err-Refused g c =
+    let before = told g c.args.store c.args.input.now c.args.output.now c.args.errors.now in
+    let after = told g c.args.store c.args.input.now c.args.output.now c.tell_refused.new.errors in
+    let word = c.bytes.result.now in
+    let refused = rw c.in-Err-Refused.field-0-is at c.in-Err-Refused.ensures.refused in
+    let is : command_of (map (λ (word : Bor (List ℕ)). word.now) c.args.words.now) ≡ Err word = refused ∙ ap (λ (w : List ℕ). Err w) (sym c.in-Err-Refused.word-is ∙ sym c.bytes.ensures) in
+    inl (subst (λ (r : Result Command (List ℕ)). Answers r before after 1) (sym is) (record {
+      status_is = refl;
+      untouched = record { files = refl; images = λ image left. left; since = λ t image left. left; moment = refl; disk_faults = refl; input = refl; output = refl };
+      says = says_of c.tell_refused.result _ _ _ c.tell_refused.ensures.ok c.tell_refused.ensures.err c.tell_refused.ensures.cause;
+    }))

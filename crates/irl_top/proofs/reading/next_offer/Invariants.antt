@@ -8,7 +8,7 @@ abbrev pub invariant-lines : goal.invariant-lines
 invariant-lines g l =
     let left = g.I.Source.left in
     record {
-      bytes : ReadsOnTold l.fn.lines l.lines (left l.fn.input) (left l.input) [];
+      bytes : ReadsOnTold l.fn.kind l.fn.lines l.lines (left l.fn.input) (left l.input) [];
       number : l.fn.lines.number ≤ l.lines.number;
       few : l.fn.lines.number < l.lines.number → l.lines.number ≤ most_lines;
       later : g.I.Source.faults l.fn.input ≤ g.I.Source.faults l.input;

@@ -12,7 +12,7 @@ invariant-loop-printed g l =
     let before = at l.fn.intake.yard.store l.fn.intake.yard.parts l.fn.intake.arrays.items l.fn.output l.fn.printed in
     let now = at l.intake.yard.store l.intake.yard.parts l.intake.arrays.items l.output l.printed in
     record {
-      goes : GoesOn 0 none_more [] before now;
+      goes : GoesOn l.fn.kind 0 none_more [] before now;
       sound : IsSound l.intake.yard.parts;
       urls : l.intake.yard.parts.urls ≡ l.fn.intake.yard.parts.urls;
       arrays : l.intake.arrays ≡ l.fn.intake.arrays;

@@ -1,20 +1,19 @@
 use Rattle.std.proofs.Common.{◌∙◌, ℕ, List, [], inl, refl, sym, ap, subst, arith}
 use Rattle.irl_array.specs.Waiting.{Waiting}
 use Rattle.irl_yard.specs.declared.parts.Parts.{Parts}
-use Rattle.irl_top.specs.declared.command.Command.TheVariants.{Seen}
 use Rattle.irl_top.specs.declared.ending.Ending.{Ending}
 use Rattle.irl_top.specs.declared.ending.Ending.TheVariants.{NoMemory}
 use Rattle.irl_top.specs.Message.{ending_of}
 use Rattle.irl_top.specs.Outside.{Lent, lent}
-use Rattle.irl_top.specs.Run.{Ran, task_of}
+use Rattle.irl_top.specs.Run.{Ran, line_task}
 use Rattle.irl_top.specs.Session.{Place, place}
 use Rattle.irl_top.specs.Stream.{Stream}
 use Rattle.irl_top.proofs.InputLines.{start, told_none, read_some}
 use Rattle.irl_top.proofs.Calls.{reason_input, stop_plain}
 use Rattle.irl_top.proofs.Opened.{IsEntered, ran_opened}
 use Rattle.irl_top.proofs.Closed.{ran_refused}
-use Rattle.irl_top.proofs.seen.seen.Given.{Over}
-use Rattle.irl_top.proofs.seen.seen.Goals as goal
+use Rattle.irl_top.proofs.filter.filter.Given.{Over}
+use Rattle.irl_top.proofs.filter.filter.Goals as goal
 
 abbrev at : (g : Over) → g.row.S.Denot → Parts → List Waiting → g.row.O.Denot → ℕ → Place
 at g store parts arrays output printed = place g.S.Store.snapshot g.S.Store.faults g.O.Sink.written g.O.Sink.faults store parts arrays output printed
@@ -28,9 +27,9 @@ returns-in-Err g c =
     let h = c.in-Err.ensures in
     let before = told g c.args.store c.args.input.now c.args.output.now in
     let after = told g c.in-Err.store c.args.input.now c.args.output.now in
-    subst (λ (e : Ending). Ran (task_of (Seen c.args.asked.now)) before after e) (sym c.into.ensures)
-    (ran_refused c.args.asked.now before after c.in-Err.fault (g.met.S.Store.is_consistent c.args.store) (g.met.S.Store.is_consistent c.in-Err.store) (record {
-      kind = c.requires.kind;
+    subst (λ (e : Ending). Ran (line_task c.args.kind c.args.asked.now) before after e) (sym c.into.ensures)
+    (ran_refused c.args.kind c.args.asked.now before after c.in-Err.fault (g.met.S.Store.is_consistent c.args.store) (g.met.S.Store.is_consistent c.in-Err.store) (record {
+      kind = c.requires.lines;
       ground = h.ground;
       whole = h.whole;
       same = h.same;
@@ -55,7 +54,7 @@ returns-in-Err-new g c =
     let input : Stream = record { bytes = left c.args.input.now; faults = g.I.Source.faults c.args.input.now } in
     let law = g.met.S.Store.is_consistent c.in-Ok.yard.store in
     let entered : IsEntered asked before here = record {
-      kind = c.requires.kind;
+      kind = c.requires.lines;
       holds = h.holds;
       drum = h.drum;
       base = h.base;
@@ -71,11 +70,11 @@ returns-in-Err-new g c =
       printed = c.judged_len-printed.ensures.value;
       empty = λ b. refl;
     } in
-    let ran = ran_opened asked before here here input [] NoMemory (g.met.S.Store.is_consistent c.args.store) law law h.drum entered (reason_input here NoMemory law (inl refl))
-    (read_some start (left c.args.input.now) (left c.args.input.now) (left c.args.input.now) [] NoMemory (told_none start (left c.args.input.now)) (λ is. let no : ⊥ = cc in absurd no) (λ n is. let no : ⊥ = cc in absurd no))
-    (record { later = omega arith; rose = λ is. let no : ⊥ = cc in absurd no }) (stop_plain here law h.drum (λ b within. omega arith)) in
+    let ran = ran_opened c.args.kind asked before here here input [] NoMemory (g.met.S.Store.is_consistent c.args.store) law law h.drum entered (reason_input here NoMemory law (inl refl))
+    (read_some c.args.kind start (left c.args.input.now) (left c.args.input.now) (left c.args.input.now) [] NoMemory (told_none c.args.kind start (left c.args.input.now)) (λ is. let no : ⊥ = cc in absurd no) (λ n is. let no : ⊥ = cc in absurd no))
+    (record { later = omega arith; rose = λ is. let no : ⊥ = cc in absurd no }) (stop_plain c.args.kind here law h.drum (λ b within. omega arith)) in
     let back = c.into_store.ensures ∙ ap (λ (y : _). y.store) c.in-Err-new.ensures.refused in
-    subst (λ (s : g.row.S.Denot). Ran (task_of (Seen asked)) before (told g s c.args.input.now c.args.output.now) NoMemory) (sym back) ran
+    subst (λ (s : g.row.S.Denot). Ran (line_task c.args.kind asked) before (told g s c.args.input.now c.args.output.now) NoMemory) (sym back) ran
 
 pub returns : goal.returns
 returns g c =
@@ -90,7 +89,7 @@ returns g c =
     let new = at g later.yard.store later.yard.parts later.arrays.items c.take_in-taken.new.output c.take_in-taken.new.printed in
     let input : Stream = record { bytes = left c.take_in-taken.new.input; faults = g.I.Source.faults c.take_in-taken.new.input } in
     let first : IsEntered asked before (at g c.in-Ok.yard.store c.in-Ok.yard.parts intake.arrays.items c.args.output.now c.judged_len-printed.result) = record {
-      kind = c.requires.kind;
+      kind = c.requires.lines;
       holds = h.holds;
       drum = h.drum;
       base = h.base;
@@ -108,6 +107,6 @@ returns g c =
     } in
     let entered : IsEntered asked before old = subst (λ (y : _). IsEntered asked before (at g y.store y.parts intake.arrays.items c.args.output.now c.judged_len-printed.result)) (sym c.in-Ok-new.ensures.yard) first in
     let taken = c.take_in-taken.ensures in
-    let ran = ran_opened asked before old new input taken.ends.0 ending (g.met.S.Store.is_consistent c.args.store) (g.met.S.Store.is_consistent intake.yard.store) (g.met.S.Store.is_consistent later.yard.store) c.is_sound-is_sound.ensures.drum entered taken.reason taken.ends.1 taken.cause taken.ends.2 in
-    subst (λ (e : Ending). Ran (task_of (Seen asked)) before (told g c.into_store-2.result c.take_in-taken.new.input c.take_in-taken.new.output) e) (sym c.of.ensures)
-    (subst (λ (s : g.row.S.Denot). Ran (task_of (Seen asked)) before (told g s c.take_in-taken.new.input c.take_in-taken.new.output) ending) (sym c.into_store-2.ensures) ran)
+    let ran = ran_opened c.args.kind asked before old new input taken.ends.0 ending (g.met.S.Store.is_consistent c.args.store) (g.met.S.Store.is_consistent intake.yard.store) (g.met.S.Store.is_consistent later.yard.store) c.is_sound-is_sound.ensures.drum entered taken.reason taken.ends.1 taken.cause taken.ends.2 in
+    subst (λ (e : Ending). Ran (line_task c.args.kind asked) before (told g c.into_store-2.result c.take_in-taken.new.input c.take_in-taken.new.output) e) (sym c.of.ensures)
+    (subst (λ (s : g.row.S.Denot). Ran (line_task c.args.kind asked) before (told g s c.take_in-taken.new.input c.take_in-taken.new.output) ending) (sym c.into_store-2.ensures) ran)

@@ -9,8 +9,8 @@ use Rattle.irl_top.specs.declared.ending.Ending.TheVariants.{Done, NoMemory}
 use Rattle.irl_top.proofs.InputLines.{start, told_none, told_both, read_some, read_all}
 use Rattle.irl_top.proofs.Going.{goes_on_both, goes_on_ends, reason_then}
 use Rattle.irl_top.proofs.Calls.{goes_same, reason_same, stop_here, ends_lifted, input_done, input_full, memory_plain, no_line_of, err_is}
-use Rattle.irl_top.proofs.seen.take_in.Given.{Over}
-use Rattle.irl_top.proofs.seen.take_in.Goals as goal
+use Rattle.irl_top.proofs.filter.take_in.Given.{Over}
+use Rattle.irl_top.proofs.filter.take_in.Goals as goal
 
 abbrev at : (g : Over) → g.row.S.Denot → Parts → List Waiting → g.row.O.Denot → ℕ → Place
 at g store parts arrays output printed = place g.S.Store.snapshot g.S.Store.faults g.O.Sink.written g.O.Sink.faults store parts arrays output printed
@@ -21,8 +21,8 @@ offers-init g c =
     let before = at g c.args.intake.now.yard.store c.args.intake.now.yard.parts c.args.intake.now.arrays.items c.args.output.now c.args.printed.now in (
       [],
       record {
-        reads = rw c.in_ok-lines.ensures (told_none start (g.I.Source.left c.args.input.now));
-        goes = goes_same before law c.is_sound-is_sound.ensures.drum;
+        reads = rw c.in_ok-lines.ensures (told_none c.args.kind start (g.I.Source.left c.args.input.now));
+        goes = goes_same c.args.kind before law c.is_sound-is_sound.ensures.drum;
         sound = c.requires.sound;
         whole = c.requires.whole;
         reason = reason_same before law;
@@ -37,8 +37,8 @@ returns-in_err-lines-clause-ends g c =
     let before = at g c.args.intake.now.yard.store c.args.intake.now.yard.parts c.args.intake.now.arrays.items c.args.output.now c.args.printed.now in
     rw (err_is c.from_residual.result NoMemory c.from_residual.ensures.1) (
       [],
-      read_some start (left c.args.input.now) (left c.args.input.now) (left c.args.input.now) [] NoMemory (told_none start (left c.args.input.now)) (λ is. let no : ⊥ = cc in absurd no) (λ n is. let no : ⊥ = cc in absurd no),
-      stop_here before NoMemory law c.is_sound-is_sound.ensures.drum c.args.intake.now.arrays_are (λ is. let no : ⊥ = cc in absurd no) (λ b is. let no : ⊥ = cc in absurd no) (λ all. absurd (memory_plain.printed all)),
+      read_some c.args.kind start (left c.args.input.now) (left c.args.input.now) (left c.args.input.now) [] NoMemory (told_none c.args.kind start (left c.args.input.now)) (λ is. let no : ⊥ = cc in absurd no) (λ n is. let no : ⊥ = cc in absurd no),
+      stop_here c.args.kind before NoMemory law c.is_sound-is_sound.ensures.drum c.args.intake.now.arrays_are (λ is. let no : ⊥ = cc in absurd no) (λ b is. let no : ⊥ = cc in absurd no) (λ all. absurd (memory_plain.printed all)),
     )
 
 pub returns-in_err-offer-clause-ends : goal.returns-in_err-offer-clause-ends
@@ -52,10 +52,10 @@ returns-in_err-offer-clause-ends g c =
     let now = at g c.offers.intake.yard.store c.offers.intake.yard.parts c.offers.intake.arrays.items c.offers.output c.offers.printed in
     rw (err_is c.from_residual-in_err-offer.result ending c.from_residual-in_err-offer.ensures.1) (
       news,
-      read_some c.offers.lines (left c.args.input.now) (left c.offers.input) (left c.next_offer.new.input) news ending i.reads (input_done ending h.kinds) (λ n is. h.refused n (rw is refl)),
-      subst (λ (l : List Tuple). EndsWith 1 one_more l before now ending) (append-nil news)
-          (goes_on_ends 0 1 none_more one_more news [] before now now ending i.reason.stays i.goes
-          (stop_here now ending (g.met.S.Store.is_consistent c.offers.intake.yard.store) c.is_sound-is_sound-in-offers.ensures.drum c.offers.intake.arrays_are (input_done ending h.kinds) (input_full ending h.kinds) (λ all. i.whole))),
+      read_some c.args.kind c.offers.lines (left c.args.input.now) (left c.offers.input) (left c.next_offer.new.input) news ending i.reads (input_done ending h.kinds) (λ n is. h.refused n (rw is refl)),
+      subst (λ (l : List Tuple). EndsWith c.args.kind 1 one_more l before now ending) (append-nil news)
+          (goes_on_ends c.args.kind 0 1 none_more one_more news [] before now now ending i.reason.stays i.goes
+          (stop_here c.args.kind now ending (g.met.S.Store.is_consistent c.offers.intake.yard.store) c.is_sound-is_sound-in-offers.ensures.drum c.offers.intake.arrays_are (input_done ending h.kinds) (input_full ending h.kinds) (λ all. i.whole))),
     )
 
 pub offers-preserved : goal.offers-preserved
@@ -68,14 +68,14 @@ offers-preserved g c =
     let before = at g c.args.intake.now.yard.store c.args.intake.now.yard.parts c.args.intake.now.arrays.items c.args.output.now c.args.printed.now in
     let now = at g c.offers.intake.yard.store c.offers.intake.yard.parts c.offers.intake.arrays.items c.offers.output c.offers.printed in
     let new = at g c.take_offer.new.intake.yard.store c.take_offer.new.intake.yard.parts c.take_offer.new.intake.arrays.items c.take_offer.new.output c.take_offer.new.printed in
-    let more : ReadsOnTold c.offers.lines c.next_offer.new.lines (left c.offers.input) (left c.next_offer.new.input) (offer ∷ []) = rw c.in-Some.is at c.in_ok-offer.ensures.some in (
+    let more : ReadsOnTold c.args.kind c.offers.lines c.next_offer.new.lines (left c.offers.input) (left c.next_offer.new.input) (offer ∷ []) = rw c.in-Some.is at c.in_ok-offer.ensures.some in (
       news ++ offer ∷ [],
       record {
-        reads = told_both start c.offers.lines c.next_offer.new.lines (left c.args.input.now) (left c.offers.input) (left c.next_offer.new.input) news (offer ∷ []) i.reads more;
-        goes = goes_on_both 0 0 none_more none_more news (offer ∷ []) before now new i.reason.stays i.goes h.goes;
+        reads = told_both c.args.kind start c.offers.lines c.next_offer.new.lines (left c.args.input.now) (left c.offers.input) (left c.next_offer.new.input) news (offer ∷ []) i.reads more;
+        goes = goes_on_both c.args.kind 0 0 none_more none_more news (offer ∷ []) before now new i.reason.stays i.goes h.goes;
         sound = h.sound;
         whole = h.whole;
-        reason = reason_then 0 none_more news before now new Done Done (g.met.S.Store.is_consistent c.offers.intake.yard.store) i.goes i.reason h.reason;
+        reason = reason_then c.args.kind 0 none_more news before now new Done Done (g.met.S.Store.is_consistent c.offers.intake.yard.store) i.goes i.reason h.reason;
         later = omega (arith, i.later, c.in_ok-offer.ensures.cause.later);
       },
     )
@@ -92,9 +92,9 @@ returns-in_err-take_offer-in-Some-clause-ends g c =
     let new = at g c.take_offer.new.intake.yard.store c.take_offer.new.intake.yard.parts c.take_offer.new.intake.arrays.items c.take_offer.new.output c.take_offer.new.printed in
     rw (err_is c.from_residual-in_err-take_offer-in-Some.result ending c.from_residual-in_err-take_offer-in-Some.ensures.1) (
       news,
-      read_some c.offers.lines (left c.args.input.now) (left c.offers.input) (left c.next_offer.new.input) news ending i.reads (λ is. h.kinds (inl is)) (λ n is. absurd (h.kinds (inr (inl (n, is))))),
-      subst (λ (l : List Tuple). EndsWith 1 one_more l before new ending) (append-nil news)
-          (ends_lifted news before now new ending (g.met.S.Store.is_consistent c.offers.intake.yard.store) c.is_sound-is_sound-in-offers.ensures.drum i.reason.stays i.goes h.ends),
+      read_some c.args.kind c.offers.lines (left c.args.input.now) (left c.offers.input) (left c.next_offer.new.input) news ending i.reads (λ is. h.kinds (inl is)) (λ n is. absurd (h.kinds (inr (inl (n, is))))),
+      subst (λ (l : List Tuple). EndsWith c.args.kind 1 one_more l before new ending) (append-nil news)
+          (ends_lifted c.args.kind news before now new ending (g.met.S.Store.is_consistent c.offers.intake.yard.store) c.is_sound-is_sound-in-offers.ensures.drum i.reason.stays i.goes h.ends),
     )
 
 pub returns-in_err-take_offer-in-Some-clause-reason : goal.returns-in_err-take_offer-in-Some-clause-reason
@@ -106,7 +106,7 @@ returns-in_err-take_offer-in-Some-clause-reason g c =
     let now = at g c.offers.intake.yard.store c.offers.intake.yard.parts c.offers.intake.arrays.items c.offers.output c.offers.printed in
     let new = at g c.take_offer.new.intake.yard.store c.take_offer.new.intake.yard.parts c.take_offer.new.intake.arrays.items c.take_offer.new.output c.take_offer.new.printed in
     rw (err_is c.from_residual-in_err-take_offer-in-Some.result ending c.from_residual-in_err-take_offer-in-Some.ensures.1)
-    (reason_then 0 none_more news before now new Done ending (g.met.S.Store.is_consistent c.offers.intake.yard.store) i.goes i.reason c.in_err-take_offer-in-Some.ensures.reason)
+    (reason_then c.args.kind 0 none_more news before now new Done ending (g.met.S.Store.is_consistent c.offers.intake.yard.store) i.goes i.reason c.in_err-take_offer-in-Some.ensures.reason)
 
 pub returns-in-None-clause-ends : goal.returns-in-None-clause-ends
 returns-in-None-clause-ends g c =
@@ -117,11 +117,11 @@ returns-in-None-clause-ends g c =
     let before = at g c.args.intake.now.yard.store c.args.intake.now.yard.parts c.args.intake.now.arrays.items c.args.output.now c.args.printed.now in
     let now = at g c.offers.intake.yard.store c.offers.intake.yard.parts c.offers.intake.arrays.items c.offers.output c.offers.printed in
     let new = at g c.end_input.new.intake.yard.store c.end_input.new.intake.yard.parts c.end_input.new.intake.arrays.items c.end_input.new.output c.end_input.new.printed in
-    let ended : EndsTold c.offers.lines (left c.offers.input) (left c.next_offer.new.input) = c.in_ok-offer.ensures.none c.in-None.is in (
+    let ended : EndsTold c.args.kind c.offers.lines (left c.offers.input) (left c.next_offer.new.input) = c.in_ok-offer.ensures.none c.in-None.is in (
       news,
-      read_all c.offers.lines (left c.args.input.now) (left c.offers.input) (left c.next_offer.new.input) news ending i.reads ended (no_line_of c.end_input.result c.end_input.ensures.kinds),
-      subst (λ (l : List Tuple). EndsWith 1 one_more l before new ending) (append-nil news)
-          (goes_on_ends 0 1 none_more one_more news [] before now new ending i.reason.stays i.goes c.end_input.ensures.ends),
+      read_all c.args.kind c.offers.lines (left c.args.input.now) (left c.offers.input) (left c.next_offer.new.input) news ending i.reads ended (no_line_of c.end_input.result c.end_input.ensures.kinds),
+      subst (λ (l : List Tuple). EndsWith c.args.kind 1 one_more l before new ending) (append-nil news)
+          (goes_on_ends c.args.kind 0 1 none_more one_more news [] before now new ending i.reason.stays i.goes c.end_input.ensures.ends),
     )
 
 pub returns-in-None-clause-reason : goal.returns-in-None-clause-reason
@@ -131,4 +131,4 @@ returns-in-None-clause-reason g c =
     let before = at g c.args.intake.now.yard.store c.args.intake.now.yard.parts c.args.intake.now.arrays.items c.args.output.now c.args.printed.now in
     let now = at g c.offers.intake.yard.store c.offers.intake.yard.parts c.offers.intake.arrays.items c.offers.output c.offers.printed in
     let new = at g c.end_input.new.intake.yard.store c.end_input.new.intake.yard.parts c.end_input.new.intake.arrays.items c.end_input.new.output c.end_input.new.printed in
-    reason_then 0 none_more news before now new Done (ending_of c.end_input.result) (g.met.S.Store.is_consistent c.offers.intake.yard.store) i.goes i.reason c.end_input.ensures.reason
+    reason_then c.args.kind 0 none_more news before now new Done (ending_of c.end_input.result) (g.met.S.Store.is_consistent c.offers.intake.yard.store) i.goes i.reason c.end_input.ensures.reason

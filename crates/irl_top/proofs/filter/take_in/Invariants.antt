@@ -6,7 +6,7 @@ use Rattle.irl_intake.specs.Schedule.{none_more}
 use Rattle.irl_top.specs.Session.{place, GoesOn, HasReason, ReadsOnTold}
 use Rattle.irl_top.specs.declared.ending.Ending.TheVariants.{Done}
 use Rattle.irl_top.proofs.InputLines.{start}
-use Rattle.irl_top.proofs.seen.take_in.Given as goal
+use Rattle.irl_top.proofs.filter.take_in.Given as goal
 
 -- the offers so far were handed in, and what was judged is printed
 abbrev pub invariant-offers : goal.invariant-offers
@@ -15,8 +15,8 @@ invariant-offers g l =
     let before = at l.fn.intake.yard.store l.fn.intake.yard.parts l.fn.intake.arrays.items l.fn.output l.fn.printed in
     let now = at l.intake.yard.store l.intake.yard.parts l.intake.arrays.items l.output l.printed in
     (news : List Tuple) × record {
-      reads : ReadsOnTold start l.lines (g.I.Source.left l.fn.input) (g.I.Source.left l.input) news;
-      goes : GoesOn 0 none_more news before now;
+      reads : ReadsOnTold l.fn.kind start l.lines (g.I.Source.left l.fn.input) (g.I.Source.left l.input) news;
+      goes : GoesOn l.fn.kind 0 none_more news before now;
       sound : IsSound l.intake.yard.parts;
       whole : l.intake.yard.parts.urls.last.judged ≤ l.printed;
       reason : HasReason before now Done;

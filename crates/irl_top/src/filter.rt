@@ -9,11 +9,11 @@ ghost use Rattle.irl_top.specs.Message.{ending_of};
 ghost use Rattle.irl_top.specs.Input.{offered};
 ghost use Rattle.irl_offer.specs.declared.settings.Kind.TheVariants.{Crawl};
 ghost use Rattle.irl_top.specs.Outside.{lent};
-ghost use Rattle.irl_top.specs.Run.{Ran, task_of};
-ghost use Rattle.irl_top.specs.declared.command.Command.TheVariants.{Seen};
+ghost use Rattle.irl_top.specs.Run.{Ran, line_task};
 ghost use Rattle.irl_top.specs.Session.{place, EndsWith, HasReason, HasRead};
 
 use crate::Ending;
+use crate::line::LineKind;
 use crate::reading::next_offer;
 use crate::session::{end_input, take_offer};
 use irl_disk::Store;
@@ -23,17 +23,18 @@ use irl_offer::Asked;
 use irl_yard::Yard;
 use std::alloc::Global;
 
-/// Keeps the lines of the input that aren't empty, and writes those that are judged Unique: the command `seen`.
-pub fn seen<I: Source, O: Sink, S: Store>(
+/// Keeps what the lines of the input offer, and writes what they are judged as.
+pub fn filter<I: Source, O: Sink, S: Store>(
     alloc: Global,
+    kind: LineKind,
     asked: &Asked,
     input: &mut I,
     output: &mut O,
     store: S,
 ) -> (Ending, S)
-    requires kind { asked.now.kind ≢ Crawl }
+    requires lines { asked.now.kind ≢ Crawl }
     ensures { let tells = lent S.snapshot S.faults I.left I.faults O.written O.faults in
-        Ran (task_of (Seen asked.now)) (tells store input.old output.old) (tells result.1 input.new output.new) result.0 }
+        Ran (line_task kind asked.now) (tells store input.old output.old) (tells result.1 input.new output.new) result.0 }
 {
     let yard = match Yard::enter(alloc, store, asked) {
         Ok(yard) => yard,
@@ -44,14 +45,15 @@ pub fn seen<I: Source, O: Sink, S: Store>(
         Ok(intake) => intake,
         Err(yard) => return (Ending::NoMemory, yard.into_store()),
     };
-    let taken = take_in(alloc, &mut intake, &mut printed, input, output);
+    let taken = take_in(alloc, kind, &mut intake, &mut printed, input, output);
     let _is_sound = intake.is_sound();
     (Ending::of(taken), intake.into_store())
 }
 
-// Takes in the lines of an input, and prints what is judged Unique; so many judged offers were printed before.
+// Takes in the lines of an input, and prints what is judged; so many judged offers were printed before.
 fn take_in<I: Source, O: Sink, S: Store>(
     alloc: Global,
+    kind: LineKind,
     intake: &mut Intake<S>,
     printed: &mut u64,
     input: &mut I,
@@ -60,8 +62,8 @@ fn take_in<I: Source, O: Sink, S: Store>(
     requires sound { IsSound intake.old.yard.parts }
     requires whole { intake.old.yard.parts.urls.last.judged ≤ printed.old }
     ensures ends { let at = place S.snapshot S.faults O.written O.faults in (news : List Tuple)
-        × HasRead news (I.left input.old) (I.left input.new) (ending_of result)
-        × EndsWith 1 one_more news (at intake.old.yard.store intake.old.yard.parts intake.old.arrays.items output.old printed.old)
+        × HasRead kind news (I.left input.old) (I.left input.new) (ending_of result)
+        × EndsWith kind 1 one_more news (at intake.old.yard.store intake.old.yard.parts intake.old.arrays.items output.old printed.old)
         (at intake.new.yard.store intake.new.yard.parts intake.new.arrays.items output.new printed.new) (ending_of result) }
     ensures reason { let at = place S.snapshot S.faults O.written O.faults in
         HasReason (at intake.old.yard.store intake.old.yard.parts intake.old.arrays.items output.old printed.old)
@@ -72,9 +74,9 @@ fn take_in<I: Source, O: Sink, S: Store>(
     let mut lines = Lines::new(alloc)?;
     'offers: loop {
         let _is_sound = intake.is_sound();
-        match next_offer(alloc, &mut lines, input)? {
-            Some(offer) => take_offer(alloc, intake, printed, output, offer)?,
-            None => return end_input(alloc, intake, printed, output),
+        match next_offer(alloc, kind, &mut lines, input)? {
+            Some(offer) => take_offer(alloc, kind, intake, printed, output, offer)?,
+            None => return end_input(alloc, kind, intake, printed, output),
         }
     }
 }
