@@ -8,7 +8,7 @@ use Rattle.irl_offer.specs.declared.outcome.Outcome.{Outcome}
 use Rattle.irl_offer.specs.declared.outcome.Outcome.TheVariants.{Page, Moved, Status, Denied, Shut, Lost, Bad, Large, Coded}
 use Rattle.irl_model.specs.Events.{Happened, Progress, has_number, progress}
 use Rattle.irl_model.specs.Legal.{are_distinct}
-use Rattle.irl_fate.specs.Counting.{CountFates, count_fate, came_to, is_fresh, is_queued, is_last, is_page, is_moved, is_status, is_denied, is_shut, is_lost, is_bad, is_large, is_coded}
+use Rattle.irl_fate.specs.Counting.{CountFates, count_fate, are_alike, came_to, is_fresh, is_queued, is_last}
 use Rattle.irl_fate.specs.declared.counts.Counts.{Counts}
 use Rattle.irl_fate.specs.declared.fate.Fate.{Fate}
 use Rattle.irl_fate.specs.declared.fate.Fate.TheVariants.{Fresh, Queue, Last, Front, Done}
@@ -45,7 +45,7 @@ all_kinds x [] = refl
 all_kinds x (n ∷ ns) =
     omega (arith, kinds (fate_of x n), all_kinds x ns, fate_more is_fresh x n ns, fate_more is_queued x n ns, fate_more is_last x n ns, fate_more is_front x n ns, fate_more is_done x n ns)
 
-outcomes_of : (o : Outcome) → one_if (is_page o) + one_if (is_moved o) + one_if (is_status o) + one_if (is_denied o) + one_if (is_shut o) + one_if (is_lost o) + one_if (is_bad o) + one_if (is_large o) + one_if (is_coded o) ≡ 1
+outcomes_of : (o : Outcome) → one_if (are_alike Page o) + one_if (are_alike Moved o) + one_if (are_alike (Status 0) o) + one_if (are_alike (Denied 0) o) + one_if (are_alike Shut o) + one_if (are_alike Lost o) + one_if (are_alike Bad o) + one_if (are_alike Large o) + one_if (are_alike Coded o) ≡ 1
 outcomes_of Page = refl
 outcomes_of Moved = refl
 outcomes_of (Status n) = refl
@@ -56,17 +56,17 @@ outcomes_of Bad = refl
 outcomes_of Large = refl
 outcomes_of Coded = refl
 
-outcome_kinds : (v : Fate) → one_if (came_to is_page v) + one_if (came_to is_moved v) + one_if (came_to is_status v) + one_if (came_to is_denied v) + one_if (came_to is_shut v) + one_if (came_to is_lost v) + one_if (came_to is_bad v) + one_if (came_to is_large v) + one_if (came_to is_coded v) ≡ one_if (is_done v)
+outcome_kinds : (v : Fate) → one_if (came_to Page v) + one_if (came_to Moved v) + one_if (came_to (Status 0) v) + one_if (came_to (Denied 0) v) + one_if (came_to Shut v) + one_if (came_to Lost v) + one_if (came_to Bad v) + one_if (came_to Large v) + one_if (came_to Coded v) ≡ one_if (is_done v)
 outcome_kinds Fresh = refl
 outcome_kinds (Queue i) = refl
 outcome_kinds Last = refl
 outcome_kinds Front = refl
 outcome_kinds (Done o) = outcomes_of o
 
-all_outcomes : (x : Progress) (ns : List ℕ) → count_fate (came_to is_page) x ns + count_fate (came_to is_moved) x ns + count_fate (came_to is_status) x ns + count_fate (came_to is_denied) x ns + count_fate (came_to is_shut) x ns + count_fate (came_to is_lost) x ns + count_fate (came_to is_bad) x ns + count_fate (came_to is_large) x ns + count_fate (came_to is_coded) x ns ≡ count_fate is_done x ns
+all_outcomes : (x : Progress) (ns : List ℕ) → count_fate (came_to Page) x ns + count_fate (came_to Moved) x ns + count_fate (came_to (Status 0)) x ns + count_fate (came_to (Denied 0)) x ns + count_fate (came_to Shut) x ns + count_fate (came_to Lost) x ns + count_fate (came_to Bad) x ns + count_fate (came_to Large) x ns + count_fate (came_to Coded) x ns ≡ count_fate is_done x ns
 all_outcomes x [] = refl
 all_outcomes x (n ∷ ns) =
-    omega (arith, outcome_kinds (fate_of x n), all_outcomes x ns, fate_more (came_to is_page) x n ns, fate_more (came_to is_moved) x n ns, fate_more (came_to is_status) x n ns, fate_more (came_to is_denied) x n ns, fate_more (came_to is_shut) x n ns, fate_more (came_to is_lost) x n ns, fate_more (came_to is_bad) x n ns, fate_more (came_to is_large) x n ns, fate_more (came_to is_coded) x n ns, fate_more is_done x n ns)
+    omega (arith, outcome_kinds (fate_of x n), all_outcomes x ns, fate_more (came_to Page) x n ns, fate_more (came_to Moved) x n ns, fate_more (came_to (Status 0)) x n ns, fate_more (came_to (Denied 0)) x n ns, fate_more (came_to Shut) x n ns, fate_more (came_to Lost) x n ns, fate_more (came_to Bad) x n ns, fate_more (came_to Large) x n ns, fate_more (came_to Coded) x n ns, fate_more is_done x n ns)
 
 pub fates_add_up : (counts : Counts) (x : Progress) (numbers : List ℕ) → CountFates counts x numbers → counts.fresh + counts.queued + counts.last + counts.front + counts.done ≡ counts.unique
 fates_add_up counts x numbers is = omega (arith, is.unique, is.fresh, is.queued, is.last, is.front, is.done, all_kinds x numbers)

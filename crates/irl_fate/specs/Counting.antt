@@ -1,5 +1,5 @@
 -- How many of some numbers have each fate, as the report of a crawl counts its URLs.
-use Rattle.std.specs.Prelude.{◌≡◌, ℕ, Bool, true, false, List, length}
+use Rattle.std.specs.Prelude.{◌≡◌, ℕ, nat_eq, Bool, true, false, List, length}
 use Rattle.std.specs.List.{filter}
 use Rattle.irl_offer.specs.declared.outcome.Outcome.{Outcome}
 use Rattle.irl_offer.specs.declared.outcome.Outcome.TheVariants.{Page, Moved, Status, Denied, Shut, Lost, Bad, Large, Coded}
@@ -36,114 +36,32 @@ is_last Last = true
 is_last Front = false
 is_last (Done outcome) = false
 
--- done, with an outcome of which a test holds
-abbrev pub came_to : (Outcome → Bool) → Fate → Bool
-came_to test Fresh = false
-came_to test (Queue i) = false
-came_to test Last = false
-came_to test Front = false
-came_to test (Done outcome) = test outcome
+-- an outcome's kind, by the number that the store's files have for it
+abbrev pub kind_of : Outcome → ℕ
+kind_of Page = 0
+kind_of Moved = 1
+kind_of (Status n) = 2
+kind_of (Denied n) = 3
+kind_of Shut = 4
+kind_of Lost = 5
+kind_of Bad = 6
+kind_of Large = 7
+kind_of Coded = 8
 
-abbrev pub is_page : Outcome → Bool
-is_page Page = true
-is_page Moved = false
-is_page (Status n) = false
-is_page (Denied n) = false
-is_page Shut = false
-is_page Lost = false
-is_page Bad = false
-is_page Large = false
-is_page Coded = false
+-- whether two outcomes are of one kind, whatever their details
+abbrev pub are_alike : Outcome → Outcome → Bool
+are_alike one other = nat_eq (kind_of one) (kind_of other)
 
-abbrev pub is_moved : Outcome → Bool
-is_moved Page = false
-is_moved Moved = true
-is_moved (Status n) = false
-is_moved (Denied n) = false
-is_moved Shut = false
-is_moved Lost = false
-is_moved Bad = false
-is_moved Large = false
-is_moved Coded = false
-
-abbrev pub is_status : Outcome → Bool
-is_status Page = false
-is_status Moved = false
-is_status (Status n) = true
-is_status (Denied n) = false
-is_status Shut = false
-is_status Lost = false
-is_status Bad = false
-is_status Large = false
-is_status Coded = false
-
-abbrev pub is_denied : Outcome → Bool
-is_denied Page = false
-is_denied Moved = false
-is_denied (Status n) = false
-is_denied (Denied n) = true
-is_denied Shut = false
-is_denied Lost = false
-is_denied Bad = false
-is_denied Large = false
-is_denied Coded = false
-
-abbrev pub is_shut : Outcome → Bool
-is_shut Page = false
-is_shut Moved = false
-is_shut (Status n) = false
-is_shut (Denied n) = false
-is_shut Shut = true
-is_shut Lost = false
-is_shut Bad = false
-is_shut Large = false
-is_shut Coded = false
-
-abbrev pub is_lost : Outcome → Bool
-is_lost Page = false
-is_lost Moved = false
-is_lost (Status n) = false
-is_lost (Denied n) = false
-is_lost Shut = false
-is_lost Lost = true
-is_lost Bad = false
-is_lost Large = false
-is_lost Coded = false
-
-abbrev pub is_bad : Outcome → Bool
-is_bad Page = false
-is_bad Moved = false
-is_bad (Status n) = false
-is_bad (Denied n) = false
-is_bad Shut = false
-is_bad Lost = false
-is_bad Bad = true
-is_bad Large = false
-is_bad Coded = false
-
-abbrev pub is_large : Outcome → Bool
-is_large Page = false
-is_large Moved = false
-is_large (Status n) = false
-is_large (Denied n) = false
-is_large Shut = false
-is_large Lost = false
-is_large Bad = false
-is_large Large = true
-is_large Coded = false
-
-abbrev pub is_coded : Outcome → Bool
-is_coded Page = false
-is_coded Moved = false
-is_coded (Status n) = false
-is_coded (Denied n) = false
-is_coded Shut = false
-is_coded Lost = false
-is_coded Bad = false
-is_coded Large = false
-is_coded Coded = true
+-- done, with an outcome of the kind of this one
+abbrev pub came_to : Outcome → Fate → Bool
+came_to one Fresh = false
+came_to one (Queue i) = false
+came_to one Last = false
+came_to one Front = false
+came_to one (Done outcome) = are_alike one outcome
 
 -- what a report counts by fate, where the URLs have these numbers
+-- an outcome here stands for its kind: the detail, the 0 of Status and Denied, doesn't count
 pub record CountFates (counts : Counts) (x : Progress) (numbers : List ℕ) : Type 0 where
   pub unique : counts.unique ≡ length numbers
   pub fresh : counts.fresh ≡ count_fate is_fresh x numbers
@@ -151,12 +69,12 @@ pub record CountFates (counts : Counts) (x : Progress) (numbers : List ℕ) : Ty
   pub last : counts.last ≡ count_fate is_last x numbers
   pub front : counts.front ≡ count_fate is_front x numbers
   pub done : counts.done ≡ count_fate is_done x numbers
-  pub page : counts.page ≡ count_fate (came_to is_page) x numbers
-  pub moved : counts.moved ≡ count_fate (came_to is_moved) x numbers
-  pub status : counts.status ≡ count_fate (came_to is_status) x numbers
-  pub denied : counts.denied ≡ count_fate (came_to is_denied) x numbers
-  pub shut : counts.shut ≡ count_fate (came_to is_shut) x numbers
-  pub lost : counts.lost ≡ count_fate (came_to is_lost) x numbers
-  pub bad : counts.bad ≡ count_fate (came_to is_bad) x numbers
-  pub large : counts.large ≡ count_fate (came_to is_large) x numbers
-  pub coded : counts.coded ≡ count_fate (came_to is_coded) x numbers
+  pub page : counts.page ≡ count_fate (came_to Page) x numbers
+  pub moved : counts.moved ≡ count_fate (came_to Moved) x numbers
+  pub status : counts.status ≡ count_fate (came_to (Status 0)) x numbers
+  pub denied : counts.denied ≡ count_fate (came_to (Denied 0)) x numbers
+  pub shut : counts.shut ≡ count_fate (came_to Shut) x numbers
+  pub lost : counts.lost ≡ count_fate (came_to Lost) x numbers
+  pub bad : counts.bad ≡ count_fate (came_to Bad) x numbers
+  pub large : counts.large ≡ count_fate (came_to Large) x numbers
+  pub coded : counts.coded ≡ count_fate (came_to Coded) x numbers
