@@ -76,6 +76,7 @@ impl FileWriter {
 
     /// Puts bytes behind those that were put. Where they pass a piece, what waits is written before them. A refusal leaves
     /// what was put, and the bytes may be put again. It takes no memory.
+    #[inline(always)]
     pub fn put<S: Store>(&mut self, store: &mut S, more: &[u8]) -> Result<(), Failed>
         requires { ForSome (S.snapshot store.old).files (ReachesPlace self.old) }
         ensures put { OnOk result ((bytes : List ℕ) → HasPut (S.snapshot store.old).files bytes self.old →
@@ -98,11 +99,7 @@ impl FileWriter {
         if self.gather(more) {
             return Ok(());
         }
-        self.flush(store)?;
-        if self.gather(more) {
-            return Ok(());
-        }
-        self.write_past(store, more)
+        self.put_past(store, more)
     }
 
     /// How long the file is with what was put, in bytes.
@@ -155,6 +152,34 @@ impl FileWriter {
         self.buffer[self.count..self.count + more.len()].copy_from_slice(more);
         self.count += more.len();
         true
+    }
+
+    // As `put`, where the bytes don't fit behind those that wait. It stands apart so that `put` is short, and is compiled into
+    // each caller: of a pair it then copies sixteen bytes, without a call.
+    #[cold]
+    fn put_past<S: Store>(&mut self, store: &mut S, more: &[u8]) -> Result<(), Failed>
+        requires { ForSome (S.snapshot store.old).files (ReachesPlace self.old) }
+        ensures put { OnOk result ((bytes : List ℕ) → HasPut (S.snapshot store.old).files bytes self.old →
+            HasPut (S.snapshot store.new).files (bytes ++ more.now) self.new) }
+        ensures put_before { OnErr result ((bytes : List ℕ) → HasPut (S.snapshot store.old).files bytes self.old →
+            HasPut (S.snapshot store.new).files bytes self.new) }
+        ensures end { OnOk result (end_of self.new ≡ end_of self.old + len more.now) }
+        ensures end_before { OnErr result (end_of self.new ≡ end_of self.old) }
+        ensures file { self.new.file ≡ self.old.file }
+        ensures kept { self.new.kept ≡ self.old.kept }
+        ensures long { ForSome (S.snapshot store.new).files (ReachesPlace self.new) }
+        ensures changes { Changes self.old.file (KeepsFront self.old.kept)
+            (S.snapshot store.old).files (S.snapshot store.new).files }
+        ensures stops { LeavesBy (ChangesFile self.old.file (KeepsFront self.old.kept))
+            (S.snapshot store.old) (S.snapshot store.new) }
+        ensures taken { S.taken store.new ≡ S.taken store.old }
+        ensures cause { HasCause (IsErr result) (S.faults store.old) (S.faults store.new) }
+    {
+        self.flush(store)?;
+        if self.gather(more) {
+            return Ok(());
+        }
+        self.write_past(store, more)
     }
 
     // Writes what waits.
