@@ -1,19 +1,19 @@
 -- A bay that is opened over files that stand for a book holds the book.
-use Rattle.std.proofs.Common.{◌≡◌, ◌∙◌, ℕ, suc, zero, ◌+◌, ◌*◌, ◌<◌, ◌≤◌, List, [], ◌∷◌, ◌++◌, length, map, take, get_or, refl, sym, ap, subst, arith, length-append}
-use Rattle.std.proofs.lemmas.List.{length-map, nil_from_length}
+use Rattle.std.proofs.Common.{◌≡◌, ◌∙◌, ℕ, suc, zero, ◌+◌, ◌-◌, ◌*◌, ◌^◌, ◌<◌, ◌≤◌, List, [], ◌∷◌, ◌++◌, length, map, take, drop, get_or, refl, sym, ap, subst, arith, length-append}
 use Rattle.std.proofs.lemmas.List.Concat.{flat_map-cons}
-use Rattle.std.specs.Prelude.{replicate, filter}
-use Rattle.std.specs.List.{AllByRecursion, enumerate_from}
+use Rattle.std.proofs.lemmas.List.Folds.{sum_by-replicate}
+use Rattle.std.proofs.lemmas.List.Sums.{get_or-le-sum_by}
+use Rattle.std.specs.Prelude.{replicate, sum}
+use Rattle.std.specs.List.{AllByRecursion}
 use Rattle.std.specs.FinMap.{entries}
 use Rattle.byteorder.specs.Endian.{little_bytes}
 use Rattle.irl_offer.specs.Buckets.{bucket_of}
 use Rattle.irl_offer.specs.Tuple.{Tuple}
 use Rattle.irl_offer.specs.declared.receipt.Judged.{Judged as JudgedOffer}
 use Rattle.irl_offer.specs.declared.settings.Settings.{Settings}
-use Rattle.irl_model.specs.Judging.{after, judgements}
-use Rattle.irl_model.specs.Book.{Book, IsBelow, AreCuts, AreOfBuckets, last_cut, judged_cut, list_lengths, lengths_of, judged, judged_offers, judged_as, is_unique, gone, stretches, with_cuts}
-use Rattle.irl_model.proofs.JudgingLaws.{length-judgements}
-use Rattle.irl_model.proofs.Merges.{earlier_all}
+use Rattle.irl_model.specs.Judging.{after}
+use Rattle.irl_model.specs.Book.{Book, IsBelow, AreCuts, AreOfBuckets, last_cut, judged_cut, list_lengths, lengths_of, judged, judged_offers, gone}
+use Rattle.irl_model.proofs.Merges.{judged_count}
 use Rattle.irl_disk.specs.Disk.{Files, ChangesFile}
 use Rattle.irl_journal.specs.Appending.{Tail, Ends, IsOpen}
 use Rattle.irl_journal.specs.Blob.{BeginsWith, IsCommitted}
@@ -23,50 +23,19 @@ use Rattle.irl_bay.specs.BayFiles.{file_of}
 use Rattle.irl_bay.specs.declared.layout.files.BayFile.TheVariants.{Manifest, Cache, Judged, Texts, Journal, Aux}
 use Rattle.irl_bay.specs.declared.bucket.Bucket.{Bucket}
 use Rattle.irl_cache.specs.SortedRun.{pairs_bytes}
-use Rattle.irl_bay.specs.Commits.{Commit, IsCommit, IsCommitOf, AreCommitsOf, commit_bytes, first_commit, last_commit}
+use Rattle.irl_bay.specs.Commits.{Commit, IsCommit, IsCommitOf, commit_bytes, first_commit, last_commit, live_side, live_offers, starts, starts_by}
+use Rattle.irl_bay.specs.Damage.{starts_of}
 use Rattle.irl_bay.specs.Drum.{no_bucket}
 use Rattle.irl_bay.specs.Holding.{Holds, HoldsBucket}
 use Rattle.irl_bay.specs.JudgedEntries.{judged_entries, judged_bytes}
-use Rattle.irl_bay.specs.Opening.{AreFronts, HasListOf, OpensBelow}
+use Rattle.irl_bay.specs.Opening.{AreFronts, HasListOf, IsOpenBucket, OpensBelow}
 use Rattle.irl_bay.specs.Runs.{HasBucket, texts_of}
-use Rattle.irl_bay.specs.Standing.{Stands, IsBookOf}
-use Rattle.irl_bay.proofs.Adopted.{opened_drum, elsewhere, below_same, last_side}
+use Rattle.irl_bay.specs.Standing.{Stands, IsBookOf, HasBucketOf}
+use Rattle.irl_bay.proofs.Adopted.{opened_drum, elsewhere, below_same, first_is, last_is, start_below}
 use Rattle.irl_bay.proofs.Below.{each_below}
 use Rattle.irl_bay.proofs.CommitBytes.{one_commit}
-
--- ---- the last commit of a book
-last_at : (first : Commit) (commits : List Commit) (n : ℕ) (d : Commit) → length commits ≡ n + 1 → last_commit first commits ≡ get_or commits n d
-last_at first [] n d long = absurd (omega (arith, long))
-last_at first (commit ∷ []) zero d long = refl
-last_at first (commit ∷ []) (suc n) d long = absurd (omega (arith, long))
-last_at first (commit ∷ other ∷ commits) zero d long = absurd (omega (arith, long))
-last_at first (commit ∷ other ∷ commits) (suc n) d long = last_at commit (other ∷ commits) n d (omega (arith, long))
-
--- where no cut is kept, nothing is judged
-nothing_judged : (book : Book) → book.cuts ≡ [] → judged book ≡ []
-nothing_judged book none =
-    let offers : judged_offers book ≡ [] = ap (λ (cuts : List (List ℕ)). stretches book.firsts book.firsts cuts book.lists) none in
-    let few : length (judged book) ≡ 0 = length-map (judgements book.rule book.base (judged_offers book)) (judged_as book.buckets) ∙ length-judgements book.rule book.base (judged_offers book) ∙ ap (λ (l : List Tuple). length l) offers in
-    nil_from_length (judged book) few
-
-pub first_of : (settings : Settings) (book : Book) → IsBookOf settings book → book.cuts ≡ [] → IsCommitOf book (first_commit book.buckets)
-first_of settings book is none =
-    let no_judged = nothing_judged book none in
-    record {
-      judged = ap (λ (l : List JudgedOffer). length l) (sym no_judged);
-      unique = ap (λ (l : List JudgedOffer). length {A = ℕ × Tuple} (map (λ p. (p.0, p.1.offer)) (filter (λ p. is_unique p.1.verdict) (enumerate_from (gone book) l)))) (sym no_judged);
-      texts = ap (λ (cuts : List (List ℕ)). length (texts_of (stretches book.firsts book.firsts cuts book.lists))) (sym none);
-      cut = sym (is.is_book.none is.dropped).1 ∙ ap (λ (cuts : List (List ℕ)). last_cut book.firsts cuts) (sym none);
-    }
-
-pub last_of_book : (settings : Settings) (book : Book) (commits : List Commit) → IsBookOf settings book → AreCommitsOf book commits → IsCommitOf book (last_commit (first_commit book.buckets) commits)
-last_of_book settings book [] is are = first_of settings book is (nil_from_length book.cuts (omega (arith, are.count)))
-last_of_book settings book (commit ∷ commits) is are =
-    let n : ℕ = length commits in
-    let whole : with_cuts (n + 1) book ≡ book = earlier_all (n + 1) book (omega (arith, are.count)) in
-    let last = are.each n (omega arith) in
-    subst (λ (x : Commit). IsCommitOf book x) (sym (last_at (first_commit book.buckets) (commit ∷ commits) n (first_commit book.buckets) (omega arith)))
-    (subst (λ (b : Book). IsCommitOf b (get_or (commit ∷ commits) n (first_commit book.buckets))) whole last)
+use Rattle.irl_bay.proofs.LastCommit.{last_of_book}
+use Rattle.irl_bay.proofs.Live.{live_length}
 
 -- ---- numbers
 pub last_within : (from end : List ℕ) (cuts : List (List ℕ)) → AreCuts from cuts end → IsBelow (last_cut from cuts) end
@@ -115,16 +84,16 @@ length-judged place [] = refl
 length-judged place (one ∷ more) = length-append (judged_bytes place one) (judged_entries (place + length one.offer.aux) more) ∙ omega (arith, length-judged (place + length one.offer.aux) more)
 
 -- bytes that were committed when the three files were opened are so at the end
-front_held : (base buckets f n : ℕ) (before images : Files → Type 0) (file held : List ℕ) → f < base + 10 → ((image : Files) → images image → (was : Files) × before was × OpensBelow base buckets was image) → IsCommitted before (record { file = f; length = n }) (take n file) → BeginsWith file held → length held ≡ n
+front_held : (base side buckets f n : ℕ) (before images : Files → Type 0) (file held : List ℕ) → f < base + 10 → ((image : Files) → images image → (was : Files) × before was × OpensBelow base side buckets was image) → IsCommitted before (record { file = f; length = n }) (take n file) → BeginsWith file held → length held ≡ n
     → IsCommitted images (record { file = f; length = n }) held
-front_held base buckets f n before images file held low kept committed begins size =
+front_held base side buckets f n before images file held low kept committed begins size =
     let same : take n file ≡ held = ap (λ (m : ℕ). take m file) (sym size) ∙ begins_take file held begins in
     let held_before = subst (IsCommitted before (record { file = f; length = n })) same committed in
     record {
       size = size;
       each = λ image left.
           let was = kept image left in
-          subst (λ (bytes : List ℕ). BeginsWith bytes held) (sym (below_same base buckets f was.0 image was.2 low)) (held_before.each was.0 was.1);
+          subst (λ (bytes : List ℕ). BeginsWith bytes held) (sym (below_same base side buckets f was.0 image was.2 low)) (held_before.each was.0 was.1);
     }
 
 -- ---- one list of commits
@@ -140,52 +109,117 @@ same_commits buckets (x ∷ xs) (y ∷ ys) each_x each_y same =
     cc
 
 -- ---- the book
-pub list_of : (base : ℕ) (settings : Settings) (book : Book) (old new : Files) (last : Commit) (b : ℕ) → (stands : Stands base settings book old) → ChangesFile (file_of base 0 Manifest) IsOpened old new → IsCommitOf book last → b < settings.buckets → HasListOf base settings b (get_or last.cut b 0) (get_or book.lists b []) new
-list_of base settings book old new last b stands step commit within =
-    let has = stands.buckets b (omega (arith, within, stands.book_is.buckets)) in
-    let below = each_below (judged_cut book) (lengths_of book) (last_within book.firsts (lengths_of book) book.cuts stands.book_is.is_book.cuts) b in
-    let none_more : 0 + b ≡ b = omega arith in
-    let cut : get_or last.cut b 0 ≡ get_or (judged_cut book) b 0 = ap (λ (l : List ℕ). get_or l b 0) commit.cut in
-    let long : get_or (lengths_of book) b 0 ≡ length (get_or book.lists b []) = ap (λ (l : List ℕ). get_or l b 0) (lengths_are settings book stands.book_is) ∙ length-at book.lists b in
+-- the numbers that a commit's live files begin with are the book's
+pub starts_same : (settings : Settings) (book : Book) (last : Commit) → IsBookOf settings book → starts book last ≡ starts_of settings.buckets last
+starts_same settings book last is = ap (λ (firsts : List ℕ). starts_by firsts last.cut last.live) ((is.is_book.none is.dropped).1 ∙ ap (λ (n : ℕ). replicate n 0) is.buckets)
+
+-- a bucket's cut counts judged offers
+cut_counts : (settings : Settings) (book : Book) (last : Commit) (b : ℕ) → IsBookOf settings book → IsCommitOf book last → IsCommit settings.buckets last → b < settings.buckets → get_or last.cut b 0 ≤ last.judged
+cut_counts settings book last b is commit form within =
+    let zeros : gone book ≡ book.buckets * 0 = ap sum (is.is_book.none is.dropped).1 ∙ sum_by-replicate (λ (m : ℕ). m) book.buckets 0 in
+    omega (arith, get_or-le-sum_by (λ (n : ℕ). n) last.cut b 0 (omega (arith, within, form.count)), ap sum commit.cut, judged_count book is.is_book, zeros, commit.judged)
+
+all_drop : (P : Tuple → Type 0) (n : ℕ) (xs : List Tuple) → AllByRecursion P xs → AllByRecursion P (drop n xs)
+all_drop P zero xs each = each
+all_drop P (suc n) [] each = tt
+all_drop P (suc n) (x ∷ xs) each = all_drop P n xs each.1
+
+-- the last commit of a book whose bay is opened
+pub record IsLastOf (settings : Settings) (book : Book) (last : Commit) : Type 0 where
+  pub book_is : IsBookOf settings book
+  pub commit : IsCommitOf book last
+  pub form : IsCommit settings.buckets last
+
+-- a bucket's list goes up to its cut and further, and its start is at or below the cut
+pub record IsCutIn (settings : Settings) (book : Book) (last : Commit) (b : ℕ) : Type 0 where
+  pub start : get_or (starts book last) b 0 ≡ get_or (starts_of settings.buckets last) b 0
+  pub below : get_or (starts_of settings.buckets last) b 0 ≤ get_or last.cut b 0
+  pub within : get_or last.cut b 0 ≤ length (get_or book.lists b [])
+  pub live : get_or (starts_of settings.buckets last) b 0 + length (live_offers book last b) ≡ length (get_or book.lists b [])
+
+pub cut_in : (settings : Settings) (book : Book) (last : Commit) (b : ℕ) → IsLastOf settings book last → b < settings.buckets → IsCutIn settings book last b
+cut_in settings book last b is inside =
+    let same : get_or (starts book last) b 0 ≡ get_or (starts_of settings.buckets last) b 0 = ap (λ (l : List ℕ). get_or l b 0) (starts_same settings book last is.book_is) in
+    let under = each_below (judged_cut book) (lengths_of book) (last_within book.firsts (lengths_of book) book.cuts is.book_is.is_book.cuts) b in
+    let cut : get_or last.cut b 0 ≡ get_or (judged_cut book) b 0 = ap (λ (l : List ℕ). get_or l b 0) is.commit.cut in
+    let long : get_or (lengths_of book) b 0 ≡ length (get_or book.lists b []) = ap (λ (l : List ℕ). get_or l b 0) (lengths_are settings book is.book_is) ∙ length-at book.lists b in
+    let low = start_below settings.buckets b last inside in
     record {
-      has = subst (λ (file : List ℕ). HasBucket settings.array (get_or book.lists b []) file (new (file_of base 0 (Aux b)))) (sym (elsewhere base (file_of base 0 (Journal b)) old new step (omega arith)))
-          (subst (λ (file : List ℕ). HasBucket settings.array (get_or book.lists b []) (old (file_of base 0 (Journal b))) file) (sym (elsewhere base (file_of base 0 (Aux b)) old new step (omega arith))) has);
-      here = subst (λ (k : ℕ). AllByRecursion (λ (offer : Tuple). bucket_of k offer.key ≡ b) (get_or book.lists b [])) stands.book_is.buckets (subst (λ (n : ℕ). AllByRecursion (λ (offer : Tuple). bucket_of book.buckets offer.key ≡ n) (get_or book.lists b [])) none_more (of_bucket book.buckets 0 b book.lists stands.book_is.is_book.each));
-      within = omega (arith, below, cut, long);
+      start = same;
+      below = low;
+      within = omega (arith, under, cut, long);
+      live = omega (arith, same, live_length settings book last b is.book_is (omega (arith, inside, is.book_is.buckets)) (omega (arith, same, low, under, cut, long)));
+    }
+
+-- the live offers of a bucket are its own
+pub live_here : (settings : Settings) (book : Book) (last : Commit) (b : ℕ) → IsBookOf settings book → AllByRecursion (λ (offer : Tuple). bucket_of settings.buckets offer.key ≡ b) (live_offers book last b)
+live_here settings book last b is =
+    let none_more : 0 + b ≡ b = omega arith in
+    all_drop (λ (offer : Tuple). bucket_of settings.buckets offer.key ≡ b) (get_or (starts book last) b 0 - get_or book.firsts b 0) (get_or book.lists b [])
+    (subst (λ (k : ℕ). AllByRecursion (λ (offer : Tuple). bucket_of k offer.key ≡ b) (get_or book.lists b [])) is.buckets
+    (subst (λ (n : ℕ). AllByRecursion (λ (offer : Tuple). bucket_of book.buckets offer.key ≡ n) (get_or book.lists b [])) none_more (of_bucket book.buckets 0 b book.lists is.is_book.each)))
+
+pub list_of : (base : ℕ) (settings : Settings) (book : Book) (old new : Files) (last : Commit) (b : ℕ) → IsLastOf settings book last → HasBucketOf base settings.array last b (live_offers book last b) old → ChangesFile (file_of base 0 Manifest) IsOpened old new → 48 * last.judged < 2 ^ 64 → b < settings.buckets
+    → HasListOf base (live_side last) settings b (get_or (starts_of settings.buckets last) b 0) (get_or last.cut b 0 - get_or (starts_of settings.buckets last) b 0) (live_offers book last b) new
+list_of base settings book old new last b is has step few within =
+    let side : ℕ = live_side last in
+    let list = live_offers book last b in
+    let cut = cut_in settings book last b is within in
+    record {
+      has = subst (λ (file : List ℕ). HasBucket settings.array list file (new (file_of base 0 (Aux side b)))) (sym (elsewhere base (file_of base 0 (Journal side b)) old new step (omega arith)))
+          (subst (λ (file : List ℕ). HasBucket settings.array list (old (file_of base 0 (Journal side b))) file) (sym (elsewhere base (file_of base 0 (Aux side b)) old new step (omega arith))) has);
+      here = live_here settings book last b is.book_is;
+      within = omega (arith, cut.below, cut.within, cut.live);
+      few = omega (arith, few, cut.below, cut_counts settings book last b is.book_is is.commit is.form within);
     }
 
 pub holds_is : (base : ℕ) (settings : Settings) (manifest : Tail) (last : Commit) (cuts : ℕ) (buckets : List Bucket) (before images : Files → Type 0) (old mid : Files) (book : Book) (stands : Stands base settings book old)
-    → ChangesFile (file_of base 0 Manifest) IsOpened old mid → ((image : Files) → images image → (was : Files) × before was × OpensBelow base settings.buckets was image) → manifest.file ≡ file_of base 0 Manifest → IsOpen before manifest (map commit_bytes stands.commits)
-    → last ≡ last_commit (first_commit settings.buckets) stands.commits → cuts ≡ length stands.commits → AreFronts before base last mid → length buckets ≡ settings.buckets
-    → ((b : ℕ) (list : List Tuple) → b < settings.buckets → HasListOf base settings b (get_or last.cut b 0) list mid → HoldsBucket images settings.array (get_or last.cut b 0) (get_or buckets b no_bucket) list)
+    → ChangesFile (file_of base 0 Manifest) IsOpened old mid → ((image : Files) → images image → (was : Files) × before was × OpensBelow base (live_side last) settings.buckets was image) → manifest.file ≡ file_of base 0 Manifest → IsOpen before manifest (map commit_bytes stands.commits)
+    → last ≡ last_commit (first_commit settings.buckets) stands.commits → cuts ≡ length stands.commits → 48 * last.judged < 2 ^ 64 → AreFronts before base last mid → length buckets ≡ settings.buckets
+    → ((b : ℕ) → b < settings.buckets → IsOpenBucket base (live_side last) b (get_or (starts_of settings.buckets last) b 0) (get_or buckets b no_bucket))
+    → ((b : ℕ) (list : List Tuple) → b < settings.buckets → HasListOf base (live_side last) settings b (get_or (starts_of settings.buckets last) b 0) (get_or last.cut b 0 - get_or (starts_of settings.buckets last) b 0) list mid
+    → HoldsBucket images settings.array (get_or last.cut b 0 - get_or (starts_of settings.buckets last) b 0) (get_or buckets b no_bucket) list)
     → Holds images (opened_drum base settings manifest last cuts buckets) book
-holds_is base settings manifest last cuts buckets before images old mid book stands step kept is_manifest is_open is_last count fronts long each =
+holds_is base settings manifest last cuts buckets before images old mid book stands step kept is_manifest is_open is_last count few fronts long opened each =
     let is = stands.book_is in
     let here : last ≡ last_commit (first_commit book.buckets) stands.commits = is_last ∙ ap (λ (k : ℕ). last_commit (first_commit k) stands.commits) (sym is.buckets) in
     let commit : IsCommitOf book last = subst (λ (x : Commit). IsCommitOf book x) (sym here) (last_of_book settings book stands.commits is stands.commits_are) in
-    let side : last.side ≤ 1 = omega (arith, ap (λ (x : Commit). x.side) here, last_side book.buckets (first_commit book.buckets) stands.commits (omega arith) stands.commits_are.form) in
-    let held = λ (b : ℕ) (within : b < settings.buckets). each b (get_or book.lists b []) within (list_of base settings book old mid last b stands step commit within) in
+    let form : IsCommit settings.buckets last = subst (λ (k : ℕ). IsCommit k last) is.buckets (subst (λ (x : Commit). IsCommit book.buckets x) (sym here) (last_is book.buckets (first_commit book.buckets) stands.commits (first_is book.buckets) stands.commits_are.form)) in
+    let ends : IsLastOf settings book last = record { book_is = is; commit = commit; form = form } in
+    let side : last.side ≤ 1 = form.side in
+    let standing = λ (b : ℕ) (within : b < book.buckets). subst (λ (x : Commit). HasBucketOf base settings.array x b (live_offers book x b) old) (sym here) (stands.buckets b within) in
+    let held = λ (b : ℕ) (within : b < settings.buckets). each b (live_offers book last b) within (list_of base settings book old mid last b ends (standing b (omega (arith, within, is.buckets))) step few within) in
     let keys : last.entries ≡ length (entries (after book.rule book.base (judged_offers book))) = ap (λ (x : Commit). x.entries) here ∙ stands.cache.count in
     let cache_file : mid (file_of base 0 (Cache last.side)) ≡ old (file_of base 0 (Cache (last_commit (first_commit book.buckets) stands.commits).side)) = elsewhere base (file_of base 0 (Cache last.side)) old mid step (omega arith) ∙ ap (λ (x : Commit). old (file_of base 0 (Cache x.side))) here in
     record {
       book_is = is;
-      buckets = λ b within. held b (omega (arith, within, is.buckets));
+      offers = stands.offers;
+      starts_are = λ b within.
+          let inside : b < settings.buckets = omega (arith, within, is.buckets) in
+          (opened b inside).start ∙ sym (cut_in settings book last b ends inside).start;
+      buckets = λ b within.
+          let inside : b < settings.buckets = omega (arith, within, is.buckets) in
+          subst (λ (n : ℕ). HoldsBucket images settings.array (get_or last.cut b 0 - n) (get_or buckets b no_bucket) (live_offers book last b)) (sym (opened b inside).start) (held b inside);
       commits = stands.commits;
       commits_are = stands.commits_are;
       last = here;
       numbers = record {
-        offers = same_durables buckets book.lists no_bucket (omega (arith, long, is.is_book.lists, is.buckets)) (λ b within. (held b (omega (arith, within, is.is_book.lists, is.buckets))).durable) ∙ sym (lengths_are settings book is);
+        offers = same_durables buckets book.lists no_bucket (omega (arith, long, is.is_book.lists, is.buckets))
+            (λ b within.
+            let inside : b < settings.buckets = omega (arith, within, is.is_book.lists, is.buckets) in
+            omega (arith, (held b inside).durable, (opened b inside).start, (cut_in settings book last b ends inside).live))
+            ∙ sym (lengths_are settings book is);
         commit = commit;
         cuts = omega (arith, count, stands.commits_are.count, is.dropped);
       };
       manifest = λ image left.
           let was = kept image left in
-          subst (λ (file : List ℕ). Ends manifest.end file (map commit_bytes stands.commits)) (sym (below_same base settings.buckets manifest.file was.0 image was.2 (omega (arith, is_manifest)))) (is_open was.0 was.1);
+          subst (λ (file : List ℕ). Ends manifest.end file (map commit_bytes stands.commits)) (sym (below_same base (live_side last) settings.buckets manifest.file was.0 image was.2 (omega (arith, is_manifest)))) (is_open was.0 was.1);
       keys = keys;
-      cache = front_held base settings.buckets (file_of base 0 (Cache last.side)) (16 * last.entries) before images (mid (file_of base 0 (Cache last.side))) (pairs_bytes (entries (after book.rule book.base (judged_offers book)))) (omega (arith, side)) kept fronts.cache
+      cache = front_held base (live_side last) settings.buckets (file_of base 0 (Cache last.side)) (16 * last.entries) before images (mid (file_of base 0 (Cache last.side))) (pairs_bytes (entries (after book.rule book.base (judged_offers book)))) (omega (arith, side)) kept fronts.cache
           (subst (λ (file : List ℕ). BeginsWith file (pairs_bytes (entries (after book.rule book.base (judged_offers book))))) (sym cache_file) stands.cache.bytes) (omega (arith, keys, length-pairs (entries (after book.rule book.base (judged_offers book)))));
-      judged_are = front_held base settings.buckets (file_of base 0 Judged) (48 * last.judged) before images (mid (file_of base 0 Judged)) (judged_entries 0 (judged book)) (omega arith) kept fronts.judged
+      judged_are = front_held base (live_side last) settings.buckets (file_of base 0 Judged) (48 * last.judged) before images (mid (file_of base 0 Judged)) (judged_entries 0 (judged book)) (omega arith) kept fronts.judged
           (subst (λ (file : List ℕ). BeginsWith file (judged_entries 0 (judged book))) (sym (elsewhere base (file_of base 0 Judged) old mid step (omega arith))) stands.judged_are) (omega (arith, commit.judged, length-judged 0 (judged book)));
-      texts = front_held base settings.buckets (file_of base 0 Texts) last.texts before images (mid (file_of base 0 Texts)) (texts_of (judged_offers book)) (omega arith) kept fronts.texts
+      texts = front_held base (live_side last) settings.buckets (file_of base 0 Texts) last.texts before images (mid (file_of base 0 Texts)) (texts_of (judged_offers book)) (omega arith) kept fronts.texts
           (subst (λ (file : List ℕ). BeginsWith file (texts_of (judged_offers book))) (sym (elsewhere base (file_of base 0 Texts) old mid step (omega arith))) stands.texts) (sym commit.texts);
     }

@@ -1,6 +1,5 @@
 -- Which files are a bay's: what lies in others means nothing, and a stop that leaves the bay's as they were leaves its book.
-use Rattle.std.proofs.Common.{◌≡◌, ◌∙◌, inl, inr, ℕ, ◌+◌, ◌-◌, ◌<◌, ◌≤◌, List, [], ◌∷◌, length, refl, sym, ap, subst, arith, Option}
-use Rattle.std.proofs.lemmas.List.{get_or-replicate}
+use Rattle.std.proofs.Common.{◌≡◌, ◌≢◌, ◌⊎◌, ◌∙◌, inl, inr, ℕ, zero, suc, ◌+◌, ◌-◌, ◌*◌, ◌<◌, ◌≤◌, List, [], ◌∷◌, length, refl, sym, ap, subst, arith, Option}
 use Rattle.std.specs.List.{AllByRecursion}
 use Rattle.std.specs.Option.{ForSome}
 use Rattle.std.specs.Ordering.{nat_cmp}
@@ -17,28 +16,33 @@ use Rattle.irl_journal.specs.Blob.{BeginsWith}
 use Rattle.irl_journal.specs.Visiting.{IsOpened}
 use Rattle.irl_journal.proofs.Opened.{opened_stands}
 use Rattle.irl_bay.specs.declared.layout.files.BayFile.TheVariants.{Manifest, Cache, Judged, Texts, Journal, Aux}
-use Rattle.irl_bay.specs.BayFiles.{file_of, IsFileOf, IsBucketFile}
-use Rattle.irl_bay.specs.Runs.{HasBucket}
-use Rattle.irl_bay.specs.Commits.{Commit, IsCommit, first_commit, last_commit}
+use Rattle.irl_bay.specs.BayFiles.{file_of, IsFileOf, IsBucketFile, IsSideFile}
+use Rattle.irl_bay.specs.Runs.{IsOffer, HasBucket}
+use Rattle.irl_bay.specs.Commits.{Commit, IsCommit, first_commit, last_commit, live_side}
 use Rattle.irl_bay.specs.Standing.{Stands}
 use Rattle.irl_bay.specs.Drum.{Drum, IsDrum, cache_front, judged_front, texts_front, bucket_at}
 use Rattle.irl_bay.specs.Holding.{Holds, IsLong, ChangesOnly, TellsOnly}
 use Rattle.irl_bay.specs.Making.{IsUnmade, IsJournalOf}
 use Rattle.irl_bay.specs.Merging.{IsBatchFile, IsMergeFile}
-use Rattle.irl_bay.proofs.Blank.{blank_is_book}
+use Rattle.irl_bay.proofs.Blank.{blank_is_book, blank_lists, blank_live}
+use Rattle.irl_bay.proofs.DrumFiles.{live_low}
 use Rattle.irl_bay.proofs.MergeFrames.{Stays, same_front, tail_moved, holds_moved}
 use Rattle.irl_bay.proofs.Staying.{told_before}
 
 -- ---- a bay's files
 -- those of a bucket
-pub bucket_files : (base buckets b f : ℕ) → b < buckets → IsBucketFile base b f → IsFileOf base buckets f
-bucket_files base buckets b f within (inl e) = (Journal b, within, e)
-bucket_files base buckets b f within (inr e) = (Aux b, within, e)
+pub bucket_files : (base buckets side b f : ℕ) → b < buckets → IsBucketFile base side b f → side ≤ 1 → IsFileOf base buckets f
+bucket_files base buckets side b f within (inl e) low = (Journal side b, (low, within), e)
+bucket_files base buckets side b f within (inr e) low = (Aux side b, (low, within), e)
+
+-- those of all buckets on a side
+pub side_files : (base buckets side f : ℕ) → side ≤ 1 → IsSideFile base side buckets f → IsFileOf base buckets f
+side_files base buckets side f low is = bucket_files base buckets side is.0 f is.1 is.2 low
 
 -- the journals
 pub journal_files : (base buckets f : ℕ) → IsJournalOf base buckets f → IsFileOf base buckets f
 journal_files base buckets f (inl e) = (Manifest, tt, e)
-journal_files base buckets f (inr is) = (Journal is.0, is.1, is.2)
+journal_files base buckets f (inr is) = (Journal is.0 is.1, (is.2, is.3), is.4)
 
 -- and those that a merge changes
 pub batch_files : (drum : Drum) (f : ℕ) → IsBatchFile drum f → IsFileOf drum.base drum.settings.buckets f
@@ -48,35 +52,84 @@ batch_files drum f (inr (inr e)) = (Texts, tt, e)
 
 pub merge_files : (drum : Drum) (f : ℕ) → IsMergeFile drum f → IsFileOf drum.base drum.settings.buckets f
 merge_files drum f (inl e) = (Manifest, tt, e)
-merge_files drum f (inr is) = batch_files drum f is
+merge_files drum f (inr (inl is)) = batch_files drum f is
+merge_files drum f (inr (inr is)) = side_files drum.base drum.settings.buckets (1 - live_side drum.last) f (omega arith) is
 
--- they are 138 in a row at most
-pub files_within : (base buckets f : ℕ) → buckets ≤ 64 → IsFileOf base buckets f → (base ≤ f) × (f < base + 138)
+-- they are among 628 in a row
+pub files_within : (base buckets f : ℕ) → buckets ≤ 64 → IsFileOf base buckets f → (base ≤ f) × (f < base + 628)
 files_within base buckets f few (Manifest, is, e) = (omega (arith, e), omega (arith, e))
 files_within base buckets f few (Cache side, is, e) = (omega (arith, e, is), omega (arith, e, is))
 files_within base buckets f few (Judged, is, e) = (omega (arith, e), omega (arith, e))
 files_within base buckets f few (Texts, is, e) = (omega (arith, e), omega (arith, e))
-files_within base buckets f few (Journal b, is, e) = (omega (arith, e, is), omega (arith, e, is))
-files_within base buckets f few (Aux b, is, e) = (omega (arith, e, is), omega (arith, e, is))
+files_within base buckets f few (Journal side b, is, e) = (omega (arith, e), omega (arith, e, is.0, is.1, few))
+files_within base buckets f few (Aux side b, is, e) = (omega (arith, e), omega (arith, e, is.0, is.1, few))
 
 -- so those of two bays differ where the first files lie that far apart
-pub files_apart : (base other buckets more f : ℕ) → buckets ≤ 64 → more ≤ 64 → base + 138 ≤ other → IsFileOf base buckets f → IsFileOf other more f → ⊥
+pub files_apart : (base other buckets more f : ℕ) → buckets ≤ 64 → more ≤ 64 → base + 628 ≤ other → IsFileOf base buckets f → IsFileOf other more f → ⊥
 files_apart base other buckets more f few few_more far one two = omega (arith, far, (files_within base buckets f few one).1, (files_within other more f few_more two).0)
+
+-- Five files and two stretches of 128 hold a bay's: the places, from its first file on.
+abbrev IsPlace : ℕ → Type 0
+IsPlace n = (n < 5) ⊎ ((10 ≤ n) × (n < 138)) ⊎ ((500 ≤ n) × (n < 628))
+
+place_of : (base buckets f : ℕ) → buckets ≤ 64 → IsFileOf base buckets f → (n : ℕ) × (f ≡ base + n) × IsPlace n
+place_of base buckets f few (Manifest, is, e) = (0, omega (arith, e), inl (omega arith))
+place_of base buckets f few (Cache side, is, e) = (1 + side, omega (arith, e), inl (omega (arith, is)))
+place_of base buckets f few (Judged, is, e) = (3, omega (arith, e), inl (omega arith))
+place_of base buckets f few (Texts, is, e) = (4, omega (arith, e), inl (omega arith))
+place_of base buckets f few (Journal zero b, is, e) = (10 + 2 * b, omega (arith, e), inr (inl (omega arith, omega (arith, is.1, few))))
+place_of base buckets f few (Journal (suc side) b, is, e) = (500 + 2 * b, omega (arith, e, is.0), inr (inr (omega arith, omega (arith, is.1, few))))
+place_of base buckets f few (Aux zero b, is, e) = (11 + 2 * b, omega (arith, e), inr (inl (omega arith, omega (arith, is.1, few))))
+place_of base buckets f few (Aux (suc side) b, is, e) = (501 + 2 * b, omega (arith, e, is.0), inr (inr (omega arith, omega (arith, is.1, few))))
+
+places_apart : (m n : ℕ) → m ≡ 200 + n → IsPlace m → IsPlace n → ⊥
+places_apart m n same (inl low) is = omega (arith, same, low)
+places_apart m n same (inr (inl (from, to))) (inl low) = omega (arith, same, to)
+places_apart m n same (inr (inl (from, to))) (inr (inl (from_too, to_too))) = omega (arith, same, to)
+places_apart m n same (inr (inl (from, to))) (inr (inr (from_too, to_too))) = omega (arith, same, to)
+places_apart m n same (inr (inr (from, to))) (inl low) = omega (arith, same, from, low)
+places_apart m n same (inr (inr (from, to))) (inr (inl (from_too, to_too))) = omega (arith, same, from, to_too)
+places_apart m n same (inr (inr (from, to))) (inr (inr (from_too, to_too))) = omega (arith, same, to, from_too)
+
+-- and where they lie 200 apart, as those of a store's two bays
+pub files_of_both : (buckets f : ℕ) → buckets ≤ 64 → IsFileOf 100 buckets f → IsFileOf 300 buckets f → ⊥
+files_of_both buckets f few one two =
+    let at = place_of 100 buckets f few one in
+    let at_too = place_of 300 buckets f few two in
+    places_apart at.0 at_too.0 (omega (arith, at.1, at_too.1)) at.2 at_too.2
+
+-- the files of buckets on two sides differ
+pub journal_sides_apart : (base side other b c : ℕ) → side ≤ 1 → other ≤ 1 → side ≢ other → b < 64 → c < 64 → file_of base 0 (Journal side b) ≢ file_of base 0 (Journal other c)
+journal_sides_apart base side other b c low low_too apart within within_too = λ e. apart (omega (arith, e, low, low_too, within, within_too))
+
+pub aux_sides_apart : (base side other b c : ℕ) → side ≤ 1 → other ≤ 1 → side ≢ other → b < 64 → c < 64 → file_of base 0 (Aux side b) ≢ file_of base 0 (Aux other c)
+aux_sides_apart base side other b c low low_too apart within within_too = λ e. apart (omega (arith, e, low, low_too, within, within_too))
+
+pub sides_apart : (base side other b c : ℕ) → side ≤ 1 → other ≤ 1 → side ≢ other → b < 64 → c < 64 → (f : ℕ) → IsBucketFile base side b f → IsBucketFile base other c f → ⊥
+sides_apart base side other b c low low_too apart within within_too f (inl e) (inl e_too) = journal_sides_apart base side other b c low low_too apart within within_too (sym e ∙ e_too)
+sides_apart base side other b c low low_too apart within within_too f (inl e) (inr e_too) = apart (omega (arith, e, e_too, low, low_too, within, within_too))
+sides_apart base side other b c low low_too apart within within_too f (inr e) (inl e_too) = apart (omega (arith, e, e_too, low, low_too, within, within_too))
+sides_apart base side other b c low low_too apart within within_too f (inr e) (inr e_too) = aux_sides_apart base side other b c low low_too apart within within_too (sym e ∙ e_too)
 
 -- none of the others is a journal
 low_no_journal : (base buckets f : ℕ) → base < f → f < base + 10 → IsJournalOf base buckets f → ⊥
 low_no_journal base buckets f above below (inl e) = omega (arith, e, above)
-low_no_journal base buckets f above below (inr is) = omega (arith, is.2, below)
+low_no_journal base buckets f above below (inr is) = omega (arith, is.4, below)
 
-aux_no_journal : (base buckets b : ℕ) → IsJournalOf base buckets (file_of base 0 (Aux b)) → ⊥
-aux_no_journal base buckets b (inl e) = omega (arith, e)
-aux_no_journal base buckets b (inr is) = omega (arith, is.2)
+aux_no_journal : (base buckets side b : ℕ) → IsJournalOf base buckets (file_of base 0 (Aux side b)) → ⊥
+aux_no_journal base buckets side b (inl e) = omega (arith, e)
+aux_no_journal base buckets side b (inr is) = omega (arith, is.4)
 
 -- ---- files that stand for a book
 -- the cache side that the last of some commits names
 last_side : (buckets : ℕ) (first : Commit) (commits : List Commit) → first.side ≤ 1 → AllByRecursion (IsCommit buckets) commits → (last_commit first commits).side ≤ 1
 last_side buckets first [] low forms = low
 last_side buckets first (commit ∷ commits) low forms = last_side buckets commit commits forms.0.side forms.1
+
+-- the side of the buckets' files that it leaves live
+last_live : (buckets : ℕ) (first : Commit) (commits : List Commit) → live_side first ≤ 1 → AllByRecursion (IsCommit buckets) commits → live_side (last_commit first commits) ≤ 1
+last_live buckets first [] low forms = low
+last_live buckets first (commit ∷ commits) low forms = last_live buckets commit commits (live_low commit.live forms.0.live) forms.1
 
 -- a journal that stood for a list stands for it, and each other file of the bay is as it was
 pub record KeepsParts (base buckets : ℕ) (old new : Files) : Type 0 where
@@ -87,14 +140,15 @@ pub record KeepsParts (base buckets : ℕ) (old new : Files) : Type 0 where
 pub stands_kept : (base : ℕ) (settings : Settings) (book : Book) (old new : Files) → KeepsParts base settings.buckets old new → Stands base settings book old → Stands base settings book new
 stands_kept base settings book old new keeps stands = record {
   book_is = stands.book_is;
+  offers = stands.offers;
   buckets = λ b within.
       let inside : b < settings.buckets = omega (arith, within, stands.book_is.buckets) in
       let has = stands.buckets b within in
       record {
         runs = has.runs;
         are = has.are;
-        records = keeps.journals _ (inr (b, inside, refl)) _ has.records;
-        texts = begins (file_of base 0 (Aux b)) _ (Aux b, inside, refl) (aux_no_journal base settings.buckets b) has.texts;
+        records = keeps.journals _ (inr (live_side last, b, live, inside, refl)) _ has.records;
+        texts = begins (file_of base 0 (Aux (live_side last) b)) _ (Aux (live_side last) b, (live, inside), refl) (aux_no_journal base settings.buckets (live_side last) b) has.texts;
       };
   commits = stands.commits;
   commits_are = stands.commits_are;
@@ -109,6 +163,9 @@ stands_kept base settings book old new keeps stands = record {
 
     side : last.side ≤ 1
     side = last_side book.buckets (first_commit book.buckets) stands.commits (omega arith) stands.commits_are.form
+
+    live : live_side last ≤ 1
+    live = last_live book.buckets (first_commit book.buckets) stands.commits (omega arith) stands.commits_are.form
 
     begins : (f : ℕ) (bytes : List ℕ) → IsFileOf base settings.buckets f → (IsJournalOf base settings.buckets f → ⊥) → BeginsWith (old f) bytes → BeginsWith (new f) bytes
     begins f bytes is out was = subst (λ (file : List ℕ). BeginsWith file bytes) (sym (keeps.others f is out)) was
@@ -134,8 +191,8 @@ stands_opened base settings book old new opened = stands_kept base settings book
 -- its files are the bay's
 stays_apart : (drum : Drum) (old new : Files) → IsDrum drum → HasSameFiles drum.base drum.settings.buckets old new → Stays drum old new
 stays_apart drum old new law same = record {
-  journals = λ b within. same _ (Journal b, within, (law.buckets b within).journal);
-  auxes = λ b within. same _ (Aux b, within, (law.buckets b within).aux);
+  journals = λ b within. same _ (Journal (live_side drum.last) b, (live_low drum.last.live law.last.live, within), (law.buckets b within).journal);
+  auxes = λ b within. same _ (Aux (live_side drum.last) b, (live_low drum.last.live law.last.live, within), (law.buckets b within).aux);
   cache = same _ (Cache drum.last.side, law.last.side, refl);
   judged = same_front _ _ _ (same _ (Judged, tt, refl));
   texts = same_front _ _ _ (same _ (Texts, tt, refl));
@@ -196,9 +253,10 @@ no_bucket_has array list journal aux none few = subst (λ (l : List Tuple). HasB
 pub unmade_stands : (base : ℕ) (settings : Settings) (files : Files) → AreValid settings → IsUnmade base settings.buckets files → Stands base settings (blank_book settings.buckets settings.rule) files
 unmade_stands base settings files valid unmade = record {
   book_is = record { is_book = blank_is_book settings.buckets settings.rule valid.buckets; buckets = refl; rule = refl; dropped = refl };
-  buckets = λ b within. no_bucket_has settings.array _ (files (file_of base 0 (Journal b))) (files (file_of base 0 (Aux b))) (get_or-replicate {A = List Tuple} settings.buckets b [] [] within) (unmade _ (Journal b, within, refl));
   commits = [];
-  commits_are = record { count = refl; each = λ i within. absurd (omega (arith, within)); form = tt; grow = tt };
+  commits_are = record { count = refl; each = λ i within. absurd (omega (arith, within)); form = tt; grow = tt; name = tt };
+  offers = λ b within. subst (AllByRecursion IsOffer) (sym (blank_lists settings.buckets settings.rule b)) tt;
+  buckets = λ b within. no_bucket_has settings.array _ (files (file_of base 0 (Journal 0 b))) (files (file_of base 0 (Aux 0 b))) (blank_live settings.buckets settings.rule (first_commit settings.buckets) b) (unmade _ (Journal 0 b, (omega arith, within), refl));
   manifest = inl (unmade _ (Manifest, tt, refl), refl);
   cache = record { count = rw no_entries refl; bytes = rw no_entries (files (file_of base 0 (Cache 0)), refl) };
   judged_are = (files (file_of base 0 Judged), refl);

@@ -1,6 +1,6 @@
 -- A bay that was just made: each of its journals is empty, and it has the book without an offer.
-use Rattle.std.proofs.Common.{◌≡◌, ◌≢◌, ◌∙◌, inl, inr, ℕ, zero, suc, ◌+◌, ◌<◌, ◌≤◌, ◌^◌, true, List, [], ◌∷◌, ◌++◌, map, length, replicate, get_or, Option, None, Some, refl, sym, ap, subst, arith, ⊎_elim, length-append}
-use Rattle.std.proofs.lemmas.List.{get_or-replicate, length-replicate, get_or_append_left}
+use Rattle.std.proofs.Common.{◌≡◌, ◌≢◌, ◌∙◌, inl, inr, ℕ, zero, suc, ◌+◌, ◌-◌, ◌<◌, ◌≤◌, ◌^◌, true, List, [], ◌∷◌, ◌++◌, map, length, drop, replicate, get_or, Option, None, Some, refl, sym, ap, subst, arith, ⊎_elim, length-append}
+use Rattle.std.proofs.lemmas.List.{get_or-replicate, length-replicate, get_or_append_left, drop_all}
 use Rattle.std.proofs.Math.Seq.{get_or-append_seam}
 use Rattle.std.specs.List.{AllByRecursion}
 use Rattle.std.specs.Option.{ForSome}
@@ -19,12 +19,14 @@ use Rattle.irl_disk.proofs.Stretches.{widens_by, joins_by}
 use Rattle.irl_journal.specs.Appending.{Tail, IsOpen}
 use Rattle.irl_journal.proofs.Fronts.{none_committed}
 use Rattle.irl_bay.specs.declared.bucket.Bucket.{Bucket}
-use Rattle.irl_bay.specs.declared.layout.files.BayFile.TheVariants.{Manifest, Cache, Judged, Texts, Journal, Aux}
+use Rattle.irl_bay.specs.declared.layout.files.BayFile.TheVariants.{Manifest, Cache, Judged, Texts, Journal}
 use Rattle.irl_bay.specs.BayFiles.{file_of, max_base, IsFileOf}
-use Rattle.irl_bay.specs.Commits.{Commit, IsCommit, IsCommitOf, first_commit}
+use Rattle.irl_bay.specs.Runs.{IsOffer}
+use Rattle.irl_bay.specs.Commits.{Commit, IsCommit, IsCommitOf, first_commit, starts, live_offers}
 use Rattle.irl_bay.specs.Drum.{Drum, IsDrum, no_bucket}
 use Rattle.irl_bay.specs.Holding.{Holds, HoldsBucket, ChangesOnly, TellsBy}
 use Rattle.irl_bay.specs.Making.{IsUnmade, IsJournalOf, Makes}
+use Rattle.irl_bay.specs.Merging.{emptied}
 use Rattle.irl_bay.proofs.Staying.{only_one, only_both, leaves_one, open_stays}
 use Rattle.irl_bay.proofs.Bucketing.{bucket_stays}
 use Rattle.irl_bay.proofs.Flushing.{same_or_other}
@@ -89,7 +91,7 @@ still_unmade base buckets f step old new few changes was = λ files told g at.
 
 -- ---- the buckets so far
 abbrev pub made_bucket : ℕ → ℕ → Bucket
-made_bucket base b = record { journal = record { file = file_of base 0 (Journal b); end = 0; is_sound = true }; aux = record { file = file_of base 0 (Aux b); length = 0 }; durable = 0; gate = 0; skip = 0; text = 0 }
+made_bucket base b = emptied base 0 b 0
 
 -- the manifest and the first buckets are made
 pub record MadeSoFar (old now : Snapshot) (base buckets : ℕ) (manifest : Tail) (made : List Bucket) (b : ℕ) : Type 0 where
@@ -114,7 +116,7 @@ made_none old now base buckets f manifest is is_open was changes stops = record 
 }
 
 pub made_more : (old mid new : Snapshot) (base buckets : ℕ) (manifest : Tail) (made : List Bucket) (b : ℕ) (bucket : Bucket) → IsConsistent mid → IsConsistent new → b < buckets → manifest.file ≡ file_of base 0 Manifest → MadeSoFar old mid base buckets manifest made b → bucket ≡ made_bucket base b
-    → ((array : ℕ) → HoldsBucket new.images array 0 bucket []) → Changes (file_of base 0 (Journal b)) (λ x y. length y ≡ 1) mid.files new.files → LeavesBy (ChangesFile (file_of base 0 (Journal b)) (Scribbled 0 1)) mid new → MadeSoFar old new base buckets manifest (made ++ bucket ∷ []) (b + 1)
+    → ((array : ℕ) → HoldsBucket new.images array 0 bucket []) → Changes (file_of base 0 (Journal 0 b)) (λ x y. length y ≡ 1) mid.files new.files → LeavesBy (ChangesFile (file_of base 0 (Journal 0 b)) (Scribbled 0 1)) mid new → MadeSoFar old new base buckets manifest (made ++ bucket ∷ []) (b + 1)
 made_more old mid new base buckets manifest made b bucket law_mid law within file so_far is holds changes stops = record {
   count = omega (arith, so_far.count, length-append made (bucket ∷ []));
   each = λ k inside. ⊎_elim
@@ -123,16 +125,16 @@ made_more old mid new base buckets manifest made b bucket law_mid law within fil
       (same_or_other k b);
   holds = λ k inside array. ⊎_elim
       (λ (e : k ≡ b). subst (λ (one : Bucket). HoldsBucket new.images array 0 one []) (is ∙ ap (made_bucket base) (sym e)) (holds array))
-      (λ (other : k ≢ b). bucket_stays (λ f. f ≡ file_of base 0 (Journal b)) array 0 (made_bucket base k) [] mid new law others (λ e. omega (arith, e, other)) (λ e. omega (arith, e)) (so_far.holds k (omega (arith, inside, other)) array))
+      (λ (other : k ≢ b). bucket_stays (λ f. f ≡ file_of base 0 (Journal 0 b)) array 0 (made_bucket base k) [] mid new law others (λ e. omega (arith, e, other)) (λ e. omega (arith, e)) (so_far.holds k (omega (arith, inside, other)) array))
       (same_or_other k b);
-  manifest_open = open_stays (λ f. f ≡ file_of base 0 (Journal b)) mid new manifest [] law others (λ e. omega (arith, e, file)) so_far.manifest_open;
-  unmade = still_unmade base buckets (file_of base 0 (Journal b)) _ mid.files new.files (λ x y one. omega (arith, one)) changes so_far.unmade;
-  files = told_more base buckets old.files mid.files new.files so_far.files (told_made base buckets (file_of base 0 (Journal b)) _ mid.files new.files (λ x y short one. omega (arith, one)) (inr (b, within, refl)) changes);
-  stops = leaves_more base buckets (file_of base 0 (Journal b)) old mid new law_mid (inr (b, within, refl)) so_far.stops stops;
+  manifest_open = open_stays (λ f. f ≡ file_of base 0 (Journal 0 b)) mid new manifest [] law others (λ e. omega (arith, e, file)) so_far.manifest_open;
+  unmade = still_unmade base buckets (file_of base 0 (Journal 0 b)) _ mid.files new.files (λ x y one. omega (arith, one)) changes so_far.unmade;
+  files = told_more base buckets old.files mid.files new.files so_far.files (told_made base buckets (file_of base 0 (Journal 0 b)) _ mid.files new.files (λ x y short one. omega (arith, one)) (inr (0, b, omega arith, within, refl)) changes);
+  stops = leaves_more base buckets (file_of base 0 (Journal 0 b)) old mid new law_mid (inr (0, b, omega arith, within, refl)) so_far.stops stops;
 }
   where
-    others : LeavesBy (ChangesOnly (λ f. f ≡ file_of base 0 (Journal b))) mid new
-    others = leaves_one (λ f. f ≡ file_of base 0 (Journal b)) (file_of base 0 (Journal b)) _ mid new refl stops
+    others : LeavesBy (ChangesOnly (λ f. f ≡ file_of base 0 (Journal 0 b))) mid new
+    others = leaves_one (λ f. f ≡ file_of base 0 (Journal 0 b)) (file_of base 0 (Journal 0 b)) _ mid new refl stops
 
 -- ---- the book without an offer
 no_lengths : (n : ℕ) → list_lengths (replicate n 0) (replicate n []) ≡ replicate n 0
@@ -162,10 +164,24 @@ zeros_fit zero = tt
 zeros_fit (suc n) = (omega arith, zeros_fit n)
 
 pub first_is_commit : (buckets : ℕ) → IsCommit buckets (first_commit buckets)
-first_is_commit buckets = record { side = omega arith; entries = omega arith; judged = omega arith; unique = omega arith; texts = omega arith; count = length-replicate buckets 0; cut = zeros_fit buckets }
+first_is_commit buckets = record { side = omega arith; live = tt; entries = omega arith; judged = omega arith; unique = omega arith; texts = omega arith; count = length-replicate buckets 0; cut = zeros_fit buckets }
 
 pub first_is_blank : (buckets : ℕ) (rule : Rule) → IsCommitOf (blank_book buckets rule) (first_commit buckets)
 first_is_blank buckets rule = record { judged = refl; unique = refl; texts = refl; cut = refl }
+
+-- its lists have none
+none_at : (n b : ℕ) → get_or (replicate {A = List Tuple} n []) b [] ≡ []
+none_at zero b = refl
+none_at (suc n) zero = refl
+none_at (suc n) (suc b) = none_at n b
+
+pub blank_lists : (buckets : ℕ) (rule : Rule) (b : ℕ) → get_or (blank_book buckets rule).lists b [] ≡ []
+blank_lists buckets rule b = none_at buckets b
+
+pub blank_live : (buckets : ℕ) (rule : Rule) (last : Commit) (b : ℕ) → live_offers (blank_book buckets rule) last b ≡ []
+blank_live buckets rule last b =
+    let n : ℕ = get_or (starts (blank_book buckets rule) last) b 0 - get_or (blank_book buckets rule).firsts b 0 in
+    ap (λ (list : List Tuple). drop n list) (blank_lists buckets rule b) ∙ drop_all n [] (omega arith)
 
 -- a map without keys has no entries
 no_entries : entries {K = ℕ} {X = ℕ} {R = nat_cmp} empty ≡ []
@@ -199,6 +215,7 @@ made_is_drum old now base settings manifest last made low valid is tail so_far =
     journal = refl;
     aux = refl;
     sound = λ yes. refl;
+    start = omega arith;
     judged = omega (arith, get_or-replicate {A = ℕ} settings.buckets b 0 0 within);
     gate = omega arith;
     text = omega arith;
@@ -209,9 +226,17 @@ pub made_holds : (old now : Snapshot) (base : ℕ) (settings : Settings) (manife
     → Holds now.images (made_drum base settings manifest last made) (blank_book settings.buckets settings.rule)
 made_holds old now base settings manifest last made valid is so_far = subst (λ (commit : Commit). Holds now.images (made_drum base settings manifest commit made) (blank_book settings.buckets settings.rule)) (sym is) (record {
   book_is = record { is_book = blank_is_book settings.buckets settings.rule valid.buckets; buckets = refl; rule = refl; dropped = refl };
-  buckets = λ b within. rw (so_far.each b within, get_or-replicate {A = ℕ} settings.buckets b 0 0 within, get_or-replicate {A = List Tuple} settings.buckets b [] [] within) (so_far.holds b within settings.array);
+  offers = λ b within. subst (AllByRecursion IsOffer) (sym (blank_lists settings.buckets settings.rule b)) tt;
+  starts_are = λ b within. ap (λ (bucket : Bucket). bucket.start) (so_far.each b within) ∙ sym (get_or-replicate {A = ℕ} settings.buckets b 0 0 within);
+  buckets = λ b within.
+      let bucket = get_or made b no_bucket in
+      let cut : get_or (first_commit settings.buckets).cut b 0 - bucket.start ≡ 0 = omega (arith, get_or-replicate {A = ℕ} settings.buckets b 0 0 within) in
+      let here = subst (λ (one : Bucket). HoldsBucket now.images settings.array 0 one []) (sym (so_far.each b within)) (so_far.holds b within settings.array) in
+      let none = blank_live settings.buckets settings.rule (first_commit settings.buckets) b in
+      subst (λ (n : ℕ). HoldsBucket now.images settings.array n bucket (live_offers (blank_book settings.buckets settings.rule) (first_commit settings.buckets) b)) (sym cut)
+      (subst (λ (list : List Tuple). HoldsBucket now.images settings.array 0 bucket list) (sym none) here);
   commits = [];
-  commits_are = record { count = refl; each = λ i within. absurd (omega (arith, within)); form = tt; grow = tt };
+  commits_are = record { count = refl; each = λ i within. absurd (omega (arith, within)); form = tt; grow = tt; name = tt };
   last = refl;
   numbers = record {
     offers =

@@ -19,14 +19,14 @@ use Rattle.irl_bay.proofs.Runs.{one_run_more, texts-both}
 use Rattle.irl_bay.proofs.Staying.{only_one, only_both, told_before, leaves_one, open_stays, committed_stays}
 
 -- ---- a bucket without an offer
-pub new_bucket : (images : Files → Type 0) (journal : Tail) (file array : ℕ) → IsOpen images journal [] → HoldsBucket images array 0 (record { journal = journal; aux = record { file = file; length = 0 }; durable = 0; gate = 0; skip = 0; text = 0 }) []
-new_bucket images journal file array is_open = record {
+pub new_bucket : (images : Files → Type 0) (journal : Tail) (file start array : ℕ) → IsOpen images journal [] → HoldsBucket images array 0 (record { journal = journal; aux = record { file = file; length = 0 }; start = start; durable = start; gate = 0; skip = 0; text = 0 }) []
+new_bucket images journal file start array is_open = record {
   before = [];
   behind = [];
   are = record { joined = refl; sizes = tt; offers = tt };
   journal = is_open;
   aux = none_committed images file;
-  durable = refl;
+  durable = omega arith;
   judged = omega arith;
   gate = refl;
   skip = refl;

@@ -180,7 +180,7 @@ pub record IsFoundBucket (images : Files → Type 0) (cut : ℕ) (payloads : Lis
   pub journal : IsOpen images bucket.journal payloads
   pub length : bucket.aux.length ≡ found.texts
   pub aux : IsCommitted images bucket.aux texts
-  pub durable : bucket.durable ≡ found.count
+  pub durable : bucket.durable ≡ bucket.start + found.count
   pub pending : cut < found.count → (bucket.gate ≡ found.gate) × (bucket.skip ≡ found.skip) × (bucket.text ≡ found.text)
   pub none : found.count ≤ cut → (bucket.gate ≡ bucket.journal.end) × (bucket.skip ≡ 0) × (bucket.text ≡ bucket.aux.length)
 
@@ -214,7 +214,7 @@ holds_found images settings b cut list journal aux bucket found runs has here wi
       are = subst (AreRuns settings.array list) whole has.are;
       journal = subst (λ (l : List (List Tuple)). IsOpen images bucket.journal (map run_bytes l)) whole is.journal;
       aux = held;
-      durable = is.durable ∙ so.count ∙ count;
+      durable = omega (arith, is.durable, so.count, count);
       judged = within;
       gate = kept.0 ∙ first.gate ∙ ap (λ (ps : List (List ℕ)). length (records_text ps)) (ap (map entries_bytes) (sym moved) ∙ sym (runs_entries (take n rs)));
       skip = omega (arith, kept.1, first.skip, before);
@@ -230,7 +230,7 @@ holds_found images settings b cut list journal aux bucket found runs has here wi
       are = subst (AreRuns settings.array list) whole has.are;
       journal = subst (λ (l : List (List Tuple)). IsOpen images bucket.journal (map run_bytes l)) whole is.journal;
       aux = held;
-      durable = is.durable ∙ so.count ∙ count;
+      durable = omega (arith, is.durable, so.count, count);
       judged = within;
       gate = kept.0 ∙ is.end;
       skip = omega (arith, kept.1, past, within, ap length has.are.joined);

@@ -1,9 +1,11 @@
 -- The files of an open bay, each by its part.
-use Rattle.std.proofs.Common.{ℕ, ◌≡◌, ◌+◌, ◌<◌, inl, inr, refl, subst, arith, Option, None, Some}
+use Rattle.std.proofs.Common.{ℕ, ◌≡◌, ◌+◌, ◌<◌, ◌≤◌, inl, inr, refl, subst, arith, Option, None, Some}
+use Rattle.std.specs.Prelude.{IfSome}
 use Rattle.irl_cache.specs.Reading.{TakesExactly}
 use Rattle.irl_disk.specs.Taken.{TakesAmong}
 use Rattle.irl_bay.specs.BayFiles.{IsFileOf}
 use Rattle.irl_bay.specs.declared.layout.files.BayFile.TheVariants.{Cache, Journal, Aux}
+use Rattle.irl_bay.specs.Commits.{live_side, side_of}
 use Rattle.irl_bay.specs.Drum.{Drum, IsDrum, bucket_at, cache_front}
 use Rattle.irl_bay.specs.Holding.{IsFileOfBucket}
 use Rattle.irl_bay.specs.Merging.{TakesOf}
@@ -12,10 +14,15 @@ use Rattle.irl_bay.specs.Merging.{TakesOf}
 pub side_is_file : (drum : Drum) → IsDrum drum → IsFileOf drum.base drum.settings.buckets (cache_front drum).file
 side_is_file drum is = (Cache drum.last.side, is.last.side, refl)
 
+-- the side of the buckets' files that is live is 0 or 1
+pub live_low : (live : Option ℕ) → IfSome live (λ side. side ≤ 1) → side_of live ≤ 1
+live_low None low = omega arith
+live_low (Some side) low = low
+
 -- and so are a bucket's two files
 pub bucket_is_file : (drum : Drum) (b f : ℕ) → IsDrum drum → b < drum.settings.buckets → IsFileOfBucket (bucket_at drum b) f → IsFileOf drum.base drum.settings.buckets f
-bucket_is_file drum b f is lt (inl journal) = (Journal b, lt, let at = (is.buckets b lt).journal in cc)
-bucket_is_file drum b f is lt (inr aux) = (Aux b, lt, let at = (is.buckets b lt).aux in cc)
+bucket_is_file drum b f is lt (inl journal) = (Journal (live_side drum.last) b, (live_low drum.last.live is.last.live, lt), let at = (is.buckets b lt).journal in cc)
+bucket_is_file drum b f is lt (inr aux) = (Aux (live_side drum.last) b, (live_low drum.last.live is.last.live, lt), let at = (is.buckets b lt).aux in cc)
 
 -- what was read of some files was read of more
 pub takes_wider : (some more : ℕ → Type 0) (old new : Option (ℕ → ℕ)) → ((f : ℕ) → some f → more f) → TakesAmong some old new → TakesAmong more old new

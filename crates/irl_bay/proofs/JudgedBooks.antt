@@ -150,7 +150,7 @@ pub entries_spelled : (place : ℕ) (list : List Judged) → judged_entries plac
 entries_spelled place [] = refl
 entries_spelled place (one ∷ more) = ap (λ (bytes : List ℕ). judged_bytes place one ++ bytes) (entries_spelled (place + length one.offer.aux) more)
 
-few_buckets : (buckets : ℕ) → IsBucketCount buckets → buckets ≤ 64
+pub few_buckets : (buckets : ℕ) → IsBucketCount buckets → buckets ≤ 64
 few_buckets buckets is = grind (arith, nat_tests)
 
 module _ (drum : Drum) (count : IsBucketCount drum.settings.buckets) (fits : drum.last.texts < 2 ^ 64) where

@@ -49,7 +49,7 @@ module _ (images : Files → Type 0) (drum : Drum) (book : Book) (is : IsDrum dr
   all_offered =
       let base = (holds.book_is.is_book.none holds.book_is.dropped).0 in
       let words : HasWords book.base = subst HasWords (sym base) no_words in
-      let offers = each_judged IsOffer book holds.book_is.is_book (λ b lt. (holds.buckets b lt).are.offers) in
+      let offers = each_judged IsOffer book holds.book_is.is_book holds.offers in
       subst (λ (n : ℕ). AllByRecursion (IsOffered n) (judged book)) holds.book_is.buckets (book_offered book words offers)
 
   -- so the entries fit one behind the other

@@ -21,7 +21,8 @@ use Rattle.irl_model.proofs.Adding.{keys_grow}
 use Rattle.irl_model.proofs.BucketOrder.{border}
 use Rattle.irl_model.proofs.RisingKeys.{keys_are, pairs_are, rising_front}
 use Rattle.irl_disk.specs.Disk.{Files}
-use Rattle.irl_disk.specs.Images.{Snapshot}
+use Rattle.irl_disk.specs.Images.{IsConsistent, LeavesBy, Snapshot}
+use Rattle.irl_disk.proofs.Stretches.{left_now}
 use Rattle.irl_journal.specs.Blob.{BeginsWith}
 use Rattle.irl_cache.specs.Reading.{HasRead, read_of}
 use Rattle.irl_cache.specs.SortedRun.{AreWordPairs, AreWords, EndsEarly, FallsAt, IsSpoiltRun, pairs_bytes}
@@ -42,7 +43,7 @@ use Rattle.irl_bay.specs.declared.telling.Telling.{Telling}
 use Rattle.irl_bay.proofs.BatchWrites.{still_long, tells_from}
 use Rattle.irl_bay.proofs.CachePairs.{length-pairs, none_falls_there, same_pairs}
 use Rattle.irl_bay.proofs.HeldBuckets.{cache_held, words_held}
-use Rattle.irl_bay.proofs.MergeFrames.{batch_keeps_manifest, batch_stays}
+use Rattle.irl_bay.proofs.MergeFrames.{batch_keeps_manifest, batch_stays, holds_written}
 use Rattle.irl_bay.proofs.Staying.{told_before}
 use Rattle.irl_bay.proofs.Sweeps.{IsSameFile, put_on, read_on}
 
@@ -67,6 +68,10 @@ long_kept drum old new law writes long = λ files told.
       journals = λ b within. subst (λ (file : List ℕ). (bucket_at drum b).journal.end < length file) (sym (stays.journals b within)) (before.journals b within);
       auxes = λ b within. subst (λ (file : List ℕ). (bucket_at drum b).aux.length ≤ length file) (sym (stays.auxes b within)) (before.auxes b within);
     }
+
+-- the bay goes on holding its book
+pub held_on : (drum : Drum) (old new : Snapshot) → IsDrum drum → LeavesBy (KeepsCommitted drum) old new → (book : Book) → IsConsistent new → Holds old.images drum book → Holds new.images drum book
+held_on drum old new law stops book now holds = holds_written old.images new.images drum book law (λ z left. left_now old new _ now stops z left) holds
 
 -- ---- damage that stands after writes stood before them
 module _ (settings : Settings) (b : ℕ) (bucket : Bucket) (y z : Files) (journal : z bucket.journal.file ≡ y bucket.journal.file) where

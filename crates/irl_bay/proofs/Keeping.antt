@@ -1,114 +1,295 @@
--- A merge's device calls: a batch is written, and then its record is appended to the manifest.
-use Rattle.std.proofs.Common.{◌≡◌, ◌∙◌, inl, inr, ⊎_elim, Bool, ℕ, ◌<◌, List, [], ◌∷◌, ◌++◌, length, map, Option, None, Some, Result, Err, refl, sym, ap, subst, arith, ◌+◌, ◌≤◌}
+-- A merge's device calls: a batch is written, the side of the buckets' files that isn't live is emptied, and then the record of the
+-- batch is appended to the manifest.
+use Rattle.std.proofs.Common.{◌≡◌, ◌⊎◌, ◌∙◌, inl, inr, ⊎_elim, Bool, ℕ, ◌+◌, ◌-◌, ◌<◌, ◌≤◌, true, false, List, [], ◌∷◌, ◌++◌, length, length-append, map, Option, None, Some, Result, Err, refl, sym, ap, subst, arith}
 use Rattle.std.specs.Prelude.{⊤, IsErrOf}
+use Rattle.std.specs.List.{flat_map, AllByRecursion}
 use Rattle.std.specs.Option.{ForSome}
+use Rattle.irl_offer.specs.Tuple.{Tuple}
 use Rattle.irl_model.specs.Book.{Book, merged}
 use Rattle.irl_disk.specs.Disk.{Files, Changes, ChangesFile}
-use Rattle.irl_disk.specs.Images.{Snapshot, IsConsistent, LeavesBy, LeavesSame}
+use Rattle.irl_disk.specs.Images.{Snapshot, IsConsistent, Follows, Leaves, LeavesBy, LeavesSame}
 use Rattle.irl_disk.proofs.Frames.{told_from}
 use Rattle.irl_disk.proofs.Stretches.{widens, widens_by, joins, joins_by, same_by, left_now}
 use Rattle.irl_journal.specs.Appending.{Tail, IsOpen, HasOrGains}
-use Rattle.irl_bay.specs.BayFiles.{file_of}
-use Rattle.irl_bay.specs.Merging.{Batch}
-use Rattle.irl_bay.specs.declared.layout.files.BayFile.TheVariants.{Manifest}
-use Rattle.irl_bay.specs.Commits.{commit_bytes}
+use Rattle.irl_journal.specs.Format.{StandsFor, HasRecords}
+use Rattle.irl_journal.proofs.Fronts.{keeps_both}
+use Rattle.irl_bay.specs.BayFiles.{file_of, IsSideFile}
 use Rattle.irl_bay.specs.declared.bucket.Bucket.{Bucket}
-use Rattle.irl_bay.specs.Drum.{bucket_at, Drum, IsDrum}
-use Rattle.irl_bay.specs.Holding.{Holds, Becomes, ChangesOnly, TellsOnly, IsLong, TellsBy}
-use Rattle.irl_bay.specs.Merging.{KeepsCommitted, IsBatchFile, IsMergeFile, IsLongBatch, next_commit, next_cache, next_judged, next_texts, with_commit}
-use Rattle.irl_bay.proofs.BatchWrites.{tells_by, tells_then, tells_only}
-use Rattle.irl_bay.proofs.MergeFrames.{keeps_all, not_batch, holds_written}
-use Rattle.irl_bay.proofs.Merges.{IsReady, Only, ready_stands, holds_merged}
-use Rattle.irl_bay.proofs.Merged.{bucket_caught_up}
-use Rattle.irl_bay.proofs.Staying.{told_before}
+use Rattle.irl_bay.specs.declared.layout.files.BayFile.TheVariants.{Journal, Aux}
+use Rattle.irl_bay.specs.Runs.{run_bytes, IsRun}
+use Rattle.irl_bay.specs.Commits.{Commit, IsCommit, HasLiveRecords, commit_bytes, first_commit, last_commit, live_side, live_offers}
+use Rattle.irl_bay.specs.Drum.{bucket_at, durable_at, Drum, IsDrum, SomePending}
+use Rattle.irl_bay.specs.Holding.{Holds, HoldsBucket, Becomes, ChangesOnly, TellsOnly, IsLong, TellsBy}
+use Rattle.irl_bay.specs.Merging.{Batch, KeepsCommitted, FitsBatch, HasRoom, IsBatchFile, IsMergeFile, IsJudged, IsLongBatch, emptied, next_commit, next_cache, next_judged, next_texts, with_commit}
+use Rattle.irl_bay.proofs.Live.{live_merged}
+use Rattle.irl_bay.proofs.MergeFrames.{AreEmptied, Empties, Stays, batch_keeps_manifest, batch_stays, empties_stays, holds_moved, keeps_all, low_apart, tail_moved}
+use Rattle.irl_bay.proofs.Merges.{IsMerged, IsReady, Only, ready, ready_leaves, holds_merged}
+use Rattle.irl_bay.proofs.Merged.{bucket_emptied}
+use Rattle.irl_bay.proofs.Staying.{only_wider, tells_both, tells_one, told_before}
 use Rattle.irl_bay.proofs.Standing.{holds_stands}
 
--- ---- while the batch is written
-module _ (drum : Drum) (a b : Snapshot) (law : IsDrum drum) (stops : LeavesBy (KeepsCommitted drum) a b) where
+-- ---- until the record is appended
+-- what the bay holds stays, and only the merge's files change
+pub record Spares (drum : Drum) (y z : Files) : Type 0 where
+  pub stays : Stays drum y z
+  pub manifest : z drum.manifest.file ≡ y drum.manifest.file
+  pub others : ChangesOnly (IsMergeFile drum) y z
+
+-- while the batch is written
+pub batch_spares : (drum : Drum) (y z : Files) → IsDrum drum → KeepsCommitted drum y z → Spares drum y z
+batch_spares drum y z law keeps = record {
+  stays = batch_stays drum y z law keeps;
+  manifest = batch_keeps_manifest drum y z law keeps;
+  others = λ f out. keeps.others f (λ is. out (inr (inl is)));
+}
+
+-- and while the other side is emptied
+pub side_spares : (drum : Drum) (y z : Files) → IsDrum drum → Empties drum y z → Spares drum y z
+side_spares drum y z law empties = record {
+  stays = empties_stays drum y z law empties;
+  manifest = empties drum.manifest.file (low_apart drum.base (1 - live_side drum.last) drum.settings.buckets drum.manifest.file (omega (arith, law.manifest)));
+  others = λ f out. empties f (λ is. out (inr (inr is)));
+}
+
+spares_then : (drum : Drum) (x y z : Files) → Spares drum x y → Spares drum y z → Spares drum x z
+spares_then drum x y z first second = record {
+  stays = record {
+    journals = λ b within. second.stays.journals b within ∙ first.stays.journals b within;
+    auxes = λ b within. second.stays.auxes b within ∙ first.stays.auxes b within;
+    cache = second.stays.cache ∙ first.stays.cache;
+    judged = keeps_both _ _ _ _ first.stays.judged second.stays.judged;
+    texts = keeps_both _ _ _ _ first.stays.texts second.stays.texts;
+  };
+  manifest = second.manifest ∙ first.manifest;
+  others = λ f out. second.others f out ∙ first.others f out;
+}
+
+pub written_spares : (drum : Drum) (a b : Snapshot) → IsDrum drum → LeavesBy (KeepsCommitted drum) a b → LeavesBy (Spares drum) a b
+written_spares drum a b law first = widens_by a b _ _ first (λ y z. batch_spares drum y z law)
+
+pub spares_both : (drum : Drum) (a b d : Snapshot) → IsDrum drum → IsConsistent b → LeavesBy (KeepsCommitted drum) a b → LeavesBy (Empties drum) b d → LeavesBy (Spares drum) a d
+spares_both drum a b d law law_b first second =
+    joins_by a b d (Spares drum) law_b (spares_then drum) (written_spares drum a b law first) (widens_by b d _ _ second (λ y z. side_spares drum y z law))
+
+-- so the bay goes on holding its book
+holds_spared : (old new : Files → Type 0) (drum : Drum) (book : Book) → ((z : Files) → new z → Follows (Spares drum) old z) → Holds old drum book → Holds new drum book
+holds_spared old new drum book from holds =
+    holds_moved old new drum book (λ z left. let y = from z left in (y.0, y.1, y.2.stays)) holds
+    (tail_moved drum.manifest _ old new (λ z left. let y = from z left in (y.0, y.1, y.2.manifest)) holds.manifest)
+
+-- ---- the records of a bucket that is live
+-- where a bay holds a book, its live journals have the records with which they are open
+pub live_records : (images : Files → Type 0) (drum : Drum) (book : Book) (b : ℕ) (payloads : List (List ℕ)) (image : Files) → IsDrum drum → b < drum.settings.buckets → Holds images drum book → IsOpen images (bucket_at drum b).journal payloads → images image → HasLiveRecords drum.base drum.settings.buckets b payloads image
+live_records images drum book b payloads image law within holds is_open left =
+    let same = holds.book_is.buckets in
+    let last_is : drum.last ≡ last_commit (first_commit drum.settings.buckets) holds.commits = holds.last ∙ ap (λ (n : ℕ). last_commit (first_commit n) holds.commits) same in
+    record {
+      commits = holds.commits;
+      form = subst (λ (n : ℕ). AllByRecursion (IsCommit n) holds.commits) same holds.commits_are.form;
+      manifest = subst (λ (f : ℕ). StandsFor (image f) (map commit_bytes holds.commits)) law.manifest (inr (holds.manifest image left).records);
+      records = subst (λ (last : Commit). HasRecords (image (file_of drum.base 0 (Journal (live_side last) b))) payloads) last_is (subst (λ (f : ℕ). HasRecords (image f) payloads) (law.buckets b within).journal (is_open image left).records);
+    }
+
+-- a bucket without an offer has no record
+no_runs : (array : ℕ) (runs : List (List Tuple)) → [] ≡ flat_map (λ (run : List Tuple). run) runs → AllByRecursion (IsRun array) runs → runs ≡ []
+no_runs array [] joined sizes = refl
+no_runs array (run ∷ runs) joined sizes =
+    let longer = ap (λ (l : List Tuple). length l) joined in
+    absurd (omega (arith, longer, length-append run (flat_map (λ (one : List Tuple). one) runs), sizes.0.0))
+
+open_empty : (images : Files → Type 0) (array cut : ℕ) (bucket : Bucket) (list : List Tuple) → list ≡ [] → HoldsBucket images array cut bucket list → IsOpen images bucket.journal []
+open_empty images array cut bucket list none holds =
+    subst (λ (runs : List (List Tuple)). IsOpen images bucket.journal (map run_bytes runs)) (no_runs array (holds.before ++ holds.behind) (sym none ∙ holds.are.joined) holds.are.sizes) holds.journal
+
+-- ---- what a stop leaves until then
+-- the live journals have their records, or none
+abbrev pub HasOrEmpties : Drum → ℕ → List (List ℕ) → Files → Type 0
+HasOrEmpties drum n payloads image = HasLiveRecords drum.base drum.settings.buckets n payloads image ⊎ HasLiveRecords drum.base drum.settings.buckets n [] image
+
+module _ (drum : Drum) (a b : Snapshot) (law : IsDrum drum) (stops : LeavesBy (Spares drum) a b) where
   -- the bay goes on holding its book
   pub holds_on : (book : Book) → IsConsistent b → Holds a.images drum book → Holds b.images drum book
-  holds_on book law_b holds = holds_written a.images b.images drum book law (λ z left. left_now a b _ law_b stops z left) holds
-
-  -- and a stop leaves files that stand for it
-  pub batch_stops : (x y : Book) → Holds a.images drum x → LeavesBy (Becomes (IsMergeFile drum) drum.base drum.settings x y) a b
-  batch_stops x y holds = widens a b _ _ stops (λ image from. (
-    from.0,
-    from.1,
-    record {
-      others = λ f out. from.2.others f (λ is. out (inr is));
-      stands = inl (holds_stands (Only image) drum x image law (holds_written a.images (Only image) drum x law (λ z is. (from.0, from.1, subst (λ (z : Files). KeepsCommitted drum from.0 z) (sym is) from.2)) holds) refl);
-    },
-  ))
+  holds_on book law_b holds = holds_spared a.images b.images drum book (λ z left. left_now a b _ law_b stops z left) holds
 
   -- only its files change
-  pub batch_others : LeavesBy (ChangesOnly (IsMergeFile drum)) a b
-  batch_others = widens_by a b _ _ stops (λ y z keeps f out. keeps.others f (λ is. out (inr is)))
+  pub spared_others : LeavesBy (ChangesOnly (IsMergeFile drum)) a b
+  spared_others = widens_by a b _ _ stops (λ y z spares. spares.others)
+
+  only_holds : (x : Book) (image : Files) → Holds a.images drum x → Follows (Spares drum) a.images image → Holds (Only image) drum x
+  only_holds x image holds from = holds_spared a.images (Only image) drum x (λ z is. (from.0, from.1, subst (λ (z : Files). Spares drum from.0 z) (sym is) from.2)) holds
+
+  -- files that stand for it
+  pub spared_stops : (x y : Book) → Holds a.images drum x → LeavesBy (Becomes (IsMergeFile drum) drum.base drum.settings x y) a b
+  spared_stops x y holds = widens a b _ _ stops (λ image from. (
+    from.0,
+    from.1,
+    record { others = from.2.others; stands = inl (holds_stands (Only image) drum x image law (only_holds x image holds from) refl) },
+  ))
+
+  -- and journals with their records
+  pub spared_records : (x : Book) (n : ℕ) (payloads : List (List ℕ)) → n < drum.settings.buckets → Holds a.images drum x → IsOpen a.images (bucket_at drum n).journal payloads → Leaves a b (HasOrEmpties drum n payloads)
+  spared_records x n payloads within holds is_open = widens a b _ _ stops (λ image from.
+      inl (live_records (Only image) drum x n payloads image law within (only_holds x image holds from)
+      (tail_moved (bucket_at drum n).journal payloads a.images (Only image) (λ z is. (from.0, from.1, ap (λ (z : Files). z (bucket_at drum n).journal.file) is ∙ from.2.stays.journals n within)) is_open) refl))
+
+-- ---- once the side is emptied
+-- From one snapshot to a later one a batch of which this is the commit was written, and the side that isn't live emptied.
+pub record IsPrepared (drum : Drum) (next : Commit) (a d : Snapshot) : Type 0 where
+  pub law : IsDrum drum
+  pub sound : drum.is_sound ≡ true
+  pub some : SomePending drum
+  pub batch : Batch
+  pub next_is : next ≡ next_commit drum batch
+  pub fits : FitsBatch drum batch
+  pub room : HasRoom drum.settings.buckets (next_commit drum batch)
+  pub spares : LeavesBy (Spares drum) a d
+  pub ready_for : (files : Files) → a.files ≡ Some files → (book : Book) → Holds a.images drum book → IsReady d.images drum book batch
+
+pub prepared : (drum : Drum) (next : Commit) (a b d : Snapshot) → IsDrum drum → drum.is_sound ≡ true → SomePending drum → IsConsistent b → IsConsistent d → LeavesBy (KeepsCommitted drum) a b → IsJudged drum a b next → LeavesBy (Empties drum) b d → AreEmptied d.images drum → IsPrepared drum next a d
+prepared drum next a b d law sound some law_b law_d stops j emptying emptied_are = record {
+  law = law;
+  sound = sound;
+  some = some;
+  batch = j.batch;
+  next_is = j.synced.next_is;
+  fits = j.fits;
+  room = j.synced.room;
+  spares = spares_both drum a b d law law_b stops emptying;
+  ready_for = λ files told book holds.
+      ready a.images b.images d.images drum book j.batch law sound some j.fits j.synced.room holds (holds_on drum a b law (written_spares drum a b law stops) book law_b holds) (j.of_book files told book holds) j.synced.written
+      (λ z left. left_now b d _ law_d emptying z left) emptied_are;
+}
 
 -- ---- and then the record
 not_manifest : (drum : Drum) (f : ℕ) → IsDrum drum → (IsMergeFile drum f → ⊥) → f ≡ drum.manifest.file → ⊥
 not_manifest drum f law out e = out (inl (e ∙ law.manifest))
 
--- a stop leaves files that stand for the book, with the cut or without
-pub merge_stops : (drum : Drum) (book : Book) (batch : Batch) (a b c : Snapshot) → IsConsistent b → (r : IsReady b.images drum book batch) → Holds a.images drum book → LeavesBy (KeepsCommitted drum) a b
-    → LeavesBy (ChangesFile drum.manifest.file (HasOrGains (map commit_bytes r.holds.commits) (commit_bytes (next_commit drum batch)))) b c → LeavesBy (Becomes (IsMergeFile drum) drum.base drum.settings book (merged book)) a c
-merge_stops drum book batch a b c law_b r holds stops appended = joins a b c _ (batch_stops drum a b r.law stops book (merged book) holds) (widens b c _ _ appended (λ image from.
-    let before = left_now a b _ law_b stops from.0 from.1 in (
-      before.0,
-      before.1,
-      record {
-        others = λ f out. from.2.others f (not_manifest drum f r.law out) ∙ before.2.others f (λ is. out (inr is));
-        stands = ready_stands b.images drum book batch from.0 image r from.1 from.2;
-      },
-    )))
+-- what stops leave where a store tells, they leave where it doesn't: a store that tells nothing leaves no image
+pub told_leaves : (step : Files → Files → Type 0) (P : Files → Type 0) (told : Option Files) (b c : Snapshot) → b.files ≡ told → IsConsistent b → LeavesBy step b c → ((files : Files) → b.files ≡ Some files → Leaves b c P) → Leaves b c P
+told_leaves step P None b c is law_b stops where_told = widens b c _ _ stops (λ image from. let t = (law_b.tells from.0 from.1).1 in absurd (cc))
+told_leaves step P (Some files) b c is law_b stops where_told = where_told files is
 
--- only the merge's files change
-pub merge_others_stop : (drum : Drum) (a b c : Snapshot) → IsDrum drum → IsConsistent b → LeavesBy (KeepsCommitted drum) a b → LeavesBy (ChangesFile drum.manifest.file (λ _ _. ⊤)) b c → LeavesBy (ChangesOnly (IsMergeFile drum)) a c
-merge_others_stop drum a b c law law_b stops appended =
-    joins_by a b c _ law_b (λ x y z first second f out. second f out ∙ first f out) (batch_others drum a b law stops)
-    (widens_by b c _ _ appended (λ y z change f out. change.others f (not_manifest drum f law out)))
+module _ (drum : Drum) (next : Commit) (a d e : Snapshot) (p : IsPrepared drum next a d) (law_a : IsConsistent a) (law_d : IsConsistent d) (appended : LeavesBy (ChangesFile drum.manifest.file (λ _ _. ⊤)) d e) where
+  -- only the merge's files change
+  pub merge_others_stop : LeavesBy (ChangesOnly (IsMergeFile drum)) a e
+  merge_others_stop =
+      joins_by a d e _ law_d (λ x y z first second f out. second f out ∙ first f out) (spared_others drum a d p.law p.spares)
+      (widens_by d e _ _ appended (λ y z change f out. change.others f (not_manifest drum f p.law out)))
 
-pub batch_tells : (drum : Drum) (old new : Option Files) → TellsOnly (IsBatchFile drum) old new → TellsBy (ChangesOnly (IsMergeFile drum)) old new
-batch_tells drum None new changes = changes
-batch_tells drum (Some old) new changes = (changes.0, changes.1, λ f out. changes.2 f (λ is. out (inr is)))
+  -- the record may have been gained
+  abbrev pub Gains : Type 0
+  Gains = (payloads : List (List ℕ)) → IsOpen d.images drum.manifest payloads → LeavesBy (ChangesFile drum.manifest.file (HasOrGains payloads (commit_bytes next))) d e
 
-pub merge_others : (drum : Drum) (a b c : Option Files) → IsDrum drum → TellsOnly (IsBatchFile drum) a b → Changes drum.manifest.file (λ _ _. ⊤) b c → TellsOnly (IsMergeFile drum) a c
-merge_others drum a b c law first second =
-    tells_only (IsMergeFile drum) a c
-    (tells_then (ChangesOnly (IsMergeFile drum)) a b c (λ x y z one two f out. two f out ∙ one f out) (batch_tells drum a b first)
-    (tells_by drum.manifest.file (λ _ _. ⊤) (ChangesOnly (IsMergeFile drum)) b c (λ y z change f out. change.others f (not_manifest drum f law out)) second))
+  gained : Gains → (book : Book) → (r : IsReady d.images drum book p.batch) → LeavesBy (ChangesFile drum.manifest.file (HasOrGains (map commit_bytes r.holds.commits) (commit_bytes (next_commit drum p.batch)))) d e
+  gained gains book r = subst (λ (commit : Commit). LeavesBy (ChangesFile drum.manifest.file (HasOrGains (map commit_bytes r.holds.commits) (commit_bytes commit))) d e) p.next_is (gains (map commit_bytes r.holds.commits) r.holds.manifest)
 
--- the manifest is as long as before the batch was written
-pub manifest_long : (drum : Drum) (old new : Option Files) → IsDrum drum → ForSome old (λ files. IsLong drum files) → TellsOnly (IsBatchFile drum) old new → ForSome new (λ files. drum.manifest.end < length (files drum.manifest.file))
-manifest_long drum None new law long changes = λ files told. cc
-manifest_long drum (Some old) new law long changes = λ files told.
-    let m = law.manifest in
-    let same : changes.0 ≡ files = cc in
-    let stays : files drum.manifest.file ≡ old drum.manifest.file = subst (λ (x : Files). x drum.manifest.file ≡ old drum.manifest.file) same (changes.2 drum.manifest.file (apart drum.manifest.file m)) in
-    omega (arith, (long old refl).manifest, ap (λ (l : List ℕ). length l) stays)
-  where
-    apart : (f : ℕ) → f ≡ file_of drum.base 0 Manifest → IsBatchFile drum f → ⊥
-    apart f m is = ⊎_elim (λ e. omega (arith, e, m)) (λ more. ⊎_elim (λ e. omega (arith, e, m)) (λ e. omega (arith, e, m)) more) is
+  -- a stop leaves files that stand for the book, with the cut or without
+  pub merge_stops : Gains → (book : Book) → Holds a.images drum book → LeavesBy (Becomes (IsMergeFile drum) drum.base drum.settings book (merged book)) a e
+  merge_stops gains book holds = told_leaves _ _ a.files a e refl law_a merge_others_stop (λ files told.
+      let r = p.ready_for files told book holds in
+      joins a d e _ (spared_stops drum a d p.law p.spares book (merged book) holds) (widens d e _ _ (gained gains book r) (λ image from.
+      let before = left_now a d _ law_d p.spares from.0 from.1 in (
+        before.0,
+        before.1,
+        record {
+          others = λ f out. from.2.others f (not_manifest drum f p.law out) ∙ before.2.others f out;
+          stands = ⊎_elim (λ old. inl (holds_stands (Only image) drum book image p.law old refl)) (λ new. inr (holds_stands (Only image) (with_commit new.manifest (next_commit drum p.batch) drum) (merged book) image new.law new.holds refl)) (ready_leaves d.images drum book p.batch from.0 image r from.1 from.2);
+        },
+      ))))
 
--- the bay has the book with one cut more
-pub merge_holds : (drum : Drum) (book : Book) (batch : Batch) (manifest : Tail) (a b c : Snapshot) → IsConsistent c → (r : IsReady b.images drum book batch) → TellsOnly (IsMergeFile drum) a.files c.files → LeavesBy (ChangesFile drum.manifest.file (λ _ _. ⊤)) b c
-    → IsOpen c.images manifest (map commit_bytes r.holds.commits ++ commit_bytes (next_commit drum batch) ∷ []) → (files : Files) → a.files ≡ Some files → Holds c.images (with_commit manifest (next_commit drum batch) drum) (merged book)
-merge_holds drum book batch manifest a b c law_c r tells appended is_open files told =
-    let after = some_told (IsMergeFile drum) a.files c.files files tells told in
-    holds_merged (λ _ _. ⊤) b.images c.images drum book batch manifest after.0 r (λ z left. left_now b c _ law_c appended z left) (law_c.told after.0 after.1) is_open
-  where
-    some_told : (among : ℕ → Type 0) (old new : Option Files) (files : Files) → TellsOnly among old new → old ≡ Some files → (after : Files) × (new ≡ Some after)
-    some_told among None new files changes is = cc
-    some_told among (Some old) new files changes is = (changes.0, changes.1)
+  -- and journals with their records, or with none
+  merged_records : (book : Book) (n : ℕ) (payloads : List (List ℕ)) (image : Files) → n < drum.settings.buckets → Holds a.images drum book → IsMerged drum book p.batch image → IsReady d.images drum book p.batch → HasOrEmpties drum n payloads image
+  merged_records book n payloads image within holds m r =
+      let there : n < book.buckets = omega (arith, within, holds.book_is.buckets) in
+      let new = with_commit m.manifest (next_commit drum p.batch) drum in
+      let none = live_merged drum.settings book (next_commit drum p.batch) (1 - live_side drum.last) n holds.book_is there refl (p.fits.cut ∙ holds.numbers.offers) in
+      inr (live_records (Only image) new (merged book) n [] image m.law within m.holds (open_empty (Only image) drum.settings.array _ (bucket_at new n) (live_offers (merged book) (next_commit drum p.batch) n) none (m.holds.buckets n there)) refl)
+
+  pub merge_records : Gains → (book : Book) (n : ℕ) (payloads : List (List ℕ)) → Holds a.images drum book → n < drum.settings.buckets → IsOpen a.images (bucket_at drum n).journal payloads → Leaves a e (HasOrEmpties drum n payloads)
+  merge_records gains book n payloads holds within is_open = told_leaves _ _ a.files a e refl law_a merge_others_stop (λ files told.
+      let r = p.ready_for files told book holds in
+      joins a d e _ (spared_records drum a d p.law p.spares book n payloads within holds is_open) (widens d e _ _ (gained gains book r) (λ image from.
+      let before = left_now a d _ law_d p.spares from.0 from.1 in
+      let journal = (p.law.buckets n within).journal in
+      let manifest = p.law.manifest in
+      let same : image (bucket_at drum n).journal.file ≡ before.0 (bucket_at drum n).journal.file = from.2.others (bucket_at drum n).journal.file (λ e. omega (arith, e, journal, manifest)) ∙ before.2.stays.journals n within in
+      ⊎_elim
+      (λ old. inl (live_records (Only image) drum book n payloads image p.law within old (tail_moved (bucket_at drum n).journal payloads a.images (Only image) (λ z is. (before.0, before.1, ap (λ (z : Files). z (bucket_at drum n).journal.file) is ∙ same)) is_open) refl))
+      (λ new. merged_records book n payloads image within holds new r)
+      (ready_leaves d.images drum book p.batch from.0 image r from.1 from.2))))
+
+-- ---- what is told
+wider : (among wide : ℕ → Type 0) (old new : Option Files) → ((f : ℕ) → among f → wide f) → TellsOnly among old new → TellsOnly wide old new
+wider among wide None new more tells = tells
+wider among wide (Some old) new more tells = (tells.0, tells.1, only_wider among wide old tells.0 more tells.2)
+
+pub batch_others : (drum : Drum) (a b : Option Files) → TellsOnly (IsBatchFile drum) a b → TellsOnly (IsMergeFile drum) a b
+batch_others drum a b = wider (IsBatchFile drum) (IsMergeFile drum) a b (λ f is. inr (inl is))
+
+-- the files of the side that isn't live
+abbrev pub IsOtherSide : Drum → ℕ → Type 0
+IsOtherSide drum = IsSideFile drum.base (1 - live_side drum.last) drum.settings.buckets
+
+pub side_others : (drum : Drum) (a b d : Option Files) → TellsOnly (IsBatchFile drum) a b → TellsOnly (IsOtherSide drum) b d → TellsOnly (IsMergeFile drum) a d
+side_others drum a b d first second = tells_both (IsMergeFile drum) a b d (batch_others drum a b first) (wider (IsOtherSide drum) (IsMergeFile drum) b d (λ f is. inr (inr is)) second)
+
+pub merge_others : (drum : Drum) (a b d e : Option Files) → IsDrum drum → TellsOnly (IsBatchFile drum) a b → TellsOnly (IsOtherSide drum) b d → Changes drum.manifest.file (λ _ _. ⊤) d e → TellsOnly (IsMergeFile drum) a e
+merge_others drum a b d e law first second third = tells_both (IsMergeFile drum) a d e (side_others drum a b d first second) (tells_one (IsMergeFile drum) drum.manifest.file (λ _ _. ⊤) d e (inl law.manifest) third)
+
+-- the manifest is as long as before the side was emptied
+pub manifest_long : (drum : Drum) (b d : Option Files) → IsDrum drum → ForSome b (λ files. IsLong drum files) → TellsOnly (IsOtherSide drum) b d → ForSome d (λ files. drum.manifest.end < length (files drum.manifest.file))
+manifest_long drum b d law long changes = λ files told.
+    let from = told_before (IsOtherSide drum) b d files changes told in
+    let stays = from.2 drum.manifest.file (low_apart drum.base (1 - live_side drum.last) drum.settings.buckets drum.manifest.file (omega (arith, law.manifest))) in
+    subst (λ (bytes : List ℕ). drum.manifest.end < length bytes) (sym stays) (long from.0 from.1).manifest
+
+-- ---- the bay afterwards
+-- it has the book with one cut more
+pub merge_holds : (drum : Drum) (next : Commit) (manifest : Tail) (a d e : Snapshot) (p : IsPrepared drum next a d) → IsConsistent e → LeavesBy (ChangesFile drum.manifest.file (λ _ _. ⊤)) d e → ((payloads : List (List ℕ)) → IsOpen d.images drum.manifest payloads → IsOpen e.images manifest (payloads ++ commit_bytes next ∷ []))
+    → (files : Files) → a.files ≡ Some files → (book : Book) → Holds a.images drum book → Holds e.images (with_commit manifest (next_commit drum p.batch) drum) (merged book)
+merge_holds drum next manifest a d e p law_e appended gains files told book holds =
+    let r = p.ready_for files told book holds in
+    let payloads = map commit_bytes r.holds.commits in
+    holds_merged (λ _ _. ⊤) d.images e.images drum book p.batch manifest r (λ z left. left_now d e _ law_e appended z left)
+    (subst (λ (commit : Commit). IsOpen e.images manifest (payloads ++ commit_bytes commit ∷ [])) p.next_is (gains payloads r.holds.manifest))
+
+-- its live journals are empty
+pub merge_empties : (drum : Drum) (next : Commit) (manifest : Tail) (d e : Snapshot) (n : ℕ) → IsDrum drum → n < drum.settings.buckets → IsConsistent e → AreEmptied d.images drum → LeavesBy (ChangesFile drum.manifest.file (λ _ _. ⊤)) d e → IsOpen e.images (bucket_at (with_commit manifest next drum) n).journal []
+merge_empties drum next manifest d e n law within law_e emptied_are appended =
+    let one = emptied drum.base (1 - live_side drum.last) n (durable_at drum n) in
+    let file = law.manifest in
+    let was = open_empty d.images drum.settings.array 0 one [] refl (emptied_are drum.settings.array n within) in
+    let is = tail_moved one.journal [] d.images e.images (λ z left. let y = left_now d e _ law_e appended z left in (y.0, y.1, y.2.others one.journal.file (λ same. omega (arith, same, file)))) was in
+    subst (λ (bucket : Bucket). IsOpen e.images bucket.journal []) (sym (bucket_emptied drum (1 - live_side drum.last) n (omega (arith, law.count, within)))) is
 
 -- ---- before the batch is written
 pub same_stops : (drum : Drum) (a b : Snapshot) (x y : Book) → IsDrum drum → Holds a.images drum x → LeavesSame a b → LeavesBy (Becomes (IsMergeFile drum) drum.base drum.settings x y) a b
 same_stops drum a b x y law holds same = widens a b _ _ same (λ image was. (image, was, record { others = λ f out. refl; stands = inl (holds_stands a.images drum x image law holds was) }))
 
--- what a bay holds doesn't turn on whether it is said to be sound
+pub same_records : (drum : Drum) (a b : Snapshot) (book : Book) (n : ℕ) (payloads : List (List ℕ)) → IsDrum drum → n < drum.settings.buckets → Holds a.images drum book → IsOpen a.images (bucket_at drum n).journal payloads → LeavesSame a b → Leaves a b (HasOrEmpties drum n payloads)
+same_records drum a b book n payloads law within holds is_open same = widens a b _ _ same (λ image was. inl (live_records a.images drum book n payloads image law within holds is_open was))
+
+-- what a bay keeps and holds doesn't turn on whether it is said to be sound
+pub drum_failed : (drum : Drum) → IsDrum drum → IsDrum (record { base = drum.base; settings = drum.settings; is_sound = false; manifest = drum.manifest; last = drum.last; cuts = drum.cuts; buckets = drum.buckets })
+drum_failed drum law = record {
+  base = law.base;
+  settings = law.settings;
+  last = law.last;
+  judged = law.judged;
+  entries = law.entries;
+  manifest = law.manifest;
+  sound = λ yes. absurd (cc);
+  cuts = law.cuts;
+  count = law.count;
+  buckets = λ b within. let is = law.buckets b within in record { journal = is.journal; aux = is.aux; sound = λ yes. absurd (cc); start = is.start; judged = is.judged; gate = is.gate; text = is.text };
+}
+
 pub holds_said : (images : Files → Type 0) (drum : Drum) (is_sound : Bool) (book : Book) → Holds images drum book
     → Holds images (record { base = drum.base; settings = drum.settings; is_sound = is_sound; manifest = drum.manifest; last = drum.last; cuts = drum.cuts; buckets = drum.buckets }) book
 holds_said images drum is_sound book holds = record {
   book_is = holds.book_is;
+  offers = holds.offers;
+  starts_are = holds.starts_are;
   buckets = holds.buckets;
   commits = holds.commits;
   commits_are = holds.commits_are;
@@ -120,11 +301,6 @@ holds_said images drum is_sound book holds = record {
   judged_are = holds.judged_are;
   texts = holds.texts;
 }
-
--- a store that tells nothing leaves no image
-pub told_stops : (step wide : Files → Files → Type 0) (told : Option Files) (b c : Snapshot) → b.files ≡ told → IsConsistent b → LeavesBy step b c → ((files : Files) → b.files ≡ Some files → LeavesBy wide b c) → LeavesBy wide b c
-told_stops step wide None b c is law_b stops where_told = widens b c _ _ stops (λ image from. let t = (law_b.tells from.0 from.1).1 in absurd (cc))
-told_stops step wide (Some files) b c is law_b stops where_told = where_told files is
 
 -- an error is the same one whatever the call would have given
 pub error_of : {T U E : Type 0} (found named : E) → IsErrOf {T = T} {E = E} (Err found) named → IsErrOf {T = U} {E = E} (Err found) named
@@ -140,32 +316,35 @@ long_said drum is_sound told long = λ files is.
     let l = long files is in
     record { manifest = l.manifest; cache = l.cache; judged = l.judged; texts = l.texts; journals = l.journals; auxes = l.auxes }
 
-pub merge_long : (drum : Drum) (batch : Batch) (manifest : Tail) (payload : List ℕ) (a b c : Option Files) → IsDrum drum → ForSome a (λ files. IsLong drum files) → TellsOnly (IsBatchFile drum) a b → ForSome b (IsLongBatch drum batch) → Changes drum.manifest.file (λ _ _. ⊤) b c
-    → ForSome c (λ files. drum.manifest.end + length payload < length (files drum.manifest.file)) → manifest.file ≡ drum.manifest.file → manifest.end ≡ drum.manifest.end + length payload → ForSome c (λ files. IsLong (with_commit manifest (next_commit drum batch) drum) files)
-merge_long drum batch manifest payload a b c law before written batch_long appended longer file end = λ files told.
-    let second = told_from drum.manifest.file (λ _ _. ⊤) b c files appended told in
-    let first = told_before (IsBatchFile drum) a b second.0 written second.1 in
-    let long = before first.0 first.1 in
-    let more = batch_long second.0 second.1 in
+pub merge_long : (drum : Drum) (batch : Batch) (manifest : Tail) (payload : List ℕ) (b d e : Option Files) → IsDrum drum → ForSome b (IsLongBatch drum batch) → TellsOnly (IsOtherSide drum) b d
+    → ForSome d (λ files. (n : ℕ) → n < drum.settings.buckets → 0 < length (files (file_of drum.base 0 (Journal (1 - live_side drum.last) n)))) → Changes drum.manifest.file (λ _ _. ⊤) d e → ForSome e (λ files. drum.manifest.end + length payload < length (files drum.manifest.file)) → manifest.file ≡ drum.manifest.file
+    → manifest.end ≡ drum.manifest.end + length payload → ForSome e (λ files. IsLong (with_commit manifest (next_commit drum batch) drum) files)
+merge_long drum batch manifest payload b d e law batch_long emptying side_long appended longer file end = λ files told.
+    let third = told_from drum.manifest.file (λ _ _. ⊤) d e files appended told in
+    let second = told_before (IsOtherSide drum) b d third.0 emptying third.1 in
+    let long = batch_long second.0 second.1 in
     let m = law.manifest in
-    let manifest_long : manifest.end < length (files drum.manifest.file) = omega (arith, longer files told, end) in
-    let cache_same = second.2.others (next_cache drum batch).file (omega (arith, m)) in
-    let judged_same = second.2.others (next_judged drum batch).file (omega (arith, m)) in
-    let texts_same = second.2.others (next_texts drum batch).file (omega (arith, m)) in
+    let manifest_is : manifest.end < length (files drum.manifest.file) = omega (arith, longer files told, end) in
+    let cache_same : files (next_cache drum batch).file ≡ second.0 (next_cache drum batch).file = stays files third.0 second.0 (next_cache drum batch).file (omega arith) (omega (arith, m)) third.2 second.2 in
+    let judged_same : files (next_judged drum batch).file ≡ second.0 (next_judged drum batch).file = stays files third.0 second.0 (next_judged drum batch).file (omega arith) (omega (arith, m)) third.2 second.2 in
+    let texts_same : files (next_texts drum batch).file ≡ second.0 (next_texts drum batch).file = stays files third.0 second.0 (next_texts drum batch).file (omega arith) (omega (arith, m)) third.2 second.2 in
     record {
-      manifest = subst (λ (f : ℕ). manifest.end < length (files f)) (sym file) manifest_long;
-      cache = subst (λ (bytes : List ℕ). (next_cache drum batch).length ≤ length bytes) (sym cache_same) more.cache;
-      judged = subst (λ (bytes : List ℕ). (next_judged drum batch).length ≤ length bytes) (sym judged_same) more.judged;
-      texts = subst (λ (bytes : List ℕ). (next_texts drum batch).length ≤ length bytes) (sym texts_same) more.texts;
-      journals = λ b within.
-          let is = (law.buckets b within).journal in
-          let same = second.2.others (bucket_at drum b).journal.file (omega (arith, m, is)) ∙ first.2 (bucket_at drum b).journal.file (not_batch drum _ (omega (arith, is)) (omega (arith, is)) (omega (arith, is))) in
-          subst (λ (bucket : Bucket). bucket.journal.end < length (files bucket.journal.file)) (sym (bucket_caught_up drum b)) (subst (λ (bytes : List ℕ). (bucket_at drum b).journal.end < length bytes) (sym same) (long.journals b within));
-      auxes = λ b within.
-          let is = (law.buckets b within).aux in
-          let same = second.2.others (bucket_at drum b).aux.file (omega (arith, m, is)) ∙ first.2 (bucket_at drum b).aux.file (not_batch drum _ (omega (arith, is)) (omega (arith, is)) (omega (arith, is))) in
-          subst (λ (bucket : Bucket). bucket.aux.length ≤ length (files bucket.aux.file)) (sym (bucket_caught_up drum b)) (subst (λ (bytes : List ℕ). (bucket_at drum b).aux.length ≤ length bytes) (sym same) (long.auxes b within));
+      manifest = subst (λ (f : ℕ). manifest.end < length (files f)) (sym file) manifest_is;
+      cache = subst (λ (bytes : List ℕ). (next_cache drum batch).length ≤ length bytes) (sym cache_same) long.cache;
+      judged = subst (λ (bytes : List ℕ). (next_judged drum batch).length ≤ length bytes) (sym judged_same) long.judged;
+      texts = subst (λ (bytes : List ℕ). (next_texts drum batch).length ≤ length bytes) (sym texts_same) long.texts;
+      journals = λ n within.
+          let one = emptied drum.base (1 - live_side drum.last) n (durable_at drum n) in
+          let same = third.2.others one.journal.file (λ same. omega (arith, same, m)) in
+          subst (λ (bucket : Bucket). bucket.journal.end < length (files bucket.journal.file)) (sym (bucket_emptied drum (1 - live_side drum.last) n (omega (arith, law.count, within))))
+          (subst (λ (bytes : List ℕ). 0 < length bytes) (sym same) (side_long third.0 third.1 n within));
+      auxes = λ n within.
+          let none : 0 ≤ length (files (file_of drum.base 0 (Aux (1 - live_side drum.last) n))) = omega arith in
+          subst (λ (bucket : Bucket). bucket.aux.length ≤ length (files bucket.aux.file)) (sym (bucket_emptied drum (1 - live_side drum.last) n (omega (arith, law.count, within)))) none;
     }
+  where
+    stays : (z y x : Files) (f : ℕ) → f < drum.base + 10 → (f ≡ drum.manifest.file → ⊥) → ChangesFile drum.manifest.file (λ _ _. ⊤) y z → ChangesOnly (IsOtherSide drum) x y → z f ≡ x f
+    stays z y x f low apart last first = last.others f apart ∙ first f (low_apart drum.base (1 - live_side drum.last) drum.settings.buckets f low)
 
 -- ---- a stretch that changes nothing keeps what is committed
 tells_same : (step : Files → Files → Type 0) (old new : Option Files) → ((x : Files) → step x x) → new ≡ old → TellsBy step old new

@@ -10,6 +10,7 @@ pub mod CachePairs
 pub mod Buckets
 pub mod CommitBytes
 pub mod DrumFiles
+pub mod Emptied
 pub mod EntryBytes
 pub mod Finding
 pub mod Flushing
@@ -19,10 +20,13 @@ pub mod InBuckets
 pub mod JudgedBooks
 pub mod JudgedBytes
 pub mod JudgedHeld
+pub mod JudgedLists
 pub mod JudgedMore
 pub mod JudgedReading
 pub mod Judges
 pub mod Keeping
+pub mod LastCommit
+pub mod Live
 pub mod MergeFrames
 pub mod Merged
 pub mod Merges

@@ -1,5 +1,5 @@
 -- What a merge's writes leave as it was: the files that it doesn't write, and what is committed of those that it does.
-use Rattle.std.proofs.Common.{◌≡◌, ◌≢◌, ◌∙◌, ⊎_elim, ℕ, ◌-◌, ◌<◌, List, map, refl, sym, subst, arith}
+use Rattle.std.proofs.Common.{◌≡◌, ◌≢◌, ◌∙◌, inl, inr, ⊎_elim, ℕ, ◌+◌, ◌-◌, ◌<◌, ◌≤◌, List, [], map, Option, None, Some, IfSome, refl, sym, subst, arith}
 use Rattle.irl_offer.specs.Tuple.{Tuple}
 use Rattle.irl_model.specs.Book.{Book}
 use Rattle.irl_disk.specs.Disk.{Files, ChangesFile}
@@ -7,13 +7,14 @@ use Rattle.irl_disk.specs.Images.{Follows}
 use Rattle.irl_journal.specs.Appending.{Tail, Ends, IsOpen}
 use Rattle.irl_journal.specs.Blob.{Front, KeepsFront, IsCommitted}
 use Rattle.irl_journal.proofs.Fronts.{keeps_none, keeps_both}
-use Rattle.irl_bay.specs.BayFiles.{file_of}
+use Rattle.irl_bay.specs.BayFiles.{file_of, IsBucketFile, IsSideFile}
 use Rattle.irl_bay.specs.declared.bucket.Bucket.{Bucket}
 use Rattle.irl_bay.specs.declared.layout.files.BayFile.TheVariants.{Cache, Judged, Texts}
-use Rattle.irl_bay.specs.Commits.{commit_bytes}
-use Rattle.irl_bay.specs.Drum.{Drum, IsDrum, bucket_at, cache_front, judged_front, texts_front}
-use Rattle.irl_bay.specs.Holding.{Holds, HoldsBucket}
-use Rattle.irl_bay.specs.Merging.{IsBatchFile, KeepsCommitted}
+use Rattle.irl_bay.specs.Commits.{commit_bytes, live_side, side_of}
+use Rattle.irl_bay.specs.Drum.{Drum, IsDrum, bucket_at, durable_at, cache_front, judged_front, texts_front}
+use Rattle.irl_bay.specs.Holding.{ChangesOnly, Holds, HoldsBucket}
+use Rattle.irl_bay.specs.Merging.{IsBatchFile, KeepsCommitted, emptied}
+use Rattle.irl_bay.proofs.JudgedBooks.{few_buckets}
 
 -- ---- from the images of one moment to those of a later one
 -- a blob whose front stays is committed as before
@@ -61,6 +62,8 @@ pub record Stays (drum : Drum) (y z : Files) : Type 0 where
 pub holds_moved : (old new : Files → Type 0) (drum : Drum) (book : Book) → ((z : Files) → new z → Follows (Stays drum) old z) → (holds : Holds old drum book) → IsOpen new drum.manifest (map commit_bytes holds.commits) → Holds new drum book
 holds_moved old new drum book from holds manifest = record {
   book_is = holds.book_is;
+  offers = holds.offers;
+  starts_are = holds.starts_are;
   buckets = λ b within.
       let inside : b < drum.settings.buckets = omega (arith, holds.book_is.buckets) in
       bucket_moved _ _ (bucket_at drum b) _ old new (λ z left. let y = from z left in (y.0, y.1, y.2.journals b inside, y.2.auxes b inside)) (holds.buckets b within);
@@ -91,6 +94,50 @@ batch_stays drum y z law keeps = record {
 
 pub batch_keeps_manifest : (drum : Drum) (y z : Files) → IsDrum drum → KeepsCommitted drum y z → z drum.manifest.file ≡ y drum.manifest.file
 batch_keeps_manifest drum y z law keeps = let is = law.manifest in keeps.others _ (not_batch drum _ (omega (arith, is)) (omega (arith, is)) (omega (arith, is)))
+
+-- while the side of the buckets' files that isn't live is emptied
+abbrev pub Empties : Drum → Files → Files → Type 0
+Empties drum = ChangesOnly (IsSideFile drum.base (1 - live_side drum.last) drum.settings.buckets)
+
+-- its files have no offer
+abbrev pub AreEmptied : (Files → Type 0) → Drum → Type 0
+AreEmptied images drum = (array b : ℕ) → b < drum.settings.buckets → HoldsBucket images array 0 (emptied drum.base (1 - live_side drum.last) b (durable_at drum b)) []
+
+-- a file below the buckets' is none of them
+pub low_apart : (base side buckets f : ℕ) → f < base + 10 → IsSideFile base side buckets f → ⊥
+low_apart base side buckets f low is = ⊎_elim (λ e. omega (arith, e, low)) (λ e. omega (arith, e, low)) is.2
+
+pub low_stays : (old new : Files → Type 0) (drum : Drum) (blob : Front) (held : List ℕ) → blob.file < drum.base + 10 → ((z : Files) → new z → Follows (Empties drum) old z) → IsCommitted old blob held → IsCommitted new blob held
+low_stays old new drum blob held low from = blob_moved blob held old new (λ z left. let y = from z left in (y.0, y.1, same_front _ _ _ (y.2 blob.file (low_apart drum.base (1 - live_side drum.last) drum.settings.buckets blob.file low))))
+
+live_low : (drum : Drum) → IsDrum drum → live_side drum.last ≤ 1
+live_low drum law = side_low drum.last.live law.last.live
+  where
+    side_low : (live : Option ℕ) → IfSome live (λ side. side ≤ 1) → side_of live ≤ 1
+    side_low None is = omega arith
+    side_low (Some side) is = is
+
+-- nor is one of the live side
+live_apart : (drum : Drum) (b f : ℕ) → IsDrum drum → b < drum.settings.buckets → IsBucketFile drum.base (live_side drum.last) b f → IsSideFile drum.base (1 - live_side drum.last) drum.settings.buckets f → ⊥
+live_apart drum b f law within of is =
+    let few = few_buckets drum.settings.buckets law.settings.buckets in
+    let low = live_low drum law in
+    ⊎_elim (λ e. ⊎_elim (λ d. omega (arith, e, d, low, few, within, is.1)) (λ d. omega (arith, e, d, low, few, within, is.1)) is.2) (λ e. ⊎_elim (λ d. omega (arith, e, d, low, few, within, is.1)) (λ d. omega (arith, e, d, low, few, within, is.1)) is.2) of
+
+pub empties_stays : (drum : Drum) (y z : Files) → IsDrum drum → Empties drum y z → Stays drum y z
+empties_stays drum y z law empties = record {
+  journals = λ b within. empties _ (live_apart drum b _ law within (inl (law.buckets b within).journal));
+  auxes = λ b within. empties _ (live_apart drum b _ law within (inr (law.buckets b within).aux));
+  cache = empties _ (low_apart drum.base _ _ _ (omega (arith, law.last.side)));
+  judged = same_front _ _ _ (empties _ (low_apart drum.base _ _ _ (omega arith)));
+  texts = same_front _ _ _ (empties _ (low_apart drum.base _ _ _ (omega arith)));
+}
+
+-- so a bay holds its book through that
+pub holds_emptied : (old new : Files → Type 0) (drum : Drum) (book : Book) → IsDrum drum → ((z : Files) → new z → Follows (Empties drum) old z) → Holds old drum book → Holds new drum book
+holds_emptied old new drum book law from holds =
+    holds_moved old new drum book (λ z left. let y = from z left in (y.0, y.1, empties_stays drum y.0 z law y.2)) holds
+    (tail_moved drum.manifest _ old new (λ z left. let y = from z left in (y.0, y.1, y.2 drum.manifest.file (low_apart drum.base _ _ _ (omega (arith, law.manifest))))) holds.manifest)
 
 -- and while the manifest is appended to
 pub manifest_stays : (drum : Drum) (step : List ℕ → List ℕ → Type 0) (y z : Files) → IsDrum drum → ChangesFile drum.manifest.file step y z → Stays drum y z

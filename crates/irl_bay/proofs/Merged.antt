@@ -1,25 +1,22 @@
 -- What a merge makes of an open bay: its commits, its numbers and its buckets are those of the book with one cut more.
-use Rattle.std.proofs.Common.{◌≡◌, ◌≢◌, ◌⊎◌, ◌∙◌, ⊎_elim, ℕ, suc, ◌+◌, ◌*◌, ◌^◌, ◌<◌, ◌≤◌, true, false, Bool, List, [], ◌∷◌, ◌++◌, length, map, get_or, refl, sym, ap, subst, arith, append-nil, length-append, take_all}
-use Rattle.std.proofs.lemmas.List.{length-map}
+use Rattle.std.proofs.Common.{◌≡◌, ◌≢◌, ◌⊎◌, ◌∙◌, ⊎_elim, ℕ, zero, suc, ◌+◌, ◌-◌, ◌*◌, ◌^◌, ◌<◌, ◌≤◌, true, false, Bool, List, [], ◌∷◌, ◌++◌, length, map, get_or, refl, sym, ap, subst, arith, length-append}
+use Rattle.std.specs.Prelude.{Option, None, Some, IsSome}
 use Rattle.std.proofs.Math.ListN.{get_or-map, get_or-append}
 use Rattle.std.proofs.Math.Seq.{get_or-append_seam}
 use Rattle.std.specs.List.{AllByRecursion}
 use Rattle.irl_offer.specs.declared.receipt.Judged.{Judged}
-use Rattle.irl_offer.specs.Tuple.{Tuple}
 use Rattle.irl_model.specs.Book.{Book, merged, with_cuts, judged, judged_offers, judged_cut, lengths_of, uniques_from, is_unique, gone}
 use Rattle.irl_model.proofs.Merges.{merged_cut, earlier_merged, earlier_all}
-use Rattle.irl_disk.specs.Disk.{Files}
-use Rattle.irl_journal.specs.Appending.{Tail, IsOpen}
+use Rattle.irl_journal.specs.Appending.{Tail}
 use Rattle.irl_bay.specs.BayFiles.{file_of}
 use Rattle.irl_bay.specs.Merging.{Batch}
 use Rattle.irl_bay.specs.declared.bucket.Bucket.{Bucket}
 use Rattle.irl_bay.specs.declared.layout.files.BayFile.TheVariants.{Manifest}
-use Rattle.irl_bay.specs.Runs.{run_bytes, texts_of, AreRuns}
+use Rattle.irl_bay.specs.Runs.{texts_of}
 use Rattle.irl_bay.specs.JudgedEntries.{judged_bytes, judged_entries}
-use Rattle.irl_bay.specs.Commits.{Commit, IsCommit, IsCommitOf, AreCommitsOf, GrowFrom, first_commit, last_commit}
-use Rattle.irl_bay.specs.Drum.{Drum, IsDrum, IsBucket, HasNumbers, SomePending, CountsMerge, no_bucket, bucket_at, durables, durable_at}
-use Rattle.irl_bay.specs.Holding.{HoldsBucket}
-use Rattle.irl_bay.specs.Merging.{FitsBatch, IsBatchOf, HasRoom, next_commit, caught_up, with_commit}
+use Rattle.irl_bay.specs.Commits.{Commit, IsCommit, IsCommitOf, AreCommitsOf, GrowFrom, NameFrom, first_commit, last_commit, side_of, live_side}
+use Rattle.irl_bay.specs.Drum.{Drum, IsDrum, IsBucket, HasNumbers, SomePending, CountsMerge, no_bucket, durables, durable_at}
+use Rattle.irl_bay.specs.Merging.{FitsBatch, IsBatchOf, HasRoom, next_commit, emptied, emptied_from, with_commit}
 
 -- ---- how many
 pub length-judged_entries : (place : ℕ) (judged : List Judged) → length (judged_entries place judged) ≡ 48 * length judged
@@ -27,20 +24,31 @@ length-judged_entries place [] = refl
 length-judged_entries place (one ∷ more) = omega (arith, length-append (judged_bytes place one) (judged_entries (place + length one.offer.aux) more), length-judged_entries (place + length one.offer.aux) more)
 
 -- ---- a bay's buckets
-pub bucket_caught_up : (drum : Drum) (b : ℕ) → get_or (map caught_up drum.buckets) b no_bucket ≡ caught_up (bucket_at drum b)
-bucket_caught_up drum b = get_or-map caught_up drum.buckets b no_bucket
+emptied_at : (base side first b : ℕ) (buckets : List Bucket) → b < length buckets → get_or (emptied_from base side first buckets) b no_bucket ≡ emptied base side (first + b) (get_or buckets b no_bucket).durable
+emptied_at base side first b [] within = absurd (omega (arith, within))
+emptied_at base side first zero (bucket ∷ buckets) within = let e : first ≡ first + 0 = omega arith in ap (λ (n : ℕ). emptied base side n bucket.durable) e
+emptied_at base side first (suc b) (bucket ∷ buckets) within =
+    let e : (first + 1) + b ≡ first + suc b = omega arith in
+    emptied_at base side (first + 1) b buckets (omega (arith, within)) ∙ ap (λ (n : ℕ). emptied base side n (get_or buckets b no_bucket).durable) e
+
+pub bucket_emptied : (drum : Drum) (side b : ℕ) → b < length drum.buckets → get_or (emptied_from drum.base side 0 drum.buckets) b no_bucket ≡ emptied drum.base side b (durable_at drum b)
+bucket_emptied drum side b within = let e : 0 + b ≡ b = omega arith in emptied_at drum.base side 0 b drum.buckets within ∙ ap (λ (n : ℕ). emptied drum.base side n (durable_at drum b)) e
+
+pub length-emptied : (base side first : ℕ) (buckets : List Bucket) → length (emptied_from base side first buckets) ≡ length buckets
+length-emptied base side first [] = refl
+length-emptied base side first (bucket ∷ buckets) = ap (λ (n : ℕ). suc n) (length-emptied base side (first + 1) buckets)
 
 pub durable_is : (drum : Drum) (b : ℕ) → get_or (durables drum) b 0 ≡ durable_at drum b
 durable_is drum b = get_or-map (λ (bucket : Bucket). bucket.durable) drum.buckets b no_bucket
 
-pub durables_same : (buckets : List Bucket) → map (λ (bucket : Bucket). bucket.durable) (map caught_up buckets) ≡ map (λ (bucket : Bucket). bucket.durable) buckets
-durables_same [] = refl
-durables_same (bucket ∷ more) = ap (λ (l : List ℕ). bucket.durable ∷ l) (durables_same more)
+pub durables_same : (base side first : ℕ) (buckets : List Bucket) → map (λ (bucket : Bucket). bucket.durable) (emptied_from base side first buckets) ≡ map (λ (bucket : Bucket). bucket.durable) buckets
+durables_same base side first [] = refl
+durables_same base side first (bucket ∷ more) = ap (λ (l : List ℕ). bucket.durable ∷ l) (durables_same base side (first + 1) more)
 
 -- what every open bay keeps, it keeps through a merge
-pub drum_committed : (drum : Drum) (next : Commit) (manifest : Tail) → IsDrum drum → HasRoom drum.settings.buckets next → next.cut ≡ durables drum → manifest.file ≡ file_of drum.base 0 Manifest → manifest.is_sound ≡ true → drum.cuts + 1 ≤ manifest.end
-    → ((b : ℕ) → b < drum.settings.buckets → (bucket_at drum b).journal.is_sound ≡ true) → IsDrum (with_commit manifest next drum)
-drum_committed drum next manifest law room cut file sound cuts sounds = record {
+pub drum_committed : (drum : Drum) (next : Commit) (manifest : Tail) → IsDrum drum → HasRoom drum.settings.buckets next → next.cut ≡ durables drum → next.live ≡ Some (1 - live_side drum.last) → manifest.file ≡ file_of drum.base 0 Manifest → manifest.is_sound ≡ true
+    → drum.cuts + 1 ≤ manifest.end → IsDrum (with_commit manifest next drum)
+drum_committed drum next manifest law room cut live file sound cuts = record {
   base = law.base;
   settings = law.settings;
   last = room.form;
@@ -49,59 +57,25 @@ drum_committed drum next manifest law room cut file sound cuts sounds = record {
   manifest = file;
   sound = λ is. sound;
   cuts = cuts;
-  count = length-map drum.buckets caught_up ∙ law.count;
+  count = length-emptied drum.base (1 - live_side drum.last) 0 drum.buckets ∙ law.count;
   buckets = λ b within.
-      let is = law.buckets b within in
-      subst (λ (bucket : Bucket). IsBucket drum.base b (get_or next.cut b 0) true bucket) (sym (bucket_caught_up drum b)) (record {
-        journal = is.journal;
-        aux = is.aux;
-        sound = λ sound_is. sounds b within;
-        judged = let e = ap (λ (l : List ℕ). get_or l b 0) cut ∙ durable_is drum b in omega (arith, e);
+      let e = ap (λ (l : List ℕ). get_or l b 0) cut ∙ durable_is drum b in
+      let side : live_side next ≡ 1 - live_side drum.last = ap side_of live in
+      subst (λ (n : ℕ). IsBucket drum.base n b (get_or next.cut b 0) true (get_or (emptied_from drum.base (1 - live_side drum.last) 0 drum.buckets) b no_bucket)) (sym side)
+      (subst (λ (bucket : Bucket). IsBucket drum.base (1 - live_side drum.last) b (get_or next.cut b 0) true bucket) (sym (bucket_emptied drum (1 - live_side drum.last) b (omega (arith, law.count, within)))) (record {
+        journal = refl;
+        aux = refl;
+        sound = λ sound_is. refl;
+        start = omega (arith, e);
+        judged = omega (arith, e);
         gate = omega arith;
         text = omega arith;
-      });
-}
-
--- the commit of a batch has its room
-pub has_room : (drum : Drum) (batch : Batch) → IsDrum drum → batch.cut ≡ durables drum → 16 * batch.entries < 2 ^ 64 → 48 * (drum.last.judged + batch.count) < 2 ^ 64 → drum.last.texts + length batch.texts < 2 ^ 64 → AllByRecursion (λ (n : ℕ). n < 2 ^ 64) batch.cut
-    → HasRoom drum.settings.buckets (next_commit drum batch)
-has_room drum batch law cut_is entries_fit judged_fit texts_fit cut = record {
-  form = record {
-    side = omega arith;
-    entries = omega arith;
-    judged = omega arith;
-    unique = omega arith;
-    texts = texts_fit;
-    count = ap (λ (l : List ℕ). length l) cut_is ∙ length-map drum.buckets (λ (bucket : Bucket). bucket.durable) ∙ law.count;
-    cut = cut;
-  };
-  judged = judged_fit;
-  entries = entries_fit;
+      }));
 }
 
 pub all_fit : (numbers : List ℕ) → ((i : ℕ) → get_or numbers i 0 < 2 ^ 64) → AllByRecursion (λ (n : ℕ). n < 2 ^ 64) numbers
 all_fit [] each = tt
 all_fit (n ∷ numbers) each = (each 0, all_fit numbers (λ i. each (suc i)))
-
--- a bucket of which all offers are judged has its list, where some image is left
-pub bucket_merged : (images : Files → Type 0) (array cut : ℕ) (bucket : Bucket) (list : List Tuple) (image : Files) → images image → HoldsBucket images array cut bucket list → HoldsBucket images array bucket.durable (caught_up bucket) list
-bucket_merged images array cut bucket list image left holds =
-    let runs = holds.before ++ holds.behind in
-    let all : runs ++ [] ≡ runs = append-nil runs in
-    record {
-      before = runs;
-      behind = [];
-      are = subst (λ (l : List (List Tuple)). AreRuns array list l) (sym all) holds.are;
-      journal = subst (λ (l : List (List Tuple)). IsOpen images bucket.journal (map run_bytes l)) (sym all) holds.journal;
-      aux = holds.aux;
-      durable = holds.durable;
-      judged = omega (arith, holds.durable);
-      gate = (holds.journal image left).place;
-      skip = let joined = ap (λ (l : List Tuple). length l) holds.are.joined in omega (arith, joined, holds.durable);
-      text = let size = holds.aux.size in
-          let whole = ap (λ (l : List Tuple). length (texts_of l)) (take_all bucket.durable list (omega (arith, holds.durable))) in
-          omega (arith, size, whole);
-    }
 
 -- ---- a book's commits
 -- the counts of keys don't fall with one more
@@ -112,6 +86,10 @@ grow_more first (commit ∷ commits) next grow rises = (grow.0, grow_more commit
 pub last_is : (first : Commit) (commits : List Commit) (next : Commit) → last_commit first (commits ++ next ∷ []) ≡ next
 last_is first [] next = refl
 last_is first (commit ∷ commits) next = last_is commit commits next
+
+name_more : (live : Option ℕ) (commits : List Commit) (next : Commit) → NameFrom live commits → IsSome next.live → NameFrom live (commits ++ next ∷ [])
+name_more live [] next names some = (λ is. some, tt)
+name_more live (commit ∷ commits) next names some = (names.0, name_more commit.live commits next names.1 some)
 
 form_more : (buckets : ℕ) (commits : List Commit) (next : Commit) → AllByRecursion (IsCommit buckets) commits → IsCommit buckets next → AllByRecursion (IsCommit buckets) (commits ++ next ∷ [])
 form_more buckets [] next forms form = (form, tt)
@@ -138,12 +116,13 @@ each_more book commits next d are is default i within = ⊎_elim earlier last (e
         (subst (λ (x : Commit). IsCommitOf (merged book) x) (sym here) is)
 
 -- a commit for each cut, and one for the new cut
-pub commits_more : (book : Book) (commits : List Commit) (next : Commit) → AreCommitsOf book commits → IsCommitOf (merged book) next → IsCommit book.buckets next → (last_commit (first_commit book.buckets) commits).entries ≤ next.entries → AreCommitsOf (merged book) (commits ++ next ∷ [])
-commits_more book commits next are is form rises = record {
+pub commits_more : (book : Book) (commits : List Commit) (next : Commit) → AreCommitsOf book commits → IsCommitOf (merged book) next → IsCommit book.buckets next → (last_commit (first_commit book.buckets) commits).entries ≤ next.entries → IsSome next.live → AreCommitsOf (merged book) (commits ++ next ∷ [])
+commits_more book commits next are is form rises some = record {
   count = omega (arith, are.count, length-append commits (next ∷ []), length-append book.cuts (lengths_of book ∷ []));
   each = each_more book commits next _ are is refl;
   form = form_more book.buckets commits next are.form form;
   grow = grow_more (first_commit book.buckets) commits next are.grow rises;
+  name = name_more None commits next are.name some;
 }
 
 -- ---- a bay's numbers
@@ -169,7 +148,7 @@ next_is drum book batch numbers fits is room =
 
 pub numbers_merged : (drum : Drum) (book : Book) (batch : Batch) (manifest : Tail) → HasNumbers drum book → FitsBatch drum batch → IsBatchOf book batch → HasRoom drum.settings.buckets (next_commit drum batch) → HasNumbers (with_commit manifest (next_commit drum batch) drum) (merged book)
 numbers_merged drum book batch manifest numbers fits is room = record {
-  offers = durables_same drum.buckets ∙ numbers.offers;
+  offers = durables_same drum.base (1 - live_side drum.last) 0 drum.buckets ∙ numbers.offers;
   commit = next_is drum book batch numbers fits is room;
   cuts = omega (arith, numbers.cuts, length-append book.cuts (lengths_of book ∷ []));
 }
@@ -180,9 +159,10 @@ counts_merged drum batch manifest law fits = record {
   base = refl;
   settings = refl;
   cuts = refl;
-  offers = durables_same drum.buckets;
+  offers = durables_same drum.base (1 - live_side drum.last) 0 drum.buckets;
   cut = fits.cut;
   side = refl;
+  live = refl;
   entries = fits.entries;
   unique = omega (arith, law.last.unique);
   unique_more = omega (arith, fits.unique);

@@ -1,7 +1,8 @@
 -- What a merge judges of a book, bucket by bucket.
-use Rattle.std.proofs.Common.{◌≡◌, ◌∙◌, ℕ, zero, suc, ◌+◌, ◌*◌, ◌<◌, ◌≤◌, List, Option, [], ◌∷◌, ◌++◌, length, map, take, drop, get_or, refl, sym, ap, arith, length-append, take_all, replicate}
+use Rattle.std.proofs.Common.{◌≡◌, ◌∙◌, ℕ, zero, suc, ◌+◌, ◌*◌, ◌^◌, ◌<◌, ◌≤◌, List, Option, [], ◌∷◌, ◌++◌, length, map, take, drop, get_or, refl, sym, ap, arith, length-append, take_all, replicate}
 use Rattle.std.proofs.lemmas.Grind.{flat_map-append}
 use Rattle.std.specs.FinMap.{entries}
+use Rattle.std.specs.List.{AllByRecursion}
 use Rattle.std.specs.Prelude.{sum, zip}
 use Rattle.std.proofs.lemmas.List.{length-map}
 use Rattle.std.proofs.lemmas.List.Sums.{count_by-le-length}
@@ -18,11 +19,12 @@ use Rattle.irl_model.proofs.PlainLemmas.{stretch_more}
 use Rattle.irl_cache.specs.SortedRun.{pairs_bytes}
 use Rattle.irl_bay.specs.JudgedEntries.{judged_entries}
 use Rattle.irl_bay.specs.Judging.{batch_of, waiting}
-use Rattle.irl_bay.specs.Merging.{FitsBatch, IsBatchOf}
+use Rattle.irl_bay.specs.Merging.{Batch, FitsBatch, HasRoom, IsBatchOf, next_commit}
 use Rattle.irl_bay.specs.Runs.{texts_of}
 use Rattle.irl_bay.proofs.JudgedMore.{entries_both, length-entries, offers_back, offers_of, same_count, with_uniques}
 use Rattle.irl_bay.proofs.CachePairs.{length-pairs}
-use Rattle.irl_bay.specs.Drum.{Drum, durables}
+use Rattle.irl_bay.specs.Drum.{Drum, IsDrum, durables}
+use Rattle.irl_bay.specs.declared.bucket.Bucket.{Bucket}
 use Rattle.irl_bay.specs.Telling.{judged_with}
 
 -- ---- one bucket after another
@@ -106,4 +108,22 @@ fits_batch drum put offers verdicts size grow count = record {
   unique = omega (arith, with_uniques 0 drum.settings.buckets offers verdicts size, count_by-le-length is_unique verdicts, size);
   count = count;
   cut = refl;
+}
+
+-- and its commit has its room
+pub has_room : (drum : Drum) (batch : Batch) → IsDrum drum → batch.cut ≡ durables drum → 16 * batch.entries < 2 ^ 64 → 48 * (drum.last.judged + batch.count) < 2 ^ 64 → drum.last.texts + length batch.texts < 2 ^ 64 → AllByRecursion (λ (n : ℕ). n < 2 ^ 64) batch.cut
+    → HasRoom drum.settings.buckets (next_commit drum batch)
+has_room drum batch law cut_is entries_fit judged_fit texts_fit cut = record {
+  form = record {
+    side = omega arith;
+    live = omega arith;
+    entries = omega arith;
+    judged = omega arith;
+    unique = omega arith;
+    texts = texts_fit;
+    count = ap (λ (l : List ℕ). length l) cut_is ∙ length-map drum.buckets (λ (bucket : Bucket). bucket.durable) ∙ law.count;
+    cut = cut;
+  };
+  judged = judged_fit;
+  entries = entries_fit;
 }

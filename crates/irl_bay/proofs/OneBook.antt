@@ -1,6 +1,5 @@
 -- The files of a bay stand for at most one book.
-use Rattle.std.proofs.Common.{◌≡◌, ◌∙◌, ℕ, zero, suc, ◌+◌, ◌^◌, ◌<◌, List, [], ◌∷◌, ◌++◌, map, length, take, drop, get_or, replicate, Some, append_assoc, refl, sym, ap, subst, arith}
-use Rattle.std.proofs.Math.Seq.{take-append_seam, drop-append_seam}
+use Rattle.std.proofs.Common.{◌≡◌, ◌∙◌, ℕ, zero, suc, ◌+◌, ◌^◌, ◌<◌, List, [], ◌∷◌, ◌++◌, map, length, take, drop, get_or, replicate, Option, Some, append_assoc, refl, sym, ap, subst, arith}
 use Rattle.std.proofs.lemmas.List.{ext_get_or}
 use Rattle.std.proofs.lemmas.Grind.{flat_map-append}
 use Rattle.std.specs.List.{flat_map, AllByRecursion}
@@ -17,18 +16,14 @@ use Rattle.irl_model.specs.Book.{Book, last_cut}
 use Rattle.irl_disk.specs.Disk.{Files}
 use Rattle.irl_journal.proofs.Lists.{one_list}
 use Rattle.irl_bay.specs.BayFiles.{file_of}
-use Rattle.irl_bay.specs.declared.layout.files.BayFile.TheVariants.{Manifest, Journal, Aux}
+use Rattle.irl_bay.specs.declared.layout.files.BayFile.TheVariants.{Manifest, Judged, Texts, Journal, Aux}
 use Rattle.irl_bay.specs.Runs.{entry_of_offer, run_bytes, texts_of, IsOffer, HasBucket}
-use Rattle.irl_bay.specs.Commits.{Commit, IsCommit, AreCommitsOf, commit_bytes, first_commit}
-use Rattle.irl_bay.specs.Standing.{Stands}
+use Rattle.irl_bay.specs.Commits.{Commit, IsCommit, IsCommitOf, AreCommitsOf, commit_bytes, first_commit, last_commit, live_side, live_offers, sides_byte}
+use Rattle.irl_bay.specs.Standing.{Stands, HasBucketOf}
+use Rattle.irl_bay.proofs.CommitBytes.{same_sides}
+use Rattle.irl_bay.proofs.JudgedLists.{same_parts, same_lists_at}
+use Rattle.irl_bay.proofs.LastCommit.{last_of_book}
 use Rattle.irl_bay.proofs.Runs.{length-run_bytes}
-
--- two fronts of one length, and what stands behind each
-same_parts : (s t x y : List ℕ) → length s ≡ length t → s ++ x ≡ t ++ y → (s ≡ t) × (x ≡ y)
-same_parts s t x y long same = (
-  sym (take-append_seam s x) ∙ ap (take (length s)) same ∙ ap (λ (n : ℕ). take n (t ++ y)) long ∙ take-append_seam t y,
-  sym (drop-append_seam s x) ∙ ap (drop (length s)) same ∙ ap (λ (n : ℕ). drop n (t ++ y)) long ∙ drop-append_seam t y,
-)
 
 -- ---- an offer
 -- bytes read as the numbers of an offer
@@ -92,7 +87,7 @@ one_bucket array xs ys journal aux for_x for_y =
 -- ---- a commit
 -- bytes read as a commit
 record HasCommit (commit : Commit) (bytes : List ℕ) : Type 0 where
-  side : get_or bytes 0 0 ≡ commit.side
+  sides : get_or bytes 0 0 ≡ sides_byte commit.side commit.live
   entries : little_number 8 (drop 1 bytes) ≡ commit.entries
   judged : little_number 8 (drop 9 bytes) ≡ commit.judged
   unique : little_number 8 (drop 17 bytes) ≡ commit.unique
@@ -103,7 +98,7 @@ own_commit : (buckets : ℕ) (commit : Commit) → IsCommit buckets commit → H
 own_commit buckets commit is =
     let cut = flat_map (little_bytes 8) commit.cut in
     record {
-      side = refl;
+      sides = refl;
       entries = little_number-reads_back 8 commit.entries (little_bytes 8 commit.judged ++ (little_bytes 8 commit.unique ++ (little_bytes 8 commit.texts ++ cut))) is.entries;
       judged = little_number-reads_back 8 commit.judged (little_bytes 8 commit.unique ++ (little_bytes 8 commit.texts ++ cut)) is.judged;
       unique = little_number-reads_back 8 commit.unique (little_bytes 8 commit.texts ++ cut) is.unique;
@@ -121,15 +116,16 @@ same_cuts (x ∷ xs) (y ∷ ys) each_x each_y same =
     let behind : xs ≡ ys = same_cuts xs ys each_x.1 each_y.1 (ap (drop 8) same) in
     cc
 
-same_fields : (side entries judged unique texts : ℕ) (cut : List ℕ) (commit : Commit) → side ≡ commit.side → entries ≡ commit.entries → judged ≡ commit.judged → unique ≡ commit.unique → texts ≡ commit.texts → cut ≡ commit.cut
-    → record { side = side; entries = entries; judged = judged; unique = unique; texts = texts; cut = cut } ≡ commit
-same_fields side entries judged unique texts cut commit p q r s t u = rw (p, q, r, s, t, u) refl
+same_fields : (side : ℕ) (live : Option ℕ) (entries judged unique texts : ℕ) (cut : List ℕ) (commit : Commit) → side ≡ commit.side → live ≡ commit.live → entries ≡ commit.entries → judged ≡ commit.judged → unique ≡ commit.unique → texts ≡ commit.texts → cut ≡ commit.cut
+    → record { side = side; live = live; entries = entries; judged = judged; unique = unique; texts = texts; cut = cut } ≡ commit
+same_fields side live entries judged unique texts cut commit p l q r s t u = rw (p, l, q, r, s, t, u) refl
 
 same_commit : (buckets : ℕ) (x y : Commit) → IsCommit buckets x → IsCommit buckets y → commit_bytes x ≡ commit_bytes y → x ≡ y
 same_commit buckets x y is_x is_y same =
     let of_x : HasCommit x (commit_bytes y) = subst (HasCommit x) same (own_commit buckets x is_x) in
     let of_y = own_commit buckets y is_y in
-    same_fields x.side x.entries x.judged x.unique x.texts x.cut y (sym of_x.side ∙ of_y.side) (sym of_x.entries ∙ of_y.entries) (sym of_x.judged ∙ of_y.judged) (sym of_x.unique ∙ of_y.unique) (sym of_x.texts ∙ of_y.texts)
+    let sides = same_sides x.side y.side x.live y.live is_x.side is_y.side is_x.live is_y.live (sym of_x.sides ∙ of_y.sides) in
+    same_fields x.side x.live x.entries x.judged x.unique x.texts x.cut y sides.0 sides.1 (sym of_x.entries ∙ of_y.entries) (sym of_x.judged ∙ of_y.judged) (sym of_x.unique ∙ of_y.unique) (sym of_x.texts ∙ of_y.texts)
     (same_cuts x.cut y.cut is_x.cut is_y.cut (sym of_x.cut ∙ of_y.cut))
 
 pub same_commits : (buckets : ℕ) (xs ys : List Commit) → AllByRecursion (IsCommit buckets) xs → AllByRecursion (IsCommit buckets) ys → map commit_bytes xs ≡ map commit_bytes ys → xs ≡ ys
@@ -163,6 +159,14 @@ same_book_cuts x y xs ys buckets for_x for_y same =
     ∙ ap (λ (n : ℕ). (get_or xs i (first_commit n)).cut) buckets ∙ ap (λ (l : List Commit). (get_or l i (first_commit y.buckets)).cut) same
     ∙ sym (cut_of y ys i for_y (omega (arith, within, for_x.count, for_y.count, ap length same))))
 
+-- the texts of the last commit have their room
+first_form : (buckets : ℕ) → (first_commit buckets).texts < 2 ^ 64
+first_form buckets = omega arith
+
+last_form : (buckets : ℕ) (first : Commit) (commits : List Commit) → first.texts < 2 ^ 64 → AllByRecursion (IsCommit buckets) commits → (last_commit first commits).texts < 2 ^ 64
+last_form buckets first [] fits form = fits
+last_form buckets first (commit ∷ commits) fits form = last_form buckets commit commits form.0.texts form.1
+
 -- ---- the book
 same_parts_of : (buckets : ℕ) (rule : Rule) (base : KeyMap) (dropped : ℕ) (firsts : List ℕ) (lists : List (List Tuple)) (cuts : List (List ℕ)) (book : Book)
     → buckets ≡ book.buckets → rule ≡ book.rule → base ≡ book.base → dropped ≡ book.dropped → firsts ≡ book.firsts → lists ≡ book.lists → cuts ≡ book.cuts
@@ -176,12 +180,20 @@ one_book base settings x y files for_x for_y =
     let buckets : x.buckets ≡ y.buckets = is_x.buckets ∙ sym is_y.buckets in
     let none_x = is_x.is_book.none is_x.dropped in
     let none_y = is_y.is_book.none is_y.dropped in
-    let lists : x.lists ≡ y.lists = ext_get_or [] x.lists y.lists (is_x.is_book.lists ∙ buckets ∙ sym is_y.is_book.lists) (λ b within.
-    one_bucket settings.array (get_or x.lists b []) (get_or y.lists b []) (files (file_of base 0 (Journal b))) (files (file_of base 0 (Aux b)))
-    (for_x.buckets b (omega (arith, within, is_x.is_book.lists))) (for_y.buckets b (omega (arith, within, is_x.is_book.lists, buckets)))) in
     let records = one_list (files (file_of base 0 Manifest)) (map commit_bytes for_x.commits) (map commit_bytes for_y.commits) for_x.manifest for_y.manifest in
     let commits : for_x.commits ≡ for_y.commits =
     same_commits x.buckets for_x.commits for_y.commits for_x.commits_are.form (subst (λ (n : ℕ). AllByRecursion (IsCommit n) for_y.commits) (sym buckets) for_y.commits_are.form) records in
+    let last = last_commit (first_commit x.buckets) for_x.commits in
+    let same_last : last_commit (first_commit y.buckets) for_y.commits ≡ last = sym (ap (λ (n : ℕ). last_commit (first_commit n) for_x.commits) buckets ∙ ap (last_commit (first_commit y.buckets)) commits) in
+    let of_x = last_of_book settings x for_x.commits is_x for_x.commits_are in
+    let of_y = subst (IsCommitOf y) same_last (last_of_book settings y for_y.commits is_y for_y.commits_are) in
+    let room = (last_form x.buckets (first_commit x.buckets) for_x.commits (first_form x.buckets) for_x.commits_are.form) in
+    let lists : x.lists ≡ y.lists = ext_get_or [] x.lists y.lists (is_x.is_book.lists ∙ buckets ∙ sym is_y.is_book.lists) (λ b within.
+    let in_x : b < x.buckets = omega (arith, within, is_x.is_book.lists) in
+    let in_y : b < y.buckets = omega (arith, in_x, buckets) in
+    let has_y = subst (λ (c : Commit). HasBucketOf base settings.array c b (live_offers y c b) files) same_last (for_y.buckets b in_y) in
+    same_lists_at settings x y last is_x is_y of_x of_y room for_x.offers for_y.offers (files (file_of base 0 Judged)) (files (file_of base 0 Texts)) b in_x in_y for_x.judged_are for_y.judged_are for_x.texts for_y.texts
+    (one_bucket settings.array (live_offers x last b) (live_offers y last b) (files (file_of base 0 (Journal (live_side last) b))) (files (file_of base 0 (Aux (live_side last) b))) (for_x.buckets b in_x) has_y)) in
     same_parts_of x.buckets x.rule x.base x.dropped x.firsts x.lists x.cuts y buckets (is_x.rule ∙ sym is_y.rule) (none_x.0 ∙ sym none_y.0) (is_x.dropped ∙ sym is_y.dropped)
     (none_x.1 ∙ ap (λ (n : ℕ). replicate n 0) buckets ∙ sym none_y.1) lists
     (same_book_cuts x y for_x.commits for_y.commits buckets for_x.commits_are for_y.commits_are commits)

@@ -1,6 +1,6 @@
 -- What an open bay holds: each joint image that a stop now may leave stands for its book, and what a store tells is as long as what
 -- is committed of it.
-use Rattle.std.proofs.Common.{◌≡◌, ℕ, ◌<◌, ◌≤◌, List, [], ◌++◌, length, map, Some, inr, get_or, subst, arith}
+use Rattle.std.proofs.Common.{◌≡◌, ℕ, ◌<◌, ◌≤◌, List, ◌++◌, length, map, Some, inr, subst, arith}
 use Rattle.irl_offer.specs.Tuple.{Tuple}
 use Rattle.irl_model.specs.Judging.{after}
 use Rattle.irl_model.specs.Book.{Book, judged_offers}
@@ -15,9 +15,9 @@ use Rattle.irl_bay.specs.declared.bucket.Bucket.{Bucket}
 use Rattle.irl_bay.specs.declared.layout.files.BayFile.TheVariants.{Aux}
 use Rattle.irl_bay.specs.BayFiles.{file_of}
 use Rattle.irl_bay.specs.Runs.{HasBucket}
-use Rattle.irl_bay.specs.Commits.{Commit, commit_bytes}
+use Rattle.irl_bay.specs.Commits.{Commit, commit_bytes, live_side, live_offers}
 use Rattle.irl_bay.specs.Cache.{HasCache}
-use Rattle.irl_bay.specs.Standing.{Stands}
+use Rattle.irl_bay.specs.Standing.{HasBucketOf, Stands}
 use Rattle.irl_bay.specs.Drum.{Drum, IsDrum, bucket_at, cache_front, judged_front, texts_front}
 use Rattle.irl_bay.specs.Holding.{Holds, HoldsBucket, IsLong}
 
@@ -35,12 +35,14 @@ bucket_stands images array cut bucket list image holds left = record {
 pub holds_stands : (images : Files → Type 0) (drum : Drum) (book : Book) (image : Files) → IsDrum drum → Holds images drum book → images image → Stands drum.base drum.settings book image
 holds_stands images drum book image law holds left = record {
   book_is = holds.book_is;
+  offers = holds.offers;
   buckets = λ b within.
       let is = law.buckets b (omega (arith, holds.book_is.buckets)) in
-      let list = get_or book.lists b [] in
-      subst (λ (f : ℕ). HasBucket drum.settings.array list (image f) (image (file_of drum.base 0 (Aux b)))) is.journal
+      let list = live_offers book drum.last b in
+      subst (λ (last : Commit). HasBucketOf drum.base drum.settings.array last b (live_offers book last b) image) holds.last
+      (subst (λ (f : ℕ). HasBucket drum.settings.array list (image f) (image (file_of drum.base 0 (Aux (live_side drum.last) b)))) is.journal
       (subst (λ (f : ℕ). HasBucket drum.settings.array list (image (bucket_at drum b).journal.file) (image f)) is.aux
-      (bucket_stands images drum.settings.array _ (bucket_at drum b) list image (holds.buckets b within) left));
+      (bucket_stands images drum.settings.array _ (bucket_at drum b) list image (holds.buckets b within) left)));
   commits = holds.commits;
   commits_are = holds.commits_are;
   manifest = subst (λ (f : ℕ). StandsFor (image f) (map commit_bytes holds.commits)) law.manifest (inr (holds.manifest image left).records);

@@ -3,6 +3,7 @@ use Rattle.std.proofs.Common.{◌≡◌, ◌∙◌, ℕ, suc, zero, ◌+◌, ◌
 use Rattle.std.proofs.lemmas.List.{length-map}
 use Rattle.std.proofs.lemmas.Grind.{flat_map-append}
 use Rattle.std.proofs.Math.Seq.{take-add, take-append-add}
+use Rattle.std.specs.Prelude.{IsSome}
 use Rattle.std.specs.List.{take-map, AllByRecursion}
 use Rattle.std.specs.FinMap.{entries}
 use Rattle.irl_offer.specs.Tuple.{Tuple}
@@ -19,14 +20,16 @@ use Rattle.irl_journal.proofs.Fronts.{begins_long}
 use Rattle.irl_bay.specs.BayFiles.{file_of}
 use Rattle.irl_bay.specs.declared.layout.files.BayFile.TheVariants.{Manifest, Cache, Judged, Texts, Journal, Aux}
 use Rattle.irl_cache.specs.SortedRun.{pairs_bytes}
-use Rattle.irl_bay.specs.Commits.{Commit, IsCommit, IsCommitOf, GrowFrom, commit_bytes, first_commit, last_commit}
+use Rattle.irl_bay.specs.Commits.{Commit, IsCommit, IsCommitOf, GrowFrom, NameFrom, commit_bytes, first_commit, last_commit, live_side, live_offers}
 use Rattle.irl_bay.specs.Damage.{IsAtOrAbove, RiseFrom, AreCommitPayloads, AreRunPayloads, IsDamagedJournal, IsDamagedFront, IsDamagedBucket, IsDamagedBehind, IsDamagedAt, IsReached, IsWholeBucket, HasFronts, HasManifest, HasRuns, IsEntryRun, entries_bytes, entries_in, text_length}
 use Rattle.irl_bay.specs.JudgedEntries.{judged_entries}
 use Rattle.irl_bay.specs.Runs.{IsOffer, entry_of_offer, texts_of}
-use Rattle.irl_bay.specs.Standing.{Stands, IsBookOf}
-use Rattle.irl_bay.proofs.AdoptedBook.{first_of, last_of_book, last_within, of_bucket, lengths_are, length-at, length-pairs, length-judged, same_commits}
+use Rattle.irl_bay.specs.Standing.{Stands, IsBookOf, HasBucketOf}
+use Rattle.irl_bay.proofs.Adopted.{first_is, last_is}
+use Rattle.irl_bay.proofs.AdoptedBook.{IsLastOf, cut_in, live_here, length-pairs, length-judged, same_commits}
 use Rattle.irl_bay.proofs.Below.{below_both, each_below}
 use Rattle.irl_bay.proofs.Buckets.{entry_runs, runs_entries, entries_in-runs, text_length-offers, runs_of, same_runs, IsOfferOf}
+use Rattle.irl_bay.proofs.LastCommit.{first_of, last_of_book}
 use Rattle.irl_bay.proofs.Reached.{rise_each}
 
 -- ---- a good journal is damaged nowhere
@@ -75,8 +78,8 @@ longer {X} xs ys prefix = omega (arith, ap (λ (l : List X). length l) prefix.1,
 longer_texts : (xs ys : List Tuple) → IsPrefixOf xs ys → length (texts_of xs) ≤ length (texts_of ys)
 longer_texts xs ys prefix = omega (arith, ap (λ (l : List Tuple). length (texts_of l)) prefix.1, ap (λ (l : List ℕ). length l) (flat_map-append (λ (o : Tuple). o.aux) xs prefix.0), length-append (texts_of xs) (texts_of prefix.0))
 
-above_one : (book : Book) (n : ℕ) (old new : Commit) → IsBook book → old.entries ≤ new.entries → IsCommitOf (with_cuts n book) old → IsCommitOf (with_cuts (suc n) book) new → IsAtOrAbove old new
-above_one book n old new is grows before here =
+above_one : (book : Book) (n : ℕ) (old new : Commit) → IsBook book → old.entries ≤ new.entries → (IsSome old.live → IsSome new.live) → IsCommitOf (with_cuts n book) old → IsCommitOf (with_cuts (suc n) book) new → IsAtOrAbove old new
+above_one book n old new is grows names before here =
     let x = with_cuts n book in
     let y = with_cuts (suc n) book in
     let is_x = earlier_book n book is in
@@ -88,17 +91,18 @@ above_one book n old new is grows before here =
       unique = omega (arith, before.unique, here.unique, longer (uniques x) (uniques y) (uniques_front x y is_x front));
       texts = omega (arith, before.texts, here.texts, longer_texts (judged_offers x) (judged_offers y) (judged_offers_front x y is_x front));
       cut = subst (λ (l : List ℕ). IsBelow l new.cut) (sym before.cut) (subst (λ (l : List ℕ). IsBelow (judged_cut x) l) (sym here.cut) cuts);
+      live = names;
     }
 
-rise_of : (book : Book) (buckets n : ℕ) (old : Commit) (commits : List Commit) (d : Commit) → IsBook book → IsCommitOf (with_cuts n book) old → ((i : ℕ) → i < length commits → IsCommitOf (with_cuts (n + i + 1) book) (get_or commits i d)) → AllByRecursion (IsCommit buckets) commits → GrowFrom old.entries commits → RiseFrom buckets old commits
-rise_of book buckets n old [] d is before each form grow = tt
-rise_of book buckets n old (commit ∷ commits) d is before each form grow =
+rise_of : (book : Book) (buckets n : ℕ) (old : Commit) (commits : List Commit) (d : Commit) → IsBook book → IsCommitOf (with_cuts n book) old → ((i : ℕ) → i < length commits → IsCommitOf (with_cuts (n + i + 1) book) (get_or commits i d)) → AllByRecursion (IsCommit buckets) commits → GrowFrom old.entries commits → NameFrom old.live commits → RiseFrom buckets old commits
+rise_of book buckets n old [] d is before each form grow name = tt
+rise_of book buckets n old (commit ∷ commits) d is before each form grow name =
     let first : n + 0 + 1 ≡ suc n = omega arith in
     let here : IsCommitOf (with_cuts (suc n) book) commit = subst (λ (k : ℕ). IsCommitOf (with_cuts k book) commit) first (each 0 (omega arith)) in (
       form.0,
-      above_one book n old commit is grow.0 before here,
+      above_one book n old commit is grow.0 name.0 before here,
       rise_of book buckets (suc n) commit commits d is here
-          (λ i within. let next : n + suc i + 1 ≡ suc n + i + 1 = omega arith in subst (λ (k : ℕ). IsCommitOf (with_cuts k book) (get_or commits i d)) next (each (suc i) (omega (arith, within)))) form.1 grow.1,
+          (λ i within. let next : n + suc i + 1 ≡ suc n + i + 1 = omega arith in subst (λ (k : ℕ). IsCommitOf (with_cuts k book) (get_or commits i d)) next (each (suc i) (omega (arith, within)))) form.1 grow.1 name.1,
     )
 
 pub stands_rise : (base : ℕ) (settings : Settings) (book : Book) (files : Files) (stands : Stands base settings book files) → RiseFrom settings.buckets (first_commit settings.buckets) stands.commits
@@ -108,7 +112,7 @@ stands_rise base settings book files stands =
     subst (λ (k : ℕ). RiseFrom k (first_commit k) stands.commits) is.buckets
     (rise_of book book.buckets 0 (first_commit book.buckets) stands.commits (first_commit book.buckets) is.is_book (first_of settings (with_cuts 0 book) blank refl)
     (λ i within. let same : i + 1 ≡ 0 + i + 1 = omega arith in subst (λ (k : ℕ). IsCommitOf (with_cuts k book) (get_or stands.commits i (first_commit book.buckets))) same (stands.commits_are.each i within))
-    stands.commits_are.form stands.commits_are.grow)
+    stands.commits_are.form stands.commits_are.grow stands.commits_are.name)
 
 -- each commit's cut is below the last one's
 below_last : (buckets : ℕ) (old : Commit) (commits : List Commit) → RiseFrom buckets old commits → IsBelow old.cut (last_commit old commits).cut
@@ -121,25 +125,28 @@ among_below buckets old (x ∷ before) commit more rise = among_below buckets x 
 
 -- ---- the parts
 -- a bucket's runs are its list's
-record HasRunsOf (base : ℕ) (settings : Settings) (b : ℕ) (list : List Tuple) (files : Files) : Type 0 where
+record HasRunsOf (base side : ℕ) (settings : Settings) (b : ℕ) (list : List Tuple) (files : Files) : Type 0 where
   runs : List (List Entry)
-  has : HasRuns base settings b files runs
+  has : HasRuns base side settings b files runs
   count : length (entries_in runs) ≡ length list
-  texts : text_length (entries_in runs) ≤ length (files (file_of base 0 (Aux b)))
+  texts : text_length (entries_in runs) ≤ length (files (file_of base 0 (Aux side b)))
 
-stands_runs : (base : ℕ) (settings : Settings) (book : Book) (files : Files) (b : ℕ) → Stands base settings book files → b < settings.buckets → HasRunsOf base settings b (get_or book.lists b []) files
-stands_runs base settings book files b stands within =
-    let list = get_or book.lists b [] in
-    let has = stands.buckets b (omega (arith, within, stands.book_is.buckets)) in
-    let none_more : 0 + b ≡ b = omega arith in
-    let here : AllByRecursion (IsOfferOf settings.buckets b) list = subst (λ (k : ℕ). AllByRecursion (IsOfferOf k b) list) stands.book_is.buckets (subst (λ (n : ℕ). AllByRecursion (IsOfferOf book.buckets n) list) none_more (of_bucket book.buckets 0 b book.lists stands.book_is.is_book.each)) in
+-- the last of a book's commits, as the settings count the buckets
+last_same : (settings : Settings) (book : Book) (commits : List Commit) → IsBookOf settings book → last_commit (first_commit book.buckets) commits ≡ last_commit (first_commit settings.buckets) commits
+last_same settings book commits is = ap (λ (k : ℕ). last_commit (first_commit k) commits) is.buckets
+
+stands_runs : (base : ℕ) (settings : Settings) (book : Book) (files : Files) (last : Commit) (b : ℕ) → IsBookOf settings book → HasBucketOf base settings.array last b (live_offers book last b) files → HasRunsOf base (live_side last) settings b (live_offers book last b) files
+stands_runs base settings book files last b is has =
+    let side : ℕ = live_side last in
+    let list = live_offers book last b in
+    let here : AllByRecursion (IsOfferOf settings.buckets b) list = live_here settings book last b is in
     let each = runs_of settings b has.runs has.are.sizes (subst (AllByRecursion IsOffer) has.are.joined has.are.offers) (subst (AllByRecursion (IsOfferOf settings.buckets b)) has.are.joined here) in
     let all = entries_in-runs has.runs ∙ ap (map entry_of_offer) (sym has.are.joined) in
     record {
       runs = entry_runs has.runs;
-      has = record { each = each; records = subst (StandsFor (files (file_of base 0 (Journal b)))) (runs_entries has.runs) has.records };
+      has = record { each = each; records = subst (StandsFor (files (file_of base 0 (Journal side b)))) (runs_entries has.runs) has.records };
       count = ap (λ (l : List Entry). length l) all ∙ length-map list entry_of_offer;
-      texts = omega (arith, ap text_length all, text_length-offers list, begins_long (files (file_of base 0 (Aux b))) (texts_of list) has.texts);
+      texts = omega (arith, ap text_length all, text_length-offers list, begins_long (files (file_of base 0 (Aux side b))) (texts_of list) has.texts);
     }
 
 stands_fronts : (base : ℕ) (settings : Settings) (book : Book) (files : Files) (stands : Stands base settings book files) → HasFronts base (last_commit (first_commit book.buckets) stands.commits) files
@@ -158,64 +165,69 @@ no_front base last files f at has (inr (inl (cache, is, short))) = omega (arith,
 no_front base last files f at has (inr (inr (cache, judged_, is, short))) = omega (arith, has.texts, short.short, ap (λ (g : ℕ). length (files g)) is)
 
 -- ---- what is whole is damaged nowhere
-no_bucket_damage : (base : ℕ) (settings : Settings) (files : Files) (b f at : ℕ) → IsWholeBucket base settings files b → IsDamagedBucket base settings b files f at → ⊥
-no_bucket_damage base settings files b f at whole (inl (is, damaged)) =
-    good_journal (AreRunPayloads settings b) (files (file_of base 0 (Journal b))) (map entries_bytes whole.0) at whole.1.records
+no_bucket_damage : (base side : ℕ) (settings : Settings) (files : Files) (b f at : ℕ) → IsWholeBucket base side settings files b → IsDamagedBucket base side settings b files f at → ⊥
+no_bucket_damage base side settings files b f at whole (inl (is, damaged)) =
+    good_journal (AreRunPayloads settings b) (files (file_of base 0 (Journal side b))) (map entries_bytes whole.0) at whole.1.records
     (λ n. (take n whole.0, runs_take (IsEntryRun settings b) n whole.0 whole.1.each, take-map entries_bytes n whole.0))
     (subst (λ (g : ℕ). IsDamagedJournal (AreRunPayloads settings b) (files g) at) is damaged)
-no_bucket_damage base settings files b f at whole (inr (is, (runs, has, short))) =
-    let same : runs ≡ whole.0 = same_runs settings b runs whole.0 has.each whole.1.each (one_list (files (file_of base 0 (Journal b))) (map entries_bytes runs) (map entries_bytes whole.0) has.records whole.1.records) in
+no_bucket_damage base side settings files b f at whole (inr (is, (runs, has, short))) =
+    let same : runs ≡ whole.0 = same_runs settings b runs whole.0 has.each whole.1.each (one_list (files (file_of base 0 (Journal side b))) (map entries_bytes runs) (map entries_bytes whole.0) has.records whole.1.records) in
     omega (arith, whole.2, short.short, ap (λ (g : ℕ). length (files g)) is, ap (λ (rs : List (List Entry)). text_length (entries_in rs)) same)
 
-reached_too : (base : ℕ) (settings : Settings) (files : Files) (commit last : Commit) → IsReached base settings files last → IsBelow commit.cut last.cut → IsReached base settings files commit
-reached_too base settings files commit last reached below = λ b within.
+reached_too : (base : ℕ) (settings : Settings) (files : Files) (last commit other : Commit) → IsReached base settings files last other → IsBelow commit.cut other.cut → IsReached base settings files last commit
+reached_too base settings files last commit other reached below = λ b within.
     let has = reached b within in
-    let under = each_below commit.cut last.cut below b in
+    let under = each_below commit.cut other.cut below b in
     (has.0, has.1, omega (arith, under, has.2))
 
--- the parts of a bay that are as the layout asks
-pub record IsSane (base : ℕ) (settings : Settings) (files : Files) (commits : List Commit) : Type 0 where
+-- the parts of a bay that are as the layout asks, behind the last of its commits
+pub record IsSane (base : ℕ) (settings : Settings) (files : Files) (commits : List Commit) (last : Commit) : Type 0 where
   pub manifest : HasManifest base settings.buckets files commits
-  pub fronts : HasFronts base (last_commit (first_commit settings.buckets) commits) files
-  pub buckets : (b : ℕ) → b < settings.buckets → IsWholeBucket base settings files b
-  pub reached : IsReached base settings files (last_commit (first_commit settings.buckets) commits)
+  pub last_is : last_commit (first_commit settings.buckets) commits ≡ last
+  pub fronts : HasFronts base last files
+  pub buckets : (b : ℕ) → b < settings.buckets → IsWholeBucket base (live_side last) settings files b
+  pub reached : IsReached base settings files last last
 
-not_behind : (base : ℕ) (settings : Settings) (files : Files) (commits : List Commit) (f at : ℕ) → IsSane base settings files commits → IsDamagedBehind base settings files commits f at → ⊥
-not_behind base settings files commits f at sane (inl front) = no_front base (last_commit (first_commit settings.buckets) commits) files f at sane.fronts front
-not_behind base settings files commits f at sane (inr (fronts, inl (b, within, wholes, damaged))) = no_bucket_damage base settings files b f at (sane.buckets b within) damaged
-not_behind base settings files commits f at sane (inr (fronts, inr (wholes, is, cut))) =
+not_behind : (base : ℕ) (settings : Settings) (files : Files) (commits : List Commit) (last : Commit) (f at : ℕ) → IsSane base settings files commits last → IsDamagedBehind base settings files commits last f at → ⊥
+not_behind base settings files commits last f at sane (inl front) = no_front base last files f at sane.fronts front
+not_behind base settings files commits last f at sane (inr (fronts, inl (b, within, wholes, damaged))) = no_bucket_damage base (live_side last) settings files b f at (sane.buckets b within) damaged
+not_behind base settings files commits last f at sane (inr (fronts, inr (wholes, is, cut))) =
     let below = among_below settings.buckets (first_commit settings.buckets) cut.before cut.commit cut.more (subst (RiseFrom settings.buckets (first_commit settings.buckets)) cut.among sane.manifest.rise) in
-    let last : last_commit (first_commit settings.buckets) (cut.before ++ cut.commit ∷ cut.more) ≡ last_commit (first_commit settings.buckets) commits = ap (λ (l : List Commit). last_commit (first_commit settings.buckets) l) (sym cut.among) in
-    cut.above (reached_too base settings files cut.commit (last_commit (first_commit settings.buckets) commits) sane.reached (subst (λ (x : Commit). IsBelow cut.commit.cut x.cut) last below))
+    let end : last_commit (first_commit settings.buckets) (cut.before ++ cut.commit ∷ cut.more) ≡ last = ap (λ (l : List Commit). last_commit (first_commit settings.buckets) l) (sym cut.among) ∙ sane.last_is in
+    let reached = reached_too base settings files last cut.commit last sane.reached (subst (λ (x : Commit). IsBelow cut.commit.cut x.cut) end below) in
+    cut.above (subst (λ (x : Commit). IsReached base settings files x cut.commit) (sym sane.last_is) reached)
 
-pub undamaged : (base : ℕ) (settings : Settings) (files : Files) (commits : List Commit) (f at : ℕ) → IsSane base settings files commits → IsDamagedAt base settings files f at → ⊥
-undamaged base settings files commits f at sane (inl (is, damaged)) =
+pub undamaged : (base : ℕ) (settings : Settings) (files : Files) (commits : List Commit) (last : Commit) (f at : ℕ) → IsSane base settings files commits last → IsDamagedAt base settings files f at → ⊥
+undamaged base settings files commits last f at sane (inl (is, damaged)) =
     good_journal (AreCommitPayloads settings.buckets) (files (file_of base 0 Manifest)) (map commit_bytes commits) at sane.manifest.records
     (λ n. (take n commits, rise_take settings.buckets n (first_commit settings.buckets) commits sane.manifest.rise, take-map commit_bytes n commits))
     (subst (λ (g : ℕ). IsDamagedJournal (AreCommitPayloads settings.buckets) (files g) at) is damaged)
-undamaged base settings files commits f at sane (inr (others, has, behind)) =
+undamaged base settings files commits last f at sane (inr (others, has, behind)) =
     let same : others ≡ commits = same_commits settings.buckets others commits (rise_each settings.buckets (first_commit settings.buckets) others has.rise) (rise_each settings.buckets (first_commit settings.buckets) commits sane.manifest.rise)
     (one_list (files (file_of base 0 Manifest)) (map commit_bytes others) (map commit_bytes commits) has.records sane.manifest.records) in
-    not_behind base settings files commits f at sane (subst (λ (l : List Commit). IsDamagedBehind base settings files l f at) same behind)
+    let end : last_commit (first_commit settings.buckets) others ≡ last = ap (λ (l : List Commit). last_commit (first_commit settings.buckets) l) same ∙ sane.last_is in
+    not_behind base settings files commits last f at sane (subst (λ (l : List Commit). IsDamagedBehind base settings files l last f at) same (subst (λ (x : Commit). IsDamagedBehind base settings files others x f at) end behind))
 
 -- ---- files that stand for a book are
-stands_reached : (base : ℕ) (settings : Settings) (book : Book) (files : Files) (last : Commit) → Stands base settings book files → IsCommitOf book last → IsReached base settings files last
-stands_reached base settings book files last stands is = λ b within.
-    let so = stands_runs base settings book files b stands within in
-    let judged_ : get_or last.cut b 0 ≡ get_or (judged_cut book) b 0 = ap (λ (l : List ℕ). get_or l b 0) is.cut in
-    let under = each_below (judged_cut book) (lengths_of book) (last_within book.firsts (lengths_of book) book.cuts stands.book_is.is_book.cuts) b in
-    let long : get_or (lengths_of book) b 0 ≡ length (get_or book.lists b []) = ap (λ (l : List ℕ). get_or l b 0) (lengths_are settings book stands.book_is) ∙ length-at book.lists b in
-    (so.runs, so.has, omega (arith, judged_, under, long, so.count))
-
-pub stands_sane : (base : ℕ) (settings : Settings) (book : Book) (files : Files) (stands : Stands base settings book files) → IsSane base settings files stands.commits
-stands_sane base settings book files stands =
-    let last : last_commit (first_commit book.buckets) stands.commits ≡ last_commit (first_commit settings.buckets) stands.commits = ap (λ (k : ℕ). last_commit (first_commit k) stands.commits) stands.book_is.buckets in
+stands_sane : (base : ℕ) (settings : Settings) (book : Book) (files : Files) (last : Commit) (stands : Stands base settings book files) → last_commit (first_commit book.buckets) stands.commits ≡ last → IsSane base settings files stands.commits last
+stands_sane base settings book files last stands here =
+    let is = stands.book_is in
+    let commit : IsCommitOf book last = subst (λ (x : Commit). IsCommitOf book x) here (last_of_book settings book stands.commits is stands.commits_are) in
+    let form : IsCommit settings.buckets last = subst (λ (k : ℕ). IsCommit k last) is.buckets (subst (λ (x : Commit). IsCommit book.buckets x) here (last_is book.buckets (first_commit book.buckets) stands.commits (first_is book.buckets) stands.commits_are.form)) in
+    let ends : IsLastOf settings book last = record { book_is = is; commit = commit; form = form } in
+    let runs = λ (b : ℕ) (within : b < settings.buckets). stands_runs base settings book files last b is (subst (λ (x : Commit). HasBucketOf base settings.array x b (live_offers book x b) files) here (stands.buckets b (omega (arith, within, is.buckets)))) in
     record {
       manifest = record { rise = stands_rise base settings book files stands; records = stands.manifest };
-      fronts = subst (λ (x : Commit). HasFronts base x files) last (stands_fronts base settings book files stands);
-      buckets = λ b within. let so = stands_runs base settings book files b stands within in (so.runs, so.has, so.texts);
-      reached = subst (IsReached base settings files) last (stands_reached base settings book files (last_commit (first_commit book.buckets) stands.commits) stands (last_of_book settings book stands.commits stands.book_is stands.commits_are));
+      last_is = sym (last_same settings book stands.commits is) ∙ here;
+      fronts = subst (λ (x : Commit). HasFronts base x files) here (stands_fronts base settings book files stands);
+      buckets = λ b within. let so = runs b within in (so.runs, so.has, so.texts);
+      reached = λ b within.
+          let so = runs b within in
+          let cut = cut_in settings book last b ends within in
+          (so.runs, so.has, omega (arith, cut.within, cut.live, so.count));
     }
 
 pub stands_whole : (base : ℕ) (settings : Settings) (book : Book) (files : Files) (f at : ℕ) → Stands base settings book files → IsDamagedAt base settings files f at → ⊥
-stands_whole base settings book files f at stands = undamaged base settings files stands.commits f at (stands_sane base settings book files stands)
+stands_whole base settings book files f at stands =
+    let last = last_commit (first_commit book.buckets) stands.commits in
+    undamaged base settings files stands.commits last f at (stands_sane base settings book files last stands refl)

@@ -1,6 +1,6 @@
 -- What opening a bay names as damage: the first place at which its files break the layout. They are read in this order: the
--- manifest, the parts that its last commit names, each bucket's two files; and then each commit's cut is held against the lists.
-use Rattle.std.specs.Prelude.{◌≡◌, ◌⊎◌, ℕ, ◌*◌, ◌^◌, ◌<◌, ◌≤◌, List, [], ◌∷◌, ◌++◌, map, length, slice_index}
+-- manifest, the parts that its last commit names, each bucket's two files on the side that it leaves live; and then each commit's cut is held against the lists.
+use Rattle.std.specs.Prelude.{◌≡◌, ◌⊎◌, ℕ, ◌+◌, ◌*◌, ◌^◌, ◌<◌, ◌≤◌, List, [], ◌∷◌, ◌++◌, map, length, replicate, slice_index, IsSome}
 use Rattle.std.specs.List.{flat_map, sum_by, AllByRecursion}
 use Rattle.irl_offer.specs.Buckets.{bucket_of}
 use Rattle.irl_offer.specs.Entries.{entry_bytes}
@@ -13,7 +13,7 @@ use Rattle.irl_journal.specs.Format.{StandsFor, IsBrokenAt, IsPayload, records_t
 use Rattle.irl_journal.specs.Visiting.{IsOpened}
 use Rattle.irl_bay.specs.BayFiles.{file_of}
 use Rattle.irl_bay.specs.declared.layout.files.BayFile.TheVariants.{Manifest, Cache, Judged, Texts, Journal, Aux}
-use Rattle.irl_bay.specs.Commits.{Commit, IsCommit, HasCommits, commit_bytes, first_commit, last_commit}
+use Rattle.irl_bay.specs.Commits.{Commit, IsCommit, HasCommits, commit_bytes, first_commit, last_commit, live_side, starts_by}
 use Rattle.irl_bay.specs.Making.{IsJournalOf}
 
 -- a file is shorter than what is committed of it, and this is where it ends
@@ -45,13 +45,14 @@ abbrev pub IsDamagedJournal : (List (List ℕ) → Type 0) → List ℕ → ℕ 
 IsDamagedJournal AreGood file at = IsBrokenBehind AreGood file at ⊎ IsBadBehind AreGood file at
 
 -- ---- the manifest
--- no number of a commit is below that of the one before it
+-- no number of a commit is below that of the one before it, and it names a live side of the buckets' files if that one did
 pub record IsAtOrAbove (old new : Commit) : Type 0 where
   pub entries : old.entries ≤ new.entries
   pub judged : old.judged ≤ new.judged
   pub unique : old.unique ≤ new.unique
   pub texts : old.texts ≤ new.texts
   pub cut : IsBelow old.cut new.cut
+  pub live : IsSome old.live → IsSome new.live
 
 -- from one commit on each has its room, and none falls
 abbrev pub RiseFrom : ℕ → Commit → List Commit → Type 0
@@ -111,26 +112,30 @@ entries_in runs = flat_map (λ run. run) runs
 abbrev pub text_length : List Entry → ℕ
 text_length entries = sum_by (λ entry. entry.aux_len) entries
 
--- a bucket's journal has these runs
-pub record HasRuns (base : ℕ) (settings : Settings) (b : ℕ) (files : Files) (runs : List (List Entry)) : Type 0 where
+-- a bucket's journal on a side has these runs
+pub record HasRuns (base side : ℕ) (settings : Settings) (b : ℕ) (files : Files) (runs : List (List Entry)) : Type 0 where
   pub each : AllByRecursion (IsEntryRun settings b) runs
-  pub records : StandsFor (files (file_of base 0 (Journal b))) (map entries_bytes runs)
+  pub records : StandsFor (files (file_of base 0 (Journal side b))) (map entries_bytes runs)
 
 -- a bucket whose journal is damaged, or whose texts are shorter than its entries say
-abbrev pub IsDamagedBucket : ℕ → Settings → ℕ → Files → ℕ → ℕ → Type 0
-IsDamagedBucket base settings b files f at =
-    ((f ≡ file_of base 0 (Journal b)) × IsDamagedJournal (AreRunPayloads settings b) (files f) at)
-    ⊎ ((f ≡ file_of base 0 (Aux b)) × ((runs : List (List Entry)) × HasRuns base settings b files runs × IsShort (text_length (entries_in runs)) (files f) at))
+abbrev pub IsDamagedBucket : ℕ → ℕ → Settings → ℕ → Files → ℕ → ℕ → Type 0
+IsDamagedBucket base side settings b files f at =
+    ((f ≡ file_of base 0 (Journal side b)) × IsDamagedJournal (AreRunPayloads settings b) (files f) at)
+    ⊎ ((f ≡ file_of base 0 (Aux side b)) × ((runs : List (List Entry)) × HasRuns base side settings b files runs × IsShort (text_length (entries_in runs)) (files f) at))
 
 -- one that isn't
-abbrev pub IsWholeBucket : ℕ → Settings → Files → ℕ → Type 0
-IsWholeBucket base settings files b = (runs : List (List Entry)) × HasRuns base settings b files runs × (text_length (entries_in runs) ≤ length (files (file_of base 0 (Aux b))))
+abbrev pub IsWholeBucket : ℕ → ℕ → Settings → Files → ℕ → Type 0
+IsWholeBucket base side settings files b = (runs : List (List Entry)) × HasRuns base side settings b files runs × (text_length (entries_in runs) ≤ length (files (file_of base 0 (Aux side b))))
 
 -- ---- a commit against the lists
--- each bucket has the offers that a commit says are judged
-abbrev pub IsReached : ℕ → Settings → Files → Commit → Type 0
-IsReached base settings files commit =
-    (b : ℕ) → b < settings.buckets → (runs : List (List Entry)) × HasRuns base settings b files runs × (slice_index commit.cut b ≤ length (entries_in runs))
+-- the number of the first offer in each bucket's live files, where no first offer was dropped
+abbrev pub starts_of : ℕ → Commit → List ℕ
+starts_of buckets last = starts_by (replicate buckets 0) last.cut last.live
+
+-- behind this last commit, each bucket has the offers that a commit says are judged
+abbrev pub IsReached : ℕ → Settings → Files → Commit → Commit → Type 0
+IsReached base settings files last commit =
+    (b : ℕ) → b < settings.buckets → (runs : List (List Entry)) × HasRuns base (live_side last) settings b files runs × (slice_index commit.cut b ≤ slice_index (starts_of settings.buckets last) b + length (entries_in runs))
 
 -- the first of the commits whose cut is above a list has its gate at this place of the manifest
 pub record IsCutAbove (base : ℕ) (settings : Settings) (files : Files) (commits : List Commit) (at : ℕ) : Type 0 where
@@ -139,23 +144,24 @@ pub record IsCutAbove (base : ℕ) (settings : Settings) (files : Files) (commit
   pub more : List Commit
   pub among : commits ≡ before ++ commit ∷ more
   pub place : at ≡ length (records_text (map commit_bytes before))
-  pub reached : AllByRecursion (IsReached base settings files) before
-  pub above : IsReached base settings files commit → ⊥
+  pub reached : AllByRecursion (IsReached base settings files (last_commit (first_commit settings.buckets) commits)) before
+  pub above : IsReached base settings files (last_commit (first_commit settings.buckets) commits) commit → ⊥
 
 -- ---- the bay
--- behind a manifest with these commits: a part that the last of them names, a bucket, or a commit
-abbrev pub IsDamagedBehind : ℕ → Settings → Files → List Commit → ℕ → ℕ → Type 0
-IsDamagedBehind base settings files commits f at =
-    IsDamagedFront base (last_commit (first_commit settings.buckets) commits) files f at
-    ⊎ (HasFronts base (last_commit (first_commit settings.buckets) commits) files
-    × (((b : ℕ) × (b < settings.buckets) × ((c : ℕ) → c < b → IsWholeBucket base settings files c) × IsDamagedBucket base settings b files f at)
-    ⊎ (((c : ℕ) → c < settings.buckets → IsWholeBucket base settings files c) × (f ≡ file_of base 0 Manifest) × IsCutAbove base settings files commits at)))
+-- behind a manifest with these commits, of which this is the last: a part that it names, a bucket on the side that it leaves live, or
+-- a commit
+abbrev pub IsDamagedBehind : ℕ → Settings → Files → List Commit → Commit → ℕ → ℕ → Type 0
+IsDamagedBehind base settings files commits last f at =
+    IsDamagedFront base last files f at
+    ⊎ (HasFronts base last files
+    × (((b : ℕ) × (b < settings.buckets) × ((c : ℕ) → c < b → IsWholeBucket base (live_side last) settings files c) × IsDamagedBucket base (live_side last) settings b files f at)
+    ⊎ (((c : ℕ) → c < settings.buckets → IsWholeBucket base (live_side last) settings files c) × (f ≡ file_of base 0 Manifest) × IsCutAbove base settings files commits at)))
 
 -- The files of the bay whose first file is `base` are damaged, and this place of this file is what is named of it.
 abbrev pub IsDamagedAt : ℕ → Settings → Files → ℕ → ℕ → Type 0
 IsDamagedAt base settings files f at =
     ((f ≡ file_of base 0 Manifest) × IsDamagedJournal (AreCommitPayloads settings.buckets) (files f) at)
-    ⊎ ((commits : List Commit) × HasManifest base settings.buckets files commits × IsDamagedBehind base settings files commits f at)
+    ⊎ ((commits : List Commit) × HasManifest base settings.buckets files commits × IsDamagedBehind base settings files commits (last_commit (first_commit settings.buckets) commits) f at)
 
 -- ---- what opening does to the files
 -- each journal changes at most as opening one may, and every other file stays

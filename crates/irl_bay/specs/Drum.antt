@@ -1,5 +1,5 @@
 -- A bay that is open: what it keeps in memory of its files.
-use Rattle.std.specs.Prelude.{◌≡◌, ℕ, ◌+◌, ◌*◌, ◌-◌, ◌<◌, ◌≤◌, ◌^◌, Bool, true, List, map, length, sum, slice_index, slice_index_or, slice_set}
+use Rattle.std.specs.Prelude.{◌≡◌, ℕ, ◌+◌, ◌*◌, ◌-◌, ◌<◌, ◌≤◌, ◌^◌, Bool, true, List, Some, map, length, sum, slice_index, slice_index_or, slice_set}
 use Rattle.irl_offer.specs.declared.settings.Settings.{Settings}
 use Rattle.irl_offer.specs.Settings.{AreValid}
 use Rattle.irl_model.specs.Book.{Book, lengths_of}
@@ -8,7 +8,7 @@ use Rattle.irl_journal.specs.Blob.{Front}
 use Rattle.irl_bay.specs.BayFiles.{file_of, max_base}
 use Rattle.irl_bay.specs.declared.layout.files.BayFile.TheVariants.{Manifest, Cache, Judged, Texts, Journal, Aux}
 use Rattle.irl_bay.specs.declared.bucket.Bucket.{Bucket}
-use Rattle.irl_bay.specs.Commits.{Commit, IsCommit, IsCommitOf}
+use Rattle.irl_bay.specs.Commits.{Commit, live_side, IsCommit, IsCommitOf}
 
 pub record Drum : Type 0 where
   -- its first file
@@ -24,7 +24,7 @@ pub record Drum : Type 0 where
 
 -- what stands for a bucket that isn't there
 abbrev pub no_bucket : Bucket
-no_bucket = record { journal = record { file = 0; end = 0; is_sound = true }; aux = record { file = 0; length = 0 }; durable = 0; gate = 0; skip = 0; text = 0 }
+no_bucket = record { journal = record { file = 0; end = 0; is_sound = true }; aux = record { file = 0; length = 0 }; start = 0; durable = 0; gate = 0; skip = 0; text = 0 }
 
 abbrev pub bucket_at : Drum → ℕ → Bucket
 bucket_at drum b = slice_index_or drum.buckets b no_bucket
@@ -54,11 +54,13 @@ abbrev pub texts_front : Drum → Front
 texts_front drum = record { file = file_of drum.base 0 Texts; length = drum.last.texts }
 
 -- ---- what holds of every open bay
--- a bucket's files are its own, and of its offers no more are judged than there are
-pub record IsBucket (base b cut : ℕ) (is_sound : Bool) (bucket : Bucket) : Type 0 where
-  pub journal : bucket.journal.file ≡ file_of base 0 (Journal b)
-  pub aux : bucket.aux.file ≡ file_of base 0 (Aux b)
+-- a bucket's files are its own on the live side, they begin with no offer that isn't judged, and of its offers no more are judged than
+-- there are
+pub record IsBucket (base side b cut : ℕ) (is_sound : Bool) (bucket : Bucket) : Type 0 where
+  pub journal : bucket.journal.file ≡ file_of base 0 (Journal side b)
+  pub aux : bucket.aux.file ≡ file_of base 0 (Aux side b)
   pub sound : is_sound ≡ true → bucket.journal.is_sound ≡ true
+  pub start : bucket.start ≤ cut
   pub judged : cut ≤ bucket.durable
   pub gate : bucket.gate ≤ bucket.journal.end
   pub text : bucket.text ≤ bucket.aux.length
@@ -73,7 +75,7 @@ pub record IsDrum (drum : Drum) : Type 0 where
   pub sound : drum.is_sound ≡ true → drum.manifest.is_sound ≡ true
   pub cuts : drum.cuts ≤ drum.manifest.end
   pub count : length drum.buckets ≡ drum.settings.buckets
-  pub buckets : (b : ℕ) → b < drum.settings.buckets → IsBucket drum.base b (judged_at drum b) drum.is_sound (bucket_at drum b)
+  pub buckets : (b : ℕ) → b < drum.settings.buckets → IsBucket drum.base (live_side drum.last) b (judged_at drum b) drum.is_sound (bucket_at drum b)
 
 -- ---- what a book says of it
 -- its numbers are the book's
@@ -111,6 +113,7 @@ pub record CountsMerge (old new : Drum) : Type 0 where
   pub offers : durables new ≡ durables old
   pub cut : new.last.cut ≡ durables old
   pub side : new.last.side ≡ 1 - old.last.side
+  pub live : new.last.live ≡ Some (1 - live_side old.last)
   -- no number falls, and no more offers become Unique than are judged
   pub entries : old.last.entries ≤ new.last.entries
   pub unique : old.last.unique ≤ new.last.unique

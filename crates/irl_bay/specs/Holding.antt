@@ -1,6 +1,6 @@
 -- An open bay holds a book: what it keeps in memory is the book's, and each joint image that a stop now may leave stands for it.
-use Rattle.std.specs.Prelude.{◌≡◌, ◌⊎◌, ℕ, ◌+◌, ◌<◌, ◌≤◌, List, [], ◌++◌, map, length, take, slice_index_or, Option, None, Some}
-use Rattle.std.specs.List.{flat_map}
+use Rattle.std.specs.Prelude.{◌≡◌, ◌⊎◌, ℕ, ◌+◌, ◌-◌, ◌<◌, ◌≤◌, List, [], ◌++◌, map, length, take, slice_index, slice_index_or, Option, None, Some}
+use Rattle.std.specs.List.{flat_map, AllByRecursion}
 use Rattle.std.specs.FinMap.{entries}
 use Rattle.irl_offer.specs.declared.settings.Settings.{Settings}
 use Rattle.irl_offer.specs.Tuple.{Tuple}
@@ -11,14 +11,14 @@ use Rattle.irl_journal.specs.Format.{records_text}
 use Rattle.irl_journal.specs.Appending.{IsOpen}
 use Rattle.irl_journal.specs.Blob.{IsCommitted}
 use Rattle.irl_bay.specs.declared.bucket.Bucket.{Bucket}
-use Rattle.irl_bay.specs.Runs.{run_bytes, texts_of, AreRuns, HasBucket}
-use Rattle.irl_bay.specs.Commits.{Commit, commit_bytes, first_commit, last_commit, AreCommitsOf}
+use Rattle.irl_bay.specs.Runs.{run_bytes, texts_of, IsOffer, AreRuns, HasBucket}
+use Rattle.irl_bay.specs.Commits.{Commit, commit_bytes, first_commit, last_commit, starts, live_offers, AreCommitsOf}
 use Rattle.irl_cache.specs.SortedRun.{pairs_bytes}
 use Rattle.irl_bay.specs.JudgedEntries.{judged_entries}
 use Rattle.irl_bay.specs.Standing.{IsBookOf, Stands}
 use Rattle.irl_bay.specs.Drum.{Drum, HasNumbers, bucket_at, judged_at, cache_front, judged_front, texts_front}
 
--- A bucket has this list, of which the offers below the cut are judged.
+-- A bucket's files have this list, of which so many are judged.
 pub record HoldsBucket (images : Files → Type 0) (array cut : ℕ) (bucket : Bucket) (list : List Tuple) : Type 0 where
   -- the runs before the one with the first pending offer, and the others
   pub before : List (List Tuple)
@@ -26,7 +26,7 @@ pub record HoldsBucket (images : Files → Type 0) (array cut : ℕ) (bucket : B
   pub are : AreRuns array list (before ++ behind)
   pub journal : IsOpen images bucket.journal (map run_bytes (before ++ behind))
   pub aux : IsCommitted images bucket.aux (texts_of list)
-  pub durable : bucket.durable ≡ length list
+  pub durable : bucket.durable ≡ bucket.start + length list
   pub judged : cut ≤ length list
   -- where the first pending offer stands: the gate of its record, how many offers of it are judged, and the place of its text
   pub gate : bucket.gate ≡ length (records_text (map run_bytes before))
@@ -35,7 +35,10 @@ pub record HoldsBucket (images : Files → Type 0) (array cut : ℕ) (bucket : B
 
 pub record Holds (images : Files → Type 0) (drum : Drum) (book : Book) : Type 0 where
   pub book_is : IsBookOf drum.settings book
-  pub buckets : (b : ℕ) → b < book.buckets → HoldsBucket images drum.settings.array (judged_at drum b) (bucket_at drum b) (slice_index_or book.lists b [])
+  -- each offer has its room, and those of a bucket from its start on stand in its files
+  pub offers : (b : ℕ) → b < book.buckets → AllByRecursion IsOffer (slice_index_or book.lists b [])
+  pub starts_are : (b : ℕ) → b < book.buckets → (bucket_at drum b).start ≡ slice_index (starts book drum.last) b
+  pub buckets : (b : ℕ) → b < book.buckets → HoldsBucket images drum.settings.array (judged_at drum b - (bucket_at drum b).start) (bucket_at drum b) (live_offers book drum.last b)
   pub commits : List Commit
   pub commits_are : AreCommitsOf book commits
   pub last : drum.last ≡ last_commit (first_commit book.buckets) commits

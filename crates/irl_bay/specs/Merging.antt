@@ -1,5 +1,5 @@
 -- What a merge writes: the keys that are then judged, the entries of the offers that it judges, and their texts.
-use Rattle.std.specs.Prelude.{◌≡◌, ◌⊎◌, ℕ, ◌+◌, ◌-◌, ◌*◌, ◌^◌, ◌<◌, ◌≤◌, min, true, List, ◌++◌, map, length, sum, Option, None, Some}
+use Rattle.std.specs.Prelude.{◌≡◌, ◌⊎◌, ℕ, ◌+◌, ◌-◌, ◌*◌, ◌^◌, ◌<◌, ◌≤◌, min, true, List, [], ◌∷◌, ◌++◌, length, sum, Option, None, Some}
 use Rattle.std.specs.FinMap.{entries}
 use Rattle.irl_model.specs.Book.{Book, judged, uniques, judged_offers, merged}
 use Rattle.irl_model.specs.Judging.{after}
@@ -8,12 +8,12 @@ use Rattle.irl_disk.specs.Disk.{Files}
 use Rattle.irl_disk.specs.Images.{Snapshot, LeavesBy}
 use Rattle.irl_journal.specs.Appending.{Tail}
 use Rattle.irl_journal.specs.Blob.{Front, KeepsFront, IsCommitted}
-use Rattle.irl_bay.specs.BayFiles.{file_of}
-use Rattle.irl_bay.specs.declared.layout.files.BayFile.TheVariants.{Manifest, Cache, Judged, Texts}
+use Rattle.irl_bay.specs.BayFiles.{file_of, IsSideFile}
+use Rattle.irl_bay.specs.declared.layout.files.BayFile.TheVariants.{Manifest, Cache, Judged, Texts, Journal, Aux}
 use Rattle.irl_bay.specs.declared.bucket.Bucket.{Bucket}
 use Rattle.irl_bay.specs.Drum.{Drum, durables, judged_front, texts_front}
 use Rattle.irl_bay.specs.Runs.{texts_of}
-use Rattle.irl_bay.specs.Commits.{Commit, IsCommit}
+use Rattle.irl_bay.specs.Commits.{Commit, live_side, IsCommit}
 use Rattle.irl_bay.specs.Holding.{ChangesOnly, Holds, TellsBy}
 use Rattle.irl_cache.specs.SortedRun.{pairs_bytes}
 use Rattle.irl_bay.specs.JudgedEntries.{judged_entries}
@@ -49,7 +49,7 @@ pub record IsBatchOf (book : Book) (batch : Batch) : Type 0 where
 -- ---- what is committed then
 -- the commit of a batch
 abbrev pub next_commit : Drum → Batch → Commit
-next_commit drum batch = record { side = 1 - drum.last.side; entries = batch.entries; judged = drum.last.judged + batch.count; unique = min (drum.last.unique + batch.unique) (2 ^ 64 - 1); texts = drum.last.texts + length batch.texts; cut = batch.cut }
+next_commit drum batch = record { side = 1 - drum.last.side; live = Some (1 - live_side drum.last); entries = batch.entries; judged = drum.last.judged + batch.count; unique = min (drum.last.unique + batch.unique) (2 ^ 64 - 1); texts = drum.last.texts + length batch.texts; cut = batch.cut }
 
 -- a commit that a bay may have
 pub record HasRoom (buckets : ℕ) (commit : Commit) : Type 0 where
@@ -57,13 +57,18 @@ pub record HasRoom (buckets : ℕ) (commit : Commit) : Type 0 where
   pub judged : 48 * commit.judged < 2 ^ 64
   pub entries : 16 * commit.entries < 2 ^ 64
 
--- a bucket of which all offers are judged
-abbrev pub caught_up : Bucket → Bucket
-caught_up bucket = record { journal = bucket.journal; aux = bucket.aux; durable = bucket.durable; gate = bucket.journal.end; skip = 0; text = bucket.aux.length }
+-- a bucket of which all offers are judged, so many of them, with empty files on a side
+abbrev pub emptied : ℕ → ℕ → ℕ → ℕ → Bucket
+emptied base side b durable = record { journal = record { file = file_of base 0 (Journal side b); end = 0; is_sound = true }; aux = record { file = file_of base 0 (Aux side b); length = 0 }; start = durable; durable = durable; gate = 0; skip = 0; text = 0 }
+
+-- the same of all buckets, the first of which is b
+abbrev pub emptied_from : ℕ → ℕ → ℕ → List Bucket → List Bucket
+emptied_from base side b [] = []
+emptied_from base side b (bucket ∷ buckets) = emptied base side b bucket.durable ∷ emptied_from base side (b + 1) buckets
 
 -- a bay after a merge, whose manifest is this one then
 abbrev pub with_commit : Tail → Commit → Drum → Drum
-with_commit manifest commit drum = record { base = drum.base; settings = drum.settings; is_sound = true; manifest = manifest; last = commit; cuts = drum.cuts + 1; buckets = map caught_up drum.buckets }
+with_commit manifest commit drum = record { base = drum.base; settings = drum.settings; is_sound = true; manifest = manifest; last = commit; cuts = drum.cuts + 1; buckets = emptied_from drum.base (1 - live_side drum.last) 0 drum.buckets }
 
 -- what is committed of the other cache side, of the judged file and of the texts once a batch is written
 abbrev pub next_cache : Drum → Batch → Front
@@ -122,6 +127,6 @@ abbrev pub TakesOf : ℕ → ℕ → Option (ℕ → ℕ) → Option (ℕ → �
 TakesOf f n None new = new ≡ None
 TakesOf f n (Some old) new = (counts : ℕ → ℕ) × (new ≡ Some counts) × (counts f ≡ old f + n)
 
--- the files that a merge changes
+-- the files that a merge changes: the manifest, those that a batch is written to, and those of the buckets on the side that isn't live
 abbrev pub IsMergeFile : Drum → ℕ → Type 0
-IsMergeFile drum f = (f ≡ file_of drum.base 0 Manifest) ⊎ IsBatchFile drum f
+IsMergeFile drum f = (f ≡ file_of drum.base 0 Manifest) ⊎ IsBatchFile drum f ⊎ IsSideFile drum.base (1 - live_side drum.last) drum.settings.buckets f

@@ -1,5 +1,5 @@
 -- What opening the parts of a bay gives.
-use Rattle.std.specs.Prelude.{◌≡◌, ℕ, ◌*◌, ◌<◌, ◌≤◌, true, List, ◌∷◌, ◌++◌, map, length, take}
+use Rattle.std.specs.Prelude.{◌≡◌, ℕ, ◌+◌, ◌-◌, ◌*◌, ◌^◌, ◌<◌, ◌≤◌, min, true, List, ◌∷◌, ◌++◌, map, length, take}
 use Rattle.std.specs.List.{AllByRecursion}
 use Rattle.irl_offer.specs.Buckets.{bucket_of}
 use Rattle.irl_offer.specs.Tuple.{Tuple}
@@ -25,38 +25,40 @@ pub record AreFronts (images : Files → Type 0) (base : ℕ) (last : Commit) (f
   pub judged : IsCommitted images (record { file = file_of base 0 Judged; length = 48 * last.judged }) (take (48 * last.judged) (files (file_of base 0 Judged)))
   pub texts : IsCommitted images (record { file = file_of base 0 Texts; length = last.texts }) (take last.texts (files (file_of base 0 Texts)))
 
--- an open bucket has its own files, and its places lie within them
-pub record IsOpenBucket (base b : ℕ) (bucket : Bucket) : Type 0 where
-  pub journal : bucket.journal.file ≡ file_of base 0 (Journal b)
-  pub aux : bucket.aux.file ≡ file_of base 0 (Aux b)
+-- an open bucket has its own files on a side, the first of whose offers has this number, and its places lie within them
+pub record IsOpenBucket (base side b first : ℕ) (bucket : Bucket) : Type 0 where
+  pub journal : bucket.journal.file ≡ file_of base 0 (Journal side b)
+  pub aux : bucket.aux.file ≡ file_of base 0 (Aux side b)
+  pub start : bucket.start ≡ first
   pub sound : bucket.journal.is_sound ≡ true
   pub gate : bucket.gate ≤ bucket.journal.end
   pub text : bucket.text ≤ bucket.aux.length
 
 -- the files have the offers that the bucket counts, and their texts
-pub record HasWhole (base : ℕ) (settings : Settings) (b : ℕ) (files : Files) (bucket : Bucket) : Type 0 where
+pub record HasWhole (base side : ℕ) (settings : Settings) (b : ℕ) (files : Files) (bucket : Bucket) : Type 0 where
   pub runs : List (List Entry)
-  pub has : HasRuns base settings b files runs
-  pub durable : bucket.durable ≡ length (entries_in runs)
-  pub texts : text_length (entries_in runs) ≤ length (files (file_of base 0 (Aux b)))
+  pub has : HasRuns base side settings b files runs
+  pub durable : bucket.durable ≡ min (bucket.start + length (entries_in runs)) (2 ^ 64 - 1)
+  pub texts : text_length (entries_in runs) ≤ length (files (file_of base 0 (Aux side b)))
 
 -- they are at least as long as what is committed of them
 pub record IsLongBucket (bucket : Bucket) (files : Files) : Type 0 where
   pub journal : bucket.journal.end < length (files bucket.journal.file)
   pub aux : bucket.aux.length ≤ length (files bucket.aux.file)
 
--- a bucket's files have this list, and no more of its offers are judged than there are
-pub record HasListOf (base : ℕ) (settings : Settings) (b cut : ℕ) (list : List Tuple) (files : Files) : Type 0 where
-  pub has : HasBucket settings.array list (files (file_of base 0 (Journal b))) (files (file_of base 0 (Aux b)))
+-- a bucket's files have this list, the first of whose offers has a number, and of which so many are judged
+pub record HasListOf (base side : ℕ) (settings : Settings) (b start cut : ℕ) (list : List Tuple) (files : Files) : Type 0 where
+  pub has : HasBucket settings.array list (files (file_of base 0 (Journal side b))) (files (file_of base 0 (Aux side b)))
   pub here : AllByRecursion (λ offer. bucket_of settings.buckets offer.key ≡ b) list
   pub within : cut ≤ length list
+  pub few : 48 * start < 2 ^ 64
 
--- the journals of the first buckets, and what opening these does
-abbrev pub IsJournalBelow : ℕ → ℕ → ℕ → Type 0
-IsJournalBelow base n f = (c : ℕ) × (c < n) × (f ≡ file_of base 0 (Journal c))
+-- the journals of the first buckets on a side, and what opening these does
+abbrev pub IsJournalBelow : ℕ → ℕ → ℕ → ℕ → Type 0
+IsJournalBelow base side n f = (c : ℕ) × (c < n) × (f ≡ file_of base 0 (Journal side c))
 
-abbrev pub OpensBelow : ℕ → ℕ → Files → Files → Type 0
-OpensBelow base n old new = ChangesAmong (IsJournalBelow base n) (λ f. IsOpened) old new
+abbrev pub OpensBelow : ℕ → ℕ → ℕ → Files → Files → Type 0
+OpensBelow base side n old new = ChangesAmong (IsJournalBelow base side n) (λ f. IsOpened) old new
 
 -- the first of the commits whose cut is above these lengths has its gate at this place of the manifest
 pub record IsFirstAbove (lengths : List ℕ) (commits : List Commit) (at : ℕ) : Type 0 where

@@ -1,4 +1,4 @@
-ghost use Rattle.std.specs.Prelude.{◌≡◌, ◌<◌, ◌≤◌, ◌^◌, ◌*◌, ℕ, List, map, true, length, slice_index, slice_index_or};
+ghost use Rattle.std.specs.Prelude.{◌≡◌, ◌-◌, ◌<◌, ◌≤◌, ◌^◌, ◌*◌, ℕ, List, map, true, length, slice_index, slice_index_or};
 ghost use Rattle.std.specs.Prelude.{IfOk, OnOk, IsErrOf};
 ghost use Rattle.std.specs.Option.{ForSome};
 ghost use Rattle.irl_offer.specs.Faults.{HasCause};
@@ -13,9 +13,9 @@ ghost use Rattle.irl_disk.specs.Taken.{TakesAmong, TakesOnly};
 ghost use Rattle.irl_journal.specs.Appending.{Ends};
 ghost use Rattle.irl_bay.specs.BayFiles.{file_of, max_base};
 ghost use Rattle.irl_bay.specs.declared.layout.files.BayFile.TheVariants.{Manifest as ManifestFile};
-ghost use Rattle.irl_bay.specs.Commits.{Commit as CommitValue, commit_bytes, first_commit, last_commit};
+ghost use Rattle.irl_bay.specs.Commits.{Commit as CommitValue, IsCommit, commit_bytes, first_commit, last_commit, live_side};
 ghost use Rattle.irl_bay.specs.Damage.{IsDamagedAt, IsAdopted, IsDamagedFront, IsDamagedBucket, IsWholeBucket};
-ghost use Rattle.irl_bay.specs.Damage.{HasFronts, RiseFrom};
+ghost use Rattle.irl_bay.specs.Damage.{HasFronts, RiseFrom, starts_of};
 ghost use Rattle.irl_bay.specs.Drum.{IsDrum, no_bucket};
 ghost use Rattle.irl_bay.specs.Holding.{Holds, HoldsBucket, IsLong, TellsBy};
 ghost use Rattle.irl_bay.specs.Making.{IsJournalOf};
@@ -113,7 +113,7 @@ fn open_bay<S: Store>(
     };
     let cuts = history.count.min(manifest.end()); // No more than the manifest has bytes.
     open_fronts(store, base, &history.last)?;
-    let buckets = open_buckets(alloc, store, base, settings, &history.last.cut)?;
+    let buckets = open_buckets(alloc, store, base, settings, &history.last)?;
     let lengths = lengths(alloc, &buckets)?;
     if !is_below(&history.last.cut, &lengths) {
         return Err(first_above(alloc, store, &manifest, f, settings.buckets, lengths));
@@ -156,41 +156,49 @@ fn open_fronts<S: Store>(store: &mut S, base: u16, last: &Commit) -> Result<(), 
     Ok(())
 }
 
-// Opens the buckets, of each of which the offers below a number are judged.
+// Opens the buckets' files that a commit leaves live.
 fn open_buckets<S: Store>(
     alloc: Global,
     store: &mut S,
     base: u16,
     settings: &Settings,
-    cut: &[u64],
+    last: &Commit,
 ) -> Result<Vec<Bucket>, Fault>
     requires base { base ≤ max_base }
     requires settings { AreValid settings.now }
-    requires count { length cut.now ≡ settings.now.buckets }
+    requires commit { IsCommit settings.now.buckets last.now }
     ensures count { IfOk result (λ buckets. length buckets.items ≡ settings.now.buckets) }
     ensures opened { IfOk result (λ buckets. (b : ℕ) → b < settings.now.buckets →
-        IsOpenBucket base b (slice_index_or buckets.items b no_bucket)) }
+        IsOpenBucket base (live_side last.now) b (slice_index (starts_of settings.now.buckets last.now) b)
+        (slice_index_or buckets.items b no_bucket)) }
     ensures found { IfOk result (λ buckets. ForSome (S.snapshot store.old).files (λ files. (b : ℕ) →
-        b < settings.now.buckets → HasWhole base settings.now b files (slice_index_or buckets.items b no_bucket))) }
+        b < settings.now.buckets →
+        HasWhole base (live_side last.now) settings.now b files (slice_index_or buckets.items b no_bucket))) }
     ensures long { IfOk result (λ buckets. ForSome (S.snapshot store.new).files (λ files. (b : ℕ) →
         b < settings.now.buckets → IsLongBucket (slice_index_or buckets.items b no_bucket) files)) }
     ensures holds { IfOk result (λ buckets. ForSome (S.snapshot store.old).files (λ files. (b : ℕ) (list : List Tuple) →
-        b < settings.now.buckets → HasListOf base settings.now b (slice_index cut.now b) list files →
-        HoldsBucket (S.snapshot store.new).images settings.now.array (slice_index cut.now b)
+        b < settings.now.buckets → HasListOf base (live_side last.now) settings.now b
+        (slice_index (starts_of settings.now.buckets last.now) b)
+        (slice_index last.now.cut b - slice_index (starts_of settings.now.buckets last.now) b) list files →
+        HoldsBucket (S.snapshot store.new).images settings.now.array
+        (slice_index last.now.cut b - slice_index (starts_of settings.now.buckets last.now) b)
         (slice_index_or buckets.items b no_bucket) list)) }
     ensures damaged { (f at : ℕ) → IsErrOf result (Fault.Damaged f at) → ForSome (S.snapshot store.old).files (λ files.
-        (b : ℕ) × (b < settings.now.buckets) × ((c : ℕ) → c < b → IsWholeBucket base settings.now files c)
-        × IsDamagedBucket base settings.now b files f at) }
+        (b : ℕ) × (b < settings.now.buckets)
+        × ((c : ℕ) → c < b → IsWholeBucket base (live_side last.now) settings.now files c)
+        × IsDamagedBucket base (live_side last.now) settings.now b files f at) }
     ensures full { (n : ℕ) → IsErrOf result (Fault.Full n) → ⊥ }
-    ensures files { TellsBy (OpensBelow base settings.now.buckets)
+    ensures files { TellsBy (OpensBelow base (live_side last.now) settings.now.buckets)
         (S.snapshot store.old).files (S.snapshot store.new).files }
-    ensures stops { LeavesBy (OpensBelow base settings.now.buckets) (S.snapshot store.old) (S.snapshot store.new) }
-    ensures taken { TakesAmong (IsJournalBelow base settings.now.buckets) (S.taken store.old) (S.taken store.new) }
+    ensures stops { LeavesBy (OpensBelow base (live_side last.now) settings.now.buckets)
+        (S.snapshot store.old) (S.snapshot store.new) }
+    ensures taken { TakesAmong (IsJournalBelow base (live_side last.now) settings.now.buckets)
+        (S.taken store.old) (S.taken store.new) }
     ensures cause { HasCause (IsErrOf result Fault.Failed) (S.faults store.old) (S.faults store.new) }
 {
     let mut buckets = Vec::with_capacity(alloc, settings.buckets as usize)?;
     for b in 0..settings.buckets {
-        let bucket = Bucket::adopt(alloc, store, base, settings, b, cut[b as usize])?;
+        let bucket = Bucket::adopt(alloc, store, base, settings, b, last.live_of(b))?;
         buckets.push_reserved(bucket);
     }
     Ok(buckets)

@@ -111,6 +111,7 @@ impl Bay {
             reader: CacheReader::new(self.alloc, from, self.last.entries, block)?,
             fed: 0,
             writer: CacheWriter::new(self.alloc, to, block)?,
+            out: Vec::new(self.alloc),
         })
     }
 
@@ -166,6 +167,7 @@ impl Bay {
         numbers_fit(&cut);
         Ok(Commit {
             side: 1 - self.last.side,
+            live: Some(1 - self.last.live_side()),
             entries,
             judged: judged / 48,
             unique,
@@ -190,7 +192,7 @@ impl Bay {
             ForSome (S.snapshot store.old).files (λ files. IsSpoiltAt self.now files f at) }
         ensures whole { (f at : ℕ) → IsErrOf result (Fault.Damaged f at) →
             ForSome (S.snapshot store.old).files (λ _. (list : List Tuple) → HoldsBucket (S.snapshot store.old).images
-            self.now.settings.array (judged_at self.now b) (bucket_at self.now b) list →
+            self.now.settings.array (judged_at self.now b - (bucket_at self.now b).start) (bucket_at self.now b) list →
             AllByRecursion (λ offer. bucket_of self.now.settings.buckets offer.key ≡ b) list → ⊥) }
         ensures full { (n : ℕ) → IsErrOf result (Fault.Full n) → ⊥ }
         ensures same { (S.snapshot store.new).files ≡ (S.snapshot store.old).files }

@@ -13,6 +13,7 @@ ghost use Rattle.irl_journal.specs.Appending.{IsOpen};
 ghost use Rattle.irl_journal.specs.Format.{HasRecords};
 ghost use Rattle.irl_bay.specs.BayFiles.{file_of, max_base, IsBucketFile};
 ghost use Rattle.irl_bay.specs.declared.layout.files.BayFile.TheVariants.{Journal as JournalFile};
+ghost use Rattle.irl_bay.specs.Commits.{live_side};
 ghost use Rattle.irl_bay.specs.Runs.{run_bytes};
 ghost use Rattle.irl_bay.specs.Drum.{Drum, IsDrum, bucket_at, durable_at, pending_at};
 ghost use Rattle.irl_bay.specs.Drum.{HasNumbers, KeepsCounts, CountsFlush};
@@ -63,7 +64,7 @@ impl Model for Bay {
 
 impl Bay {
     /// Makes the files of a bay without offers: the closed gate of each of its journals, the manifest's first, each
-    /// written and synced. Want of memory comes before anything is written.
+    /// written and synced; of the buckets' only those on side 0. Want of memory comes before anything is written.
     pub fn make<S: Store>(
         alloc: Global,
         store: &mut S,
@@ -94,7 +95,7 @@ impl Bay {
         let last = Commit::first(alloc, settings.buckets)?;
         let manifest = Journal::make(store, BayFile::Manifest.number(base))?;
         for b in 0..settings.buckets {
-            buckets.push_reserved(Bucket::make(store, base, b)?);
+            buckets.push_reserved(Bucket::make(store, base, 0, b, 0)?);
         }
         Ok(Bay {
             alloc,
@@ -143,7 +144,7 @@ impl Bay {
         // A stop at any moment leaves files that stand for the book, with the offers or without, and no other file
         // changes.
         ensures stops { (book : Book) → Holds (S.snapshot store.old).images self.old book →
-            LeavesBy (Becomes (IsBucketFile self.old.base b) self.old.base self.old.settings book
+            LeavesBy (Becomes (IsBucketFile self.old.base (live_side self.old.last) b) self.old.base self.old.settings book
             (flushed b array.old.items book)) (S.snapshot store.old) (S.snapshot store.new) }
         // The bucket's journal has one record more, of all these offers.
         ensures gains { OnOk result ((payloads : List (List ℕ)) →
@@ -153,12 +154,12 @@ impl Bay {
         ensures gains_stop { (payloads : List (List ℕ)) →
             IsOpen (S.snapshot store.old).images (bucket_at self.old b).journal payloads →
             Leaves (S.snapshot store.old) (S.snapshot store.new) (λ image.
-            HasRecords (image (file_of self.old.base 0 (JournalFile b))) payloads
-            ⊎ HasRecords (image (file_of self.old.base 0 (JournalFile b)))
+            HasRecords (image (file_of self.old.base 0 (JournalFile (live_side self.old.last) b))) payloads
+            ⊎ HasRecords (image (file_of self.old.base 0 (JournalFile (live_side self.old.last) b)))
             (payloads ++ run_bytes array.old.items ∷ [])) }
-        ensures others { TellsOnly (IsBucketFile self.old.base b)
+        ensures others { TellsOnly (IsBucketFile self.old.base (live_side self.old.last) b)
             (S.snapshot store.old).files (S.snapshot store.new).files }
-        ensures others_stop { LeavesBy (ChangesOnly (IsBucketFile self.old.base b))
+        ensures others_stop { LeavesBy (ChangesOnly (IsBucketFile self.old.base (live_side self.old.last) b))
             (S.snapshot store.old) (S.snapshot store.new) }
         ensures taken { S.taken store.new ≡ S.taken store.old }
         ensures cause { HasCause (IsErrOf result Fault.Failed) (S.faults store.old) (S.faults store.new) }

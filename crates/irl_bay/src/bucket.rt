@@ -11,7 +11,7 @@ ghost use Rattle.irl_journal.specs.Format.{HasRecords};
 ghost use Rattle.irl_bay.specs.BayFiles.{file_of, max_base};
 ghost use Rattle.irl_bay.specs.declared.layout.files.BayFile.TheVariants.{Journal as JournalFile, Aux as AuxFile};
 ghost use Rattle.irl_bay.specs.Runs.{IsOffer, IsRun, run_bytes, texts_of};
-ghost use Rattle.irl_bay.specs.Merging.{caught_up};
+ghost use Rattle.irl_bay.specs.Merging.{emptied};
 ghost use Rattle.irl_bay.specs.Holding.{HoldsBucket, BucketBecomes, IsFileOfBucket, TellsOnly, ChangesOnly};
 
 use crate::layout::{BayFile, Run};
@@ -19,12 +19,14 @@ use irl_disk::{Failed, Store};
 use irl_journal::{Blob, Journal};
 use irl_offer::Offer;
 
-/// A bucket's two files, and where in them the first offer stands that isn't judged.
+/// A bucket's two files on the live side, and where in them the first offer stands that isn't judged.
 #[derive(Drop)]
 pub struct Bucket {
     pub journal: Journal,
     pub aux: Blob,
-    /// How many offers the bucket has.
+    /// The number of the first offer that the files have.
+    pub start: u64,
+    /// How many offers the bucket has, those before that one too.
     pub durable: u64,
     /// The place of the gate of the record with the first pending offer, or of the closed gate.
     pub gate: u64,
@@ -35,36 +37,38 @@ pub struct Bucket {
 }
 
 impl Bucket {
-    /// Makes the files of a bucket without offers: writes the closed gate of its journal and syncs it.
-    pub fn make<S: Store>(store: &mut S, base: u16, b: u32) -> Result<Bucket, Failed>
+    /// Makes a bucket's files without offers on a side, in which the first offer is to have the number `start`: writes the
+    /// closed gate of the journal and syncs it.
+    pub fn make<S: Store>(
+        store: &mut S,
+        base: u16,
+        side: u8,
+        b: u32,
+        start: u64,
+    ) -> Result<Bucket, Failed>
         requires base { base ≤ max_base }
+        requires side { side ≤ 1 }
         requires bucket { b < 64 }
         requires short { ForSome (S.snapshot store.old).files (λ files.
-            length (files (file_of base 0 (JournalFile b))) ≤ 1) }
-        ensures bucket { IfOk result (λ bucket. bucket ≡ record {
-          journal = record { file = file_of base 0 (JournalFile b); end = 0; is_sound = true };
-          aux = record { file = file_of base 0 (AuxFile b); length = 0 };
-          durable = 0;
-          gate = 0;
-          skip = 0;
-          text = 0;
-        }) }
+            length (files (file_of base 0 (JournalFile side b))) ≤ 1) }
+        ensures bucket { IfOk result (λ bucket. bucket ≡ emptied base side b start) }
         ensures holds { IfOk result (λ bucket. (array : ℕ) →
             HoldsBucket (S.snapshot store.new).images array 0 bucket []) }
-        ensures ok { OnOk result (Changes (file_of base 0 (JournalFile b)) (λ _ new. length new ≡ 1)
+        ensures ok { OnOk result (Changes (file_of base 0 (JournalFile side b)) (λ _ new. length new ≡ 1)
             (S.snapshot store.old).files (S.snapshot store.new).files) }
-        ensures err { OnErr result (Changes (file_of base 0 (JournalFile b)) (Scribbled 0 1)
+        ensures err { OnErr result (Changes (file_of base 0 (JournalFile side b)) (Scribbled 0 1)
             (S.snapshot store.old).files (S.snapshot store.new).files) }
-        ensures stops { LeavesBy (ChangesFile (file_of base 0 (JournalFile b)) (Scribbled 0 1))
+        ensures stops { LeavesBy (ChangesFile (file_of base 0 (JournalFile side b)) (Scribbled 0 1))
             (S.snapshot store.old) (S.snapshot store.new) }
         ensures taken { S.taken store.new ≡ S.taken store.old }
         ensures cause { HasCause (IsErr result) (S.faults store.old) (S.faults store.new) }
     {
-        let journal = Journal::make(store, BayFile::Journal(b).number(base))?;
+        let journal = Journal::make(store, BayFile::Journal(side, b).number(base))?;
         Ok(Bucket {
             journal,
-            aux: Blob::at(BayFile::Aux(b).number(base), 0),
-            durable: 0,
+            aux: Blob::at(BayFile::Aux(side, b).number(base), 0),
+            start,
+            durable: start,
             gate: 0,
             skip: 0,
             text: 0,
@@ -100,6 +104,7 @@ impl Bucket {
         ensures sound { OnOk result (self.new.journal.is_sound ≡ true) }
         ensures end { self.old.journal.end ≤ self.new.journal.end }
         ensures length { self.old.aux.length ≤ self.new.aux.length }
+        ensures start { self.new.start ≡ self.old.start }
         ensures gate { self.new.gate ≡ self.old.gate }
         ensures skip { self.new.skip ≡ self.old.skip }
         ensures text { self.new.text ≡ self.old.text }
@@ -132,13 +137,5 @@ impl Bucket {
         self.journal.append(store, &mut run.frame)?;
         self.durable += offers.len() as u64;
         Ok(())
-    }
-    /// All its offers are judged.
-    pub fn catch_up(&mut self)
-        ensures { self.new ≡ caught_up self.old }
-    {
-        self.gate = self.journal.end();
-        self.skip = 0;
-        self.text = self.aux.length();
     }
 }

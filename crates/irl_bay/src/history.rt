@@ -53,7 +53,7 @@ impl Visit for History {
     }
 }
 
-// Whether no number of a commit is below that of the one before it.
+// Whether no number of a commit is below that of the one before it, and it names a live side if that one did.
 fn is_at_or_above(old: &Commit, new: &Commit) -> bool
     ensures { IsTrue result ↔ IsAtOrAbove old.now new.now }
 {
@@ -62,6 +62,7 @@ fn is_at_or_above(old: &Commit, new: &Commit) -> bool
         && old.unique <= new.unique
         && old.texts <= new.texts
         && is_below(&old.cut, &new.cut)
+        && (old.live.is_none() || new.live.is_some())
 }
 
 /// Whether there are as many numbers in the one list as in the other, and none is above the other's.

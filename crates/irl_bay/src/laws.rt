@@ -53,12 +53,13 @@ pub fn a_blank_bay_stands()
         Stands base settings (blank_book settings.buckets settings.rule) files }
 {}
 
-/// The files that calls on a bay change are the bay's. A bay's files are 138 in a row at most, from its first on, so
+/// The files that calls on a bay change are the bay's. A bay's files are among the 628 from its first on, and
 /// those of two bays whose first files are 100 and 300 differ.
 pub fn a_bays_files_are_its_own()
-    ensures bucket { (base buckets b f : ℕ) → b < buckets → IsBucketFile base b f → IsFileOf base buckets f }
+    ensures bucket { (base buckets side b f : ℕ) → b < buckets → IsBucketFile base side b f → side ≤ 1 →
+        IsFileOf base buckets f }
     ensures journals { (base buckets f : ℕ) → IsJournalOf base buckets f → IsFileOf base buckets f }
     ensures merge { (drum : Drum) (f : ℕ) → IsMergeFile drum f → IsFileOf drum.base drum.settings.buckets f }
-    ensures within { (base buckets f : ℕ) → buckets ≤ 64 → IsFileOf base buckets f → (base ≤ f) × (f < base + 138) }
+    ensures within { (base buckets f : ℕ) → buckets ≤ 64 → IsFileOf base buckets f → (base ≤ f) × (f < base + 628) }
     ensures apart { (buckets f : ℕ) → buckets ≤ 64 → IsFileOf 100 buckets f → IsFileOf 300 buckets f → ⊥ }
 {}

@@ -9,7 +9,7 @@ mod judged_entry;
 mod number;
 mod run;
 
-pub use commit::{Commit, commit_len};
+pub use commit::{Commit, Live, commit_len};
 pub use entries::read_run;
 pub use files::BayFile;
 pub use judged::push_judged;

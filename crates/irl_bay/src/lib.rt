@@ -5,6 +5,7 @@ mod adopt;
 mod batch;
 mod bay;
 mod bucket;
+mod emptying;
 mod found;
 mod gathering;
 mod history;

@@ -1,18 +1,18 @@
-ghost use Rattle.std.specs.Prelude.{◌≡◌, ◌↔◌, ◌+◌, ◌*◌, ◌<◌, ◌++◌, ◌∷◌, ℕ, List, [], ⊤, length};
-ghost use Rattle.std.specs.Prelude.{true, false, IfOk, map, OnOk, OnErr, IsOk, IsErr, IsErrOf};
+ghost use Rattle.std.specs.Prelude.{◌≡◌, ◌⊎◌, ◌↔◌, ◌+◌, ◌-◌, ◌*◌, ◌<◌, ◌++◌, ◌∷◌, ℕ, List, [], ⊤, length};
+ghost use Rattle.std.specs.Prelude.{true, false, Some, IfOk, OnOk, OnErr, IsOk, IsErr, IsErrOf};
 ghost use Rattle.std.specs.Option.{ForSome};
 ghost use Rattle.irl_offer.specs.Faults.{HasCause};
 ghost use Rattle.irl_model.specs.Book.{Book, merged};
 ghost use Rattle.irl_disk.specs.Disk.{Changes, ChangesFile};
-ghost use Rattle.irl_disk.specs.Images.{LeavesBy};
+ghost use Rattle.irl_disk.specs.Images.{Leaves, LeavesBy};
 ghost use Rattle.irl_disk.specs.Taken.{TakesAmong};
 ghost use Rattle.irl_journal.specs.Appending.{HasOrGains, IsOpen};
 ghost use Rattle.irl_journal.specs.Format.{record_text};
 ghost use Rattle.irl_bay.specs.BayFiles.{IsFileOf};
 ghost use Rattle.irl_bay.specs.Drum.{IsDrum, SomePending, KeepsCounts, CountsMerge, bucket_at, cache_front, durables};
 ghost use Rattle.irl_bay.specs.Holding.{Holds, IsLong, Becomes, TellsBy, TellsOnly, ChangesOnly};
-ghost use Rattle.irl_bay.specs.Commits.{commit_bytes};
-ghost use Rattle.irl_bay.specs.Merging.{HasRoom, IsMergeFile, KeepsCommitted, TakesOf, caught_up, with_commit};
+ghost use Rattle.irl_bay.specs.Commits.{HasLiveRecords, commit_bytes, live_side};
+ghost use Rattle.irl_bay.specs.Merging.{HasRoom, IsMergeFile, KeepsCommitted, TakesOf, emptied_from, with_commit};
 ghost use Rattle.irl_bay.specs.Spoilt.{IsSpoiltAt};
 
 use crate::bay::Bay;
@@ -24,8 +24,9 @@ use irl_offer::Fault;
 
 impl Bay {
     /// Judges every pending offer of every bucket, bucket 0 first, and adds one cut. It reads the live cache side and
-    /// the pending offers, writes the other side, the judged entries and their texts, syncs the three, and appends one
-    /// record to the manifest. `Ok` gives the number of cuts. `Memory` and `Damaged` leave the book as it was, and the
+    /// the pending offers, writes the other side, the judged entries and their texts, and syncs the three; it empties the
+    /// buckets' files on the side that isn't live, which is the live one from then on; and it appends one record to the
+    /// manifest. `Ok` gives the number of cuts. `Memory` and `Damaged` leave the book as it was, and the
     /// merge may be asked again; `Failed` ends the bay's soundness.
     pub fn merge<S: Store>(&mut self, store: &mut S) -> Result<u64, Fault>
         requires sound { self.old.is_sound ≡ true }
@@ -68,6 +69,15 @@ impl Bay {
         ensures stops { (book : Book) → Holds (S.snapshot store.old).images self.old book →
             LeavesBy (Becomes (IsMergeFile self.old) self.old.base self.old.settings book (merged book))
             (S.snapshot store.old) (S.snapshot store.new) }
+        // The live journals are empty afterwards, and a stop leaves each as it was or empty.
+        ensures empty { OnOk result ((b : ℕ) → b < self.old.settings.buckets →
+            IsOpen (S.snapshot store.new).images (bucket_at self.new b).journal []) }
+        ensures records_stop { (book : Book) (b : ℕ) (payloads : List (List ℕ)) →
+            Holds (S.snapshot store.old).images self.old book → b < self.old.settings.buckets →
+            IsOpen (S.snapshot store.old).images (bucket_at self.old b).journal payloads →
+            Leaves (S.snapshot store.old) (S.snapshot store.new) (λ image.
+            HasLiveRecords self.old.base self.old.settings.buckets b payloads image
+            ⊎ HasLiveRecords self.old.base self.old.settings.buckets b [] image) }
         ensures others { TellsOnly (IsMergeFile self.old) (S.snapshot store.old).files (S.snapshot store.new).files }
         ensures others_stop { LeavesBy (ChangesOnly (IsMergeFile self.old))
             (S.snapshot store.old) (S.snapshot store.new) }
@@ -79,6 +89,7 @@ impl Bay {
         ensures cause { HasCause (IsErrOf result Fault.Failed) (S.faults store.old) (S.faults store.new) }
     {
         let mut frame = Frame::with_room(self.alloc, commit_len(self.settings.buckets))?;
+        let buckets = Vec::with_capacity(self.alloc, self.settings.buckets as usize)?;
         let next = match self.judge(store) {
             Ok(next) => next,
             Err(fault) => {
@@ -86,21 +97,32 @@ impl Bay {
                 return Err(fault);
             }
         };
-        self.keep(store, next, &mut frame)?;
+        let buckets = match self.empty_side(store, buckets) {
+            Ok(buckets) => buckets,
+            Err(failed) => {
+                self.is_sound = false;
+                return Err(failed.into());
+            }
+        };
+        self.keep(store, next, &mut frame, buckets)?;
         Ok(self.cuts)
     }
 
-    // Appends the record of the next commit to the manifest, by a frame with room for it.
+    // Appends the record of the next commit to the manifest, by a frame with room for it. The buckets are empty from then on.
     fn keep<S: Store>(
         &mut self,
         store: &mut S,
         next: Commit,
         frame: &mut Frame,
+        buckets: Vec<Bucket>,
     ) -> Result<(), Failed>
         requires sound { self.old.is_sound ≡ true }
         requires frame { frame.old ≡ record { room = 33 + 8 * self.old.settings.buckets; bytes = [] } }
         requires room { HasRoom self.old.settings.buckets next }
         requires cut { next.cut ≡ durables self.old }
+        requires live { next.live ≡ Some (1 - live_side self.old.last) }
+        requires buckets { buckets.items ≡
+            emptied_from self.old.base (1 - live_side self.old.last) 0 self.old.buckets }
         requires long { ForSome (S.snapshot store.old).files (λ files.
             self.old.manifest.end < length (files self.old.manifest.file)) }
         ensures value { OnOk result (self.new ≡ with_commit self.new.manifest next self.old) }
@@ -130,37 +152,29 @@ impl Bay {
         self.is_sound = false;
         next.put(frame);
         self.manifest.append(store, frame)?;
-        self.commit(next);
+        self.commit(next, buckets);
         Ok(())
     }
 
     // One commit more, whose record the manifest has: all offers are judged.
-    fn commit(&mut self, next: Commit)
+    fn commit(&mut self, next: Commit, buckets: Vec<Bucket>)
         requires room { HasRoom self.old.settings.buckets next }
         requires cut { next.cut ≡ durables self.old }
         requires cuts { self.old.cuts < self.old.manifest.end }
         requires manifest { self.old.manifest.is_sound ≡ true }
-        requires buckets { (b : ℕ) → b < self.old.settings.buckets →
-            (bucket_at self.old b).journal.is_sound ≡ true }
+        requires live { next.live ≡ Some (1 - live_side self.old.last) }
+        requires buckets { buckets.items ≡
+            emptied_from self.old.base (1 - live_side self.old.last) 0 self.old.buckets }
         ensures value { self.new ≡ with_commit self.old.manifest next self.old }
         ensures drum { IsDrum self.new }
     {
         // The manifest has a byte for each cut, and more.
         let end = self.manifest.end();
         prove!(self.cuts < end);
-        catch_up(&mut self.buckets);
+        self.buckets = buckets;
         self.last = next;
         self.cuts += 1;
         self.is_sound = true;
-    }
-}
-
-// All offers of these buckets are judged.
-fn catch_up(buckets: &mut [Bucket])
-    ensures { buckets.new ≡ map caught_up buckets.old }
-{
-    for bucket in buckets.iter_mut() {
-        bucket.catch_up();
     }
 }
 

@@ -21,7 +21,7 @@ ghost use Rattle.irl_bay.specs.Damage.{IsShort};
 
 use crate::bucket::Bucket;
 use crate::found::Found;
-use crate::layout::BayFile;
+use crate::layout::{BayFile, Live};
 use crate::tally::Tally;
 use irl_disk::{Failed, Store};
 use irl_journal::{Blob, Journal, JournalFault};
@@ -85,58 +85,63 @@ fn find_blob<S: Store>(store: &mut S, f: u16, length: u128) -> Result<Option<Blo
 }
 
 impl Bucket {
-    /// Opens a bucket's two files, of whose offers those below a number are judged. It syncs both, and reads the
-    /// journal.
+    /// Opens a bucket's two live files. It syncs both, and reads the journal.
     pub fn adopt<S: Store>(
         alloc: Global,
         store: &mut S,
         base: u16,
         settings: &Settings,
         b: u32,
-        cut: u64,
+        live: Live,
     ) -> Result<Bucket, Fault>
         requires base { base ≤ max_base }
         requires settings { AreValid settings.now }
         requires bucket { b < 64 }
-        ensures opened { IfOk result (λ bucket. IsOpenBucket base b bucket) }
+        requires side { live.side ≤ 1 }
+        ensures opened { IfOk result (λ bucket. IsOpenBucket base live.side b live.start bucket) }
         // The files have runs of offers,
         ensures found { IfOk result (λ bucket. ForSome (S.snapshot store.old).files (λ files.
-            HasWhole base settings.now b files bucket)) }
+            HasWhole base live.side settings.now b files bucket)) }
         ensures long { IfOk result (λ bucket. ForSome (S.snapshot store.new).files (λ files.
             IsLongBucket bucket files)) }
         // and where they have a list, the bucket has it.
         ensures holds { IfOk result (λ bucket. ForSome (S.snapshot store.old).files (λ files. (list : List Tuple) →
-            HasListOf base settings.now b cut list files →
-            HoldsBucket (S.snapshot store.new).images settings.now.array cut bucket list)) }
+            HasListOf base live.side settings.now b live.start live.judged list files →
+            HoldsBucket (S.snapshot store.new).images settings.now.array live.judged bucket list)) }
         ensures damaged { (f at : ℕ) → IsErrOf result (Fault.Damaged f at) →
-            ForSome (S.snapshot store.old).files (λ files. IsDamagedBucket base settings.now b files f at) }
+            ForSome (S.snapshot store.old).files (λ files. IsDamagedBucket base live.side settings.now b files f at) }
         ensures full { (n : ℕ) → IsErrOf result (Fault.Full n) → ⊥ }
-        ensures changes { Changes (file_of base 0 (JournalFile b)) IsOpened
+        ensures changes { Changes (file_of base 0 (JournalFile live.side b)) IsOpened
             (S.snapshot store.old).files (S.snapshot store.new).files }
-        ensures stops { LeavesBy (ChangesFile (file_of base 0 (JournalFile b)) IsOpened)
+        ensures stops { LeavesBy (ChangesFile (file_of base 0 (JournalFile live.side b)) IsOpened)
             (S.snapshot store.old) (S.snapshot store.new) }
-        ensures taken { TakesOnly (file_of base 0 (JournalFile b)) (S.taken store.old) (S.taken store.new) }
+        ensures taken { TakesOnly (file_of base 0 (JournalFile live.side b)) (S.taken store.old) (S.taken store.new) }
         ensures cause { HasCause (IsErrOf result Fault.Failed) (S.faults store.old) (S.faults store.new) }
     {
         let mut tally = Tally {
             settings: *settings,
             bucket: b,
-            cut,
+            cut: live.judged,
             found: Found::nothing(),
         };
-        let f = BayFile::Journal(b).number(base);
+        let f = BayFile::Journal(live.side, b).number(base);
         let journal = match Journal::visit(alloc, store, f, &mut tally) {
             Ok(journal) => journal,
             Err(fault) => return Err(fault_in(f, fault)),
         };
         let end = journal.end();
-        let aux = open_blob(store, BayFile::Aux(b).number(base), tally.found.texts)?;
+        let aux = open_blob(
+            store,
+            BayFile::Aux(live.side, b).number(base),
+            tally.found.texts,
+        )?;
         let found = tally.found;
-        let (gate, skip, text) = found.first_pending(cut, end, aux.length());
+        let (gate, skip, text) = found.first_pending(live.judged, end, aux.length());
         Ok(Bucket {
             journal,
             aux,
-            durable: found.count,
+            start: live.start,
+            durable: live.start.saturating_add(found.count),
             gate,
             skip,
             text,

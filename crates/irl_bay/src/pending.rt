@@ -75,7 +75,8 @@ impl Bucket {
         ensures taken { TakesAmong (IsFileOfBucket self.now) (S.taken store.old) (S.taken store.new) }
         ensures cause { HasCause (IsErrOf result Fault.Failed) (S.faults store.old) (S.faults store.new) }
     {
-        let entries = match self.entries_from_gate(alloc, store, settings, b) {
+        let room = count.saturating_add(self.skip) as usize;
+        let entries = match self.entries_from_gate(alloc, store, settings, b, room) {
             Ok(entries) => entries,
             Err(JournalFault::Failed) => return Err(Fault::Failed),
             Err(JournalFault::Memory) => return Err(Fault::Memory),
@@ -108,6 +109,7 @@ impl Bucket {
         store: &mut S,
         settings: &Settings,
         b: u32,
+        room: usize,
     ) -> Result<Vec<Entry>, JournalFault>
         requires settings { IsBucketCount settings.now.buckets }
         requires gate { self.now.gate ≤ self.now.journal.end }
@@ -132,7 +134,7 @@ impl Bucket {
             alloc,
             settings: *settings,
             bucket: b,
-            entries: Vec::new(alloc),
+            entries: Vec::with_capacity(alloc, room)?,
         };
         self.journal
             .revisit(alloc, store, self.gate, &mut gathering)?;

@@ -32,6 +32,8 @@ pub struct Sides {
     /// How many pairs of the reader's block were fed to a sweep.
     pub fed: usize,
     pub writer: CacheWriter,
+    /// What a sweep gives at a time.
+    pub out: Vec<Pair>,
     ghost valid: { IsBucketCount buckets },
     ghost within: { fed ≤ length reader.block },
     ghost apart: { reader.file ≢ writer.out.file },
@@ -145,9 +147,9 @@ impl Sides {
         let rest = &self.reader.block()[self.fed..];
         let count = count_up_to(rest, self.buckets, b);
         let is_used_up = count == rest.len();
-        let mut out = Vec::new(self.alloc);
-        sweep.feed(&rest[..count], &mut out)?;
-        self.writer.put_all(store, &out)?;
+        self.out.clear();
+        sweep.feed(&rest[..count], &mut self.out)?;
+        self.writer.put_all(store, &self.out)?;
         self.fed += count;
         Ok(is_used_up)
     }
@@ -208,9 +210,9 @@ impl Sides {
         ensures taken { S.taken store.new ≡ S.taken store.old }
         ensures cause { HasCause (IsErrOf result Fault.Failed) (S.faults store.old) (S.faults store.new) }
     {
-        let mut out = Vec::new(self.alloc);
-        let verdicts = sweep.end(&mut out)?;
-        self.writer.put_all(store, &out)?;
+        self.out.clear();
+        let verdicts = sweep.end(&mut self.out)?;
+        self.writer.put_all(store, &self.out)?;
         Ok(verdicts)
     }
 }

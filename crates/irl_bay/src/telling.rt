@@ -83,7 +83,7 @@ fn judged_rows(
     requires count { length verdicts.now ≡ length entries.now }
     ensures { IfOk result (λ found. found.items ≡ rows place b entries.now verdicts.now) }
 {
-    let mut found = Vec::new(alloc);
+    let mut found = Vec::with_capacity(alloc, entries.len().saturating_mul(48))?;
     let mut next = place;
     for (i, entry) in entries.iter().enumerate() {
         push_judged(&mut found, next, b, entry, verdicts[i])?;

@@ -6,7 +6,10 @@ ghost use Rattle.irl_disk.specs.Memory.{snapshot_of};
 ghost use Rattle.irl_bay.specs.Drum.{pending_at};
 ghost use Rattle.irl_bay.specs.Holding.{Holds};
 
+mod cache_file;
+mod earlier;
 mod judging;
+mod quiet;
 
 use super::*;
 use irl_array::Array;

@@ -67,14 +67,14 @@ fn entry(aux: u8) -> [u8; 27] {
     bytes
 }
 
-// The bytes of a record of a manifest of one bucket, with the closed gate behind it: the side, and the low byte of the
-// entries, the judged and the unique ones, the texts' length and the cut.
+// The bytes of a record of a manifest of one bucket, with the closed gate behind it: the byte of the sides, and the low byte
+// of the entries, the judged and the unique ones, the texts' length and the cut.
 fn commit(numbers: [u8; 6]) -> [u8; 47] {
-    let [side, entries, judged, unique, texts, cut] = numbers;
+    let [sides, entries, judged, unique, texts, cut] = numbers;
     let mut bytes = [0; 47];
     bytes[0] = 0xA5;
     bytes[1] = 41;
-    bytes[5] = side;
+    bytes[5] = sides;
     bytes[6] = entries;
     bytes[14] = judged;
     bytes[22] = unique;
@@ -121,6 +121,25 @@ fn runs_are_adopted_up_to_any_cut(rt: HostRuntime) -> Result<(), Fail> {
     Ok(())
 }
 
+// The live journal has the offers past the cut, and what lies in the other means nothing.
+#[test]
+fn a_live_side_has_the_offers_that_wait(rt: HostRuntime) -> Result<(), Fail> {
+    let alloc = rt.alloc();
+    // The byte of the sides, and the journal of the live side and of the other.
+    for (sides, live, other) in [(2, 110, 600), (3, 110, 600), (4, 600, 110), (5, 600, 110)] {
+        let mut store = MemStore::new(alloc, Vec::new(alloc));
+        put(&mut store, 100, &commit([sides, 0, 0, 0, 0, 3]))?;
+        put(&mut store, live, b"\xA5\x1B\0\0\0")?;
+        put(&mut store, live, &entry(1))?;
+        put(&mut store, live, b"\0")?;
+        put(&mut store, live.saturating_add(1), b"a")?;
+        put(&mut store, other, b"\xA5\xFF\0\0\0\0")?;
+        assert_eq!(rt; adopted(alloc, &mut store), Ok((4, 1, 1)), "{sides}");
+        assert_eq!(rt; first_pending(alloc, &mut store), Ok((0, 0, 0)), "{sides}");
+    }
+    Ok(())
+}
+
 // Opens a bay whose manifest and journal have these bytes.
 fn opened(alloc: Global, manifest: &[u8], journal: &[u8]) -> Result<(u64, u64, u64), Fault> {
     let mut store = MemStore::new(alloc, Vec::new(alloc));
@@ -132,12 +151,13 @@ fn opened(alloc: Global, manifest: &[u8], journal: &[u8]) -> Result<(u64, u64, u
 #[test]
 fn damage_of_a_commit_is_named(rt: HostRuntime) -> Result<(), Fail> {
     let alloc = rt.alloc();
-    // The commit's numbers, and the damage: a side that isn't one, each file that is too short, and a cut above the
-    // list.
-    let table: [([u8; 6], u16); 6] = [
-        ([2, 0, 0, 0, 0, 0], 100),
+    // The commit's numbers, and the damage: sides that are none, each file that is too short, and a cut above the list.
+    let table: [([u8; 6], u16); 8] = [
+        ([6, 0, 0, 0, 0, 0], 100),
         ([0, 1, 0, 0, 0, 0], 101),
         ([1, 1, 0, 0, 0, 0], 102),
+        ([2, 1, 0, 0, 0, 0], 101),
+        ([5, 1, 0, 0, 0, 0], 102),
         ([0, 0, 1, 0, 0, 0], 103),
         ([0, 0, 0, 0, 1, 0], 104),
         ([0, 0, 0, 0, 0, 1], 100),
@@ -206,15 +226,23 @@ fn ungated(record: &[u8; 47]) -> &[u8] {
 #[test]
 fn damage_of_the_second_commit_is_named(rt: HostRuntime) -> Result<(), Fail> {
     let alloc = rt.alloc();
-    // The texts and the cut of two commits: a number that falls, and a cut above the list.
-    for (first, second) in [([3, 0], [2, 0]), ([0, 0], [0, 1])] {
+    // The sides, the texts and the cut of two commits: a number that falls, a cut above the list, and a commit of the
+    // layout of one side behind one of two.
+    for (first, second) in [
+        ([0, 3, 0], [0, 2, 0]),
+        ([0, 0, 0], [0, 0, 1]),
+        ([2, 0, 0], [1, 0, 0]),
+        ([5, 0, 0], [0, 0, 0]),
+    ] {
         let mut store = MemStore::new(alloc, Vec::new(alloc));
+        let [sides, texts, cut] = first;
         put(
             &mut store,
             100,
-            ungated(&commit([0, 0, 0, 0, first[0], first[1]])),
+            ungated(&commit([sides, 0, 0, 0, texts, cut])),
         )?;
-        put(&mut store, 100, &commit([0, 0, 0, 0, second[0], second[1]]))?;
+        let [sides, texts, cut] = second;
+        put(&mut store, 100, &commit([sides, 0, 0, 0, texts, cut]))?;
         assert_eq!(rt; adopted(alloc, &mut store), Err(Fault::Damaged(100, 46)));
     }
     Ok(())

@@ -1,7 +1,8 @@
-ghost use Rattle.std.specs.Prelude.{◌≡◌, ◌≤◌, ◌+◌, ◌*◌, ◌++◌, length, IfOk, IfSome, IfNone};
+ghost use Rattle.std.specs.Prelude.{◌≡◌, ◌≤◌, ◌+◌, ◌*◌, ◌<◌, ◌++◌, length, slice_index, IfOk, IfSome, IfNone};
 ghost use Rattle.std.specs.List.{flat_map};
 ghost use Rattle.byteorder.specs.Endian.{little_bytes};
-ghost use Rattle.irl_bay.specs.Commits.{IsCommit, commit_bytes, first_commit};
+ghost use Rattle.irl_bay.specs.Damage.{starts_of};
+ghost use Rattle.irl_bay.specs.Commits.{commit_bytes, first_commit, live_side, sides_byte as sides_byte_of};
 
 use byteorder::{ByteOrder, LittleEndian};
 use irl_journal::Frame;
@@ -13,6 +14,9 @@ use std::marker::Model;
 pub struct Commit {
     /// The live side of the cache, 0 or 1, and how many keys it has.
     pub side: u8,
+    /// The live side of the buckets' files, 0 or 1, which have the offers from the cut on. None in a record of the layout
+    /// that had but one side: its files have every offer.
+    pub live: Option<u8>,
     pub entries: u64,
     /// How many offers are judged, and how many of them Unique.
     pub judged: u64,
@@ -24,11 +28,12 @@ pub struct Commit {
 }
 
 impl Model for Commit {
+    ghost use Rattle.irl_bay.specs.Damage.{starts_of};
     ghost use Rattle.irl_bay.specs.Commits.{Commit};
 
     ghost Value = { Commit };
 
-    ghost view = { λ c. record { side = c.side; entries = c.entries; judged = c.judged; unique = c.unique; texts = c.texts; cut = c.cut.items } };
+    ghost view = { λ c. record { side = c.side; live = c.live; entries = c.entries; judged = c.judged; unique = c.unique; texts = c.texts; cut = c.cut.items } };
 }
 
 /// How many bytes the record of a commit has.
@@ -39,13 +44,55 @@ pub fn commit_len(buckets: u32) -> u32
     33 + 8 * buckets
 }
 
+/// Where a bucket's live files are, and what a commit says of them.
+#[derive(Clone, Copy, Debug, PartialEq, Eq)]
+pub struct Live {
+    /// Their side, 0 or 1.
+    pub side: u8,
+    /// The number of the first offer that they have.
+    pub start: u64,
+    /// How many of their offers are judged.
+    pub judged: u64,
+}
+
 impl Commit {
+    /// What it says of a bucket's files.
+    pub fn live_of(&self, b: u32) -> Live
+        requires { b < length self.now.cut }
+        ensures side { result.side ≡ live_side self.now }
+        ensures start { result.start ≡ slice_index (starts_of (length self.now.cut) self.now) b }
+        ensures judged { result.start + result.judged ≡ slice_index self.now.cut b }
+    {
+        let side = self.live_side();
+        let cut = self.cut[b as usize];
+        match self.live {
+            None => Live {
+                side,
+                start: 0,
+                judged: cut,
+            },
+            Some(_) => Live {
+                side,
+                start: cut,
+                judged: 0,
+            },
+        }
+    }
+
+    /// The live side of the buckets' files.
+    pub fn live_side(&self) -> u8
+        ensures { result ≡ live_side self.now }
+    {
+        self.live.unwrap_or(0)
+    }
+
     /// What is said before the first merge.
     pub fn first(alloc: Global, buckets: u32) -> Result<Commit, AllocError>
         ensures { IfOk result (λ commit. commit ≡ first_commit buckets) }
     {
         Ok(Commit {
             side: 0,
+            live: None,
             entries: 0,
             judged: 0,
             unique: 0,
@@ -56,12 +103,26 @@ impl Commit {
 
     /// Puts the record's payload behind what a frame has.
     pub fn put(&self, frame: &mut Frame)
-        requires { length frame.old.bytes + length (commit_bytes self.now) ≤ frame.old.room }
+        requires room { length frame.old.bytes + length (commit_bytes self.now) ≤ frame.old.room }
+        requires side { self.now.side ≤ 1 }
+        requires live { IfSome self.now.live (λ side. side ≤ 1) }
         ensures { frame.new ≡ record { room = frame.old.room; bytes = frame.old.bytes ++ commit_bytes self.now } }
     {
-        frame.put(&[self.side]);
+        frame.put(&[sides_byte(self.side, self.live)]);
         put_numbers(frame, &[self.entries, self.judged, self.unique, self.texts]);
         put_numbers(frame, &self.cut);
+    }
+}
+
+// The byte that names both sides.
+fn sides_byte(side: u8, live: Option<u8>) -> u8
+    requires side { side ≤ 1 }
+    requires live { IfSome live (λ n. n ≤ 1) }
+    ensures { result ≡ sides_byte_of side live }
+{
+    match live {
+        None => side,
+        Some(live) => side + 2 + 2 * live,
     }
 }
 

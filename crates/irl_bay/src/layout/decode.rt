@@ -1,5 +1,5 @@
 ghost use Rattle.std.specs.Prelude.{◌≡◌, ◌≤◌, ◌+◌, ◌*◌, length, IfOk, IfSome, IsNone};
-ghost use Rattle.irl_bay.specs.Commits.{Commit as CommitValue, IsCommit, commit_bytes, numbers_in};
+ghost use Rattle.irl_bay.specs.Commits.{Commit as CommitValue, IsCommit, sides_byte, commit_bytes, numbers_in};
 
 use crate::layout::Commit;
 use byteorder::{ByteOrder, LittleEndian};
@@ -13,17 +13,33 @@ impl Commit {
         ensures none { IfOk result (λ found. IsNone found → (commit : CommitValue) → IsCommit buckets commit →
             bytes.now ≡ commit_bytes commit → ⊥) }
     {
-        if bytes.len() != 33 + 8 * buckets as usize || bytes[0] > 1 {
+        if bytes.len() != 33 + 8 * buckets as usize || bytes[0] > 5 {
             return Ok(None);
         }
+        let (side, live) = sides(bytes[0]);
         Ok(Some(Commit {
-            side: bytes[0],
+            side,
+            live,
             entries: LittleEndian::read_u64(&bytes[1..]),
             judged: LittleEndian::read_u64(&bytes[9..]),
             unique: LittleEndian::read_u64(&bytes[17..]),
             texts: LittleEndian::read_u64(&bytes[25..]),
             cut: numbers(alloc, &bytes[33..], buckets)?,
         }))
+    }
+}
+
+// The live side of the cache, and that of the buckets' files, of which this byte is.
+fn sides(byte: u8) -> (u8, Option<u8>)
+    requires { byte ≤ 5 }
+    ensures byte { sides_byte result.0 result.1 ≡ byte }
+    ensures side { result.0 ≤ 1 }
+    ensures live { IfSome result.1 (λ side. side ≤ 1) }
+{
+    if byte < 2 {
+        (byte, None)
+    } else {
+        (byte % 2, Some((byte - 2) / 2))
     }
 }
 

@@ -23,7 +23,7 @@ pub fn read_run(
     if payload.is_empty() || payload.len() > ENTRY_LEN * settings.array as usize {
         return Ok(None);
     }
-    let mut run = Vec::new(alloc);
+    let mut run = Vec::with_capacity(alloc, payload.len() / ENTRY_LEN)?;
     let mut rest = payload;
     while let Some((bytes, behind)) = rest.split_first_chunk::<27>() {
         let Some(entry) = read_entry(settings.buckets, b, bytes) else {

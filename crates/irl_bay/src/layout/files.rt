@@ -15,10 +15,10 @@ pub enum BayFile {
     Judged,
     /// The texts of the judged offers.
     Texts,
-    /// The journal of a bucket's offers, without their texts.
-    Journal(u32),
-    /// The texts of a bucket's offers.
-    Aux(u32),
+    /// On a side, 0 or 1, the journal of a bucket's offers, without their texts.
+    Journal(u8, u32),
+    /// On a side, 0 or 1, the texts of a bucket's offers.
+    Aux(u8, u32),
 }
 
 impl BayFile {
@@ -34,8 +34,8 @@ impl BayFile {
             BayFile::Cache(side) => 1 + u16::from(side),
             BayFile::Judged => 3,
             BayFile::Texts => 4,
-            BayFile::Journal(b) => 10 + 2 * b as u16,
-            BayFile::Aux(b) => 11 + 2 * b as u16,
+            BayFile::Journal(side, b) => 10 + 490 * u16::from(side) + 2 * b as u16,
+            BayFile::Aux(side, b) => 11 + 490 * u16::from(side) + 2 * b as u16,
         }
     }
 }

@@ -61,7 +61,11 @@ fn put_entries(frame: &mut Frame, offers: &[Offer])
 fn texts(alloc: Global, offers: &[Offer]) -> Result<Vec<u8>, AllocError>
     ensures { IfOk result (λ texts. texts.items ≡ texts_of offers.now) }
 {
-    let mut texts = Vec::new(alloc);
+    let mut room: usize = 0;
+    for offer in offers {
+        room = room.saturating_add(offer.aux.bytes().len());
+    }
+    let mut texts = Vec::with_capacity(alloc, room)?;
     for offer in offers {
         texts.extend_from_slice(offer.aux.bytes())?;
     }

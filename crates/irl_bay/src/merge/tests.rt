@@ -41,7 +41,7 @@ fn flushed(alloc: Global, failing: Vec<u64>) -> Result<Waiting, Fault>
     Ok(kept)
 }
 
-// How many calls there are once the offers are judged, the last ten of which write.
+// How many calls there are once the offers are judged.
 fn calls(alloc: Global) -> Result<u64, Fault> {
     let mut kept = flushed(alloc, Vec::new(alloc))?;
     merge(&mut kept)?;
@@ -100,48 +100,42 @@ fn left(alloc: Global, store: &MemStore, call: u64, part: Part) -> Result<(u64, 
     Ok((counting.records, has_batch(&mut image)?))
 }
 
+// How many cuts a stop leaves as old, as new and torn in a call with so many behind it, by whether it failed. The last
+// call but one opens the gate of the manifest's record, and behind the last the merge is answered Ok.
+fn cuts_left(behind: u64, is_failing: bool) -> [u64; 3] {
+    match (behind, is_failing) {
+        (0, false) => [1, 1, 1],
+        (0, true) | (1, false) => [0, 1, 1],
+        _ => [0, 0, 0],
+    }
+}
+
+// The offers, over which a merge was asked that stopped, or failed, in this call.
+fn stopped(alloc: Global, call: u64, is_failing: bool) -> Result<(MemStore, bool), Fail> {
+    let failing = if is_failing {
+        vec![in alloc; call]?
+    } else {
+        Vec::new(alloc)
+    };
+    let mut kept = flushed(alloc, failing)?;
+    let is_err = merge(&mut kept).is_err();
+    Ok((kept.store, is_err))
+}
+
 #[test]
 fn a_stop_leaves_the_cut_or_none(rt: HostRuntime) -> Result<(), Fail> {
     let alloc = rt.alloc();
-    let first = calls(alloc)?.saturating_sub(10);
-    // The call of the stop among the ten that write, whether it failed, and how many cuts are left as old, as new and
-    // torn.
-    let table = [
-        (0, false, [0, 0, 0]),
-        (0, true, [0, 0, 0]),
-        (1, false, [0, 0, 0]),
-        (1, true, [0, 0, 0]),
-        (2, false, [0, 0, 0]),
-        (2, true, [0, 0, 0]),
-        (3, false, [0, 0, 0]),
-        (3, true, [0, 0, 0]),
-        (4, false, [0, 0, 0]),
-        (4, true, [0, 0, 0]),
-        (5, false, [0, 0, 0]),
-        (5, true, [0, 0, 0]),
-        (6, false, [0, 0, 0]),
-        (6, true, [0, 0, 0]),
-        (7, false, [0, 0, 0]),
-        (7, true, [0, 0, 0]),
-        (8, false, [0, 1, 1]),
-        (8, true, [0, 0, 0]),
-        (9, true, [0, 1, 1]),
-        // The merge answered Ok.
-        (9, false, [1, 1, 1]),
-    ];
-    for (call, is_failing, [old, new, torn]) in table {
-        let call = first.saturating_add(call);
-        let failing = if is_failing {
-            vec![in alloc; call]?
-        } else {
-            Vec::new(alloc)
-        };
-        let mut kept = flushed(alloc, failing)?;
-        assert_eq!(rt; merge(&mut kept).is_err(), is_failing, "at {call}");
-        for (part, cuts) in [(Part::Old, old), (Part::New, new), (Part::Torn, torn)] {
-            let (found, has_batch) = left(alloc, &kept.store, call, part)?;
-            assert_eq!(rt; found, cuts, "{part:?} at {call}, {is_failing}");
-            assert!(rt; found == 0 || has_batch, "{part:?} at {call}, {is_failing}");
+    let end = calls(alloc)?;
+    for call in 10..end {
+        for is_failing in [false, true] {
+            let (store, is_err) = stopped(alloc, call, is_failing)?;
+            assert_eq!(rt; is_err, is_failing, "at {call}");
+            let wanted = cuts_left(end - 1 - call, is_failing);
+            for (part, cuts) in [Part::Old, Part::New, Part::Torn].into_iter().zip(wanted) {
+                let (found, has_batch) = left(alloc, &store, call, part)?;
+                assert_eq!(rt; found, cuts, "{part:?} at {call}, {is_failing}");
+                assert!(rt; found == 0 || has_batch, "{part:?} at {call}, {is_failing}");
+            }
         }
     }
     Ok(())
@@ -179,9 +173,9 @@ fn a_commit_stands_in_a_record(rt: HostRuntime) -> Result<(), Fail> {
     merge(&mut kept)?;
     let mut bytes = [255; 48];
     assert_eq!(rt; kept.store.read(1_000, 0, &mut bytes)?, 47);
-    // The gate and the length; the side; the keys, the judged and the unique offers, the texts' length and the cut; and
+    // The gate and the length; side 1 of the cache and of the bucket files; the keys, the judged and the unique offers, the texts' length and the cut; and
     // the next gate.
-    let record = b"\xA5\x29\0\0\0\x01\x01\0\0\0\0\0\0\0\x02\0\0\0\0\0\0\0\x01\0\0\0\0\0\0\0\
+    let record = b"\xA5\x29\0\0\0\x05\x01\0\0\0\0\0\0\0\x02\0\0\0\0\0\0\0\x01\0\0\0\0\0\0\0\
         \x02\0\0\0\0\0\0\0\x02\0\0\0\0\0\0\0\0\xFF";
     assert_eq!(rt; bytes, *record);
     Ok(())

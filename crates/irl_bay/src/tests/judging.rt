@@ -101,7 +101,7 @@ fn put_three(
 }
 
 // Whether an offer of this bucket waits to be judged.
-fn can_merge(bay: &Bay, b: u32) -> bool
+pub(super) fn can_merge(bay: &Bay, b: u32) -> bool
     ensures sound { IsTrue result → bay.now.is_sound ≡ true }
     ensures some { IsTrue result → SomePending bay.now }
 {

@@ -1,5 +1,5 @@
 -- The parts of a bay are opened one after the other.
-use Rattle.std.proofs.Common.{◌≡◌, ◌∙◌, ℕ, ◌<◌, ◌≤◌, IsTrue, List, length, map, get_or, inl, inr, sym, ap, subst, arith, rules}
+use Rattle.std.proofs.Common.{◌≡◌, ◌∙◌, ℕ, ◌≤◌, IsTrue, List, length, map, inl, inr, refl, sym, ap, subst, arith, rules}
 use Rattle.std.proofs.lemmas.Result.{err_from_is_err_and}
 use Rattle.irl_offer.specs.declared.receipt.Fault.TheVariants.{Damaged as StoreDamaged}
 use Rattle.irl_model.specs.Book.{IsBelow}
@@ -16,15 +16,13 @@ use Rattle.irl_journal.specs.Visiting.{IsOpened}
 use Rattle.irl_bay.specs.declared.bucket.Bucket.{Bucket}
 use Rattle.irl_bay.specs.declared.history.History.{History}
 use Rattle.irl_bay.specs.Commits.{Commit, IsCommit, commit_bytes, first_commit, last_commit}
-use Rattle.irl_bay.specs.Damage.{IsDamagedJournal, AreCommitPayloads, HasFronts}
+use Rattle.irl_bay.specs.Damage.{IsDamagedJournal, IsDamagedBehind, AreCommitPayloads, HasFronts}
 use Rattle.irl_bay.specs.Drum.{no_bucket}
 use Rattle.irl_bay.specs.Making.{IsJournalOf}
-use Rattle.irl_bay.specs.Opening.{IsJournalBelow, OpensBelow, IsFirstAbove, HasListOf}
-use Rattle.irl_bay.specs.Holding.{HoldsBucket}
-use Rattle.irl_offer.specs.Tuple.{Tuple}
+use Rattle.irl_bay.specs.Opening.{IsJournalBelow, OpensBelow, IsFirstAbove}
 use Rattle.irl_bay.proofs.Buckets.{damaged_fault, ends_within}
 use Rattle.irl_bay.proofs.Reached.{few_commits, took_commits, damaged_commits}
-use Rattle.irl_bay.proofs.Adopted.{adopts_first, adopts_same, adopts_buckets, takes_wider, manifest_of, took_is, front_back_as, fronts_back, whole_back, bucket_back, has_back, below_reached, cut_above, tells_from, below_same, drum_is, long_is}
+use Rattle.irl_bay.proofs.Adopted.{adopts_first, adopts_same, adopts_buckets, takes_wider, manifest_of, took_is, took_side, front_back_as, fronts_back, whole_back, bucket_back, whole_of, below_reached, cut_above, tells_from, below_same, drum_is, long_is}
 use Rattle.irl_bay.proofs.adopt.open_bay.Goals as goal
 
 -- ---- what changes
@@ -41,25 +39,33 @@ pub returns-in_err-buckets-clause-adopts : goal.returns-in_err-buckets-clause-ad
 returns-in_err-buckets-clause-adopts g c =
     let tell = g.S.Store.snapshot in
     let law = g.met.S.Store.is_consistent in
-    adopts_buckets c.args.base c.args.settings.now.buckets (tell c.args.store.now) (tell c.open_fronts.new.store) (tell c.open_buckets.new.store) (law c.open_fronts.new.store) (adopts_same c.args.base c.args.settings.now.buckets (tell c.args.store.now) (tell c.visit.new.store) (tell c.open_fronts.new.store) (law c.visit.new.store) (adopts_first c.args.base c.args.settings.now.buckets c.number-f.result (tell c.args.store.now) (tell c.visit.new.store) c.number-f.ensures.value c.in-Ok.ensures.changes c.in-Ok.ensures.stops) c.in_ok-open_fronts.ensures.same c.in_ok-open_fronts.ensures.stops) c.in_err-buckets.ensures.files c.in_err-buckets.ensures.stops
+    let took = took_commits c.args.settings.now.buckets 0 c.in_ok-history.history c.visit.new.visitor c.in-Ok.ensures.took.payloads c.in_ok-history.ensures.buckets (omega (arith, c.in_ok-history.ensures.count)) c.in-Ok.ensures.took.took in
+    let fits = took_side c.args.settings.now.buckets c.in_ok-history.history.last c.in_ok-history.history.count c.in-Ok.ensures.took.payloads c.visit.new.visitor _ c.in_ok-history.ensures.last took (ap (λ (h : History). h.last) c.history.view_is) in
+    adopts_buckets c.args.base _ c.args.settings.now.buckets (tell c.args.store.now) (tell c.open_fronts.new.store) (tell c.open_buckets.new.store) fits (law c.open_fronts.new.store) (adopts_same c.args.base c.args.settings.now.buckets (tell c.args.store.now) (tell c.visit.new.store) (tell c.open_fronts.new.store) (law c.visit.new.store) (adopts_first c.args.base c.args.settings.now.buckets c.number-f.result (tell c.args.store.now) (tell c.visit.new.store) c.number-f.ensures.value c.in-Ok.ensures.changes c.in-Ok.ensures.stops) c.in_ok-open_fronts.ensures.same c.in_ok-open_fronts.ensures.stops) c.in_err-buckets.ensures.files c.in_err-buckets.ensures.stops
 
 pub returns-in_err-lengths-clause-adopts : goal.returns-in_err-lengths-clause-adopts
 returns-in_err-lengths-clause-adopts g c =
     let tell = g.S.Store.snapshot in
     let law = g.met.S.Store.is_consistent in
-    adopts_buckets c.args.base c.args.settings.now.buckets (tell c.args.store.now) (tell c.open_fronts.new.store) (tell c.open_buckets.new.store) (law c.open_fronts.new.store) (adopts_same c.args.base c.args.settings.now.buckets (tell c.args.store.now) (tell c.visit.new.store) (tell c.open_fronts.new.store) (law c.visit.new.store) (adopts_first c.args.base c.args.settings.now.buckets c.number-f.result (tell c.args.store.now) (tell c.visit.new.store) c.number-f.ensures.value c.in-Ok.ensures.changes c.in-Ok.ensures.stops) c.in_ok-open_fronts.ensures.same c.in_ok-open_fronts.ensures.stops) c.in_ok-buckets.ensures.files c.in_ok-buckets.ensures.stops
+    let took = took_commits c.args.settings.now.buckets 0 c.in_ok-history.history c.visit.new.visitor c.in-Ok.ensures.took.payloads c.in_ok-history.ensures.buckets (omega (arith, c.in_ok-history.ensures.count)) c.in-Ok.ensures.took.took in
+    let fits = took_side c.args.settings.now.buckets c.in_ok-history.history.last c.in_ok-history.history.count c.in-Ok.ensures.took.payloads c.visit.new.visitor _ c.in_ok-history.ensures.last took (ap (λ (h : History). h.last) c.history.view_is) in
+    adopts_buckets c.args.base _ c.args.settings.now.buckets (tell c.args.store.now) (tell c.open_fronts.new.store) (tell c.open_buckets.new.store) fits (law c.open_fronts.new.store) (adopts_same c.args.base c.args.settings.now.buckets (tell c.args.store.now) (tell c.visit.new.store) (tell c.open_fronts.new.store) (law c.visit.new.store) (adopts_first c.args.base c.args.settings.now.buckets c.number-f.result (tell c.args.store.now) (tell c.visit.new.store) c.number-f.ensures.value c.in-Ok.ensures.changes c.in-Ok.ensures.stops) c.in_ok-open_fronts.ensures.same c.in_ok-open_fronts.ensures.stops) c.in_ok-buckets.ensures.files c.in_ok-buckets.ensures.stops
 
 pub returns-then-not-is_below-clause-adopts : goal.returns-then-not-is_below-clause-adopts
 returns-then-not-is_below-clause-adopts g c =
     let tell = g.S.Store.snapshot in
     let law = g.met.S.Store.is_consistent in
-    adopts_same c.args.base c.args.settings.now.buckets (tell c.args.store.now) (tell c.open_buckets.new.store) (tell c.first_above.new.store) (law c.open_buckets.new.store) (adopts_buckets c.args.base c.args.settings.now.buckets (tell c.args.store.now) (tell c.open_fronts.new.store) (tell c.open_buckets.new.store) (law c.open_fronts.new.store) (adopts_same c.args.base c.args.settings.now.buckets (tell c.args.store.now) (tell c.visit.new.store) (tell c.open_fronts.new.store) (law c.visit.new.store) (adopts_first c.args.base c.args.settings.now.buckets c.number-f.result (tell c.args.store.now) (tell c.visit.new.store) c.number-f.ensures.value c.in-Ok.ensures.changes c.in-Ok.ensures.stops) c.in_ok-open_fronts.ensures.same c.in_ok-open_fronts.ensures.stops) c.in_ok-buckets.ensures.files c.in_ok-buckets.ensures.stops) c.first_above.ensures.same c.first_above.ensures.stops
+    let took = took_commits c.args.settings.now.buckets 0 c.in_ok-history.history c.visit.new.visitor c.in-Ok.ensures.took.payloads c.in_ok-history.ensures.buckets (omega (arith, c.in_ok-history.ensures.count)) c.in-Ok.ensures.took.took in
+    let fits = took_side c.args.settings.now.buckets c.in_ok-history.history.last c.in_ok-history.history.count c.in-Ok.ensures.took.payloads c.visit.new.visitor _ c.in_ok-history.ensures.last took (ap (λ (h : History). h.last) c.history.view_is) in
+    adopts_same c.args.base c.args.settings.now.buckets (tell c.args.store.now) (tell c.open_buckets.new.store) (tell c.first_above.new.store) (law c.open_buckets.new.store) (adopts_buckets c.args.base _ c.args.settings.now.buckets (tell c.args.store.now) (tell c.open_fronts.new.store) (tell c.open_buckets.new.store) fits (law c.open_fronts.new.store) (adopts_same c.args.base c.args.settings.now.buckets (tell c.args.store.now) (tell c.visit.new.store) (tell c.open_fronts.new.store) (law c.visit.new.store) (adopts_first c.args.base c.args.settings.now.buckets c.number-f.result (tell c.args.store.now) (tell c.visit.new.store) c.number-f.ensures.value c.in-Ok.ensures.changes c.in-Ok.ensures.stops) c.in_ok-open_fronts.ensures.same c.in_ok-open_fronts.ensures.stops) c.in_ok-buckets.ensures.files c.in_ok-buckets.ensures.stops) c.first_above.ensures.same c.first_above.ensures.stops
 
 pub returns-clause-adopts : goal.returns-clause-adopts
 returns-clause-adopts g c =
     let tell = g.S.Store.snapshot in
     let law = g.met.S.Store.is_consistent in
-    adopts_buckets c.args.base c.args.settings.now.buckets (tell c.args.store.now) (tell c.open_fronts.new.store) (tell c.open_buckets.new.store) (law c.open_fronts.new.store) (adopts_same c.args.base c.args.settings.now.buckets (tell c.args.store.now) (tell c.visit.new.store) (tell c.open_fronts.new.store) (law c.visit.new.store) (adopts_first c.args.base c.args.settings.now.buckets c.number-f.result (tell c.args.store.now) (tell c.visit.new.store) c.number-f.ensures.value c.in-Ok.ensures.changes c.in-Ok.ensures.stops) c.in_ok-open_fronts.ensures.same c.in_ok-open_fronts.ensures.stops) c.in_ok-buckets.ensures.files c.in_ok-buckets.ensures.stops
+    let took = took_commits c.args.settings.now.buckets 0 c.in_ok-history.history c.visit.new.visitor c.in-Ok.ensures.took.payloads c.in_ok-history.ensures.buckets (omega (arith, c.in_ok-history.ensures.count)) c.in-Ok.ensures.took.took in
+    let fits = took_side c.args.settings.now.buckets c.in_ok-history.history.last c.in_ok-history.history.count c.in-Ok.ensures.took.payloads c.visit.new.visitor _ c.in_ok-history.ensures.last took (ap (λ (h : History). h.last) c.history.view_is) in
+    adopts_buckets c.args.base _ c.args.settings.now.buckets (tell c.args.store.now) (tell c.open_fronts.new.store) (tell c.open_buckets.new.store) fits (law c.open_fronts.new.store) (adopts_same c.args.base c.args.settings.now.buckets (tell c.args.store.now) (tell c.visit.new.store) (tell c.open_fronts.new.store) (law c.visit.new.store) (adopts_first c.args.base c.args.settings.now.buckets c.number-f.result (tell c.args.store.now) (tell c.visit.new.store) c.number-f.ensures.value c.in-Ok.ensures.changes c.in-Ok.ensures.stops) c.in_ok-open_fronts.ensures.same c.in_ok-open_fronts.ensures.stops) c.in_ok-buckets.ensures.files c.in_ok-buckets.ensures.stops
 
 -- ---- what is read
 pub returns-in-Err-clause-taken : goal.returns-in-Err-clause-taken
@@ -69,16 +75,28 @@ pub returns-in_err-open_fronts-clause-taken : goal.returns-in_err-open_fronts-cl
 returns-in_err-open_fronts-clause-taken g c = subst (TakesAmong (IsJournalOf c.args.base c.args.settings.now.buckets) (g.S.Store.taken c.args.store.now)) (sym c.in_err-open_fronts.ensures.taken) (takes_only (IsJournalOf c.args.base c.args.settings.now.buckets) c.number-f.result _ _ (inl c.number-f.ensures.value) c.in-Ok.ensures.taken)
 
 pub returns-in_err-buckets-clause-taken : goal.returns-in_err-buckets-clause-taken
-returns-in_err-buckets-clause-taken g c = takes_both (IsJournalOf c.args.base c.args.settings.now.buckets) _ _ _ (subst (TakesAmong (IsJournalOf c.args.base c.args.settings.now.buckets) (g.S.Store.taken c.args.store.now)) (sym c.in_ok-open_fronts.ensures.taken) (takes_only (IsJournalOf c.args.base c.args.settings.now.buckets) c.number-f.result _ _ (inl c.number-f.ensures.value) c.in-Ok.ensures.taken)) (takes_wider (IsJournalBelow c.args.base c.args.settings.now.buckets) (IsJournalOf c.args.base c.args.settings.now.buckets) _ _ (λ f is. inr is) c.in_err-buckets.ensures.taken)
+returns-in_err-buckets-clause-taken g c =
+    let took = took_commits c.args.settings.now.buckets 0 c.in_ok-history.history c.visit.new.visitor c.in-Ok.ensures.took.payloads c.in_ok-history.ensures.buckets (omega (arith, c.in_ok-history.ensures.count)) c.in-Ok.ensures.took.took in
+    let fits = took_side c.args.settings.now.buckets c.in_ok-history.history.last c.in_ok-history.history.count c.in-Ok.ensures.took.payloads c.visit.new.visitor _ c.in_ok-history.ensures.last took (ap (λ (h : History). h.last) c.history.view_is) in
+    takes_both (IsJournalOf c.args.base c.args.settings.now.buckets) _ _ _ (subst (TakesAmong (IsJournalOf c.args.base c.args.settings.now.buckets) (g.S.Store.taken c.args.store.now)) (sym c.in_ok-open_fronts.ensures.taken) (takes_only (IsJournalOf c.args.base c.args.settings.now.buckets) c.number-f.result _ _ (inl c.number-f.ensures.value) c.in-Ok.ensures.taken)) (takes_wider (IsJournalBelow c.args.base _ c.args.settings.now.buckets) (IsJournalOf c.args.base c.args.settings.now.buckets) _ _ (λ f is. inr (_, is.0, fits, is.1, is.2)) c.in_err-buckets.ensures.taken)
 
 pub returns-in_err-lengths-clause-taken : goal.returns-in_err-lengths-clause-taken
-returns-in_err-lengths-clause-taken g c = takes_both (IsJournalOf c.args.base c.args.settings.now.buckets) _ _ _ (subst (TakesAmong (IsJournalOf c.args.base c.args.settings.now.buckets) (g.S.Store.taken c.args.store.now)) (sym c.in_ok-open_fronts.ensures.taken) (takes_only (IsJournalOf c.args.base c.args.settings.now.buckets) c.number-f.result _ _ (inl c.number-f.ensures.value) c.in-Ok.ensures.taken)) (takes_wider (IsJournalBelow c.args.base c.args.settings.now.buckets) (IsJournalOf c.args.base c.args.settings.now.buckets) _ _ (λ f is. inr is) c.in_ok-buckets.ensures.taken)
+returns-in_err-lengths-clause-taken g c =
+    let took = took_commits c.args.settings.now.buckets 0 c.in_ok-history.history c.visit.new.visitor c.in-Ok.ensures.took.payloads c.in_ok-history.ensures.buckets (omega (arith, c.in_ok-history.ensures.count)) c.in-Ok.ensures.took.took in
+    let fits = took_side c.args.settings.now.buckets c.in_ok-history.history.last c.in_ok-history.history.count c.in-Ok.ensures.took.payloads c.visit.new.visitor _ c.in_ok-history.ensures.last took (ap (λ (h : History). h.last) c.history.view_is) in
+    takes_both (IsJournalOf c.args.base c.args.settings.now.buckets) _ _ _ (subst (TakesAmong (IsJournalOf c.args.base c.args.settings.now.buckets) (g.S.Store.taken c.args.store.now)) (sym c.in_ok-open_fronts.ensures.taken) (takes_only (IsJournalOf c.args.base c.args.settings.now.buckets) c.number-f.result _ _ (inl c.number-f.ensures.value) c.in-Ok.ensures.taken)) (takes_wider (IsJournalBelow c.args.base _ c.args.settings.now.buckets) (IsJournalOf c.args.base c.args.settings.now.buckets) _ _ (λ f is. inr (_, is.0, fits, is.1, is.2)) c.in_ok-buckets.ensures.taken)
 
 pub returns-then-not-is_below-clause-taken : goal.returns-then-not-is_below-clause-taken
-returns-then-not-is_below-clause-taken g c = takes_both (IsJournalOf c.args.base c.args.settings.now.buckets) _ _ _ (takes_both (IsJournalOf c.args.base c.args.settings.now.buckets) _ _ _ (subst (TakesAmong (IsJournalOf c.args.base c.args.settings.now.buckets) (g.S.Store.taken c.args.store.now)) (sym c.in_ok-open_fronts.ensures.taken) (takes_only (IsJournalOf c.args.base c.args.settings.now.buckets) c.number-f.result _ _ (inl c.number-f.ensures.value) c.in-Ok.ensures.taken)) (takes_wider (IsJournalBelow c.args.base c.args.settings.now.buckets) (IsJournalOf c.args.base c.args.settings.now.buckets) _ _ (λ f is. inr is) c.in_ok-buckets.ensures.taken)) (takes_only (IsJournalOf c.args.base c.args.settings.now.buckets) c.in-Ok.manifest.file _ _ (inl (c.in-Ok.ensures.journal.0 ∙ c.number-f.ensures.value)) c.first_above.ensures.taken)
+returns-then-not-is_below-clause-taken g c =
+    let took = took_commits c.args.settings.now.buckets 0 c.in_ok-history.history c.visit.new.visitor c.in-Ok.ensures.took.payloads c.in_ok-history.ensures.buckets (omega (arith, c.in_ok-history.ensures.count)) c.in-Ok.ensures.took.took in
+    let fits = took_side c.args.settings.now.buckets c.in_ok-history.history.last c.in_ok-history.history.count c.in-Ok.ensures.took.payloads c.visit.new.visitor _ c.in_ok-history.ensures.last took (ap (λ (h : History). h.last) c.history.view_is) in
+    takes_both (IsJournalOf c.args.base c.args.settings.now.buckets) _ _ _ (takes_both (IsJournalOf c.args.base c.args.settings.now.buckets) _ _ _ (subst (TakesAmong (IsJournalOf c.args.base c.args.settings.now.buckets) (g.S.Store.taken c.args.store.now)) (sym c.in_ok-open_fronts.ensures.taken) (takes_only (IsJournalOf c.args.base c.args.settings.now.buckets) c.number-f.result _ _ (inl c.number-f.ensures.value) c.in-Ok.ensures.taken)) (takes_wider (IsJournalBelow c.args.base _ c.args.settings.now.buckets) (IsJournalOf c.args.base c.args.settings.now.buckets) _ _ (λ f is. inr (_, is.0, fits, is.1, is.2)) c.in_ok-buckets.ensures.taken)) (takes_only (IsJournalOf c.args.base c.args.settings.now.buckets) c.in-Ok.manifest.file _ _ (inl (c.in-Ok.ensures.journal.0 ∙ c.number-f.ensures.value)) c.first_above.ensures.taken)
 
 pub returns-clause-taken : goal.returns-clause-taken
-returns-clause-taken g c = takes_both (IsJournalOf c.args.base c.args.settings.now.buckets) _ _ _ (subst (TakesAmong (IsJournalOf c.args.base c.args.settings.now.buckets) (g.S.Store.taken c.args.store.now)) (sym c.in_ok-open_fronts.ensures.taken) (takes_only (IsJournalOf c.args.base c.args.settings.now.buckets) c.number-f.result _ _ (inl c.number-f.ensures.value) c.in-Ok.ensures.taken)) (takes_wider (IsJournalBelow c.args.base c.args.settings.now.buckets) (IsJournalOf c.args.base c.args.settings.now.buckets) _ _ (λ f is. inr is) c.in_ok-buckets.ensures.taken)
+returns-clause-taken g c =
+    let took = took_commits c.args.settings.now.buckets 0 c.in_ok-history.history c.visit.new.visitor c.in-Ok.ensures.took.payloads c.in_ok-history.ensures.buckets (omega (arith, c.in_ok-history.ensures.count)) c.in-Ok.ensures.took.took in
+    let fits = took_side c.args.settings.now.buckets c.in_ok-history.history.last c.in_ok-history.history.count c.in-Ok.ensures.took.payloads c.visit.new.visitor _ c.in_ok-history.ensures.last took (ap (λ (h : History). h.last) c.history.view_is) in
+    takes_both (IsJournalOf c.args.base c.args.settings.now.buckets) _ _ _ (subst (TakesAmong (IsJournalOf c.args.base c.args.settings.now.buckets) (g.S.Store.taken c.args.store.now)) (sym c.in_ok-open_fronts.ensures.taken) (takes_only (IsJournalOf c.args.base c.args.settings.now.buckets) c.number-f.result _ _ (inl c.number-f.ensures.value) c.in-Ok.ensures.taken)) (takes_wider (IsJournalBelow c.args.base _ c.args.settings.now.buckets) (IsJournalOf c.args.base c.args.settings.now.buckets) _ _ (λ f is. inr (_, is.0, fits, is.1, is.2)) c.in_ok-buckets.ensures.taken)
 
 -- ---- what the commit says
 pub open_fronts-requires-clause-side : goal.open_fronts-requires-clause-side
@@ -88,13 +106,11 @@ open_fronts-requires-clause-side g c =
     let same = ap (λ (h : History). h.last.side) c.history.view_is in
     omega (arith, is.side, same)
 
-pub open_buckets-requires-clause-count : goal.open_buckets-requires-clause-count
-open_buckets-requires-clause-count g c =
+pub open_buckets-requires-clause-commit : goal.open_buckets-requires-clause-commit
+open_buckets-requires-clause-commit g c =
     let took = took_commits c.args.settings.now.buckets 0 c.in_ok-history.history c.visit.new.visitor c.in-Ok.ensures.took.payloads c.in_ok-history.ensures.buckets (omega (arith, c.in_ok-history.ensures.count)) c.in-Ok.ensures.took.took in
     let is = took_is c.args.settings.now.buckets c.in_ok-history.history.last c.in_ok-history.history.count c.in-Ok.ensures.took.payloads c.visit.new.visitor c.in_ok-history.ensures.last took in
-    let same = ap (λ (h : History). length h.last.cut) c.history.view_is in
-    let value = ap (λ (l : List ℕ). length l) c.deref.ensures.value in
-    omega (arith, is.count, same, value)
+    subst (IsCommit c.args.settings.now.buckets) (sym (ap (λ (h : History). h.last) c.history.view_is)) is
 
 -- ---- what is damaged
 pub returns-in-Err-clause-damaged : goal.returns-in-Err-clause-damaged
@@ -133,15 +149,20 @@ returns-in_err-buckets-clause-damaged g c = λ f at e files tells.
     let step = subst (λ (n : ℕ). ChangesFile n IsOpened files changed.0) c.number-f.ensures.value changed.2 in
     let named = c.in_err-buckets.ensures.damaged f at (search rules) changed.0 (c.in_ok-open_fronts.ensures.same ∙ changed.1) in
     let last = ap (λ (h : History). h.last) c.history.view_is ∙ told.last_is in
-    let fronts = subst (λ (x : Commit). HasFronts c.args.base x files) last (fronts_back c.args.base _ files changed.0 step (c.in_ok-open_fronts.ensures.has changed.0 changed.1)) in
-    inr (told.commits, told.has, inr (fronts, inl (named.0, named.1, (λ b below. whole_back c.args.base c.args.settings.now b files changed.0 step (named.2 b below)), bucket_back c.args.base c.args.settings.now named.0 files changed.0 f at step named.3)))
+    let fronts = fronts_back c.args.base _ files changed.0 step (c.in_ok-open_fronts.ensures.has changed.0 changed.1) in
+    inr (
+      told.commits,
+      told.has,
+      subst (λ (x : Commit). IsDamagedBehind c.args.base c.args.settings.now files told.commits x f at) last
+          (inr (fronts, inl (named.0, named.1, (λ b below. whole_back c.args.base _ c.args.settings.now b files changed.0 step (named.2 b below)), bucket_back c.args.base _ c.args.settings.now named.0 files changed.0 f at step named.3))),
+    )
 
 -- the manifest's records stand in what is told after the buckets were opened
 pub first_above-requires-clause-above : goal.first_above-requires-clause-above
 first_above-requires-clause-above g c = λ now tells_now.
     let tell = g.S.Store.snapshot in
     let law = g.met.S.Store.is_consistent in
-    let mid = tells_from (OpensBelow c.args.base c.args.settings.now.buckets) _ _ now c.in_ok-buckets.ensures.files tells_now in
+    let mid = tells_from (OpensBelow c.args.base _ c.args.settings.now.buckets) _ _ now c.in_ok-buckets.ensures.files tells_now in
     let mid_told = sym c.in_ok-open_fronts.ensures.same ∙ mid.1 in
     let old = told_from c.number-f.result IsOpened _ _ mid.0 c.in-Ok.ensures.changes mid_told in
     let files = old.0 in
@@ -151,15 +172,15 @@ first_above-requires-clause-above g c = λ now tells_now.
     let told = manifest_of c.args.base c.args.settings.now.buckets c.number-f.result files c.in_ok-history.history.last c.in_ok-history.history.count found.0 c.visit.new.visitor c.number-f.ensures.value c.in_ok-history.ensures.last c.in_ok-history.ensures.count found.1
     (took_commits c.args.settings.now.buckets 0 c.in_ok-history.history c.visit.new.visitor found.0 c.in_ok-history.ensures.buckets (omega (arith, c.in_ok-history.ensures.count)) read.1) in
     let last = ap (λ (h : History). h.last) c.history.view_is in
-    let many : c.in_ok-lengths.lengths.items ≡ map (λ (bucket : Bucket). bucket.durable) c.in_ok-buckets.buckets.items = c.in_ok-lengths.ensures ∙ ap (map (λ (bucket : Bucket). bucket.durable)) c.deref-2.ensures.value in
+    let many : c.in_ok-lengths.lengths.items ≡ map (λ (bucket : Bucket). bucket.durable) c.in_ok-buckets.buckets.items = c.in_ok-lengths.ensures ∙ ap (map (λ (bucket : Bucket). bucket.durable)) c.deref.ensures.value in
     let ends = read.2 mid.0 ((law c.visit.new.store).told mid.0 mid_told) in
-    let stays = below_same c.args.base c.args.settings.now.buckets c.in-Ok.manifest.file mid.0 now mid.2 (omega (arith, c.in-Ok.ensures.journal.0, c.number-f.ensures.value)) in (
+    let stays = below_same c.args.base _ c.args.settings.now.buckets c.in-Ok.manifest.file mid.0 now mid.2 (omega (arith, c.in-Ok.ensures.journal.0, c.number-f.ensures.value)) in (
       told.commits,
       subst (λ (file : List ℕ). Ends c.in-Ok.manifest.end file (map commit_bytes told.commits)) (sym stays) (subst (λ (ps : List (List ℕ)). Ends c.in-Ok.manifest.end (mid.0 c.in-Ok.manifest.file) ps) told.payloads_are ends),
       told.has.rise,
       λ below.
-          let cut : c.deref-3.result.now ≡ (last_commit (first_commit c.args.settings.now.buckets) told.commits).cut = c.deref-3.ensures.value ∙ ap (λ (x : Commit). x.cut) (last ∙ told.last_is) in
-          let yes = c.is_below.ensures.1 (subst (λ (x : List ℕ). IsBelow x c.deref-4.result.now) (sym cut) (subst (λ (y : List ℕ). IsBelow (last_commit (first_commit c.args.settings.now.buckets) told.commits).cut y) (sym c.deref-4.ensures.value) below)) in
+          let cut : c.deref-2.result.now ≡ (last_commit (first_commit c.args.settings.now.buckets) told.commits).cut = c.deref-2.ensures.value ∙ ap (λ (x : Commit). x.cut) (last ∙ told.last_is) in
+          let yes = c.is_below.ensures.1 (subst (λ (x : List ℕ). IsBelow x c.deref-3.result.now) (sym cut) (subst (λ (y : List ℕ). IsBelow (last_commit (first_commit c.args.settings.now.buckets) told.commits).cut y) (sym c.deref-3.ensures.value) below)) in
           let never = subst IsTrue c.if-not-is_below.true yes in
           cc,
     )
@@ -176,24 +197,24 @@ returns-then-not-is_below-clause-damaged g c = λ f at e files tells.
     let changed = rw tells at c.in-Ok.ensures.changes in
     let step = subst (λ (n : ℕ). ChangesFile n IsOpened files changed.0) c.number-f.ensures.value changed.2 in
     let last = ap (λ (h : History). h.last) c.history.view_is in
-    let many : c.in_ok-lengths.lengths.items ≡ map (λ (bucket : Bucket). bucket.durable) c.in_ok-buckets.buckets.items = c.in_ok-lengths.ensures ∙ ap (map (λ (bucket : Bucket). bucket.durable)) c.deref-2.ensures.value in
+    let many : c.in_ok-lengths.lengths.items ≡ map (λ (bucket : Bucket). bucket.durable) c.in_ok-buckets.buckets.items = c.in_ok-lengths.ensures ∙ ap (map (λ (bucket : Bucket). bucket.durable)) c.deref.ensures.value in
     let front_last = last ∙ told.last_is in
     let fronts = subst (λ (x : Commit). HasFronts c.args.base x files) front_last (fronts_back c.args.base _ files changed.0 step (c.in_ok-open_fronts.ensures.has changed.0 changed.1)) in
     let now = rw (c.in_ok-open_fronts.ensures.same ∙ changed.1) at c.in_ok-buckets.ensures.files in
     let ends = read.2 changed.0 ((law c.visit.new.store).told changed.0 changed.1) in
-    let stays = below_same c.args.base c.args.settings.now.buckets c.in-Ok.manifest.file changed.0 now.0 now.2 (omega (arith, c.in-Ok.ensures.journal.0, c.number-f.ensures.value)) in
+    let stays = below_same c.args.base _ c.args.settings.now.buckets c.in-Ok.manifest.file changed.0 now.0 now.2 (omega (arith, c.in-Ok.ensures.journal.0, c.number-f.ensures.value)) in
     let named = c.first_above.ensures.damaged f at same in
     let first = named.1 now.0 now.1 told.commits (subst (λ (file : List ℕ). Ends c.in-Ok.manifest.end file (map commit_bytes told.commits)) (sym stays) (subst (λ (ps : List (List ℕ)). Ends c.in-Ok.manifest.end (changed.0 c.in-Ok.manifest.file) ps) told.payloads_are ends)) told.has.rise in
-    let whole = λ (b : ℕ) (within : b < c.args.settings.now.buckets). has_back c.args.base c.args.settings.now b files changed.0 _ step (c.in_ok-buckets.ensures.found changed.0 (c.in_ok-open_fronts.ensures.same ∙ changed.1) b within) in
+    let are = whole_of c.args.base c.args.settings.now files changed.0 _ (last_commit (first_commit c.args.settings.now.buckets) told.commits) c.in_ok-buckets.buckets.items front_last step c.in_ok-buckets.ensures.count c.in_ok-buckets.ensures.opened (c.in_ok-buckets.ensures.found changed.0 (c.in_ok-open_fronts.ensures.same ∙ changed.1)) in
     inr (
       told.commits,
       told.has,
       inr (
         fronts,
         inr (
-          (λ b within. let one = whole b within in (one.runs, one.has, one.texts)),
+          (λ b within. let one = are.whole b within in (one.runs, one.has, one.texts)),
           named.0 ∙ c.number-f.ensures.value,
-          cut_above c.args.base c.args.settings.now files c.in_ok-buckets.buckets.items no_bucket told.commits at c.in_ok-buckets.ensures.count whole told.each (subst (λ (l : List ℕ). IsFirstAbove l told.commits at) many first),
+          cut_above c.args.base c.args.settings.now files c.in_ok-buckets.buckets.items no_bucket told.commits at are told.each (subst (λ (l : List ℕ). IsFirstAbove l told.commits at) many first),
         ),
       ),
     )
@@ -204,28 +225,28 @@ invariant_of-result g c =
     let took = took_commits c.args.settings.now.buckets 0 c.in_ok-history.history c.visit.new.visitor c.in-Ok.ensures.took.payloads c.in_ok-history.ensures.buckets (omega (arith, c.in_ok-history.ensures.count)) c.in-Ok.ensures.took.took in
     let is = took_is c.args.settings.now.buckets c.in_ok-history.history.last c.in_ok-history.history.count c.in-Ok.ensures.took.payloads c.visit.new.visitor c.in_ok-history.ensures.last took in
     let last = ap (λ (h : History). h.last) c.history.view_is in
-    let many : c.in_ok-lengths.lengths.items ≡ map (λ (bucket : Bucket). bucket.durable) c.in_ok-buckets.buckets.items = c.in_ok-lengths.ensures ∙ ap (map (λ (bucket : Bucket). bucket.durable)) c.deref-2.ensures.value in
+    let many : c.in_ok-lengths.lengths.items ≡ map (λ (bucket : Bucket). bucket.durable) c.in_ok-buckets.buckets.items = c.in_ok-lengths.ensures ∙ ap (map (λ (bucket : Bucket). bucket.durable)) c.deref.ensures.value in
     let below = c.is_below.ensures.0 (search rules) in
     drum_is c.args.base c.args.settings.now c.in-Ok.manifest _ _ c.in_ok-buckets.buckets.items c.requires.base c.requires.settings (subst (IsCommit c.args.settings.now.buckets) (sym last) is) c.in_ok-open_fronts.ensures.judged c.in_ok-open_fronts.ensures.entries
     (c.in-Ok.ensures.journal.0 ∙ c.number-f.ensures.value) c.in-Ok.ensures.journal.1 (omega (arith, c.min-cuts.ensures, c.end.ensures)) c.in_ok-buckets.ensures.count c.in_ok-buckets.ensures.opened
-    (subst (λ (x : List ℕ). IsBelow x (map (λ (bucket : Bucket). bucket.durable) c.in_ok-buckets.buckets.items)) c.deref-3.ensures.value (subst (λ (y : List ℕ). IsBelow c.deref-3.result.now y) (c.deref-4.ensures.value ∙ many) below))
+    (subst (λ (x : List ℕ). IsBelow x (map (λ (bucket : Bucket). bucket.durable) c.in_ok-buckets.buckets.items)) c.deref-2.ensures.value (subst (λ (y : List ℕ). IsBelow c.deref-2.result.now y) (c.deref-3.ensures.value ∙ many) below))
 
 pub returns-clause-drum : goal.returns-clause-drum
 returns-clause-drum g c =
     let took = took_commits c.args.settings.now.buckets 0 c.in_ok-history.history c.visit.new.visitor c.in-Ok.ensures.took.payloads c.in_ok-history.ensures.buckets (omega (arith, c.in_ok-history.ensures.count)) c.in-Ok.ensures.took.took in
     let is = took_is c.args.settings.now.buckets c.in_ok-history.history.last c.in_ok-history.history.count c.in-Ok.ensures.took.payloads c.visit.new.visitor c.in_ok-history.ensures.last took in
     let last = ap (λ (h : History). h.last) c.history.view_is in
-    let many : c.in_ok-lengths.lengths.items ≡ map (λ (bucket : Bucket). bucket.durable) c.in_ok-buckets.buckets.items = c.in_ok-lengths.ensures ∙ ap (map (λ (bucket : Bucket). bucket.durable)) c.deref-2.ensures.value in
+    let many : c.in_ok-lengths.lengths.items ≡ map (λ (bucket : Bucket). bucket.durable) c.in_ok-buckets.buckets.items = c.in_ok-lengths.ensures ∙ ap (map (λ (bucket : Bucket). bucket.durable)) c.deref.ensures.value in
     let below = c.is_below.ensures.0 (search rules) in
     drum_is c.args.base c.args.settings.now c.in-Ok.manifest _ _ c.in_ok-buckets.buckets.items c.requires.base c.requires.settings (subst (IsCommit c.args.settings.now.buckets) (sym last) is) c.in_ok-open_fronts.ensures.judged c.in_ok-open_fronts.ensures.entries
     (c.in-Ok.ensures.journal.0 ∙ c.number-f.ensures.value) c.in-Ok.ensures.journal.1 (omega (arith, c.min-cuts.ensures, c.end.ensures)) c.in_ok-buckets.ensures.count c.in_ok-buckets.ensures.opened
-    (subst (λ (x : List ℕ). IsBelow x (map (λ (bucket : Bucket). bucket.durable) c.in_ok-buckets.buckets.items)) c.deref-3.ensures.value (subst (λ (y : List ℕ). IsBelow c.deref-3.result.now y) (c.deref-4.ensures.value ∙ many) below))
+    (subst (λ (x : List ℕ). IsBelow x (map (λ (bucket : Bucket). bucket.durable) c.in_ok-buckets.buckets.items)) c.deref-2.ensures.value (subst (λ (y : List ℕ). IsBelow c.deref-2.result.now y) (c.deref-3.ensures.value ∙ many) below))
 
 pub returns-clause-long : goal.returns-clause-long
 returns-clause-long g c = λ now tells_now.
     let tell = g.S.Store.snapshot in
     let law = g.met.S.Store.is_consistent in
-    let mid = tells_from (OpensBelow c.args.base c.args.settings.now.buckets) _ _ now c.in_ok-buckets.ensures.files tells_now in
+    let mid = tells_from (OpensBelow c.args.base _ c.args.settings.now.buckets) _ _ now c.in_ok-buckets.ensures.files tells_now in
     let mid_told = sym c.in_ok-open_fronts.ensures.same ∙ mid.1 in
     let old = told_from c.number-f.result IsOpened _ _ mid.0 c.in-Ok.ensures.changes mid_told in
     let files = old.0 in
@@ -236,7 +257,7 @@ returns-clause-long g c = λ now tells_now.
     let is = took_is c.args.settings.now.buckets c.in_ok-history.history.last c.in_ok-history.history.count c.in-Ok.ensures.took.payloads c.visit.new.visitor c.in_ok-history.ensures.last took in
     let last = ap (λ (h : History). h.last.side) c.history.view_is in
     let ends = read.2 mid.0 ((law c.visit.new.store).told mid.0 mid_told) in
-    let stays = below_same c.args.base c.args.settings.now.buckets c.in-Ok.manifest.file mid.0 now mid.2 (omega (arith, c.in-Ok.ensures.journal.0, c.number-f.ensures.value)) in
+    let stays = below_same c.args.base _ c.args.settings.now.buckets c.in-Ok.manifest.file mid.0 now mid.2 (omega (arith, c.in-Ok.ensures.journal.0, c.number-f.ensures.value)) in
     long_is c.args.base c.args.settings.now c.in-Ok.manifest _ _ c.in_ok-buckets.buckets.items mid.0 now (omega (arith, is.side, last)) (c.in_ok-open_fronts.ensures.has mid.0 mid_told) mid.2
     (omega (arith, ends_within c.in-Ok.manifest.end (mid.0 c.in-Ok.manifest.file) found.0 ends, ap length stays)) (c.in_ok-buckets.ensures.long now tells_now)
 
@@ -263,9 +284,7 @@ returns-clause-holds g c = λ files tells book stands.
     holds_is c.args.base c.args.settings.now c.in-Ok.manifest _ _ c.in_ok-buckets.buckets.items (tell c.open_fronts.new.store).images (tell c.open_buckets.new.store).images files changed.0 book stands step kept
     (c.in-Ok.ensures.journal.0 ∙ c.number-f.ensures.value) (λ image left. read.2 image (synced image left)) last
     (omega (arith, count, told.counted, few, c.end.ensures, c.end.type_inv, c.min-cuts.ensures, ap (λ (l : List Commit). length l) same))
-    (c.in_ok-open_fronts.ensures.committed changed.0 changed.1) c.in_ok-buckets.ensures.count
-    (subst (λ (cut : List ℕ). (b : ℕ) (list : List Tuple) → b < c.args.settings.now.buckets → HasListOf c.args.base c.args.settings.now b (get_or cut b 0) list changed.0 → HoldsBucket (tell c.open_buckets.new.store).images c.args.settings.now.array (get_or cut b 0) (get_or c.in_ok-buckets.buckets.items b no_bucket) list) c.deref.ensures.value
-    (c.in_ok-buckets.ensures.holds changed.0 mid_told))
+    c.in_ok-open_fronts.ensures.judged (c.in_ok-open_fronts.ensures.committed changed.0 changed.1) c.in_ok-buckets.ensures.count c.in_ok-buckets.ensures.opened (c.in_ok-buckets.ensures.holds changed.0 mid_told)
 
 -- ---- no damage
 pub returns-clause-sane : goal.returns-clause-sane
@@ -277,15 +296,17 @@ returns-clause-sane g c = λ files tells f at.
     let changed = rw tells at c.in-Ok.ensures.changes in
     let step = subst (λ (n : ℕ). ChangesFile n IsOpened files changed.0) c.number-f.ensures.value changed.2 in
     let last = ap (λ (h : History). h.last) c.history.view_is ∙ told.last_is in
-    let many : c.in_ok-lengths.lengths.items ≡ map (λ (bucket : Bucket). bucket.durable) c.in_ok-buckets.buckets.items = c.in_ok-lengths.ensures ∙ ap (map (λ (bucket : Bucket). bucket.durable)) c.deref-2.ensures.value in
-    let whole = λ (b : ℕ) (within : b < c.args.settings.now.buckets). has_back c.args.base c.args.settings.now b files changed.0 _ step (c.in_ok-buckets.ensures.found changed.0 (c.in_ok-open_fronts.ensures.same ∙ changed.1) b within) in
+    let many : c.in_ok-lengths.lengths.items ≡ map (λ (bucket : Bucket). bucket.durable) c.in_ok-buckets.buckets.items = c.in_ok-lengths.ensures ∙ ap (map (λ (bucket : Bucket). bucket.durable)) c.deref.ensures.value in
+    let end : Commit = last_commit (first_commit c.args.settings.now.buckets) told.commits in
+    let are = whole_of c.args.base c.args.settings.now files changed.0 _ end c.in_ok-buckets.buckets.items last step c.in_ok-buckets.ensures.count c.in_ok-buckets.ensures.opened (c.in_ok-buckets.ensures.found changed.0 (c.in_ok-open_fronts.ensures.same ∙ changed.1)) in
     let under = c.is_below.ensures.0 (search rules) in
-    let cut : c.deref-3.result.now ≡ (last_commit (first_commit c.args.settings.now.buckets) told.commits).cut = c.deref-3.ensures.value ∙ ap (λ (x : Commit). x.cut) last in
-    let below = subst (λ (x : List ℕ). IsBelow x (map (λ (bucket : Bucket). bucket.durable) c.in_ok-buckets.buckets.items)) cut (subst (λ (y : List ℕ). IsBelow c.deref-3.result.now y) (c.deref-4.ensures.value ∙ many) under) in
-    undamaged c.args.base c.args.settings.now files told.commits f at
+    let cut : c.deref-2.result.now ≡ (last_commit (first_commit c.args.settings.now.buckets) told.commits).cut = c.deref-2.ensures.value ∙ ap (λ (x : Commit). x.cut) last in
+    let below = subst (λ (x : List ℕ). IsBelow x (map (λ (bucket : Bucket). bucket.durable) c.in_ok-buckets.buckets.items)) cut (subst (λ (y : List ℕ). IsBelow c.deref-2.result.now y) (c.deref-3.ensures.value ∙ many) under) in
+    undamaged c.args.base c.args.settings.now files told.commits end f at
     (record {
       manifest = told.has;
+      last_is = refl;
       fronts = subst (λ (x : Commit). HasFronts c.args.base x files) last (fronts_back c.args.base _ files changed.0 step (c.in_ok-open_fronts.ensures.has changed.0 changed.1));
-      buckets = λ b within. let one = whole b within in (one.runs, one.has, one.texts);
-      reached = below_reached c.args.base c.args.settings.now files c.in_ok-buckets.buckets.items no_bucket (last_commit (first_commit c.args.settings.now.buckets) told.commits) c.in_ok-buckets.ensures.count whole below;
+      buckets = λ b within. let one = are.whole b within in (one.runs, one.has, one.texts);
+      reached = below_reached c.args.base c.args.settings.now files end c.in_ok-buckets.buckets.items no_bucket end are below;
     })

@@ -1,5 +1,4 @@
-use Rattle.std.proofs.Common.{arith}
-use Rattle.irl_bay.proofs.Apart.{bucket_files, journal_files, merge_files, files_within, files_apart}
+use Rattle.irl_bay.proofs.Apart.{bucket_files, journal_files, merge_files, files_within, files_of_both}
 use Rattle.irl_bay.proofs.laws.a_bays_files_are_its_own.Goals as goal
 
 pub returns-clause-bucket : goal.returns-clause-bucket
@@ -15,4 +14,4 @@ pub returns-clause-within : goal.returns-clause-within
 returns-clause-within c = files_within
 
 pub returns-clause-apart : goal.returns-clause-apart
-returns-clause-apart c = λ buckets f few. files_apart 100 300 buckets buckets f few few (omega arith)
+returns-clause-apart c = files_of_both

@@ -37,7 +37,7 @@ pub invariant_of-self : goal.invariant_of-self
 invariant_of-self g c =
     let law = subst IsDrum c.self.view_is c.self.invariant in
     let was = is_bucket c.args.self.now _ c.args.b c.index_mut.result.now c.self.view_is law c.requires.bucket c.index_mut.ensures.value in
-    let grows : Grows c.index_mut.result.now c.append.new.self = record { journal = c.append.ensures.journal_file; aux = c.append.ensures.aux_file; durable = omega (arith, c.in_err-append.ensures.durable_kept); end = c.append.ensures.end; length = c.append.ensures.length; gate = c.append.ensures.gate; text = c.append.ensures.text } in
+    let grows : Grows c.index_mut.result.now c.append.new.self = record { journal = c.append.ensures.journal_file; aux = c.append.ensures.aux_file; durable = omega (arith, c.in_err-append.ensures.durable_kept); end = c.append.ensures.end; length = c.append.ensures.length; start = c.append.ensures.start; gate = c.append.ensures.gate; text = c.append.ensures.text } in
     subst IsDrum (sym (ap (λ (d : Drum). with_bucket d false c.args.b c.append.new.self) c.self.view_is))
     (grown_drum c.args.self.now false c.args.b c.append.new.self law c.requires.bucket (λ no. absurd (cc)) (λ no. absurd (cc)) (subst (λ (one : Bucket). Grows one c.append.new.self) was grows))
 
@@ -52,22 +52,24 @@ pub returns-in_err-append-clause-stops : goal.returns-in_err-append-clause-stops
 returns-in_err-append-clause-stops g c = λ book holds.
     let law = subst IsDrum c.self.view_is c.self.invariant in
     let was = is_bucket c.args.self.now _ c.args.b c.index_mut.result.now c.self.view_is law c.requires.bucket c.index_mut.ensures.value in
+    let fit = rw c.items.ensures.value at c.in_ok-run.ensures.offers in
     let stops = rw (was, c.items-2.ensures.value) at c.append.ensures.stops in
-    stops_flush c.args.self.now c.args.b c.args.array.now.items book (g.S.Store.snapshot c.args.store.now) (g.S.Store.snapshot c.append.new.store) law c.requires.bucket c.requires.offers holds
-    (λ list has. stops _ _ list (c.requires.some, c.requires.few) has)
+    stops_flush c.args.self.now c.args.b c.args.array.now.items book (g.S.Store.snapshot c.args.store.now) (g.S.Store.snapshot c.append.new.store) law c.requires.bucket c.requires.offers fit holds
+    (λ cut list has. stops _ cut list (c.requires.some, c.requires.few) has)
 
 -- and where it is done
 pub returns-clause-holds : goal.returns-clause-holds
 returns-clause-holds g c = λ book holds.
     let law = subst IsDrum c.self.view_is c.self.invariant in
     let was = is_bucket c.args.self.now _ c.args.b c.index_mut.result.now c.self.view_is law c.requires.bucket c.index_mut.ensures.value in
+    let fit = rw c.items.ensures.value at c.in_ok-run.ensures.offers in
     let more = rw (was, c.items-2.ensures.value) at c.in_ok-append.ensures.holds in
     let durable = rw (was, c.items-2.ensures.value) at c.in_ok-append.ensures.durable in
     let old = g.S.Store.snapshot c.args.store.now in
     let new = g.S.Store.snapshot c.append.new.store in
     subst (λ (d : Drum). Holds new.images d (flushed c.args.b c.args.array.now.items book)) (sym (ap (λ (d : Drum). with_bucket d true c.args.b c.append.new.self) c.self.view_is))
-    (flush_holds c.args.self.now true c.args.b c.append.new.self c.args.array.now.items book old new law c.requires.bucket c.requires.offers (g.met.S.Store.is_consistent c.append.new.store) (leaves_named c.args.self.now c.args.b c.index_mut.result.now old new law c.requires.bucket was c.append.ensures.others_stop)
-    durable (λ list has. more _ _ list (c.requires.some, c.requires.few) has) holds)
+    (flush_holds c.args.self.now true c.args.b c.append.new.self c.args.array.now.items book old new law c.requires.bucket c.requires.offers fit (g.met.S.Store.is_consistent c.append.new.store) (leaves_named c.args.self.now c.args.b c.index_mut.result.now old new law c.requires.bucket was c.append.ensures.others_stop)
+    durable (c.append.ensures.start ∙ ap (λ (one : Bucket). one.start) was) (λ cut list has. more _ cut list (c.requires.some, c.requires.few) has) holds)
 
 pub returns-clause-counts : goal.returns-clause-counts
 returns-clause-counts g c =
@@ -81,9 +83,10 @@ pub returns-clause-stops : goal.returns-clause-stops
 returns-clause-stops g c = λ book holds.
     let law = subst IsDrum c.self.view_is c.self.invariant in
     let was = is_bucket c.args.self.now _ c.args.b c.index_mut.result.now c.self.view_is law c.requires.bucket c.index_mut.ensures.value in
+    let fit = rw c.items.ensures.value at c.in_ok-run.ensures.offers in
     let stops = rw (was, c.items-2.ensures.value) at c.append.ensures.stops in
-    stops_flush c.args.self.now c.args.b c.args.array.now.items book (g.S.Store.snapshot c.args.store.now) (g.S.Store.snapshot c.append.new.store) law c.requires.bucket c.requires.offers holds
-    (λ list has. stops _ _ list (c.requires.some, c.requires.few) has)
+    stops_flush c.args.self.now c.args.b c.args.array.now.items book (g.S.Store.snapshot c.args.store.now) (g.S.Store.snapshot c.append.new.store) law c.requires.bucket c.requires.offers fit holds
+    (λ cut list has. stops _ cut list (c.requires.some, c.requires.few) has)
 
 -- one record more, or none
 pub returns-then-from-left-clause-gains_stop : goal.returns-then-from-left-clause-gains_stop
@@ -127,13 +130,16 @@ returns-in_err-append-clause-drum g c = invariant_of-self g c
 pub returns-in_err-append-clause-long_kept : goal.returns-in_err-append-clause-long_kept
 returns-in_err-append-clause-long_kept g c = λ no. absurd (cc)
 
-pub returns-clause-drum : goal.returns-clause-drum
-returns-clause-drum g c =
+pub invariant_of-self-2 : goal.invariant_of-self-2
+invariant_of-self-2 g c =
     let law = subst IsDrum c.self.view_is c.self.invariant in
     let was = is_bucket c.args.self.now _ c.args.b c.index_mut.result.now c.self.view_is law c.requires.bucket c.index_mut.ensures.value in
-    let grows : Grows c.index_mut.result.now c.append.new.self = record { journal = c.append.ensures.journal_file; aux = c.append.ensures.aux_file; durable = omega (arith, c.in_ok-append.ensures.durable); end = c.append.ensures.end; length = c.append.ensures.length; gate = c.append.ensures.gate; text = c.append.ensures.text } in
+    let grows : Grows c.index_mut.result.now c.append.new.self = record { journal = c.append.ensures.journal_file; aux = c.append.ensures.aux_file; durable = omega (arith, c.in_ok-append.ensures.durable); end = c.append.ensures.end; length = c.append.ensures.length; start = c.append.ensures.start; gate = c.append.ensures.gate; text = c.append.ensures.text } in
     subst IsDrum (sym (ap (λ (d : Drum). with_bucket d true c.args.b c.append.new.self) c.self.view_is))
     (grown_drum c.args.self.now true c.args.b c.append.new.self law c.requires.bucket (λ yes. c.requires.sound) (λ yes. c.in_ok-append.ensures.sound) (subst (λ (one : Bucket). Grows one c.append.new.self) was grows))
+
+pub returns-clause-drum : goal.returns-clause-drum
+returns-clause-drum g c = invariant_of-self-2 g c
 
 pub returns-clause-long_kept : goal.returns-clause-long_kept
 returns-clause-long_kept g c = λ yes.

@@ -17,8 +17,7 @@ use Rattle.irl_bay.proofs.DrumFiles.{takes_of_both, takes_of_none}
 use Rattle.irl_bay.specs.Judging.{batch_of}
 use Rattle.irl_bay.proofs.BatchWrites.{step_then, writes_none, written_first}
 use Rattle.irl_bay.proofs.HeldBuckets.{cache_held, count_all, cut_long, words_held}
-use Rattle.irl_bay.proofs.Judges.{fed_are, keys_grown, read_all, told_after}
-use Rattle.irl_bay.proofs.Keeping.{holds_on}
+use Rattle.irl_bay.proofs.Judges.{fed_are, held_on, keys_grown, read_all, told_after}
 use Rattle.irl_bay.proofs.NextBatch.{fits_batch, is_batch, waits_all}
 use Rattle.irl_bay.proofs.Sweeps.{has_place, put_reached}
 use Rattle.irl_bay.proofs.bay.Bay.judge.Goals as goal
@@ -107,7 +106,7 @@ returns-clause-judged g c =
       };
       of_book = λ files told book holds.
           let to = told_after _ a.files b.files files writes.told told in
-          let kept = holds_on drum a b law writes.stops book law_b holds in
+          let kept = held_on drum a b law writes.stops book law_b holds in
           let has = cache_held b.images drum book kept to.0 (law_b.told to.0 to.1) in
           let begins = subst (λ (f : ℕ). BeginsWith (to.0 f) (pairs_bytes (entries (seen book)))) (sym j.of.from) has.bytes in
           let keys = fed_are n j.offers j.verdicts b.files sides m count all to.0 (seen book) to.1 (words_held b.images drum book kept) (j.of.entries ∙ has.count) begins in

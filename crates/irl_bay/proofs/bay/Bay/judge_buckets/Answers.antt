@@ -13,7 +13,8 @@ use Rattle.irl_disk.proofs.Stretches.{stays}
 use Rattle.irl_cache.specs.Reading.{read_of}
 use Rattle.irl_cache.specs.SortedRun.{IsSpoiltRun}
 use Rattle.irl_bay.specs.BayFiles.{IsFileOf}
-use Rattle.irl_bay.specs.Drum.{IsDrum, cache_front, judged_at, pending_at}
+use Rattle.irl_bay.specs.Commits.{live_offers}
+use Rattle.irl_bay.specs.Drum.{IsDrum, bucket_at, cache_front, judged_at, pending_at}
 use Rattle.irl_bay.specs.Judging.{HasJudged, waiting}
 use Rattle.irl_bay.specs.Merging.{TakesOf}
 use Rattle.irl_bay.specs.Runs.{entry_of_offer}
@@ -21,9 +22,8 @@ use Rattle.irl_bay.specs.Sides.{IsSidesOf}
 use Rattle.irl_bay.specs.Telling.{HasTold}
 use Rattle.irl_bay.proofs.BatchWrites.{cache_writes, step_then, writes_none}
 use Rattle.irl_bay.proofs.DrumFiles.{side_is_file, takes_of_both, takes_of_exactly, takes_of_none}
-use Rattle.irl_bay.proofs.HeldBuckets.{bucket_held, count_more, cut_held, cut_long, list_of}
-use Rattle.irl_bay.proofs.Judges.{ask_the_same, few_bytes, judged_apart, long_kept, merged_on, of_bucket_too, offers_are, offers_in, only_same, reader_apart, run_spoilt, run_whole, spoilt_first, texts_apart, told_after, told_on, writer_apart}
-use Rattle.irl_bay.proofs.Keeping.{holds_on}
+use Rattle.irl_bay.proofs.HeldBuckets.{count_more, cut_held, cut_long, live_of, live_waits}
+use Rattle.irl_bay.proofs.Judges.{ask_the_same, few_bytes, held_on, judged_apart, long_kept, merged_on, of_bucket_too, offers_are, offers_in, only_same, reader_apart, run_spoilt, run_whole, spoilt_first, texts_apart, told_after, told_on, writer_apart}
 use Rattle.irl_bay.proofs.NextBatch.{waits_more, waits_none}
 use Rattle.irl_bay.proofs.PendingTexts.{same_offers}
 use Rattle.irl_bay.proofs.Sweeps.{put_reached, same_file, same_told, still_reached}
@@ -130,8 +130,9 @@ returns-in_err-pending-clause-whole g c = λ f at e files told book holds.
     let b = c.loop-b.b in
     let lt : b < now.settings.buckets = search rules in
     let then_ = told_after _ (tells c.args.store.now).files (tells c.loop-b.store).files files c.loop-b.invariant.writes.told told in
-    let kept = holds_on now (tells c.args.store.now) (tells c.loop-b.store) drum c.loop-b.invariant.writes.stops book (g.met.S.Store.is_consistent c.loop-b.store) holds in
-    c.in_err-pending.ensures.whole f at (rw same refl) then_.0 then_.1 (get_or book.lists b []) (bucket_held _ now book kept b lt) (list_of _ now book kept b lt)
+    let kept = held_on now (tells c.args.store.now) (tells c.loop-b.store) drum c.loop-b.invariant.writes.stops book (g.met.S.Store.is_consistent c.loop-b.store) holds in
+    let within : b < book.buckets = omega (arith, lt, kept.book_is.buckets) in
+    c.in_err-pending.ensures.whole f at (rw same refl) then_.0 then_.1 (live_offers book now.last b) (kept.buckets b within) (live_of _ now book kept drum b within)
 
 pub returns-in_err-pending-clause-taken : goal.returns-in_err-pending-clause-taken
 returns-in_err-pending-clause-taken g c = takes_both (IsFileOf c.args.self.now.base c.args.self.now.settings.buckets) _ _ _ c.loop-b.invariant.taken c.pending_of.ensures.taken
@@ -175,7 +176,7 @@ returns-in_err-verdicts-clause-whole g c = λ f at e files told book holds.
     let there = subst (λ (n : ℕ). ForSome next (λ files. (f ≡ (cache_front now).file) × IsSpoiltRun n (files f) at)) j.of.entries
     (subst (λ (r : ℕ). ForSome next (λ files. (f ≡ r) × IsSpoiltRun c.loop-b.sides.reader.entries (files f) at)) j.of.from (c.in_err-verdicts.ensures.damaged f at (rw same refl))) in
     let then_ = told_after _ (tells c.args.store.now).files next files first.told told in
-    let kept = holds_on now (tells c.args.store.now) (tells c.pending_of.new.store) drum first.stops book (law c.pending_of.new.store) holds in
+    let kept = held_on now (tells c.args.store.now) (tells c.pending_of.new.store) drum first.stops book (law c.pending_of.new.store) holds in
     run_whole (tells c.pending_of.new.store).images now book then_.0 f at kept ((law c.pending_of.new.store).told then_.0 then_.1) (there then_.0 then_.1)
 
 pub returns-in_err-verdicts-clause-taken : goal.returns-in_err-verdicts-clause-taken
@@ -258,12 +259,14 @@ loop-b-preserved g c =
             length-append j.offers news ∙ ap (λ (n : ℕ). length j.offers + n) (sym (length-map news entry_of_offer) ∙ ap (λ (l : List Entry). length l) are.entries_are ∙ c.in_ok-pending.ensures.count) in
             count_more now b (length j.offers) (length (j.offers ++ news)) drum lt j.count many;
         of_book = λ files is book holds.
-            let held = holds_on now (tells c.args.store.now) (tells c.loop-b.store) drum before.writes.stops book (law c.loop-b.store) holds in
+            let held = held_on now (tells c.args.store.now) (tells c.loop-b.store) drum before.writes.stops book (law c.loop-b.store) holds in
             let to = told_after _ (tells c.args.store.now).files told files before.writes.told is in
             let list = get_or book.lists b [] in
-            let those = c.in_ok-pending.ensures.held to.0 to.1 (judged_at now b) list (bucket_held _ now book held b lt) in
-            let items : news ≡ drop (judged_at now b) list = same_offers news (drop (judged_at now b) list) (are.entries_are ∙ sym those.entries_are) (are.texts_are ∙ sym those.texts_are) in
-            let more = waits_more book held.book_is.is_book held.book_is.dropped (cut_long _ now book held) b (omega (arith, lt, held.book_is.buckets)) in
+            let within : b < book.buckets = omega (arith, lt, held.book_is.buckets) in
+            let those = c.in_ok-pending.ensures.held to.0 to.1 (judged_at now b - (bucket_at now b).start) (live_offers book now.last b) (held.buckets b within) in
+            let live = drop (judged_at now b - (bucket_at now b).start) (live_offers book now.last b) in
+            let items : news ≡ drop (judged_at now b) list = same_offers news live (are.entries_are ∙ sym those.entries_are) (are.texts_are ∙ sym those.texts_are) ∙ live_waits _ now book held drum b within in
+            let more = waits_more book held.book_is.is_book held.book_is.dropped (cut_long _ now book held) b within in
             let cut : get_or (judged_cut book) b 0 ≡ judged_at now b = ap (λ (l : List ℕ). get_or l b 0) (cut_held _ now book held) in
             ap (λ (l : List Tuple). l ++ news) (j.of_book files is book holds) ∙ ap (λ (l : List Tuple). waiting book b ++ l) items ∙ sym (more ∙ ap (λ (n : ℕ). waiting book b ++ drop n list) cut);
       };

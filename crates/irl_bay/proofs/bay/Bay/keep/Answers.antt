@@ -15,7 +15,8 @@ pub put-requires : goal.put-requires
 put-requires g c =
     let asked = rw (← c.self.view_is) at c.requires in
     let d = drum_of c.self.inside in
-    commit_fits c.args.frame.now d.settings.buckets c.args.next asked.frame asked.room.form.count
+    let form = asked.room.form in
+    record { room = commit_fits c.args.frame.now d.settings.buckets c.args.next asked.frame form.count; side = form.side; live = form.live }
 
 pub append-requires-clause-place : goal.append-requires-clause-place
 append-requires-clause-place g c = rw (← c.self.view_is) at c.requires.long

@@ -1,4 +1,4 @@
-use Rattle.std.proofs.Common.{◌≡◌, ◌∙◌, ◌+◌, ◌≤◌, ℕ, length, inr, ⊎_elim, sym, ap, subst, arith}
+use Rattle.std.proofs.Common.{◌≡◌, ◌∙◌, ◌+◌, ◌-◌, ◌≤◌, ℕ, length, inr, ⊎_elim, sym, ap, subst, arith}
 use Rattle.std.proofs.lemmas.Result.{IfOk-weaker}
 use Rattle.std.specs.List.{AllByRecursion}
 use Rattle.irl_offer.specs.Buckets.{bucket_of}
@@ -52,10 +52,12 @@ returns-clause-whole g c = λ f at e files tells list holds buckets.
     let long : length c.self.inside.buckets.items ≡ length drum.buckets = ap (λ (d : Drum). length d.buckets) c.self.view_is in
     let is : c.index-bucket.result.now ≡ bucket_at drum c.args.b = same_bucket c.self.inside.buckets.items c.args.b c.index-bucket.result.now (omega (arith, long, drum_is.count, c.requires.bucket)) c.index-bucket.ensures ∙ ap (λ (d : Drum). bucket_at d c.args.b) c.self.view_is in
     let settings : c.self.inside.settings ≡ drum.settings = ap (λ (d : Drum). d.settings) c.self.view_is in
-    let held = subst (λ (bucket : Bucket). HoldsBucket images c.self.inside.settings.array (judged_at drum b) bucket list) (sym is) (subst (λ (s : Settings). HoldsBucket images s.array (judged_at drum b) (bucket_at drum b) list) (sym settings) holds) in
+    let here = drum_is.buckets b c.requires.bucket in
+    let cut : ℕ = judged_at drum b - (bucket_at drum b).start in
+    let held = subst (λ (bucket : Bucket). HoldsBucket images c.self.inside.settings.array cut bucket list) (sym is) (subst (λ (s : Settings). HoldsBucket images s.array cut (bucket_at drum b) list) (sym settings) holds) in
     let of = subst (λ (s : Settings). AllByRecursion (λ offer. bucket_of s.buckets offer.key ≡ b) list) (sym settings) buckets in
-    let count : c.pending.result + judged_at drum b ≡ length list = omega (arith, c.pending.ensures.value, holds.durable, holds.judged) in
-    c.pending-2.ensures.whole f at e files tells (judged_at drum b) list held of count
+    let count : c.pending.result + cut ≡ length list = omega (arith, c.pending.ensures.value, holds.durable, holds.judged, here.start, here.judged) in
+    c.pending-2.ensures.whole f at e files tells cut list held of count
 
 pub returns-clause-taken : goal.returns-clause-taken
 returns-clause-taken g c =

@@ -1,4 +1,4 @@
-use Rattle.std.proofs.Common.{◌≡◌, ◌≢◌, ◌∙◌, ◌+◌, ◌-◌, ◌*◌, ◌/◌, ◌≤◌, ◌++◌, ℕ, List, Option, length, map, refl, sym, ap, subst, arith, length-append}
+use Rattle.std.proofs.Common.{◌≡◌, ◌≢◌, ◌∙◌, ◌+◌, ◌-◌, ◌*◌, ◌/◌, ◌≤◌, ◌++◌, ℕ, List, Option, Some, length, map, refl, sym, ap, subst, arith, length-append}
 use Rattle.std.specs.Option.{ForSome}
 use Rattle.irl_disk.specs.Disk.{Files, Changes, ChangesFile}
 use Rattle.irl_disk.specs.Images.{LeavesBy}
@@ -7,6 +7,7 @@ use Rattle.irl_model.specs.Pairs.{pair_of}
 use Rattle.irl_cache.specs.SortedRun.{pairs_bytes}
 use Rattle.irl_cache.specs.Writing.{HasPut, Writer, end_of}
 use Rattle.irl_bay.specs.declared.bay.Bay.TheInside.{Inside}
+use Rattle.irl_bay.specs.Commits.{live_side}
 use Rattle.irl_bay.specs.Drum.{Drum, IsDrum, judged_front, texts_front}
 use Rattle.irl_bay.specs.Judging.{batch_of}
 use Rattle.irl_bay.specs.Merging.{next_cache, next_judged, next_texts}
@@ -14,7 +15,7 @@ use Rattle.irl_bay.specs.Runs.{texts_of}
 use Rattle.irl_bay.proofs.BatchWrites.{cache_writes, front, front_is, is_long_batch, is_written, judged_writes, step_then, texts_writes}
 use Rattle.irl_bay.proofs.JudgedMore.{length-entries}
 use Rattle.irl_bay.proofs.Judges.{judged_apart, texts_apart}
-use Rattle.irl_bay.proofs.Merged.{has_room}
+use Rattle.irl_bay.proofs.NextBatch.{has_room}
 use Rattle.irl_bay.proofs.Sweeps.{put_on, same_file, still_reached}
 use Rattle.irl_bay.proofs.bay.Bay.synced.Goals as goal
 
@@ -111,9 +112,11 @@ returns-clause-synced g c = λ b offers verdicts merged has.
     let texts_put = put_on s1.files s2.files _ telling.texts (same_file telling.judged.file telling.texts.file _ _ _ texts_judged c.finish-2.ensures.changes)
     (put_on s0.files s1.files _ telling.texts (same_file writer.out.file telling.texts.file _ _ _ (texts_apart now c.args.sides telling of by) c.finish.ensures.changes) has.texts) in
     let cache = subst (λ (x : Front). IsCommitted s1.images x (pairs_bytes (map pair_of merged.put))) cache_front_is (c.in_ok-entries.ensures.committed merged.put merged.written) in
+    let live : Some (1 - c.live_side.result) ≡ Some (1 - live_side now.last) = ap (λ (n : ℕ). Some (1 - n)) (c.live_side.ensures ∙ ap (λ (d : Drum). live_side d.last) c.self.view_is) in
     record {
       next_is = λ i. record {
         side = ap (λ (d : Drum). 1 - d.last.side) is i;
+        live = live i;
         entries = entries i;
         judged = judged_many i;
         unique = has.unique i;

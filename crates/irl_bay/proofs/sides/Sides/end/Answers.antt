@@ -18,7 +18,7 @@ put_all-requires-clause-rising g c =
     let r = c.requires.sweeping in
     let is = r.5 in
     let more = c.end.new.out.items in
-    let all : more ≡ c.new-out.result.items ++ more = rw c.new-out.ensures.items refl in
+    let all : more ≡ c.clear.new.self.items ++ more = rw c.clear.ensures.items refl in
     let given : ArePairsOf (after now.rule (keys_of is.fed) r.3) (is.given ++ more) = c.in_ok-verdicts.ensures.pairs now.rule r.3 is.fed is.given more (keys_of is.fed) all is.swept (pairs_are is.fed is.swept.rising) in
     subst (λ (l : List Pair). RisesFrom now.writer.last l) (sym c.deref.ensures.value) (last_rises r.0 r.1 r.2 r.3 told c.args.sweep now is now.valid more given)
 
@@ -28,7 +28,7 @@ returns-clause-merged g c = λ b offers verdicts news done is.
     let told = (g.S.Store.snapshot c.args.store.now).files in
     let new = (g.S.Store.snapshot c.put_all.new.store).files in
     let more = c.end.new.out.items in
-    let all : more ≡ c.new-out.result.items ++ more = rw c.new-out.ensures.items refl in
+    let all : more ≡ c.clear.new.self.items ++ more = rw c.clear.ensures.items refl in
     let pairs = pairs_are is.fed is.swept.rising in
     let given : ArePairsOf (after now.rule (keys_of is.fed) news) (is.given ++ more) = c.in_ok-verdicts.ensures.pairs now.rule news is.fed is.given more (keys_of is.fed) all is.swept pairs in
     let judged = c.in_ok-verdicts.ensures.verdicts now.rule news is.fed is.given (keys_of is.fed) is.swept pairs in

@@ -1,0 +1,13 @@
+use Rattle.std.proofs.Common.{◌≡◌, ◌≤◌}
+use Rattle.irl_bay.proofs.Emptied.{CutSoFar}
+use Rattle.irl_bay.proofs.bay.Bay.cut_side.Given as goal
+
+-- the files of the buckets so far are cut
+abbrev pub invariant-loop-b : goal.invariant-loop-b
+invariant-loop-b g l =
+    let store = g.S.Store in
+    record {
+      cut : CutSoFar l.self.base l.side l.self.settings.buckets (store.snapshot l.fn.store) (store.snapshot l.store) l.b;
+      taken : store.taken l.store ≡ store.taken l.fn.store;
+      later : store.faults l.fn.store ≤ store.faults l.store;
+    }

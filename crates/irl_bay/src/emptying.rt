@@ -1,0 +1,74 @@
+ghost use Rattle.std.specs.Prelude.{◌≡◌, ◌-◌, ◌<◌, ◌≤◌, ℕ, [], length, vec_capacity, IfOk, OnOk, IsErr};
+ghost use Rattle.std.specs.Option.{ForSome};
+ghost use Rattle.irl_offer.specs.Faults.{HasCause};
+ghost use Rattle.irl_disk.specs.Images.{LeavesBy};
+ghost use Rattle.irl_bay.specs.BayFiles.{file_of, IsSideFile};
+ghost use Rattle.irl_bay.specs.declared.layout.files.BayFile.TheVariants.{Journal as JournalFile};
+ghost use Rattle.irl_bay.specs.Commits.{live_side};
+ghost use Rattle.irl_bay.specs.Drum.{durable_at};
+ghost use Rattle.irl_bay.specs.Holding.{HoldsBucket, TellsOnly, ChangesOnly};
+ghost use Rattle.irl_bay.specs.Merging.{emptied, emptied_from};
+
+use crate::bay::Bay;
+use crate::bucket::Bucket;
+use crate::layout::BayFile;
+use irl_disk::{Failed, Store};
+
+impl Bay {
+    /// Empties the buckets' files on the side that isn't live: cuts each to nothing, and writes the closed gates of their
+    /// journals and syncs them. Gives the buckets over these files, all of whose offers are judged, in a list that has room for
+    /// them.
+    pub(crate) fn empty_side<S: Store>(
+        &self,
+        store: &mut S,
+        room: Vec<Bucket>,
+    ) -> Result<Vec<Bucket>, Failed>
+        requires none { room.items ≡ [] }
+        requires room { self.now.settings.buckets ≤ vec_capacity room }
+        ensures buckets { IfOk result (λ buckets. buckets.items ≡
+            emptied_from self.now.base (1 - live_side self.now.last) 0 self.now.buckets) }
+        // From then on each stop leaves them without an offer,
+        ensures holds { OnOk result ((array b : ℕ) → b < self.now.settings.buckets →
+            HoldsBucket (S.snapshot store.new).images array 0
+            (emptied self.now.base (1 - live_side self.now.last) b (durable_at self.now b)) []) }
+        // and what is told has the closed gate.
+        ensures long { OnOk result (ForSome (S.snapshot store.new).files (λ files. (b : ℕ) →
+            b < self.now.settings.buckets →
+            0 < length (files (file_of self.now.base 0 (JournalFile (1 - live_side self.now.last) b))))) }
+        ensures others { TellsOnly (IsSideFile self.now.base (1 - live_side self.now.last) self.now.settings.buckets)
+            (S.snapshot store.old).files (S.snapshot store.new).files }
+        ensures others_stop { LeavesBy
+            (ChangesOnly (IsSideFile self.now.base (1 - live_side self.now.last) self.now.settings.buckets))
+            (S.snapshot store.old) (S.snapshot store.new) }
+        ensures taken { S.taken store.new ≡ S.taken store.old }
+        ensures cause { HasCause (IsErr result) (S.faults store.old) (S.faults store.new) }
+    {
+        let side = 1 - self.last.live_side();
+        self.cut_side(store, side)?;
+        let mut buckets = room;
+        for b in 0..self.settings.buckets {
+            let durable = self.buckets[b as usize].durable;
+            buckets.push_reserved(Bucket::make(store, self.base, side, b, durable)?);
+        }
+        Ok(buckets)
+    }
+
+    // Cuts the buckets' files on a side to nothing.
+    fn cut_side<S: Store>(&self, store: &mut S, side: u8) -> Result<(), Failed>
+        requires { side ≤ 1 }
+        ensures cut { OnOk result (ForSome (S.snapshot store.new).files (λ files. (b : ℕ) →
+            b < self.now.settings.buckets → files (file_of self.now.base 0 (JournalFile side b)) ≡ [])) }
+        ensures others { TellsOnly (IsSideFile self.now.base side self.now.settings.buckets)
+            (S.snapshot store.old).files (S.snapshot store.new).files }
+        ensures others_stop { LeavesBy (ChangesOnly (IsSideFile self.now.base side self.now.settings.buckets))
+            (S.snapshot store.old) (S.snapshot store.new) }
+        ensures taken { S.taken store.new ≡ S.taken store.old }
+        ensures cause { HasCause (IsErr result) (S.faults store.old) (S.faults store.new) }
+    {
+        for b in 0..self.settings.buckets {
+            store.cut(BayFile::Journal(side, b).number(self.base), 0)?;
+            store.cut(BayFile::Aux(side, b).number(self.base), 0)?;
+        }
+        Ok(())
+    }
+}
