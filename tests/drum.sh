@@ -97,11 +97,11 @@ right
 try 'a damaged store of the other command' 'a|'
 "$program" damaged-lines seen --buckets 1 <in >out 2>err
 gives 0 'a|' ''
-printf '\245\377\0\0\0\0' >damaged-lines/0110
+printf '\245\377\0\0\0\0' >damaged-lines/0600
 "$program" damaged-lines drum <in >out 2>err
 gives 3 '' 'other setting 1: kept 1, asked 2|'
 "$program" damaged-lines seen <in >out 2>err
-gives 3 '' 'damaged: byte 0 of file 0110|'
+gives 3 '' 'damaged: byte 0 of file 0600|'
 right
 
 try 'a store that is made otherwise' 'c 1|'

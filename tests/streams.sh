@@ -166,10 +166,10 @@ right
 try 'a damaged journal' 'a|'
 "$program" damaged seen <in >out 2>err
 gives 0 'a|' ''
-printf '\245\377\0\0\0\0' >damaged/0110
+printf '\245\377\0\0\0\0' >damaged/0600
 "$program" damaged seen <in >out 2>err
-gives 3 '' 'damaged: byte 0 of file 0110|'
-printf '\245' >damaged/0110
+gives 3 '' 'damaged: byte 0 of file 0600|'
+printf '\245' >damaged/0600
 reads_again damaged 'a|b|' 'b|'
 right
 

@@ -11,13 +11,14 @@ use Rattle.irl_model.proofs.FrontLaws.{front_same, front_both}
 use Rattle.irl_disk.specs.Disk.{Files}
 use Rattle.irl_disk.specs.Images.{Snapshot, IsConsistent, Leaves, LeavesBy, LeavesSame}
 use Rattle.irl_disk.proofs.Stretches.{stays, widens, joins, left_now}
-use Rattle.irl_journal.specs.Format.{HasRecords}
 use Rattle.irl_bay.specs.BayFiles.{IsFileOf}
+use Rattle.irl_bay.specs.Commits.{HasLiveRecords}
 use Rattle.irl_bay.specs.Drum.{Drum, IsDrum, pending_at}
 use Rattle.irl_bay.specs.Holding.{TellsOnly, ChangesOnly}
 use Rattle.irl_bay.proofs.Staying.{only_wider, tells_same, tells_both, leaves_same, leaves_both}
-use Rattle.irl_yard.specs.Holding.{HoldsUrls, HoldsState, HasBucketRecords}
+use Rattle.irl_yard.specs.Holding.{HoldsUrls, HoldsState}
 use Rattle.irl_yard.proofs.Holding.{held_has}
+use Rattle.irl_yard.proofs.Journals.{left_records}
 use Rattle.irl_intake.specs.Schedule.{early_cuts, HaveRecords, AddsUneven, LeavesUneven, none_more}
 use Rattle.irl_intake.specs.Feeding.{list_at, length_at, handed_in, IsStateOf, FewUnjudged, Grows, Keeps, TakesWaiting, HasBetween, Moment, Stays, Fed, Stranded, Feeds, Strands, HeldNone}
 
@@ -110,7 +111,8 @@ uneven_before : (u v : ℕ → ℕ) (old mid : Drum) (was between : ℕ → List
     → AddsUneven u old.settings.buckets old.settings.array was between → LeavesUneven v mid between image → LeavesUneven (λ b. u b + v b) old was image
 uneven_before u v old mid was between image settings base adds left = (
   left.0,
-  λ b within. subst (λ (n : ℕ). HasBucketRecords n b (left.0 b) image) base (left.1 b (subst (λ (s : Settings). b < s.buckets) (sym settings) within)),
+  λ b within. subst (λ (n : ℕ). HasLiveRecords n old.settings.buckets b (left.0 b) image) base
+      (subst (λ (s : Settings). HasLiveRecords mid.base s.buckets b (left.0 b) image) settings (left.1 b (subst (λ (s : Settings). b < s.buckets) (sym settings) within))),
   λ b within.
       let more = subst (λ (s : Settings). AddsUneven v s.buckets s.array between left.0) settings left.2 in
       omega (arith, adds b within, more b within),
@@ -275,10 +277,10 @@ journals_same : (old new : Moment) (was : ℕ → List (List ℕ)) → new.store
 journals_same old new was store urls have =
     subst (λ (s : Snapshot). HaveRecords s.images new.parts.urls was) (sym store) (subst (λ (d : Drum). HaveRecords old.store.images d was) (sym urls) have)
 
-journals_left : (now : Snapshot) (urls : Drum) (was : ℕ → List (List ℕ)) → IsDrum urls → IsConsistent now → HaveRecords now.images urls was → Leaves now now (LeavesUneven none_more urls was)
-journals_left now urls was law consistent have = stays now _ consistent (λ image left. (
+journals_left : (now : Snapshot) (urls : Drum) (x : State) (was : ℕ → List (List ℕ)) → IsDrum urls → IsConsistent now → HoldsUrls now.images urls x → HaveRecords now.images urls was → Leaves now now (LeavesUneven none_more urls was)
+journals_left now urls x was law consistent holds have = stays now _ consistent (λ image left. (
   was,
-  λ b within. subst (λ (f : ℕ). HasRecords (image f) (was b)) (law.buckets b within).journal (have b within image left).records,
+  λ b within. left_records now.images urls x.urls law holds.urls_hold b (was b) image within (have b within) left,
   λ b within. omega arith,
 ))
 
@@ -292,7 +294,7 @@ fed_still xs old new x consistent law store urls keeps holds = record {
   stops = subst (λ (s : Snapshot). Leaves old.store s (HasBetween old.parts.urls.settings x x)) (sym store)
       (stays old.store (HasBetween old.parts.urls.settings x x) consistent (λ image left. (x, held_has old.store.images old.parts.urls x image law holds left, same_fronts x, same_fronts x, few_same old.parts.urls.settings x)));
   records = λ was have. (was, journals_same old new was store urls have, λ b within. omega arith);
-  records_stop = λ was have. subst (λ (s : Snapshot). Leaves old.store s (LeavesUneven none_more old.parts.urls was)) (sym store) (journals_left old.store old.parts.urls was law consistent have);
+  records_stop = λ was have. subst (λ (s : Snapshot). Leaves old.store s (LeavesUneven none_more old.parts.urls was)) (sym store) (journals_left old.store old.parts.urls x was law consistent holds have);
 }
 
 -- nothing was done
@@ -316,7 +318,7 @@ fed_read old new x consistent law same urls arrays holds after = record {
   );
   records_stop = λ was have. widens old.store new.store old.store.images (LeavesUneven none_more old.parts.urls was) same (λ image left. (
     was,
-    λ b within. subst (λ (f : ℕ). HasRecords (image f) (was b)) (law.buckets b within).journal (have b within image left).records,
+    λ b within. left_records old.store.images old.parts.urls x.urls law holds.urls_hold b (was b) image within (have b within) left,
     λ b within. omega arith,
   ));
 }

@@ -14,6 +14,7 @@ use Rattle.irl_disk.specs.Disk.{Files}
 use Rattle.irl_disk.specs.Images.{IsConsistent, Follows, Leaves, LeavesBy}
 use Rattle.irl_disk.proofs.Stretches.{widens, left_now}
 use Rattle.irl_bay.specs.declared.bucket.Bucket.{Bucket}
+use Rattle.irl_bay.specs.Commits.{HasLiveRecords}
 use Rattle.irl_bay.specs.Drum.{Drum, IsDrum, bucket_at, durables, pending_at, SomePending}
 use Rattle.irl_bay.specs.Merging.{KeepsCommitted, IsBatchFile}
 use Rattle.irl_bay.specs.Holding.{TellsBy}
@@ -22,13 +23,13 @@ use Rattle.irl_bay.specs.Spoilt.{IsSpoiltAt, FallsAt}
 use Rattle.irl_bay.proofs.Apart.{batch_files}
 use Rattle.irl_bay.proofs.MergeFrames.{batch_stays, holds_written}
 use Rattle.irl_yard.specs.Standing.{HasState}
-use Rattle.irl_yard.specs.Holding.{HoldsUrls, HoldsState, HasOneOf, HasJournal, HasBucketRecords, with_cut}
+use Rattle.irl_yard.specs.Holding.{HoldsUrls, HoldsState, HasOneOf, HasJournal, with_cut}
 use Rattle.irl_yard.proofs.Holding.{rest_kept, held_has}
-use Rattle.irl_intake.specs.Schedule.{IsDue, has_enough, early_cuts, HaveRecords, LeavesUneven, none_more}
+use Rattle.irl_intake.specs.Schedule.{IsDue, has_enough, early_cuts, uneven_records, AddsUneven, HaveRecords, LeavesUneven, none_more}
 use Rattle.irl_intake.specs.Feeding.{waiting_at, handed_in, list_at, length_at, IsStateOf, FewUnjudged, Grows, Keeps, HasBetween, Moment, Fed, Stranded}
 use Rattle.irl_intake.proofs.Chains.{same_fronts, few_same, grows_same, grows_more}
 use Rattle.irl_intake.proofs.Counts.{durable_index, length-durables}
-use Rattle.irl_intake.proofs.Steps.{no_first, list_within, held_state, leaves_all, told_these, told_none, told_one}
+use Rattle.irl_intake.proofs.Steps.{no_first, durable_held, choose, held_state, leaves_all, told_these, told_none, told_one}
 
 -- ---- a merge that is due
 or_true : (a b : Bool) → b ≡ true → a || b ≡ true
@@ -64,7 +65,7 @@ cut_front x = record { settings = refl; urls = merged_front x.urls; pairs = fron
 numbers_same : (images : Files → Type 0) (urls : Drum) (x : State) (b : ℕ) → HoldsUrls images urls x → b < urls.settings.buckets → slice_index (lengths_of x.urls) b ≡ length_at x.urls b
 numbers_same images urls x b holds within =
     let at = ap (λ (l : List ℕ). slice_index l b) holds.urls_hold.numbers.offers in
-    let durable = (holds.urls_hold.buckets b (list_within images urls x b holds within)).durable in
+    let durable = durable_held images urls x b holds in
     omega (arith, sym at, durable_index urls b, durable, no_first images urls x b holds)
 
 last_one : (from : List ℕ) (cuts : List (List ℕ)) (cut : List ℕ) → last_cut from (cuts ++ cut ∷ []) ≡ cut
@@ -112,13 +113,28 @@ pub record Merging (old new : Moment) : Type 0 where
   pub pending : SomePending old.parts.urls
   pub waiting : new.arrays ≡ old.arrays
   pub stops : (state : State) → HoldsState old.store.images old.parts state → Leaves old.store new.store (HasOneOf state (with_cut state))
-  pub records_stop : (b : ℕ) (payloads : List (List ℕ)) → b < old.parts.urls.settings.buckets → HasJournal old.store.images old.parts.urls b payloads
-      → Leaves old.store new.store (HasBucketRecords old.parts.urls.base b payloads)
+  pub records_stop : (state : State) (b : ℕ) (payloads : List (List ℕ)) → b < old.parts.urls.settings.buckets → HoldsState old.store.images old.parts state → HasJournal old.store.images old.parts.urls b payloads
+      → Leaves old.store new.store (λ image. HasLiveRecords old.parts.urls.base old.parts.urls.settings.buckets b payloads image ⊎ HasLiveRecords old.parts.urls.base old.parts.urls.settings.buckets b [] image)
 
-merge_records_stop : (old new : Moment) (was : ℕ → List (List ℕ)) → Merging old new → HaveRecords old.store.images old.parts.urls was → Leaves old.store new.store (LeavesUneven none_more old.parts.urls was)
-merge_records_stop old new was merge have =
-    widens old.store new.store _ _ (leaves_all old.parts.urls.settings.buckets old.store new.store (λ b. HasBucketRecords old.parts.urls.base b (was b)) merge.later (λ b within. merge.records_stop b (was b) within (have b within)))
-    (λ image has. (was, has, λ b within. omega arith))
+-- the records of a live journal in an image, which are no more uneven than those before
+abbrev AreFewer : Drum → (ℕ → List (List ℕ)) → Files → ℕ → List (List ℕ) → Type 0
+AreFewer urls was image b payloads = HasLiveRecords urls.base urls.settings.buckets b payloads image × (uneven_records urls.settings.array payloads ≤ uneven_records urls.settings.array (was b))
+
+same_or_empty : (urls : Drum) (was : ℕ → List (List ℕ)) (image : Files) (b : ℕ) → HasLiveRecords urls.base urls.settings.buckets b (was b) image ⊎ HasLiveRecords urls.base urls.settings.buckets b [] image → (payloads : List (List ℕ)) × AreFewer urls was image b payloads
+same_or_empty urls was image b (inl same) = (was b, (same, omega arith))
+same_or_empty urls was image b (inr empty) = ([], (empty, omega arith))
+
+fewer_uneven : (urls : Drum) (was : ℕ → List (List ℕ)) (image : Files) → ((b : ℕ) → b < urls.settings.buckets → (payloads : List (List ℕ)) × AreFewer urls was image b payloads) → LeavesUneven none_more urls was image
+fewer_uneven urls was image each =
+    let chosen = choose urls.settings.buckets (AreFewer urls was image) each in
+    (chosen.0, λ b within. (chosen.1 b within).0, λ b within. omega (arith, (chosen.1 b within).1))
+
+merge_records_stop : (old new : Moment) (x : State) (was : ℕ → List (List ℕ)) → Merging old new → HoldsState old.store.images old.parts x → HaveRecords old.store.images old.parts.urls was → Leaves old.store new.store (LeavesUneven none_more old.parts.urls was)
+merge_records_stop old new x was merge holds have =
+    let urls = old.parts.urls in
+    widens old.store new.store _ _ (leaves_all urls.settings.buckets old.store new.store (λ b image. HasLiveRecords urls.base urls.settings.buckets b (was b) image ⊎ HasLiveRecords urls.base urls.settings.buckets b [] image) merge.later
+    (λ b within. merge.records_stop x b (was b) within holds (have b within)))
+    (λ image has. fewer_uneven urls was image (λ b within. same_or_empty urls was image b (has b within)))
 
 merge_between : (old new : Moment) (x : State) → Merging old new → HoldsState old.store.images old.parts x → Leaves old.store new.store (HasBetween old.parts.urls.settings x (with_cut x))
 merge_between old new x merge holds =
@@ -132,32 +148,42 @@ merge_keeps old new x y same lists = λ b within.
     subst (λ (l : List Waiting). handed_in y.urls l b ≡ handed_in x.urls old.arrays b ++ []) (sym same)
     (ap (λ (l : List Tuple). l ++ waiting_at old.arrays b) (lists b) ∙ sym (append-nil (handed_in x.urls old.arrays b)))
 
--- the journals keep their records
-abbrev pub KeepsJournals : State → Moment → Moment → Type 0
-KeepsJournals x old new = (b : ℕ) (payloads : List (List ℕ)) → b < old.parts.urls.settings.buckets → HoldsState old.store.images old.parts x
-    → HasJournal old.store.images old.parts.urls b payloads → HasJournal new.store.images new.parts.urls b payloads
+-- the live journals have no more uneven records
+abbrev pub KeepsJournals : Moment → Moment → Type 0
+KeepsJournals old new = (was : ℕ → List (List ℕ)) → HaveRecords old.store.images old.parts.urls was → (now : ℕ → List (List ℕ)) × HaveRecords new.store.images new.parts.urls now
+    × AddsUneven none_more old.parts.urls.settings.buckets old.parts.urls.settings.array was now
+
+-- they are empty,
+pub emptied_journals : (old new : Moment) → new.parts.urls.settings ≡ old.parts.urls.settings → ((b : ℕ) → b < old.parts.urls.settings.buckets → HasJournal new.store.images new.parts.urls b []) → KeepsJournals old new
+emptied_journals old new settings empty = λ was have. (λ b. [], λ b within. empty b (subst (λ (s : Settings). b < s.buckets) settings within), λ b within. omega arith)
+
+-- or they keep their records
+pub kept_journals : (old new : Moment) (x : State) → new.parts.urls.settings ≡ old.parts.urls.settings → HoldsState old.store.images old.parts x
+    → ((state : State) (b : ℕ) (payloads : List (List ℕ)) → b < old.parts.urls.settings.buckets → HoldsState old.store.images old.parts state → HasJournal old.store.images old.parts.urls b payloads → HasJournal new.store.images new.parts.urls b payloads)
+    → KeepsJournals old new
+kept_journals old new x settings holds kept = λ was have. (
+  was,
+  λ b within. let inside : b < old.parts.urls.settings.buckets = subst (λ (s : Settings). b < s.buckets) settings within in kept x b (was b) inside holds (have b inside),
+  λ b within. omega arith,
+)
 
 -- a later state
-fed_to : (early : ℕ) (old new : Moment) (x y : State) → Merging old new → new.parts.urls.settings ≡ old.parts.urls.settings → HoldsState old.store.images old.parts x → HoldsState new.store.images new.parts y
-    → Grows old.parts.urls.settings early x y → ((b : ℕ) → list_at y.urls b ≡ list_at x.urls b) → Leaves old.store new.store (HasBetween old.parts.urls.settings x y) → KeepsJournals x old new → Fed early none_more [] old new x
-fed_to early old new x y merge settings holds after grows lists stops kept = record {
+fed_to : (early : ℕ) (old new : Moment) (x y : State) → Merging old new → HoldsState old.store.images old.parts x → HoldsState new.store.images new.parts y
+    → Grows old.parts.urls.settings early x y → ((b : ℕ) → list_at y.urls b ≡ list_at x.urls b) → Leaves old.store new.store (HasBetween old.parts.urls.settings x y) → KeepsJournals old new → Fed early none_more [] old new x
+fed_to early old new x y merge holds after grows lists stops kept = record {
   state = y;
   holds = after;
   grows = grows;
   keeps = merge_keeps old new x y merge.waiting lists;
   stops = stops;
-  records = λ was have. (
-    was,
-    λ b within. let inside : b < old.parts.urls.settings.buckets = subst (λ (s : Settings). b < s.buckets) settings within in kept b (was b) inside holds (have b inside),
-    λ b within. omega arith,
-  );
-  records_stop = λ was have. merge_records_stop old new was merge have;
+  records = kept;
+  records_stop = λ was have. merge_records_stop old new x was merge holds have;
 }
 
-pub merge_fed : (early : ℕ) (old new : Moment) (x : State) → IsDrum old.parts.urls → Merging old new → new.parts.urls.settings ≡ old.parts.urls.settings → IsDue old.parts.urls ⊎ (1 ≤ early)
-    → HoldsState old.store.images old.parts x → HoldsState new.store.images new.parts (with_cut x) → KeepsJournals x old new → Fed early none_more [] old new x
-merge_fed early old new x law merge settings why holds after kept =
-    fed_to early old new x (with_cut x) merge settings holds after (cut_grows early old.store.images old.parts.urls x law holds why) (λ b. refl) (merge_between old new x merge holds) kept
+pub merge_fed : (early : ℕ) (old new : Moment) (x : State) → IsDrum old.parts.urls → Merging old new → IsDue old.parts.urls ⊎ (1 ≤ early)
+    → HoldsState old.store.images old.parts x → HoldsState new.store.images new.parts (with_cut x) → KeepsJournals old new → Fed early none_more [] old new x
+merge_fed early old new x law merge why holds after kept =
+    fed_to early old new x (with_cut x) merge holds after (cut_grows early old.store.images old.parts.urls x law holds why) (λ b. refl) (merge_between old new x merge holds) kept
 
 -- where it adds no cut, each image has the state
 written_has : (old new : Moment) (x : State) → IsDrum old.parts.urls → HoldsState old.store.images old.parts x → LeavesBy (KeepsCommitted old.parts.urls) old.store new.store → Leaves old.store new.store (HasBetween old.parts.urls.settings x x)
@@ -179,10 +205,10 @@ written_has old new x law holds stops =
 grows_any : (early : ℕ) (settings : Settings) (x : State) → Grows settings early x x
 grows_any early settings x = grows_more settings 0 early x x (omega arith) (grows_same settings x)
 
-pub unmerged_fed : (early : ℕ) (old new : Moment) (x : State) → IsDrum old.parts.urls → Merging old new → new.parts.urls ≡ old.parts.urls → LeavesBy (KeepsCommitted old.parts.urls) old.store new.store
-    → HoldsState old.store.images old.parts x → HoldsState new.store.images new.parts x → KeepsJournals x old new → Fed early none_more [] old new x
-unmerged_fed early old new x law merge same stops holds after kept =
-    fed_to early old new x x merge (ap (λ (d : Drum). d.settings) same) holds after (grows_any early old.parts.urls.settings x) (λ b. refl) (written_has old new x law holds stops) kept
+pub unmerged_fed : (early : ℕ) (old new : Moment) (x : State) → IsDrum old.parts.urls → Merging old new → LeavesBy (KeepsCommitted old.parts.urls) old.store new.store
+    → HoldsState old.store.images old.parts x → HoldsState new.store.images new.parts x → KeepsJournals old new → Fed early none_more [] old new x
+unmerged_fed early old new x law merge stops holds after kept =
+    fed_to early old new x x merge holds after (grows_any early old.parts.urls.settings x) (λ b. refl) (written_has old new x law holds stops) kept
 
 -- ---- where the store failed
 merge_strand : (early : ℕ) (old new : Moment) (x s : State) → IsConsistent new.store → IsDrum old.parts.urls → Merging old new → IsDue old.parts.urls ⊎ (1 ≤ early) → HoldsState old.store.images old.parts x → ForSome new.store.files (HasState s)
@@ -203,7 +229,7 @@ merge_strand early old new x s consistent law merge why holds told grows front =
   now = λ image left. left_now old.store new.store (HasBetween old.parts.urls.settings x (with_cut x)) consistent (merge_between old new x merge holds) image left;
   takes = λ b within. (waiting_at old.arrays b, append-nil (handed_in x.urls old.arrays b));
   stops = merge_between old new x merge holds;
-  records_stop = λ was have. merge_records_stop old new was merge have;
+  records_stop = λ was have. merge_records_stop old new x was merge holds have;
 }
 
 pub merge_stranded : (early : ℕ) (old new : Moment) (x : State) → IsConsistent new.store → IsDrum old.parts.urls → Merging old new → IsDue old.parts.urls ⊎ (1 ≤ early) → HoldsState old.store.images old.parts x

@@ -1,8 +1,9 @@
 -- What one flush and one merge of the store do for the arrays in front of it.
-use Rattle.std.proofs.Common.{◌≡◌, ◌≢◌, ◌∙◌, ◌⊎◌, inl, inr, ⊎_elim, ℕ, zero, suc, ◌+◌, ◌*◌, ◌-◌, ◌<◌, ◌≤◌, max, Bool, true, false, cond, not, List, [], ◌∷◌, ◌++◌, length, filter, replicate, nat_eq, get_or, slice_index, Option, None, Some, refl, sym, ap, subst, append-nil, length-append, arith}
+use Rattle.std.proofs.Common.{◌≡◌, ◌≢◌, ◌∙◌, ◌⊎◌, inl, inr, ⊎_elim, ℕ, zero, suc, ◌+◌, ◌*◌, ◌-◌, ◌<◌, ◌≤◌, max, Bool, true, false, cond, not, List, [], ◌∷◌, ◌++◌, length, map, filter, replicate, nat_eq, get_or, slice_index, Option, None, Some, refl, sym, ap, subst, append-nil, length-append, arith}
 use Rattle.std.proofs.lemmas.List.Elements.{filter-append, recursion_from_All}
 use Rattle.std.proofs.lemmas.Bool.{eq-eqb}
-use Rattle.std.proofs.lemmas.Bool.Decides.{eqb_tells}
+use Rattle.std.proofs.Math.Nat.{eq-or-lt_of_le}
+use Rattle.std.proofs.lemmas.Bool.Decides.{eqb_tells, nat_tests}
 use Rattle.std.specs.List.{All, AllByRecursion}
 use Rattle.std.specs.Option.{ForSome}
 use Rattle.irl_offer.specs.declared.settings.Settings.{Settings}
@@ -16,23 +17,20 @@ use Rattle.irl_model.proofs.FrontLaws.{front_same, flushed_front}
 use Rattle.irl_disk.specs.Disk.{Files}
 use Rattle.irl_disk.specs.Images.{Snapshot, IsConsistent, Leaves}
 use Rattle.irl_disk.proofs.Stretches.{widens, left_now}
+use Rattle.irl_bay.specs.Commits.{HasLiveRecords}
 use Rattle.irl_bay.specs.Drum.{Drum, durable_at, pending_at}
 use Rattle.irl_bay.specs.Runs.{run_bytes}
+use Rattle.irl_bay.proofs.AdoptedBook.{lengths_are}
+use Rattle.irl_bay.proofs.Merged.{durable_is}
 use Rattle.irl_bay.proofs.Runs.{length-run_bytes}
 use Rattle.irl_yard.specs.Standing.{HasState}
-use Rattle.irl_yard.specs.Holding.{HoldsUrls, HoldsState, HasOneOf, HasJournal, HasBucketRecords, with_offers}
+use Rattle.irl_yard.specs.Holding.{HoldsUrls, HoldsState, HasOneOf, HasJournal, with_offers}
+use Rattle.irl_yard.proofs.Journals.{leaves_pair}
 use Rattle.irl_intake.specs.Schedule.{entry_len, uneven_records, one_more_at, uneven_flush, HaveRecords, AddsUneven, LeavesUneven}
 use Rattle.irl_intake.specs.Feeding.{waiting_at, list_at, length_at, unjudged_at, handed_in, IsStateOf, FewUnjudged, Grows, Keeps, TakesWaiting, HasBetween, Moment, Fed, Stranded}
 use Rattle.irl_intake.proofs.Chains.{same_fronts, few_same, grows_same}
 
 -- ---- several facts of what stops leave
-pub leaves_pair : (old new : Snapshot) (P Q : Files → Type 0) → Leaves old new P → Leaves old new Q → Leaves old new (λ image. P image × Q image)
-leaves_pair old new P Q first second = record {
-  later = first.later;
-  each = λ image left. (first.each image left, second.each image left);
-  before = λ t image le left. ⊎_elim (λ was. inl was) (λ p. ⊎_elim (λ was. inl was) (λ q. inr (p, q)) (second.before t image le left)) (first.before t image le left);
-}
-
 -- each number of some has a fact, or something else is so
 all_or : (n : ℕ) (A : Type 0) (Q : ℕ → Type 0) → ((c : ℕ) → c < n → A ⊎ Q c) → A ⊎ ((c : ℕ) → c < n → Q c)
 all_or zero A Q each = inr (λ c within. absurd (omega (arith, within)))
@@ -49,6 +47,26 @@ leaves_all n old new P later each = record {
   each = λ image left. λ c within. (each c within).each image left;
   before = λ t image le left. all_or n (old.since t image) (λ c. P c image) (λ c within. (each c within).before t image le left);
 }
+
+-- ---- a value for each number below another
+pub choose : (n : ℕ) (P : ℕ → List (List ℕ) → Type 0) → ((b : ℕ) → b < n → (r : List (List ℕ)) × P b r) → (was : ℕ → List (List ℕ)) × ((b : ℕ) → b < n → P b (was b))
+choose zero P each = (λ b. [], λ b within. absurd (omega arith))
+choose (suc n) P each =
+    let before = choose n P (λ b within. each b (omega (arith, within))) in
+    let last = each n (omega arith) in
+    let pick : ℕ → List (List ℕ) = λ b. cond (nat_eq b n) last.0 (before.0 b) in
+    let at_last : pick n ≡ last.0 = ap (λ (t : Bool). cond t last.0 (before.0 n)) (same_number n) in
+    let below : (b : ℕ) → b < n → pick b ≡ before.0 b = λ b within. ap (λ (t : Bool). cond t last.0 (before.0 b)) (other_number b n within) in
+    (pick, λ b within. by_place b n P pick (subst (P n) (sym at_last) last.1) (λ less. subst (P b) (sym (below b less)) (before.1 b less)) within)
+  where
+    same_number : (m : ℕ) → nat_eq m m ≡ true
+    same_number m = grind (arith, nat_tests)
+
+    other_number : (b m : ℕ) → b < m → nat_eq b m ≡ false
+    other_number b m less = grind (arith, nat_tests)
+
+    by_place : (b m : ℕ) (Q : ℕ → List (List ℕ) → Type 0) (pick : ℕ → List (List ℕ)) → Q m (pick m) → (b < m → Q b (pick b)) → b < suc m → Q b (pick b)
+    by_place b m Q pick here less within = ⊎_elim (λ (e : b ≡ m). subst (λ (k : ℕ). Q k (pick k)) (sym e) here) (λ (l : b < m). less l) (eq-or-lt_of_le {n = b} {m = m} (omega (arith, within)))
 
 -- ---- uneven records
 -- whether a record is uneven
@@ -93,10 +111,10 @@ pub record Flushing (b : ℕ) (items : List Tuple) (old new : Moment) : Type 0 w
   pub offers : All (λ offer. bucket_of old.parts.urls.settings.buckets offer.key ≡ b) items
   pub pending : pending_at old.parts.urls b < old.parts.urls.settings.trigger
   pub stops : (state : State) → HoldsState old.store.images old.parts state → Leaves old.store new.store (HasOneOf state (with_offers b items state))
-  pub gains_stop : (payloads : List (List ℕ)) → HasJournal old.store.images old.parts.urls b payloads
-      → Leaves old.store new.store (λ image. HasBucketRecords old.parts.urls.base b payloads image ⊎ HasBucketRecords old.parts.urls.base b (payloads ++ run_bytes items ∷ []) image)
-  pub records_stop : (c : ℕ) (payloads : List (List ℕ)) → c ≢ b → c < old.parts.urls.settings.buckets → HasJournal old.store.images old.parts.urls c payloads
-      → Leaves old.store new.store (HasBucketRecords old.parts.urls.base c payloads)
+  pub gains_stop : (state : State) (payloads : List (List ℕ)) → HoldsState old.store.images old.parts state → HasJournal old.store.images old.parts.urls b payloads
+      → Leaves old.store new.store (λ image. HasLiveRecords old.parts.urls.base old.parts.urls.settings.buckets b payloads image ⊎ HasLiveRecords old.parts.urls.base old.parts.urls.settings.buckets b (payloads ++ run_bytes items ∷ []) image)
+  pub records_stop : (state : State) (c : ℕ) (payloads : List (List ℕ)) → c ≢ b → c < old.parts.urls.settings.buckets → HoldsState old.store.images old.parts state → HasJournal old.store.images old.parts.urls c payloads
+      → Leaves old.store new.store (HasLiveRecords old.parts.urls.base old.parts.urls.settings.buckets c payloads)
 
 -- the records with those of a flush
 abbrev gained : ℕ → List ℕ → (ℕ → List (List ℕ)) → ℕ → List (List ℕ)
@@ -116,28 +134,28 @@ gains_uneven array buckets b items was = λ c within. ⊎_elim
     (λ other. subst (λ (l : List (List ℕ)). uneven_records array l ≤ uneven_records array (was c) + uneven_flush array b items c) (sym (gained_elsewhere b (run_bytes items) was c other.0)) (omega arith))
     (eqb_tells c b)
 
-flush_records_stop : (b : ℕ) (items : List Tuple) (old new : Moment) (was : ℕ → List (List ℕ)) → Flushing b items old new → HaveRecords old.store.images old.parts.urls was
+flush_records_stop : (b : ℕ) (items : List Tuple) (old new : Moment) (x : State) (was : ℕ → List (List ℕ)) → Flushing b items old new → HoldsState old.store.images old.parts x → HaveRecords old.store.images old.parts.urls was
     → Leaves old.store new.store (LeavesUneven (uneven_flush old.parts.urls.settings.array b items) old.parts.urls was)
-flush_records_stop b items old new was flush have =
+flush_records_stop b items old new x was flush holds have =
     let base = old.parts.urls.base in
     let buckets = old.parts.urls.settings.buckets in
     let array = old.parts.urls.settings.array in
-    let here = flush.gains_stop (was b) (have b flush.within) in
-    let others = leaves_all buckets old.store new.store (λ c image. c ≢ b → HasBucketRecords base c (was c) image) here.later (λ c within.
-    ⊎_elim (λ same. widens old.store new.store _ (λ image. c ≢ b → HasBucketRecords base c (was c) image) here (λ image has other. absurd (other same.1)))
-    (λ other. widens old.store new.store (HasBucketRecords base c (was c)) (λ image. c ≢ b → HasBucketRecords base c (was c) image) (flush.records_stop c (was c) other.1 within (have c within)) (λ image has not. has))
+    let here = flush.gains_stop x (was b) holds (have b flush.within) in
+    let others = leaves_all buckets old.store new.store (λ c image. c ≢ b → HasLiveRecords base buckets c (was c) image) here.later (λ c within.
+    ⊎_elim (λ same. widens old.store new.store _ (λ image. c ≢ b → HasLiveRecords base buckets c (was c) image) here (λ image has other. absurd (other same.1)))
+    (λ other. widens old.store new.store (HasLiveRecords base buckets c (was c)) (λ image. c ≢ b → HasLiveRecords base buckets c (was c) image) (flush.records_stop x c (was c) other.1 within holds (have c within)) (λ image has not. has))
     (eqb_tells c b)) in
     widens old.store new.store _ _ (leaves_pair old.store new.store _ _ here others) (λ image has. ⊎_elim
     (λ same. (
       was,
-      λ c within. ⊎_elim (λ is. subst (λ (n : ℕ). HasBucketRecords base n (was n) image) (sym is.1) same) (λ other. has.1 c within other.1) (eqb_tells c b),
+      λ c within. ⊎_elim (λ is. subst (λ (n : ℕ). HasLiveRecords base buckets n (was n) image) (sym is.1) same) (λ other. has.1 c within other.1) (eqb_tells c b),
       λ c within. omega arith,
     ))
     (λ more. (
       gained b (run_bytes items) was,
       λ c within. ⊎_elim
-          (λ is. subst (λ (l : List (List ℕ)). HasBucketRecords base c l image) (sym (gained_here b (run_bytes items) was c is.0)) (subst (λ (n : ℕ). HasBucketRecords base n (was n ++ run_bytes items ∷ []) image) (sym is.1) more))
-          (λ other. subst (λ (l : List (List ℕ)). HasBucketRecords base c l image) (sym (gained_elsewhere b (run_bytes items) was c other.0)) (has.1 c within other.1))
+          (λ is. subst (λ (l : List (List ℕ)). HasLiveRecords base buckets c l image) (sym (gained_here b (run_bytes items) was c is.0)) (subst (λ (n : ℕ). HasLiveRecords base buckets n (was n ++ run_bytes items ∷ []) image) (sym is.1) more))
+          (λ other. subst (λ (l : List (List ℕ)). HasLiveRecords base buckets c l image) (sym (gained_elsewhere b (run_bytes items) was c other.0)) (has.1 c within other.1))
           (eqb_tells c b),
       gains_uneven array buckets b items was,
     ))
@@ -157,13 +175,23 @@ no_first images urls x b holds =
 pub list_within : (images : Files → Type 0) (urls : Drum) (x : State) (b : ℕ) → HoldsUrls images urls x → b < urls.settings.buckets → b < x.urls.buckets
 list_within images urls x b holds within = subst (λ (n : ℕ). b < n) (sym holds.urls_hold.book_is.buckets) within
 
+-- how many offers it has
+length-at : (lists : List (List Tuple)) (b : ℕ) → get_or (map (λ (list : List Tuple). length list) lists) b 0 ≡ length (get_or lists b [])
+length-at [] b = refl
+length-at (list ∷ lists) zero = refl
+length-at (list ∷ lists) (suc b) = length-at lists b
+
+pub durable_held : (images : Files → Type 0) (urls : Drum) (x : State) (b : ℕ) → HoldsUrls images urls x → durable_at urls b ≡ length (list_at x.urls b)
+durable_held images urls x b holds =
+    sym (durable_is urls b) ∙ ap (λ (l : List ℕ). get_or l b 0) (holds.urls_hold.numbers.offers ∙ lengths_are urls.settings x.urls holds.urls_hold.book_is) ∙ length-at x.urls.lists b
+
 list_here : (images : Files → Type 0) (urls : Drum) (x : State) (b : ℕ) (items : List Tuple) → HoldsUrls images urls x → b < urls.settings.buckets → list_at (flushed b items x.urls) b ≡ list_at x.urls b ++ items
 list_here images urls x b items holds within = flushed_here b items x.urls (omega (arith, list_within images urls x b holds within, holds.urls_hold.book_is.is_book.lists))
 
 -- how many offers of a state are unjudged
 pub unjudged_pending : (images : Files → Type 0) (urls : Drum) (x : State) (b : ℕ) → HoldsUrls images urls x → b < urls.settings.buckets → unjudged_at x.urls b ≡ pending_at urls b
 unjudged_pending images urls x b holds within =
-    let durable = (holds.urls_hold.buckets b (list_within images urls x b holds within)).durable in
+    let durable = durable_held images urls x b holds in
     let cut = ap (λ (l : List ℕ). slice_index l b) holds.urls_hold.numbers.commit.cut in
     omega (arith, no_first images urls x b holds, durable, cut)
 
@@ -214,7 +242,7 @@ flush_grows b items old new x flush holds =
       front = flush_front b items x;
       fits = λ c within. ⊎_elim
           (λ same. inr (subst (λ (n : ℕ). length_at y.urls n ≤ urls.settings.cap) (sym same.1) (
-          let durable = (holds.urls_hold.buckets b (list_within images urls x b holds flush.within)).durable in
+          let durable = durable_held images urls x b holds in
           omega (arith, no_first images urls x b holds, ap (λ (l : List Tuple). length l) (list_here images urls x b items holds flush.within), length-append (list_at x.urls b) items, durable, flush.fits)
           )))
           (λ other. inl (flushed_elsewhere b items x.urls c other.1))
@@ -287,7 +315,7 @@ flush_fed b items old new x flush done holds =
             (eqb_tells c b),
         gains_uneven old.parts.urls.settings.array old.parts.urls.settings.buckets b items was,
       );
-      records_stop = λ was have. flush_records_stop b items old new was flush have;
+      records_stop = λ was have. flush_records_stop b items old new x was flush holds have;
     }
 
 -- what the store tells has one of the states
@@ -312,7 +340,7 @@ flush_strand b items old new x s consistent keeps flush holds told grows front =
   now = λ image left. left_now old.store new.store (HasBetween old.parts.urls.settings x (with_offers b items x)) consistent (flush_between b items old new x flush holds) image left;
   takes = flush_takes b items old new x flush holds;
   stops = flush_between b items old new x flush holds;
-  records_stop = λ was have. flush_records_stop b items old new was flush have;
+  records_stop = λ was have. flush_records_stop b items old new x was flush holds have;
 }
 
 -- what is told of one set of files

@@ -140,7 +140,7 @@ pub record Fed (early : ℕ) (uneven : ℕ → ℕ) (news : List Tuple) (old new
   pub keeps : Keeps old.parts.urls.settings x old.arrays state new.arrays news
   -- a stop at any moment left a state between the two
   pub stops : Leaves old.store new.store (HasBetween old.parts.urls.settings x state)
-  -- the journals have at most so many uneven records more, and so they had at any moment
+  -- the live journals have at most so many uneven records more, and so they had at any moment
   pub records : (was : ℕ → List (List ℕ)) → HaveRecords old.store.images old.parts.urls was → (now : ℕ → List (List ℕ)) × HaveRecords new.store.images new.parts.urls now
       × AddsUneven uneven old.parts.urls.settings.buckets old.parts.urls.settings.array was now
   pub records_stop : (was : ℕ → List (List ℕ)) → HaveRecords old.store.images old.parts.urls was → Leaves old.store new.store (LeavesUneven uneven old.parts.urls was)

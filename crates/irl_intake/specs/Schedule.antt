@@ -2,8 +2,9 @@
 -- section 4): a merge waits for a bucket with enough offers, and a record of a bucket's journal has a whole array.
 use Rattle.std.specs.Prelude.{ℕ, ◌+◌, ◌*◌, ◌<◌, ◌≤◌, nat_eq, nat_le, ◌||◌, not, Bool, false, if◌then◌else◌, List, [], ◌∷◌, length, filter}
 use Rattle.irl_disk.specs.Disk.{Files}
+use Rattle.irl_bay.specs.Commits.{HasLiveRecords}
 use Rattle.irl_bay.specs.Drum.{Drum, pending_at}
-use Rattle.irl_yard.specs.Holding.{HasJournal, HasBucketRecords}
+use Rattle.irl_yard.specs.Holding.{HasJournal}
 
 -- some bucket has as many unjudged offers as let a merge run
 abbrev pub IsDue : Drum → Type 0
@@ -29,17 +30,17 @@ entry_len = 27
 abbrev pub uneven_records : ℕ → List (List ℕ) → ℕ
 uneven_records array payloads = length (filter (λ payload. not (nat_eq (length payload) (entry_len * array))) payloads)
 
--- each bucket's journal is open, with these records
+-- each bucket's live journal is open, with these records
 abbrev pub HaveRecords : (Files → Type 0) → Drum → (ℕ → List (List ℕ)) → Type 0
 HaveRecords images urls records = (b : ℕ) → b < urls.settings.buckets → HasJournal images urls b (records b)
 
--- each bucket has at most so many uneven records more than before
+-- each bucket has at most so many uneven records more than before; a merge empties its live journal
 abbrev pub AddsUneven : (ℕ → ℕ) → ℕ → ℕ → (ℕ → List (List ℕ)) → (ℕ → List (List ℕ)) → Type 0
 AddsUneven more buckets array old new = (b : ℕ) → b < buckets → uneven_records array (new b) ≤ uneven_records array (old b) + more b
 
--- a joint image has such records in it
+-- a joint image has such records in its live journals
 abbrev pub LeavesUneven : (ℕ → ℕ) → Drum → (ℕ → List (List ℕ)) → Files → Type 0
-LeavesUneven more urls old image = (records : ℕ → List (List ℕ)) × ((b : ℕ) → b < urls.settings.buckets → HasBucketRecords urls.base b (records b) image) × AddsUneven more urls.settings.buckets urls.settings.array old records
+LeavesUneven more urls old image = (records : ℕ → List (List ℕ)) × ((b : ℕ) → b < urls.settings.buckets → HasLiveRecords urls.base urls.settings.buckets b (records b) image) × AddsUneven more urls.settings.buckets urls.settings.array old records
 
 -- no record more that is uneven, or one in each bucket
 abbrev pub none_more : ℕ → ℕ

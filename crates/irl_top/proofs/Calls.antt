@@ -1,5 +1,5 @@
 -- What a call on an open store, and a piece that is printed, do to a run.
-use Rattle.std.proofs.Common.{◌≡◌, ◌≢◌, ◌∙◌, ◌⊎◌, inl, inr, ⊎_elim, ℕ, zero, suc, ◌+◌, ◌-◌, ◌<◌, ◌≤◌, List, [], ◌∷◌, ◌++◌, length, map, sum, replicate, take, drop, get_or, refl, sym, ap, subst, append_assoc, append-nil, length-take, length-drop, arith}
+use Rattle.std.proofs.Common.{◌≡◌, ◌≢◌, ◌∙◌, ◌⊎◌, inl, inr, ⊎_elim, ℕ, zero, suc, ◌+◌, ◌-◌, ◌<◌, ◌≤◌, List, [], ◌∷◌, ◌++◌, length, sum, replicate, take, drop, get_or, refl, sym, ap, subst, append_assoc, append-nil, length-take, length-drop, arith}
 use Rattle.std.proofs.lemmas.List.{take-append-drop, drop-drop, drop_all, length-map}
 use Rattle.std.specs.Prelude.{Result, Ok, Err, IfErr, IsErrOf}
 use Rattle.std.specs.Result.{IsErrAnd}
@@ -24,12 +24,12 @@ use Rattle.irl_bay.specs.Holding.{IsLong}
 use Rattle.irl_bay.specs.Spoilt.{IsSpoiltAt}
 use Rattle.irl_bay.specs.JudgedSpoilt.{IsJudgedSpoiltAt}
 use Rattle.irl_bay.proofs.Merged.{durable_is}
-use Rattle.irl_bay.proofs.AdoptedBook.{lengths_are}
 use Rattle.irl_yard.specs.declared.parts.Parts.{Parts}
 use Rattle.irl_yard.specs.Holding.{HoldsState}
 use Rattle.irl_intake.specs.Schedule.{none_more, one_more}
 use Rattle.irl_intake.specs.Feeding.{AreArrays, Moment, Stays, Fed, Feeds, Strands, HeldNone, list_at, length_at, waiting_at}
 use Rattle.irl_intake.proofs.Chains.{stays_same, fed_still, keeps_same, feeds_more, feeds_none}
+use Rattle.irl_intake.proofs.Steps.{durable_held}
 use Rattle.irl_io.specs.Written.{AppendsPrefix}
 use Rattle.irl_top.specs.Message.{ending_of, ending_of_store, IsAllPrinted, IsEndOfInput, IsUnopened}
 use Rattle.irl_top.specs.Printed.{judged_lines, judged_count}
@@ -49,15 +49,9 @@ sum-zeros (suc n) = sum-zeros n
 pub gone_none : (settings : Settings) (book : Book) → IsBookOf settings book → gone book ≡ 0
 gone_none settings book is = ap sum (is.is_book.none is.dropped).1 ∙ sum-zeros book.buckets
 
-length-at : (lists : List (List Tuple)) (b : ℕ) → get_or (map (λ (list : List Tuple). length list) lists) b 0 ≡ length (get_or lists b [])
-length-at [] b = refl
-length-at (list ∷ lists) zero = refl
-length-at (list ∷ lists) (suc b) = length-at lists b
-
 -- what a bucket has is what its list has
 pub durable_length : (images : Snapshot) (parts : Parts) (state : State) (b : ℕ) → HoldsState images.images parts state → durable_at parts.urls b ≡ length (list_at state.urls b)
-durable_length images parts state b holds =
-    sym (durable_is parts.urls b) ∙ ap (λ (l : List ℕ). get_or l b 0) (holds.urls_hold.numbers.offers ∙ lengths_are parts.urls.settings state.urls holds.urls_hold.book_is) ∙ length-at state.urls.lists b
+durable_length images parts state b holds = durable_held images.images parts.urls state b holds
 
 -- how many are judged
 pub judged_number : (images : Snapshot) (parts : Parts) (state : State) → HoldsState images.images parts state → parts.urls.last.judged ≡ judged_count state.urls

@@ -303,8 +303,8 @@ extends_closed kind asked before after fault files x most law_before law_after r
           let new = told_after asked before.store.files after.store.files files refused.files told in
           let same_old : files ≡ old_files = cc in
           let same_new : new.0 ≡ new_files = (let e = sym new.1 ∙ is_new in cc) in
-          subst (λ (f : Files). AddsUnevenRecords 1 settings.buckets settings.array f new_files) same_old (subst (λ (f : Files). AddsUnevenRecords 1 settings.buckets settings.array files f) same_new (λ b within small records stands.
-          (records, enters_records asked before.store.files files x files new.0 b records told has has new.2 small stands, omega arith)));
+          subst (λ (f : Files). AddsUnevenRecords 1 settings.buckets settings.array f new_files) same_old (subst (λ (f : Files). AddsUnevenRecords 1 settings.buckets settings.array files f) same_new (λ b within small records journal.
+          (records, enters_records asked before.store.files files x files new.0 settings.buckets b records told has has new.2 small journal, omega arith)));
       stops = λ each. widens before.store after.store _ _ (k.stops each) (λ image z. (z.0, z.1, z.2, z.4));
       records_stop = λ each. entered_uneven asked before after.store files x settings.buckets settings.array told has each refused.steps;
       stops_any = widens before.store after.store _ _ refused.steps (λ image from. inl from);

@@ -1,7 +1,5 @@
 -- States of a run: what lies between two of them, and what entering a store makes of one.
-use Rattle.std.proofs.Common.{◌≡◌, ◌∙◌, ◌⊎◌, inl, inr, ⊎_elim, ℕ, zero, suc, ◌<◌, ◌≤◌, List, [], ◌∷◌, ◌++◌, length, replicate, sum, get_or, nat_eq, Bool, true, false, cond, Option, None, Some, refl, sym, ap, subst, append_assoc, append-nil, length-append, arith}
-use Rattle.std.proofs.Math.Nat.{eq-or-lt_of_le}
-use Rattle.std.proofs.lemmas.Bool.Decides.{nat_tests}
+use Rattle.std.proofs.Common.{◌≡◌, ◌∙◌, ◌⊎◌, inl, inr, ℕ, zero, suc, ◌≤◌, List, [], ◌∷◌, ◌++◌, length, replicate, sum, get_or, nat_eq, Option, None, Some, refl, sym, ap, subst, append_assoc, append-nil, length-append, arith}
 use Rattle.std.proofs.lemmas.List.{append_cancel_left}
 use Rattle.std.proofs.lemmas.List.Elements.{filter-append}
 use Rattle.std.specs.Prelude.{unwrap_or, slice_index}
@@ -131,23 +129,3 @@ starts asked x files (inl blank) =
     } in
     subst (λ (s : State). Starts s (entered_state asked s)) (sym blank.1) fresh
 starts asked x files (inr (settings, made)) = subst (λ (s : State). Starts x s) (sym (entered_made asked settings x made.settings_are)) (record { lists = λ b. refl; count = refl })
-
--- ---- a value for each number below another
-pub choose : (n : ℕ) (P : ℕ → List (List ℕ) → Type 0) → ((b : ℕ) → b < n → (r : List (List ℕ)) × P b r) → (was : ℕ → List (List ℕ)) × ((b : ℕ) → b < n → P b (was b))
-choose zero P each = (λ b. [], λ b within. absurd (omega arith))
-choose (suc n) P each =
-    let before = choose n P (λ b within. each b (omega (arith, within))) in
-    let last = each n (omega arith) in
-    let pick : ℕ → List (List ℕ) = λ b. cond (nat_eq b n) last.0 (before.0 b) in
-    let at_last : pick n ≡ last.0 = ap (λ (t : Bool). cond t last.0 (before.0 n)) (same_number n) in
-    let below : (b : ℕ) → b < n → pick b ≡ before.0 b = λ b within. ap (λ (t : Bool). cond t last.0 (before.0 b)) (other_number b n within) in
-    (pick, λ b within. by_place b n P pick (subst (P n) (sym at_last) last.1) (λ less. subst (P b) (sym (below b less)) (before.1 b less)) within)
-  where
-    same_number : (m : ℕ) → nat_eq m m ≡ true
-    same_number m = grind (arith, nat_tests)
-
-    other_number : (b m : ℕ) → b < m → nat_eq b m ≡ false
-    other_number b m less = grind (arith, nat_tests)
-
-    by_place : (b m : ℕ) (Q : ℕ → List (List ℕ) → Type 0) (pick : ℕ → List (List ℕ)) → Q m (pick m) → (b < m → Q b (pick b)) → b < suc m → Q b (pick b)
-    by_place b m Q pick here less within = ⊎_elim (λ (e : b ≡ m). subst (λ (k : ℕ). Q k (pick k)) (sym e) here) (λ (l : b < m). less l) (eq-or-lt_of_le {n = b} {m = m} (omega (arith, within)))

@@ -13,27 +13,28 @@ use Rattle.irl_model.specs.State.{State, IsFrontState}
 use Rattle.irl_disk.specs.Disk.{Files}
 use Rattle.irl_disk.specs.Images.{Snapshot, IsConsistent, Leaves, LeavesBy}
 use Rattle.irl_disk.proofs.Stretches.{widens, joins, left_now}
-use Rattle.irl_journal.specs.Format.{StandsFor, HasRecords}
-use Rattle.irl_journal.proofs.Lists.{one_list}
 use Rattle.irl_bay.specs.BayFiles.{file_of, IsFileOf, IsPartOf}
 use Rattle.irl_bay.specs.declared.layout.files.BayFile.TheVariants.{Manifest, Cache, Judged, Texts, Journal, Aux}
 use Rattle.irl_bay.specs.declared.layout.files.BayFile.{BayFile}
-use Rattle.irl_bay.specs.Drum.{IsDrum, bucket_at}
+use Rattle.irl_bay.specs.Commits.{HasLiveRecords}
+use Rattle.irl_bay.specs.Drum.{IsDrum}
 use Rattle.irl_bay.specs.Holding.{TellsOnly, TellsBy, ChangesOnly}
 use Rattle.irl_bay.specs.Making.{IsJournalOf}
 use Rattle.irl_bay.proofs.BatchWrites.{tells_wide, tells_only}
 use Rattle.irl_bay.proofs.Staying.{tells_both, leaves_both, only_wider}
 use Rattle.irl_yard.specs.StoreFiles.{urls_base}
 use Rattle.irl_yard.specs.Standing.{HasState}
-use Rattle.irl_yard.specs.Holding.{HoldsState, HasOneOf, HasJournal}
+use Rattle.irl_yard.specs.Holding.{HoldsState, HasOneOf, HasJournal, HasLiveJournal}
 use Rattle.irl_yard.specs.Opening.{Agrees, HasSettings, IsNotOursAt, IsStoreDamagedAt, entered_state}
 use Rattle.irl_yard.specs.Entering.{Enters, IsStoreJournal}
 use Rattle.irl_yard.proofs.SettingNumbers.{count_small}
 use Rattle.irl_yard.proofs.States.{state_both, entered_front}
 use Rattle.irl_yard.proofs.Entering.{enters_records}
+use Rattle.irl_yard.proofs.Journals.{left_records, one_journal, records_stand}
 use Rattle.irl_intake.specs.Schedule.{one_more, HaveRecords, LeavesUneven, uneven_records}
 use Rattle.irl_intake.specs.Feeding.{Grows, HasBetween, list_at, length_at, handed_in, waiting_at}
 use Rattle.irl_intake.proofs.Chains.{grows_same, grows_more}
+use Rattle.irl_intake.proofs.Steps.{choose}
 use Rattle.irl_top.specs.declared.line.LineKind.{LineKind}
 use Rattle.irl_top.specs.Input.{offered}
 use Rattle.irl_top.specs.Outside.{Lent}
@@ -45,13 +46,13 @@ use Rattle.irl_top.specs.Stream.{Stream}
 use Rattle.irl_top.specs.declared.ending.Ending.{Ending}
 use Rattle.irl_top.specs.declared.ending.Ending.TheVariants.{Done, LineRefused, InputFault, OutputFault}
 use Rattle.irl_top.proofs.Calls.{judged_number}
-use Rattle.irl_top.proofs.Growing.{starts, settings_entered, grows_between, adds_some, choose}
+use Rattle.irl_top.proofs.Growing.{starts, settings_entered, grows_between, adds_some}
 
 -- ---- files
 -- entering changes only files of the store
 journal_of_store : (buckets f : ℕ) → buckets ≤ 64 → IsJournalOf urls_base buckets f → IsStoreFile f
 journal_of_store buckets f small (inl manifest) = inr (Manifest, tt, manifest)
-journal_of_store buckets f small (inr (b, within, is)) = inr (Journal b, omega (arith, within), is)
+journal_of_store buckets f small (inr (side, b, low, within, is)) = inr (Journal side b, (low, omega (arith, within, small)), is)
 
 store_journal : (f : ℕ) → IsStoreJournal f → IsStoreFile f
 store_journal f (inl head) = inl head
@@ -72,8 +73,8 @@ part_wider buckets Manifest small is = tt
 part_wider buckets (Cache side) small is = is
 part_wider buckets Judged small is = tt
 part_wider buckets Texts small is = tt
-part_wider buckets (Journal b) small is = omega (arith, small, is)
-part_wider buckets (Aux b) small is = omega (arith, small, is)
+part_wider buckets (Journal side b) small is = (is.0, omega (arith, small, is.1))
+part_wider buckets (Aux side b) small is = (is.0, omega (arith, small, is.1))
 
 bay_of_store : (base buckets f : ℕ) → base ≡ urls_base → buckets ≤ 64 → IsFileOf base buckets f → IsStoreFile f
 bay_of_store base buckets f base_is small is = inr (is.0, part_wider buckets is.0 small is.1, is.2 ∙ ap (λ (n : ℕ). file_of n 0 is.0) base_is)
@@ -109,19 +110,18 @@ tells_from : (step : Files → Files → Type 0) (old new : Option Files) (files
 tells_from step None new files tells told = let no : ⊥ = cc in absurd no
 tells_from step (Some was) new files tells told = let same : was ≡ files = cc in (tells.0, tells.1, subst (λ (f : Files). step f tells.0) same tells.2)
 
--- the records that a journal of a joint image has, over those that it had before the store was entered
-uneven_from : (asked : Asked) (before : Lent) (old : Place) (files image : Files) (x : State) (was : ℕ → List (List ℕ)) → IsConsistent old.moment.store → IsEntered asked before old → before.store.files ≡ Some files → HasState x files
+-- the records that a live journal of a joint image has, over those that it had before the store was entered
+uneven_from : (asked : Asked) (before : Lent) (old : Place) (files image : Files) (x y : State) (was : ℕ → List (List ℕ)) → IsConsistent old.moment.store → IsEntered asked before old → before.store.files ≡ Some files → HasState x files → HoldsState old.moment.store.images old.moment.parts y
     → HaveRecords old.moment.store.images old.moment.parts.urls was → LeavesUneven one_more old.moment.parts.urls was image → AddsUnevenRecords 1 old.moment.parts.urls.settings.buckets old.moment.parts.urls.settings.array files image
-uneven_from asked before old files image x was law entered told has have left = λ b within small records stands.
+uneven_from asked before old files image x y was law entered told has holds have left = λ b within small records journal.
     let urls = old.moment.parts.urls in
     let after = tells_from (Enters asked before.store.files) before.store.files old.moment.store.files files entered.files told in
-    let f = file_of urls_base 0 (Journal b) in
-    let f_is : (bucket_at urls b).journal.file ≡ f = (entered.drum.buckets b within).journal ∙ ap (λ (n : ℕ). file_of n 0 (Journal b)) entered.base in
-    let opened : StandsFor (after.0 f) records = enters_records asked before.store.files files x files after.0 b records told has has after.2 small stands in
-    let held : HasRecords (after.0 f) (was b) = subst (λ (g : ℕ). HasRecords (after.0 g) (was b)) f_is (have b within after.0 (law.told after.0 after.1)).records in
-    let same : records ≡ was b = one_list (after.0 f) records (was b) opened (inr held) in
-    let more : HasRecords (image f) (left.0 b) = subst (λ (n : ℕ). HasRecords (image (file_of n 0 (Journal b))) (left.0 b)) entered.base (left.1 b within) in
-    (left.0 b, inr more, omega (arith, left.2 b within, ap (λ (l : List (List ℕ)). uneven_records urls.settings.array l) same))
+    let opened : HasLiveJournal urls_base urls.settings.buckets b records after.0 = enters_records asked before.store.files files x files after.0 urls.settings.buckets b records told has has after.2 small journal in
+    let at_base = λ (payloads : List (List ℕ)) (f : Files) (live : HasLiveRecords urls.base urls.settings.buckets b payloads f).
+    subst (λ (n : ℕ). HasLiveJournal n urls.settings.buckets b payloads f) entered.base (records_stand urls.base urls.settings.buckets b payloads f live) in
+    let held = at_base (was b) after.0 (left_records old.moment.store.images urls y.urls entered.drum holds.urls_hold b (was b) after.0 within (have b within) (law.told after.0 after.1)) in
+    let same : records ≡ was b = one_journal urls_base urls.settings.buckets b records (was b) after.0 opened held in
+    (left.0 b, at_base (left.0 b) image (left.1 b within), omega (arith, left.2 b within, ap (λ (l : List (List ℕ)). uneven_records urls.settings.array l) same))
 
 -- ---- over a store that stands for a state
 abbrev pub lent_at : Place → Stream → Lent
@@ -147,7 +147,7 @@ pub entered_uneven : (asked : Asked) (before : Lent) (new : Snapshot) (files : F
 entered_uneven asked before new files x buckets array told has each steps = widens before.store new _ _ steps (λ image from. (
   from.0,
   from.1,
-  λ b within small records stands. (records, enters_records asked before.store.files files x from.0 image b records told has (each from.0 from.1) from.2 small stands, omega arith),
+  λ b within small records journal. (records, enters_records asked before.store.files files x from.0 image buckets b records told has (each from.0 from.1) from.2 small journal, omega arith),
 ))
 
 -- what is taken in of an input
@@ -209,11 +209,11 @@ extends_opened kind asked before old new input news ending files x law_before la
       records = λ old_files is_old new_files is_new.
           let same_files : files ≡ old_files = cc in
           subst (λ (f : Files). AddsUnevenRecords 1 (settings_in asked x).buckets (settings_in asked x).array f new_files) same_files (subst (λ (s : Settings). AddsUnevenRecords 1 s.buckets s.array files new_files) same
-          (uneven_from asked before old files new_files x was law_old entered told has have (left_now old.moment.store new.moment.store _ law_new leaves new_files (law_new.told new_files is_new))));
+          (uneven_from asked before old files new_files x y was law_old entered told has holds have (left_now old.moment.store new.moment.store _ law_new leaves new_files (law_new.told new_files is_new))));
       stops = stopped;
       records_stop = λ each. subst (λ (s : Settings). LeavesBy (AddsUnevenRecords 1 s.buckets s.array) before.store new.moment.store) same
           (joins before.store old.moment.store new.moment.store _ (entered_uneven asked before old.moment.store files x was_settings.buckets was_settings.array told has each entered.steps)
-          (widens old.moment.store new.moment.store _ _ leaves (λ image left. (files, law_before.told files told, uneven_from asked before old files image x was law_old entered told has have left))));
+          (widens old.moment.store new.moment.store _ _ leaves (λ image left. (files, law_before.told files told, uneven_from asked before old files image x y was law_old entered told has holds have left))));
       stops_any = joins before.store old.moment.store new.moment.store _ (widens before.store old.moment.store _ _ entered.steps (λ image from. inl from))
           (widens old.moment.store new.moment.store _ _ e.strands.stops (λ image between. inr (reached asked old x e.strands.most image same e.strands.may_grow between)));
       now = λ why image left. let between = e.now image left in (between.0, between.1, inr between.2, inr between.3);

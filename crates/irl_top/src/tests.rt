@@ -1,3 +1,5 @@
+mod sides;
+
 use crate::run;
 use irl_disk::{MemStore, Part, Store};
 use irl_io::{MemSink, MemSource};

@@ -1,5 +1,6 @@
 -- What entering a store does to its files, and that it keeps the state, or makes the new store's.
-use Rattle.std.proofs.Common.{◌≡◌, ◌≢◌, ◌∙◌, ◌⊎◌, ⊎_elim, inl, inr, ℕ, ◌+◌, ◌*◌, ◌<◌, ◌≤◌, List, [], ◌∷◌, length, refl, sym, ap, subst, arith, Option, None, Some}
+use Rattle.std.proofs.Common.{◌≡◌, ◌≢◌, ◌∙◌, ◌⊎◌, ⊎_elim, inl, inr, ℕ, zero, suc, ◌+◌, ◌*◌, ◌<◌, ◌≤◌, List, [], ◌∷◌, length, refl, sym, ap, subst, arith, Option, None, Some, IfSome}
+use Rattle.std.specs.List.{AllByRecursion}
 use Rattle.std.specs.Option.{ForSome}
 use Rattle.irl_offer.specs.Settings.{AreValid, settings_of}
 use Rattle.irl_offer.specs.declared.settings.Asked.{Asked}
@@ -17,50 +18,57 @@ use Rattle.irl_journal.specs.Visiting.{IsOpened}
 use Rattle.irl_journal.proofs.Lists.{few_bytes}
 use Rattle.irl_journal.proofs.Opened.{opened_stands}
 use Rattle.irl_bay.specs.BayFiles.{file_of, IsFileOf}
+use Rattle.irl_bay.specs.Commits.{Commit, IsCommit, first_commit, last_commit, live_side, side_of}
 use Rattle.irl_bay.specs.declared.layout.files.BayFile.TheVariants.{Manifest, Cache, Judged, Texts, Journal, Aux}
 use Rattle.irl_bay.specs.Damage.{IsAdopted}
 use Rattle.irl_bay.specs.Holding.{TellsBy}
 use Rattle.irl_bay.specs.Making.{IsJournalOf, Makes}
 use Rattle.irl_bay.proofs.Adopted.{takes_wider}
-use Rattle.irl_bay.proofs.Apart.{stands_kept, unmade_stands, journal_files, files_within}
+use Rattle.irl_bay.proofs.Apart.{stands_kept, unmade_stands, journal_files}
 use Rattle.irl_yard.specs.StoreFiles.{head_file, crawl_file, urls_base, IsOtherFile}
 use Rattle.irl_yard.specs.Head.{head_bytes}
 use Rattle.irl_yard.specs.Standing.{IsBlank, IsMade, HasState}
-use Rattle.irl_yard.specs.Holding.{HasOneOf}
+use Rattle.irl_yard.specs.Holding.{HasLiveJournal, HasOneOf}
 use Rattle.irl_yard.specs.Opening.{new_state, entered_state}
 use Rattle.irl_yard.specs.Entering.{IsRestFile, GainsFirst, IsStoreJournal, OpensStore, MakesStore, Enters, KeepsBlank}
 use Rattle.irl_yard.proofs.Beginning.{same_then, file_stays}
 use Rattle.irl_yard.proofs.Grounds.{blank_has, none_or_one}
-use Rattle.irl_yard.proofs.Rest.{few, pairs_rest, head_no_journal}
+use Rattle.irl_yard.proofs.Rest.{few, pairs_rest, head_no_journal, rest_no_head, rest_no_urls}
 use Rattle.irl_yard.proofs.Making.{urls_other, pairs_other, head_no_urls}
 
 -- ---- the journals of a store
 journal_wider : (buckets f : ℕ) → buckets ≤ 64 → IsJournalOf urls_base buckets f → IsJournalOf urls_base 64 f
 journal_wider buckets f small (inl e) = inl e
-journal_wider buckets f small (inr (b, within, e)) = inr (b, omega (arith, within, small), e)
+journal_wider buckets f small (inr (side, b, low, within, e)) = inr (side, b, low, omega (arith, within, small), e)
 
 -- one is the bay's, or none of the bay's files is it
-beyond : (buckets b f : ℕ) → buckets ≤ b → f ≡ urls_base + 10 + 2 * b → IsFileOf urls_base buckets f → ⊥
-beyond buckets b f above is (Manifest, part, e) = omega (arith, is, e)
-beyond buckets b f above is (Cache side, part, e) = omega (arith, is, e, part)
-beyond buckets b f above is (Judged, part, e) = omega (arith, is, e)
-beyond buckets b f above is (Texts, part, e) = omega (arith, is, e)
-beyond buckets b f above is (Journal c, part, e) = omega (arith, is, e, part, above)
-beyond buckets b f above is (Aux c, part, e) = omega (arith, is, e)
+same_place : (side other b c : ℕ) → side ≤ 1 → other ≤ 1 → b < 64 → c < 64 → 10 + 490 * side + 2 * b ≡ 10 + 490 * other + 2 * c → b ≡ c
+same_place zero zero b c low low_other small few e = omega (arith, e)
+same_place zero (suc zero) b c low low_other small few e = absurd (omega (arith, e, small))
+same_place (suc zero) zero b c low low_other small few e = absurd (omega (arith, e, few))
+same_place (suc zero) (suc zero) b c low low_other small few e = omega (arith, e)
+same_place (suc (suc n)) other b c low low_other small few e = absurd (omega (arith, low))
+same_place side (suc (suc n)) b c low low_other small few e = absurd (omega (arith, low_other))
+
+beyond : (buckets side b f : ℕ) → side ≤ 1 → b < 64 → buckets ≤ b → f ≡ urls_base + 10 + 490 * side + 2 * b → IsFileOf urls_base buckets f → ⊥
+beyond buckets side b f low small above is (Manifest, part, e) = omega (arith, is, e)
+beyond buckets side b f low small above is (Cache other, part, e) = omega (arith, is, e, part)
+beyond buckets side b f low small above is (Judged, part, e) = omega (arith, is, e)
+beyond buckets side b f low small above is (Texts, part, e) = omega (arith, is, e)
+beyond buckets side b f low small above is (Journal other c, part, e) = omega (arith, above, part.1, same_place side other b c low part.0 small (omega (arith, part.1, above, small)) (omega (arith, is, e)))
+beyond buckets side b f low small above is (Aux other c, part, e) = omega (arith, is, e)
 
 journal_or_none : (buckets f : ℕ) → IsJournalOf urls_base 64 f → IsJournalOf urls_base buckets f ⊎ (IsFileOf urls_base buckets f → ⊥)
 journal_or_none buckets f (inl e) = inl (inl e)
-journal_or_none buckets f (inr (b, within, e)) = ⊎_elim (λ below. inl (inr (b, below, e))) (λ above. inr (beyond buckets b f above e)) (below_or_above b buckets)
+journal_or_none buckets f (inr (side, b, low, within, e)) = ⊎_elim (λ below. inl (inr (side, b, low, below, e))) (λ above. inr (beyond buckets side b f low within above e)) (below_or_above b buckets)
 
 journal_no_head : (f : ℕ) → IsJournalOf urls_base 64 f → f ≢ head_file
 journal_no_head f is = λ e. head_no_journal 64 (omega arith) (subst (IsJournalOf urls_base 64) e is)
 
 -- the other files of the state are none
 rest_no_journal : (buckets f : ℕ) → buckets ≤ 64 → IsRestFile buckets f → IsStoreJournal f → ⊥
-rest_no_journal buckets f small (inl e) (inl head) = omega (arith, e, head)
-rest_no_journal buckets f small (inr above) (inl head) = omega (arith, above.0, head)
-rest_no_journal buckets f small (inl e) (inr is) = omega (arith, e, (files_within urls_base 64 f (omega arith) (journal_files urls_base 64 f is)).0)
-rest_no_journal buckets f small (inr above) (inr is) = omega (arith, above.0, (files_within urls_base 64 f (omega arith) (journal_files urls_base 64 f is)).1)
+rest_no_journal buckets f small rest (inl head) = rest_no_head buckets f rest head
+rest_no_journal buckets f small rest (inr is) = rest_no_urls buckets 64 f small (omega arith) rest is
 
 -- ---- a step of opening
 opened_twice : (a b c : List ℕ) → IsOpened a b → IsOpened b c → IsOpened a c
@@ -352,17 +360,38 @@ adopted_takes buckets old mid new small same takes =
     subst (λ (from : Option (ℕ → ℕ)). TakesAmong IsStoreJournal from new) same (takes_wider (IsJournalOf urls_base buckets) IsStoreJournal mid new (λ f is. inr (journal_wider buckets f small is)) takes)
 
 -- ---- the records of a bucket
+live_low : (live : Option ℕ) → IfSome live (λ side. side ≤ 1) → side_of live ≤ 1
+live_low None fits = omega arith
+live_low (Some side) fits = fits
+
+last_low : (buckets : ℕ) (first : Commit) (commits : List Commit) → live_side first ≤ 1 → AllByRecursion (IsCommit buckets) commits → live_side (last_commit first commits) ≤ 1
+last_low buckets first [] low forms = low
+last_low buckets first (commit ∷ commits) low forms = last_low buckets commit commits (live_low commit.live forms.0.live) forms.1
+
+-- a journal of at most one byte has no record, and stands for as much as another such
+short_stands : (old new : List ℕ) (payloads : List (List ℕ)) → length old ≤ 1 → length new ≤ 1 → StandsFor old payloads → StandsFor new payloads
+short_stands old new payloads short also (inl none) = inl (also, none.1)
+short_stands old new payloads short also (inr has) = inl (also, few_bytes old payloads short has)
+
 -- entering leaves those of a store with a state, in its files and in each image
-pub enters_records : (asked : Asked) (told : Option Files) (files : Files) (state : State) (old new : Files) (b : ℕ) (payloads : List (List ℕ)) → told ≡ Some files → HasState state files → HasState state old → Enters asked told old new → b < 64
-    → StandsFor (old (file_of urls_base 0 (Journal b))) payloads → StandsFor (new (file_of urls_base 0 (Journal b))) payloads
-enters_records asked told files state old new b payloads is_told has_told has (inl opens) within stands = opened_stands _ _ payloads (opens.changed _ (inr (inr (b, within, refl)))) stands
-enters_records asked told files state old new b payloads is_told has_told has (inr (blank, valid, makes)) within stands =
-    let was = blank files is_told in
-    let same = (blank_has state files was.head has_told).1 in
-    let before = blank_still state old same has in
-    let is : IsOtherFile (file_of urls_base 0 (Journal b)) = (omega (arith, within), omega (arith, within)) in
-    inl (makes_short (settings_of asked) old new (few (settings_of asked) valid) makes before _ is, no_records (old (file_of urls_base 0 (Journal b))) payloads (before.others _ is) stands)
+pub enters_records : (asked : Asked) (told : Option Files) (files : Files) (state : State) (old new : Files) (buckets b : ℕ) (payloads : List (List ℕ)) → told ≡ Some files → HasState state files → HasState state old → Enters asked told old new → b < 64
+    → HasLiveJournal urls_base buckets b payloads old → HasLiveJournal urls_base buckets b payloads new
+enters_records asked told files state old new buckets b payloads is_told has_told has enters within journal = record {
+  commits = journal.commits;
+  form = journal.form;
+  manifest = stands enters (file_of urls_base 0 Manifest) (inl refl) (omega arith, omega arith) _ journal.manifest;
+  records = stands enters (file_of urls_base 0 (Journal side b)) (inr (side, b, low, within, refl)) (omega arith, omega (arith, low, within)) payloads journal.records;
+}
   where
-    no_records : (file : List ℕ) (ps : List (List ℕ)) → length file ≤ 1 → StandsFor file ps → ps ≡ []
-    no_records file ps short (inl none) = none.1
-    no_records file ps short (inr has) = few_bytes file ps short has
+    side : ℕ
+    side = live_side (last_commit (first_commit buckets) journal.commits)
+
+    low : side ≤ 1
+    low = last_low buckets (first_commit buckets) journal.commits (omega arith) journal.form
+
+    stands : Enters asked told old new → (f : ℕ) → IsJournalOf urls_base 64 f → IsOtherFile f → (list : List (List ℕ)) → StandsFor (old f) list → StandsFor (new f) list
+    stands (inl opens) f is other list was = opened_stands _ _ list (opens.changed f (inr is)) was
+    stands (inr (blank, valid, makes)) f is other list was =
+        let same = (blank_has state files (blank files is_told).head has_told).1 in
+        let before = blank_still state old same has in
+        short_stands (old f) (new f) list (before.others f other) (makes_short (settings_of asked) old new (few (settings_of asked) valid) makes before f other) was

@@ -16,7 +16,7 @@ use Rattle.irl_bay.specs.Drum.{Drum, IsDrum}
 use Rattle.irl_bay.specs.Holding.{Holds, ChangesOnly, Becomes}
 use Rattle.irl_bay.proofs.MergeFrames.{holds_fewer}
 use Rattle.irl_bay.proofs.Standing.{holds_stands}
-use Rattle.irl_bay.proofs.Apart.{files_within, files_apart}
+use Rattle.irl_bay.proofs.Apart.{files_within, files_of_both}
 use Rattle.irl_yard.specs.StoreFiles.{head_file, crawl_file, urls_base, pairs_base}
 use Rattle.irl_yard.specs.Head.{head_bytes}
 use Rattle.irl_yard.specs.Standing.{HasState}
@@ -49,7 +49,7 @@ rest_kept among urls old new law base are changes rest = record {
     low f below is = omega (arith, below, base, (files_within urls.base urls.settings.buckets f few is).0)
 
     apart : (f : ℕ) → IsFileOf urls.base urls.settings.buckets f → IsFileOf pairs_base urls.settings.buckets f → ⊥
-    apart f one two = files_apart urls.base pairs_base urls.settings.buckets urls.settings.buckets f few few (omega (arith, base)) one two
+    apart f one two = files_of_both urls.settings.buckets f few (subst (λ (n : ℕ). IsFileOf n urls.settings.buckets f) base one) two
 
 -- files that stand for a book of URLs, beside the rest
 pub has_state : (images : Files → Type 0) (urls : Drum) (state : State) (book : Book) (image : Files) → IsDrum urls → HoldsUrls images urls state → HasRest urls image → Stands urls.base urls.settings book image → HasState (with_urls book state) image

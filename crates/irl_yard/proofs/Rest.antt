@@ -1,5 +1,5 @@
 -- What stands beside the bay of URLs once a store is open.
-use Rattle.std.proofs.Common.{◌≡◌, ◌≢◌, inl, inr, ℕ, ◌≤◌, List, [], ◌∷◌, length, refl, sym, subst, arith}
+use Rattle.std.proofs.Common.{◌≡◌, ◌≢◌, ◌⊎◌, inl, inr, ℕ, zero, suc, ◌+◌, ◌*◌, ◌≤◌, ◌<◌, List, [], ◌∷◌, length, refl, sym, subst, arith}
 use Rattle.irl_offer.specs.Settings.{AreValid}
 use Rattle.irl_offer.specs.declared.settings.Settings.{Settings}
 use Rattle.irl_disk.specs.Disk.{Files}
@@ -12,23 +12,47 @@ use Rattle.irl_bay.proofs.Apart.{files_within, journal_files}
 use Rattle.irl_yard.specs.StoreFiles.{head_file, crawl_file, urls_base, pairs_base}
 use Rattle.irl_yard.specs.Head.{head_bytes}
 use Rattle.irl_yard.specs.Holding.{HasRest}
-use Rattle.irl_yard.specs.Entering.{IsRestFile}
+use Rattle.irl_yard.specs.Entering.{AreSynced, AreSyncedWithin, IsRestFile}
 
 pub few : (settings : Settings) → AreValid settings → settings.buckets ≤ 64
 few settings valid = let count = valid.buckets in grind arith
 
 -- ---- the files
+pairs_bucket : (buckets side b f : ℕ) → side ≤ 1 → b < buckets → (f ≡ pairs_base + 10 + 490 * side + 2 * b) ⊎ (f ≡ pairs_base + 11 + 490 * side + 2 * b) → IsRestFile buckets f
+pairs_bucket buckets zero b f low within (inl e) = inr (inl (omega (arith, e), omega (arith, e, within)))
+pairs_bucket buckets zero b f low within (inr e) = inr (inl (omega (arith, e), omega (arith, e, within)))
+pairs_bucket buckets (suc zero) b f low within (inl e) = inr (inr (omega (arith, e), omega (arith, e, within)))
+pairs_bucket buckets (suc zero) b f low within (inr e) = inr (inr (omega (arith, e), omega (arith, e, within)))
+pairs_bucket buckets (suc (suc n)) b f low within is = absurd (omega (arith, low))
+
 pub pairs_rest : (buckets f : ℕ) → IsFileOf pairs_base buckets f → IsRestFile buckets f
-pairs_rest buckets f (Manifest, is, e) = inr (omega (arith, e), omega (arith, e))
-pairs_rest buckets f (Cache side, is, e) = inr (omega (arith, e, is), omega (arith, e, is))
-pairs_rest buckets f (Judged, is, e) = inr (omega (arith, e), omega (arith, e))
-pairs_rest buckets f (Texts, is, e) = inr (omega (arith, e), omega (arith, e))
-pairs_rest buckets f (Journal b, is, e) = inr (omega (arith, e, is), omega (arith, e, is))
-pairs_rest buckets f (Aux b, is, e) = inr (omega (arith, e, is), omega (arith, e, is))
+pairs_rest buckets f (Manifest, is, e) = inr (inl (omega (arith, e), omega (arith, e)))
+pairs_rest buckets f (Cache side, is, e) = inr (inl (omega (arith, e, is), omega (arith, e, is)))
+pairs_rest buckets f (Judged, is, e) = inr (inl (omega (arith, e), omega (arith, e)))
+pairs_rest buckets f (Texts, is, e) = inr (inl (omega (arith, e), omega (arith, e)))
+pairs_rest buckets f (Journal side b, is, e) = pairs_bucket buckets side b f is.0 is.1 (inl e)
+pairs_rest buckets f (Aux side b, is, e) = pairs_bucket buckets side b f is.0 is.1 (inr e)
+
+-- where they lie, and where the journals of the URLs do
+journal_at : (side b f : ℕ) → side ≤ 1 → b < 64 → f ≡ urls_base + 10 + 490 * side + 2 * b → ((urls_base ≤ f) × (f < urls_base + 138)) ⊎ ((urls_base + 500 ≤ f) × (f < urls_base + 628))
+journal_at zero b f low small e = inl (omega (arith, e), omega (arith, e, small))
+journal_at (suc zero) b f low small e = inr (omega (arith, e), omega (arith, e, small))
+journal_at (suc (suc n)) b f low small e = absurd (omega (arith, low))
+
+rest_or_journal : (buckets f : ℕ) → buckets ≤ 64 → IsRestFile buckets f → ((urls_base ≤ f) × (f < urls_base + 138)) ⊎ ((urls_base + 500 ≤ f) × (f < urls_base + 628)) → ⊥
+rest_or_journal buckets f few (inl e) (inl at) = omega (arith, e, at.0)
+rest_or_journal buckets f few (inl e) (inr at) = omega (arith, e, at.0)
+rest_or_journal buckets f few (inr (inl rest)) (inl at) = omega (arith, rest.0, at.1)
+rest_or_journal buckets f few (inr (inl rest)) (inr at) = omega (arith, rest.1, at.0, few)
+rest_or_journal buckets f few (inr (inr rest)) (inl at) = omega (arith, rest.0, at.1)
+rest_or_journal buckets f few (inr (inr rest)) (inr at) = omega (arith, rest.0, at.1)
+
+pub rest_no_urls : (buckets more f : ℕ) → buckets ≤ 64 → more ≤ 64 → IsRestFile buckets f → IsJournalOf urls_base more f → ⊥
+rest_no_urls buckets more f few few_more rest (inl e) = rest_or_journal buckets f few rest (inl (omega (arith, e), omega (arith, e)))
+rest_no_urls buckets more f few few_more rest (inr is) = rest_or_journal buckets f few rest (journal_at is.0 is.1 f is.2 (omega (arith, is.3, few_more)) is.4)
 
 pub rest_no_journal : (buckets f : ℕ) → buckets ≤ 64 → IsRestFile buckets f → IsJournalOf urls_base buckets f → ⊥
-rest_no_journal buckets f few (inl e) is = omega (arith, e, (files_within urls_base buckets f few (journal_files urls_base buckets f is)).0)
-rest_no_journal buckets f few (inr above) is = omega (arith, above.0, (files_within urls_base buckets f few (journal_files urls_base buckets f is)).1)
+rest_no_journal buckets f few rest is = rest_no_urls buckets buckets f few few rest is
 
 pub head_no_journal : (buckets : ℕ) → buckets ≤ 64 → IsJournalOf urls_base buckets head_file → ⊥
 head_no_journal buckets few is = omega (arith, (files_within urls_base buckets head_file few (journal_files urls_base buckets head_file is)).0)
@@ -44,4 +68,15 @@ rest_has urls settings files image same head as_told crawl pairs = record {
 -- ---- none of them is the head
 pub rest_no_head : (buckets f : ℕ) → IsRestFile buckets f → f ≢ head_file
 rest_no_head buckets f (inl e) = λ is. omega (arith, e, is)
-rest_no_head buckets f (inr above) = λ is. omega (arith, above.0, is)
+rest_no_head buckets f (inr (inl above)) = λ is. omega (arith, above.0, is)
+rest_no_head buckets f (inr (inr above)) = λ is. omega (arith, above.0, is)
+
+-- ---- they are synced
+pub rest_synced : (images : Files → Type 0) (buckets : ℕ) (files : Files) → ((image : Files) → images image → image crawl_file ≡ files crawl_file) → AreSyncedWithin images pairs_base (pairs_base + 10 + 2 * buckets) files
+    → AreSyncedWithin images (pairs_base + 500) (pairs_base + 500 + 2 * buckets) files → AreSynced images buckets files
+rest_synced images buckets files crawl low high = λ image left f is. each image left f is
+  where
+    each : (image : Files) → images image → (f : ℕ) → IsRestFile buckets f → image f ≡ files f
+    each image left f (inl e) = subst (λ (n : ℕ). image n ≡ files n) (sym e) (crawl image left)
+    each image left f (inr (inl within)) = low image left f within.0 within.1
+    each image left f (inr (inr within)) = high image left f within.0 within.1

@@ -19,11 +19,18 @@ use Rattle.irl_yard.specs.Head.{head_bytes}
 use Rattle.irl_yard.specs.Standing.{IsBlank}
 use Rattle.irl_yard.specs.Opening.{IsNotOursAt, IsKeptOtherwise, IsBadAsked, IsBadStore, IsStoreDamagedAt}
 
--- the files of a state beside the head and the bay of URLs
+-- the files of a state beside the head and the bay of URLs; the bay of pairs has its buckets' files on two sides
 abbrev pub IsRestFile : ℕ → ℕ → Type 0
-IsRestFile buckets f = (f ≡ crawl_file) ⊎ ((pairs_base ≤ f) × (f < pairs_base + 10 + 2 * buckets))
+IsRestFile buckets f =
+    (f ≡ crawl_file)
+    ⊎ ((pairs_base ≤ f) × (f < pairs_base + 10 + 2 * buckets))
+    ⊎ ((pairs_base + 500 ≤ f) × (f < pairs_base + 500 + 2 * buckets))
 
--- a stop leaves of them what is told
+-- a stop leaves of the files from one on and below another what is told
+abbrev pub AreSyncedWithin : (Files → Type 0) → ℕ → ℕ → Files → Type 0
+AreSyncedWithin images from end files = (image : Files) → images image → (f : ℕ) → from ≤ f → f < end → image f ≡ files f
+
+-- a stop leaves of the files of a state beside these what is told
 abbrev pub AreSynced : (Files → Type 0) → ℕ → Files → Type 0
 AreSynced images buckets files = (image : Files) → images image → (f : ℕ) → IsRestFile buckets f → image f ≡ files f
 

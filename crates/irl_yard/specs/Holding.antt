@@ -1,5 +1,6 @@
 -- An open store holds a state: what it keeps in memory is the state's, and each joint image that a stop now may leave stands for it.
 use Rattle.std.specs.Prelude.{◌≡◌, ◌≢◌, ◌⊎◌, ℕ, ◌≤◌, List, [], ◌∷◌, length, true, false, Some}
+use Rattle.std.specs.List.{AllByRecursion}
 use Rattle.irl_offer.specs.declared.offer.Rule.TheVariants.{Keep}
 use Rattle.irl_offer.specs.declared.settings.Kind.TheVariants.{Crawl}
 use Rattle.irl_model.specs.Book.{blank_book, flushed, merged}
@@ -7,8 +8,9 @@ use Rattle.irl_model.specs.State.{State}
 use Rattle.irl_offer.specs.Tuple.{Tuple}
 use Rattle.irl_disk.specs.Disk.{Files}
 use Rattle.irl_journal.specs.Appending.{IsOpen}
-use Rattle.irl_journal.specs.Format.{HasRecords}
+use Rattle.irl_journal.specs.Format.{HasRecords, StandsFor}
 use Rattle.irl_bay.specs.BayFiles.{file_of}
+use Rattle.irl_bay.specs.Commits.{Commit, IsCommit, HasCommits, first_commit, last_commit, live_side}
 use Rattle.irl_bay.specs.declared.layout.files.BayFile.TheVariants.{Journal}
 use Rattle.irl_bay.specs.Drum.{Drum, bucket_at}
 use Rattle.irl_bay.specs.Holding.{Holds}
@@ -54,10 +56,14 @@ abbrev pub HasOneOf : State → State → Files → Type 0
 HasOneOf x y image = HasState x image ⊎ HasState y image
 
 -- ---- the records of a bucket of URLs
--- a bucket's journal is open, with these records
+-- a bucket's live journal is open, with these records
 abbrev pub HasJournal : (Files → Type 0) → Drum → ℕ → List (List ℕ) → Type 0
 HasJournal images urls b payloads = IsOpen images (bucket_at urls b).journal payloads
 
--- a joint image has these records in it, of a bay with this first file
-abbrev pub HasBucketRecords : ℕ → ℕ → List (List ℕ) → Files → Type 0
-HasBucketRecords base b payloads image = HasRecords (image (file_of base 0 (Journal b))) payloads
+-- A joint image has these records in it: on the side that the last commit of the manifest leaves live. A journal without a record may
+-- have no closed gate yet.
+pub record HasLiveJournal (base buckets b : ℕ) (payloads : List (List ℕ)) (image : Files) : Type 0 where
+  pub commits : List Commit
+  pub form : AllByRecursion (IsCommit buckets) commits
+  pub manifest : HasCommits base commits image
+  pub records : StandsFor (image (file_of base 0 (Journal (live_side (last_commit (first_commit buckets) commits)) b))) payloads

@@ -15,19 +15,17 @@ ghost use Rattle.irl_disk.specs.Images.{Leaves, LeavesBy, LeavesSame};
 ghost use Rattle.irl_disk.specs.Taken.{TakesAmong, TakesOnly};
 ghost use Rattle.irl_journal.specs.Format.{StandsFor, HasRecords, IsBrokenAt};
 ghost use Rattle.irl_journal.specs.Visiting.{IsOpened};
-ghost use Rattle.irl_bay.specs.BayFiles.{file_of};
-ghost use Rattle.irl_bay.specs.declared.layout.files.BayFile.TheVariants.{Journal as JournalFile};
 ghost use Rattle.irl_bay.specs.Damage.{IsDamagedAt};
 ghost use Rattle.irl_bay.specs.Drum.{IsDrum};
 ghost use Rattle.irl_bay.specs.Holding.{IsLong, TellsBy};
 ghost use Rattle.irl_yard.specs.StoreFiles.{head_file, urls_base, IsOtherFile};
 ghost use Rattle.irl_yard.specs.Head.{head_bytes};
 ghost use Rattle.irl_yard.specs.Standing.{HasState, IsBlank};
-ghost use Rattle.irl_yard.specs.Holding.{HoldsState, HoldsUrls, HasOneOf, IsSound};
+ghost use Rattle.irl_yard.specs.Holding.{HoldsState, HoldsUrls, HasLiveJournal, HasOneOf, IsSound};
 ghost use Rattle.irl_yard.specs.Opening.{Agrees, HasHead, HasSettings, IsNotOursAt, IsStoreDamagedAt};
 ghost use Rattle.irl_yard.specs.Opening.{IsKeptOtherwise, IsBadStore};
 ghost use Rattle.irl_yard.specs.Opening.{entered_state, new_state};
-ghost use Rattle.irl_yard.specs.Entering.{AreSynced, KeepsBlank, KeepsHead, GainsFirst, IsStoreJournal, Enters};
+ghost use Rattle.irl_yard.specs.Entering.{AreSynced, AreSyncedWithin, KeepsBlank, KeepsHead, GainsFirst, IsStoreJournal, Enters};
 ghost use Rattle.irl_yard.specs.Entering.{HasGround, DeniesState, IsUnwanted};
 ghost use Rattle.irl_yard.specs.Entering.{found_in_head, fault_in_head, fault_of_bay};
 ghost use Rattle.irl_yard.specs.declared.open_fault.OpenFault.TheVariants.{NotOurs, Damaged, OtherSettings};
@@ -387,23 +385,40 @@ fn sync_rest<S: Store>(store: &mut S, buckets: u32) -> Result<(), Failed>
     ensures cause { HasCause (IsErr result) (S.faults store.old) (S.faults store.new) }
 {
     store.sync(CRAWL)?;
-    for f in PAIRS_BASE..PAIRS_BASE + 10 + 2 * buckets as u16 {
+    sync_files(store, PAIRS_BASE, PAIRS_BASE + 10 + 2 * buckets as u16)?;
+    sync_files(
+        store,
+        PAIRS_BASE + 500,
+        PAIRS_BASE + 500 + 2 * buckets as u16,
+    )
+}
+
+// Syncs the files from one on and below another.
+fn sync_files<S: Store>(store: &mut S, from: u16, end: u16) -> Result<(), Failed>
+    requires { end ≤ 10000 }
+    ensures synced { OnOk result (ForSome (S.snapshot store.old).files (λ files.
+        AreSyncedWithin (S.snapshot store.new).images from end files)) }
+    ensures same { (S.snapshot store.new).files ≡ (S.snapshot store.old).files }
+    ensures stops { LeavesSame (S.snapshot store.old) (S.snapshot store.new) }
+    ensures taken { S.taken store.new ≡ S.taken store.old }
+    ensures cause { HasCause (IsErr result) (S.faults store.old) (S.faults store.new) }
+{
+    for f in from..end {
         store.sync(f)?;
     }
     Ok(())
 }
 
 /// Entering a store with a state leaves files that stand for it, or for the new store's where it wasn't made yet, and
-/// leaves the records of each bucket's journal: of what is told, and of each image that a stop left, where what is told
+/// leaves the records of each bucket's live journal: of what is told, and of each image that a stop left, where what is told
 /// and each image stood for the state before.
 pub fn what_entering_keeps()
     ensures state { (asked : AskedValue) (told old new : Files) (state : State) → asked.kind ≢ Crawl →
         HasState state told → HasState state old → Enters asked (Some told) old new →
         HasOneOf state (entered_state asked state) new }
-    ensures records { (asked : AskedValue) (told old new : Files) (state : State) (b : ℕ) (payloads : List (List ℕ)) →
-        HasState state told → HasState state old → Enters asked (Some told) old new → b < 64 →
-        StandsFor (old (file_of urls_base 0 (JournalFile b))) payloads →
-        StandsFor (new (file_of urls_base 0 (JournalFile b))) payloads }
+    ensures records { (asked : AskedValue) (told old new : Files) (state : State) (buckets b : ℕ)
+        (payloads : List (List ℕ)) → HasState state told → HasState state old → Enters asked (Some told) old new →
+        b < 64 → HasLiveJournal urls_base buckets b payloads old → HasLiveJournal urls_base buckets b payloads new }
 {}
 
 /// No two kinds of refusal have their grounds in the same files.

@@ -1,4 +1,4 @@
-ghost use Rattle.std.specs.Prelude.{◌≡◌, ◌≢◌, ◌<◌, ℕ, List, [], map, slice_index_or, Some};
+ghost use Rattle.std.specs.Prelude.{◌≡◌, ◌≢◌, ◌<◌, ℕ, List, map, Some};
 ghost use Rattle.irl_offer.specs.Settings.{AreValid};
 ghost use Rattle.irl_offer.specs.Tuple.{Tuple};
 ghost use Rattle.irl_offer.specs.declared.settings.Asked.{Asked};
@@ -7,6 +7,7 @@ ghost use Rattle.irl_model.specs.Book.{IsPrefixOf, judged};
 ghost use Rattle.irl_model.specs.State.{State, IsFrontState};
 ghost use Rattle.irl_disk.specs.Disk.{Files};
 ghost use Rattle.irl_bay.specs.BayFiles.{IsBucketFile};
+ghost use Rattle.irl_bay.specs.Commits.{live_offers, live_side};
 ghost use Rattle.irl_bay.specs.Drum.{Drum, IsDrum};
 ghost use Rattle.irl_bay.specs.Merging.{IsMergeFile};
 ghost use Rattle.irl_bay.specs.Runs.{AreRuns, run_bytes};
@@ -30,7 +31,7 @@ pub fn one_state()
 {}
 
 /// What a stop now may leave stands for the state that an open store holds, and so does what the store tells. Each
-/// bucket's journal has the bucket's list in its records.
+/// bucket's live journal has in its records the offers of the bucket's list that the last commit leaves to the live side.
 pub fn what_is_held_has_its_state<S: Store>(store: &S, parts: &Parts)
     ensures left { (state : State) (image : Files) → IsDrum parts.now.urls →
         HoldsState (S.snapshot store.now).images parts.now state → (S.snapshot store.now).images image →
@@ -40,7 +41,7 @@ pub fn what_is_held_has_its_state<S: Store>(store: &S, parts: &Parts)
         HasState state files }
     ensures records { (state : State) (b : ℕ) → HoldsState (S.snapshot store.now).images parts.now state →
         b < parts.now.urls.settings.buckets → (runs : List (List Tuple))
-        × AreRuns parts.now.urls.settings.array (slice_index_or state.urls.lists b []) runs
+        × AreRuns parts.now.urls.settings.array (live_offers state.urls parts.now.urls.last b) runs
         × HasJournal (S.snapshot store.now).images parts.now.urls b (map run_bytes runs) }
 {}
 
@@ -55,8 +56,10 @@ pub fn states_grow()
         IsPrefixOf (judged x.urls) (judged y.urls) }
 {}
 
-/// A bucket's files are no other's, and a merge changes none of them.
+/// A bucket's files on a side are no other's, and none on the other side. A merge changes none of the live ones.
 pub fn a_buckets_files_are_its_own()
-    ensures bucket { (base b c f : ℕ) → b ≢ c → IsBucketFile base b f → IsBucketFile base c f → ⊥ }
-    ensures merge { (drum : Drum) (b f : ℕ) → IsBucketFile drum.base b f → IsMergeFile drum f → ⊥ }
+    ensures bucket { (base side b c f : ℕ) → b ≢ c → IsBucketFile base side b f → IsBucketFile base side c f → ⊥ }
+    ensures sides { (base b c f : ℕ) → b < 64 → c < 64 → IsBucketFile base 0 b f → IsBucketFile base 1 c f → ⊥ }
+    ensures merge { (drum : Drum) (b f : ℕ) → IsDrum drum → b < drum.settings.buckets →
+        IsBucketFile drum.base (live_side drum.last) b f → IsMergeFile drum f → ⊥ }
 {}

@@ -12,6 +12,7 @@ ghost use Rattle.irl_disk.specs.Disk.{Files};
 ghost use Rattle.irl_disk.specs.Images.{Leaves, LeavesBy, LeavesSame};
 ghost use Rattle.irl_disk.specs.Taken.{TakesAmong};
 ghost use Rattle.irl_bay.specs.BayFiles.{IsBucketFile, IsFileOf};
+ghost use Rattle.irl_bay.specs.Commits.{HasLiveRecords, live_side};
 ghost use Rattle.irl_bay.specs.Runs.{run_bytes};
 ghost use Rattle.irl_bay.specs.Drum.{IsDrum, durable_at, pending_at, SomePending, KeepsCounts, CountsFlush, CountsMerge};
 ghost use Rattle.irl_bay.specs.Drum.{HasNumbers};
@@ -20,7 +21,7 @@ ghost use Rattle.irl_bay.specs.Merging.{KeepsCommitted, IsMergeFile};
 ghost use Rattle.irl_bay.specs.JudgedSpoilt.{IsJudgedSpoiltAt, IsJudgedFile};
 ghost use Rattle.irl_bay.specs.Spoilt.{IsSpoiltAt};
 ghost use Rattle.irl_yard.specs.Standing.{HasState};
-ghost use Rattle.irl_yard.specs.Holding.{IsSound, HoldsState, HasOneOf, HasJournal, HasBucketRecords, with_offers, with_cut};
+ghost use Rattle.irl_yard.specs.Holding.{IsSound, HoldsState, HasOneOf, HasJournal, with_offers, with_cut};
 
 use crate::parts::Parts;
 use irl_array::Array;
@@ -122,31 +123,36 @@ impl<S: Store> Yard<S> {
         ensures stops { (state : State) → HoldsState (S.snapshot self.old.store).images self.old.parts state →
             Leaves (S.snapshot self.old.store) (S.snapshot self.new.store)
             (HasOneOf state (with_offers b array.old.items state)) }
-        // The bucket's journal has one record more, of all these offers.
+        // The bucket's live journal has one record more, of all these offers.
         ensures gains { OnOk result ((payloads : List (List ℕ)) →
             HasJournal (S.snapshot self.old.store).images self.old.parts.urls b payloads →
             HasJournal (S.snapshot self.new.store).images self.new.parts.urls b
             (payloads ++ run_bytes array.old.items ∷ [])) }
-        ensures gains_stop { (payloads : List (List ℕ)) →
+        ensures gains_stop { (state : State) (payloads : List (List ℕ)) →
+            HoldsState (S.snapshot self.old.store).images self.old.parts state →
             HasJournal (S.snapshot self.old.store).images self.old.parts.urls b payloads →
             Leaves (S.snapshot self.old.store) (S.snapshot self.new.store) (λ image.
-            HasBucketRecords self.old.parts.urls.base b payloads image
-            ⊎ HasBucketRecords self.old.parts.urls.base b (payloads ++ run_bytes array.old.items ∷ []) image) }
-        // The journals of the other buckets keep their records.
+            HasLiveRecords self.old.parts.urls.base self.old.parts.urls.settings.buckets b payloads image
+            ⊎ HasLiveRecords self.old.parts.urls.base self.old.parts.urls.settings.buckets b
+            (payloads ++ run_bytes array.old.items ∷ []) image) }
+        // The live journals of the other buckets keep their records.
         ensures records_kept { IsSound self.new.parts → (state : State) (c : ℕ) (payloads : List (List ℕ)) →
             c ≢ b → c < self.old.parts.urls.settings.buckets →
             HoldsState (S.snapshot self.old.store).images self.old.parts state →
             HasJournal (S.snapshot self.old.store).images self.old.parts.urls c payloads →
             HasJournal (S.snapshot self.new.store).images self.new.parts.urls c payloads }
-        ensures records_stop { (c : ℕ) (payloads : List (List ℕ)) →
+        ensures records_stop { (state : State) (c : ℕ) (payloads : List (List ℕ)) →
             c ≢ b → c < self.old.parts.urls.settings.buckets →
+            HoldsState (S.snapshot self.old.store).images self.old.parts state →
             HasJournal (S.snapshot self.old.store).images self.old.parts.urls c payloads →
             Leaves (S.snapshot self.old.store) (S.snapshot self.new.store)
-            (HasBucketRecords self.old.parts.urls.base c payloads) }
-        // No file but the bucket's two changes.
-        ensures others { TellsOnly (IsBucketFile self.old.parts.urls.base b)
+            (HasLiveRecords self.old.parts.urls.base self.old.parts.urls.settings.buckets c payloads) }
+        // No file but the bucket's two live ones changes.
+        ensures others { TellsOnly
+            (IsBucketFile self.old.parts.urls.base (live_side self.old.parts.urls.last) b)
             (S.snapshot self.old.store).files (S.snapshot self.new.store).files }
-        ensures others_stop { LeavesBy (ChangesOnly (IsBucketFile self.old.parts.urls.base b))
+        ensures others_stop { LeavesBy
+            (ChangesOnly (IsBucketFile self.old.parts.urls.base (live_side self.old.parts.urls.last) b))
             (S.snapshot self.old.store) (S.snapshot self.new.store) }
         ensures taken { S.taken self.new.store ≡ S.taken self.old.store }
         ensures cause { HasCause (IsErrOf result Fault.Failed) (S.faults self.old.store) (S.faults self.new.store) }
@@ -194,18 +200,24 @@ impl<S: Store> Yard<S> {
         // A stop at any moment leaves files that stand for the state, with the cut or without.
         ensures stops { (state : State) → HoldsState (S.snapshot self.old.store).images self.old.parts state →
             Leaves (S.snapshot self.old.store) (S.snapshot self.new.store) (HasOneOf state (with_cut state)) }
-        // The journals of the buckets keep their records.
-        ensures records_kept { IsSound self.new.parts → (state : State) (b : ℕ) (payloads : List (List ℕ)) →
+        // The live journals of the buckets are empty then; where want of memory or damage is answered, they keep their
+        // records. A stop leaves each as it was or empty.
+        ensures emptied { OnOk result ((b : ℕ) → b < self.old.parts.urls.settings.buckets →
+            HasJournal (S.snapshot self.new.store).images self.new.parts.urls b []) }
+        ensures records_kept { OnErr result (IsSound self.new.parts →
+            (state : State) (b : ℕ) (payloads : List (List ℕ)) → b < self.old.parts.urls.settings.buckets →
+            HoldsState (S.snapshot self.old.store).images self.old.parts state →
+            HasJournal (S.snapshot self.old.store).images self.old.parts.urls b payloads →
+            HasJournal (S.snapshot self.new.store).images self.new.parts.urls b payloads) }
+        ensures records_stop { (state : State) (b : ℕ) (payloads : List (List ℕ)) →
             b < self.old.parts.urls.settings.buckets →
             HoldsState (S.snapshot self.old.store).images self.old.parts state →
             HasJournal (S.snapshot self.old.store).images self.old.parts.urls b payloads →
-            HasJournal (S.snapshot self.new.store).images self.new.parts.urls b payloads }
-        ensures records_stop { (b : ℕ) (payloads : List (List ℕ)) →
-            b < self.old.parts.urls.settings.buckets →
-            HasJournal (S.snapshot self.old.store).images self.old.parts.urls b payloads →
-            Leaves (S.snapshot self.old.store) (S.snapshot self.new.store)
-            (HasBucketRecords self.old.parts.urls.base b payloads) }
-        // Only the manifest, the cache side that isn't live, the judged offers and their texts change.
+            Leaves (S.snapshot self.old.store) (S.snapshot self.new.store) (λ image.
+            HasLiveRecords self.old.parts.urls.base self.old.parts.urls.settings.buckets b payloads image
+            ⊎ HasLiveRecords self.old.parts.urls.base self.old.parts.urls.settings.buckets b [] image) }
+        // Only the manifest, the cache side that isn't live, the judged offers, their texts, and the buckets' files on the
+        // side that isn't live change.
         ensures others { TellsOnly (IsMergeFile self.old.parts.urls)
             (S.snapshot self.old.store).files (S.snapshot self.new.store).files }
         ensures others_stop { LeavesBy (ChangesOnly (IsMergeFile self.old.parts.urls))

@@ -150,7 +150,7 @@ fn failed_in(
 // The calls in which a store of one bucket is made, behind those that ask for the lengths of all files.
 const FIRST: u64 = 10_000;
 
-const END: u64 = 10_026;
+const END: u64 = 10_028;
 
 #[test]
 fn a_failed_call_leaves_a_store_to_enter(rt: HostRuntime) -> Result<(), Fail> {

@@ -27,12 +27,15 @@ fn make(store: &mut MemStore, f: u16, change: Change<'_>) -> Result<(), Failed> 
     }
 }
 
-// The lines of the row, flushed and judged, and the same again; and a line of the other of two buckets.
-const TWICE: [Step<'static>; 4] = [
+// The lines of the row, flushed and judged, and the same again, and they wait twice behind it; and a line of the other of
+// two buckets.
+const TWICE: [Step<'static>; 6] = [
     Step::Flush(0, &ROW),
     Step::Merge,
     Step::Flush(0, &ROW),
     Step::Merge,
+    Step::Flush(0, &ROW),
+    Step::Flush(0, &ROW),
 ];
 
 const HIGH: [Step<'static>; 1] = [Step::Flush(1, &[(1 << 63, b"x")])];
@@ -71,53 +74,52 @@ fn opened(
 // A file, what is done to it, and the file and the place that are named.
 type Damage = (u16, Change<'static>, (u16, u64));
 
-// Of the row's store, whose files have 106 bytes (the head), 47 (the manifest), 32 (the live side of the cache, 0102), 144
-// (the judged offers), 42 (their texts), 87 (the bucket's journal) and 42 (its texts).
-const OF_ONE_RUN: [Damage; 24] = [
+// Of the store in which the row was judged and waits once more, whose files have 106 bytes (the head), 47 (the manifest),
+// 32 (the live side of the cache, 0102), 144 (the judged offers), 42 (their texts), 87 (the bucket's live journal, 0600) and
+// 42 (its texts).
+const OF_ONE_RUN: [Damage; 22] = [
     (0, Cut(105), (0, 0)),
     (0, Cut(6), (0, 0)),
     // Arrays of two offers, where three stand in one record.
-    (0, Put(41, b"\x02\x00"), (110, 0)),
+    (0, Put(41, b"\x02\x00"), (600, 0)),
     (100, Cut(46), (100, 0)),
     (100, Put(1, b"\xFF"), (100, 0)),
     (100, Put(1, b"\x28"), (100, 0)),
-    (100, Put(5, b"\x02"), (100, 0)),
+    (100, Put(5, b"\x06"), (100, 0)),
     (100, Put(6, b"\x03"), (102, 32)),
     (100, Put(14, b"\x04"), (103, 144)),
     (100, Put(30, b"\x2B"), (104, 42)),
-    (100, Put(38, b"\x04"), (100, 0)),
     (102, Cut(31), (102, 31)),
     (103, Cut(100), (103, 100)),
     (104, Cut(41), (104, 41)),
-    (110, Cut(86), (110, 0)),
-    // The list is empty, and the cut is above it.
-    (110, Cut(1), (100, 0)),
-    (110, Put(0, b"\xA5\xFF\0\0\0\0"), (110, 0)),
-    (110, Put(1, b"\xFF"), (110, 0)),
-    (110, Put(1, b"\x50"), (110, 0)),
-    (110, Put(1, b"\x00"), (110, 0)),
-    (110, Put(5, b"\x03"), (110, 0)),
+    (600, Cut(86), (600, 0)),
+    (600, Put(0, b"\xA5\xFF\0\0\0\0"), (600, 0)),
+    (600, Put(1, b"\xFF"), (600, 0)),
+    (600, Put(1, b"\x50"), (600, 0)),
+    (600, Put(1, b"\x00"), (600, 0)),
+    (600, Put(5, b"\x03"), (600, 0)),
     // A text of 2,049 bytes.
-    (110, Put(6, b"\x01\x08"), (110, 0)),
-    (111, Cut(41), (111, 41)),
-    (111, Cut(0), (111, 0)),
+    (600, Put(6, b"\x01\x08"), (600, 0)),
+    (601, Cut(41), (601, 41)),
+    (601, Cut(0), (601, 0)),
 ];
 
-// After a second run the manifest's second record stands at 46, and the journal's at 86.
-const OF_TWO_RUNS: [Damage; 12] = [
+// After a second merge the manifest's second record stands at 46, side 0 is live again, and its journal's second record
+// stands at 86.
+const OF_TWO_RUNS: [Damage; 11] = [
     (100, Put(38, b"\x07"), (100, 46)),
-    (100, Put(51, b"\x02"), (100, 46)),
+    (100, Put(51, b"\x06"), (100, 46)),
+    // The layout of one side behind that of two.
+    (100, Put(51, b"\x01"), (100, 46)),
     // Each number that fell.
     (100, Put(52, b"\x01"), (100, 46)),
     (100, Put(60, b"\x02"), (100, 46)),
     (100, Put(68, b"\x01"), (100, 46)),
     (100, Put(76, b"\x29"), (100, 46)),
     (100, Put(84, b"\x02"), (100, 46)),
-    (100, Put(84, b"\x07"), (100, 46)),
     (101, Cut(31), (101, 31)),
     (110, Cut(172), (110, 86)),
     (110, Put(91, b"\x03"), (110, 86)),
-    (110, Put(86, b"\x00"), (100, 46)),
 ];
 
 // The key of an offer of the first of two buckets, in the second's journal.
@@ -141,7 +143,7 @@ fn check_damage(
 #[test]
 fn each_damage_is_named_at_its_place(rt: HostRuntime) -> Result<(), Fail> {
     let alloc = rt.alloc();
-    let store = store_of(alloc, 1, &TWICE[..2])?;
+    let store = store_of(alloc, 1, &TWICE[..3])?;
     check_damage(&rt, alloc, &store, &OF_ONE_RUN)?;
     let store = store_of(alloc, 1, &TWICE)?;
     check_damage(&rt, alloc, &store, &OF_TWO_RUNS)?;
@@ -150,8 +152,8 @@ fn each_damage_is_named_at_its_place(rt: HostRuntime) -> Result<(), Fail> {
     Ok(())
 }
 
-// Without its record, or with its gate closed, the manifest says that nothing is judged. The first side of the cache isn't live
-// after one run, and what stands behind a file's committed part means nothing.
+// Without its record, or with its gate closed, the manifest says that nothing is judged. The first side of the cache and of
+// the bucket files isn't live after one merge, and what stands behind a file's committed part means nothing.
 #[test]
 fn what_is_not_committed_means_nothing(rt: HostRuntime) -> Result<(), Fail> {
     let alloc = rt.alloc();
@@ -164,8 +166,10 @@ fn what_is_not_committed_means_nothing(rt: HostRuntime) -> Result<(), Fail> {
         (102, Put(32, b"x"), 3),
         (103, Put(144, b"x"), 3),
         (104, Put(42, b"x"), 3),
-        (110, Put(87, b"x"), 3),
-        (111, Put(42, b"x"), 3),
+        (110, Put(0, b"\xA5\xFF\0\0\0\0"), 3),
+        (111, Cut(0), 3),
+        (600, Put(1, b"x"), 3),
+        (601, Put(0, b"x"), 3),
     ] {
         assert_eq!(rt;
             opened(alloc, &store, f, done)?,

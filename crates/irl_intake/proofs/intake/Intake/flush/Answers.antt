@@ -8,10 +8,11 @@ use Rattle.irl_bay.specs.Drum.{durable_at, pending_at}
 use Rattle.std.proofs.lemmas.Bool.Decides.{eqb_tells}
 use Rattle.irl_disk.proofs.Stretches.{widens_by}
 use Rattle.irl_bay.specs.BayFiles.{IsBucketFile, IsFileOf}
+use Rattle.irl_bay.specs.Commits.{live_side}
 use Rattle.irl_bay.specs.Holding.{ChangesOnly}
 use Rattle.irl_bay.proofs.Apart.{bucket_files}
 use Rattle.irl_bay.proofs.Staying.{only_wider}
-use Rattle.irl_yard.proofs.Journals.{unless_failed}
+use Rattle.irl_yard.proofs.Journals.{live_low, unless_failed}
 use Rattle.irl_intake.specs.Feeding.{no_array, array_at, moment, Moment, Fed, Stranded, Keeps}
 use Rattle.irl_intake.specs.Schedule.{uneven_flush, none_more}
 use Rattle.irl_intake.proofs.Chains.{tells_wider, fed_still, fed_more, keeps_same}
@@ -137,9 +138,9 @@ returns-clause-stays g c =
     record {
       settings = by_answer c.flush.result c.flush.ensures.counts c.flush.ensures.counts_kept (λ counts. counts.settings) (λ counts. counts.settings);
       base = by_answer c.flush.result c.flush.ensures.counts c.flush.ensures.counts_kept (λ counts. counts.base) (λ counts. counts.base);
-      others = tells_wider (IsBucketFile urls.base b) (IsFileOf urls.base urls.settings.buckets) _ _ (λ f. bucket_files urls.base urls.settings.buckets b f c.requires.bucket) c.flush.ensures.others;
-      others_stop = widens_by _ _ (ChangesOnly (IsBucketFile urls.base b)) (ChangesOnly (IsFileOf urls.base urls.settings.buckets)) c.flush.ensures.others_stop
-          (λ old new. only_wider (IsBucketFile urls.base b) (IsFileOf urls.base urls.settings.buckets) old new (λ f. bucket_files urls.base urls.settings.buckets b f c.requires.bucket));
+      others = tells_wider (IsBucketFile urls.base (live_side urls.last) b) (IsFileOf urls.base urls.settings.buckets) _ _ (λ f is_file. bucket_files urls.base urls.settings.buckets (live_side urls.last) b f c.requires.bucket is_file (live_low urls c.is_sound-is_sound.ensures.drum)) c.flush.ensures.others;
+      others_stop = widens_by _ _ (ChangesOnly (IsBucketFile urls.base (live_side urls.last) b)) (ChangesOnly (IsFileOf urls.base urls.settings.buckets)) c.flush.ensures.others_stop
+          (λ old new. only_wider (IsBucketFile urls.base (live_side urls.last) b) (IsFileOf urls.base urls.settings.buckets) old new (λ f is_file. bucket_files urls.base urls.settings.buckets (live_side urls.last) b f c.requires.bucket is_file (live_low urls c.is_sound-is_sound.ensures.drum)));
       bound = λ d inside. ⊎_elim
           (λ same. subst (λ (n : ℕ). pending_at now n ≤ max (urls.settings.trigger + urls.settings.array - 1) (pending_at urls n)) (sym same.1)
           (by_answer c.flush.result c.flush.ensures.counts c.flush.ensures.counts_kept

@@ -16,7 +16,7 @@ use Rattle.irl_intake.specs.Feeding.{moment, Moment, Fed}
 use Rattle.irl_intake.specs.Schedule.{none_more}
 use Rattle.irl_intake.proofs.Chains.{tells_wider}
 use Rattle.irl_intake.proofs.Counts.{kept_durable, kept_pending, merged_durable, merged_pending}
-use Rattle.irl_intake.proofs.Merging.{Merging, merge_fed, merge_stranded, unmerged_fed, spoilt_told}
+use Rattle.irl_intake.proofs.Merging.{Merging, emptied_journals, kept_journals, merge_fed, merge_stranded, unmerged_fed, spoilt_told}
 use Rattle.irl_intake.proofs.intake.Intake.merge.Goals as goal
 
 pub returns-in-Ok-clause-fed : goal.returns-in-Ok-clause-fed
@@ -26,8 +26,7 @@ returns-in-Ok-clause-fed g c = λ early why sound files told x holds.
     let old : Moment = moment tells was.yard.store was.yard.parts was.arrays.items in
     let new : Moment = moment tells c.merge.new.self.store c.merge.new.self.parts was.arrays.items in
     let merging : Merging old new = record { later = c.merge.ensures.others_stop.later; pending = c.requires.pending; waiting = refl; stops = c.merge.ensures.stops; records_stop = c.merge.ensures.records_stop } in
-    merge_fed early old new x c.is_sound-is_sound.ensures.drum merging c.in-Ok.ensures.counts.settings why holds (c.in-Ok.ensures.holds files told x holds)
-    (c.merge.ensures.records_kept (c.in-Ok.ensures.sound (λ failed. let no : ⊥ = cc in absurd no)) x)
+    merge_fed early old new x c.is_sound-is_sound.ensures.drum merging why holds (c.in-Ok.ensures.holds files told x holds) (emptied_journals old new c.in-Ok.ensures.counts.settings c.in-Ok.ensures.emptied)
 
 pub returns-in-Ok-clause-durable : goal.returns-in-Ok-clause-durable
 returns-in-Ok-clause-durable g c = λ b. merged_durable c.args.self.now.yard.parts.urls c.merge.new.self.parts.urls b c.in-Ok.ensures.counts
@@ -70,11 +69,11 @@ returns-in-Err-clause-fed g c = λ early why sound files told x holds.
     let new : Moment = moment tells c.merge.new.self.store c.merge.new.self.parts was.arrays.items in
     let merging : Merging old new = record { later = c.merge.ensures.others_stop.later; pending = c.requires.pending; waiting = refl; stops = c.merge.ensures.stops; records_stop = c.merge.ensures.records_stop } in
     let not_failed = λ (is : IsErrOf {T = ℕ} {E = Fault} (Err c.in-Err.fault) Failed). sound (error_of c.in-Err.fault Failed is) in
-    let kept = c.merge.ensures.records_kept (c.in-Err.ensures.sound not_failed) x in
+    let kept = kept_journals old new x c.in-Err.ensures.counts_kept.settings holds (c.in-Err.ensures.records_kept (c.in-Err.ensures.sound not_failed)) in
     unless_failed {T = ℕ} (Err c.in-Err.fault) (Fed early none_more [] old new x) not_failed tt
-    (λ is. unmerged_fed early old new x law merging (c.in-Err.ensures.memory_kept is) (c.in-Err.ensures.memory_files is).1 holds (c.in-Err.ensures.memory_holds is x holds) kept)
+    (λ is. unmerged_fed early old new x law merging (c.in-Err.ensures.memory_files is).1 holds (c.in-Err.ensures.memory_holds is x holds) kept)
     (λ n is. absurd (c.in-Err.ensures.full n is))
-    (λ f at is. unmerged_fed early old new x law merging (c.in-Err.ensures.damaged_kept f at is) (c.in-Err.ensures.damaged_files f at is).1 holds (c.in-Err.ensures.damaged_holds f at is x holds) kept)
+    (λ f at is. unmerged_fed early old new x law merging (c.in-Err.ensures.damaged_files f at is).1 holds (c.in-Err.ensures.damaged_holds f at is x holds) kept)
 
 pub returns-in-Err-clause-stranded : goal.returns-in-Err-clause-stranded
 returns-in-Err-clause-stranded g c = λ early why failed files told x holds.

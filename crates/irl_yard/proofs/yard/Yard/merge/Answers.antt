@@ -1,9 +1,9 @@
-use Rattle.std.proofs.Common.{inl, refl, ap}
+use Rattle.std.proofs.Common.{ap}
 use Rattle.irl_model.specs.Book.{merged}
 use Rattle.irl_bay.specs.Drum.{Drum}
 use Rattle.irl_bay.proofs.Apart.{merge_files}
 use Rattle.irl_yard.proofs.Holding.{holds_after, stops_one_of, on_ok_both}
-use Rattle.irl_yard.proofs.Journals.{journal_stays, records_stay, merge_apart, unless_failed}
+use Rattle.irl_yard.proofs.Journals.{merge_keeps, unless_ok}
 use Rattle.irl_yard.proofs.yard.Yard.merge.Goals as goal
 
 pub merge-requires-clause-long : goal.merge-requires-clause-long
@@ -44,28 +44,25 @@ returns-clause-stops g c = λ state holds.
     stops_one_of _ (g.S.Store.snapshot c.args.self.now.store) (g.S.Store.snapshot c.merge.new.store) c.args.self.now.parts.urls state (merged state.urls) c.is_sound-is_sound.ensures.drum
     (merge_files c.args.self.now.parts.urls) holds (c.merge.ensures.stops state.urls holds.urls_hold)
 
--- the journals of the buckets end where they did
+-- where it is refused, the live journals of the buckets end where they did
 pub returns-clause-records_kept : goal.returns-clause-records_kept
-returns-clause-records_kept g c = λ sound state b payloads within holds has.
+returns-clause-records_kept g c =
     let tells = g.S.Store.snapshot in
     let was = c.args.self.now.parts.urls in
     let law = c.is_sound-is_sound.ensures.drum in
-    let base = λ (d : Drum). d.base in
-    let settings = λ (d : Drum). d.settings in
-    let stays = journal_stays _ (tells c.args.self.now.store) (tells c.merge.new.store) was c.merge.new.self b payloads law c.merge.ensures.drum
-    (g.met.S.Store.is_consistent c.args.self.now.store) (g.met.S.Store.is_consistent c.merge.new.store) within (merge_apart was b _ (inl refl)) c.merge.ensures.others_stop in
-    let after = holds_after _ (tells c.args.self.now.store) (tells c.merge.new.store) was c.merge.new.self state in
+    let old = tells c.args.self.now.store in
+    let new = tells c.merge.new.store in
     let consistent = g.met.S.Store.is_consistent c.merge.new.store in
-    unless_failed c.merge.result _ (λ failed. let no = c.merge.ensures.sound.1 failed in cc)
-    (on_ok_both c.merge.result c.merge.ensures.holds c.merge.ensures.counts (λ gives counts.
-    stays counts.base counts.settings (λ files told. (_, after (merged state.urls) law consistent (merge_files was) c.merge.ensures.others_stop counts.base counts.settings holds (gives files told state.urls holds.urls_hold))) has))
-    (λ is. let same = c.merge.ensures.memory_kept is in
-    stays (ap base same) (ap settings same) (λ files told. (_, after state.urls law consistent (merge_files was) c.merge.ensures.others_stop (ap base same) (ap settings same) holds (c.merge.ensures.memory_holds is state.urls holds.urls_hold))) has)
+    unless_ok c.merge.result _ (λ failed sound. let no = c.merge.ensures.sound.1 failed in absurd (cc))
+    (λ is sound state b payloads within holds has.
+    let same = c.merge.ensures.memory_kept is in
+    merge_keeps old new was c.merge.new.self state b payloads law c.merge.ensures.drum (g.met.S.Store.is_consistent c.args.self.now.store) consistent within c.merge.ensures.others_stop same holds
+    (c.merge.ensures.memory_holds is state.urls holds.urls_hold) has)
     (λ n is. absurd (c.merge.ensures.full n is))
-    (λ f at is. let same = c.merge.ensures.damaged_kept f at is in
-    stays (ap base same) (ap settings same) (λ files told. (_, after state.urls law consistent (merge_files was) c.merge.ensures.others_stop (ap base same) (ap settings same) holds (c.merge.ensures.damaged_holds f at is state.urls holds.urls_hold))) has)
+    (λ f at is sound state b payloads within holds has.
+    let same = c.merge.ensures.damaged_kept f at is in
+    merge_keeps old new was c.merge.new.self state b payloads law c.merge.ensures.drum (g.met.S.Store.is_consistent c.args.self.now.store) consistent within c.merge.ensures.others_stop same holds
+    (c.merge.ensures.damaged_holds f at is state.urls holds.urls_hold) has)
 
 pub returns-clause-records_stop : goal.returns-clause-records_stop
-returns-clause-records_stop g c = λ b payloads within has.
-    let was = c.args.self.now.parts.urls in
-    records_stay _ (g.S.Store.snapshot c.args.self.now.store) (g.S.Store.snapshot c.merge.new.store) was b payloads c.is_sound-is_sound.ensures.drum within (merge_apart was b _ (inl refl)) c.merge.ensures.others_stop has
+returns-clause-records_stop g c = λ state b payloads within holds has. c.merge.ensures.records_stop state.urls b payloads holds.urls_hold within has

@@ -1,16 +1,15 @@
-use Rattle.std.proofs.Common.{◌≡◌, ◌⊎◌, ◌<◌, ◌≤◌, ℕ}
+use Rattle.std.proofs.Common.{◌≡◌, ◌≤◌}
 use Rattle.std.specs.Option.{ForSome}
-use Rattle.irl_disk.specs.Disk.{Files}
 use Rattle.irl_disk.specs.Images.{LeavesSame}
-use Rattle.irl_yard.specs.StoreFiles.{crawl_file, pairs_base}
-use Rattle.irl_yard.proofs.enter.sync_rest.Given as goal
+use Rattle.irl_yard.specs.Entering.{AreSyncedWithin}
+use Rattle.irl_yard.proofs.enter.sync_files.Given as goal
 
 -- the files so far are synced
 abbrev pub invariant-loop-f : goal.invariant-loop-f
 invariant-loop-f g l =
     let store = g.S.Store in
     record {
-      synced : ForSome (store.snapshot l.fn.store).files (λ files. (image : Files) → (store.snapshot l.store).images image → (f : ℕ) → (f ≡ crawl_file) ⊎ ((pairs_base ≤ f) × (f < l.f)) → image f ≡ files f);
+      synced : ForSome (store.snapshot l.fn.store).files (λ files. AreSyncedWithin (store.snapshot l.store).images l.fn.from l.f files);
       same : (store.snapshot l.store).files ≡ (store.snapshot l.fn.store).files;
       stops : LeavesSame (store.snapshot l.fn.store) (store.snapshot l.store);
       taken : store.taken l.store ≡ store.taken l.fn.store;
