@@ -1,6 +1,6 @@
 // What the disk alone asks of `seen`: the writes, cuts and syncs of the store's layout over a file of lines, and nothing else.
-//   floor FOLDER LINES
-// It works out first what is written when, by the settings of a new store and a hash of its own, and then times the calls alone:
+//   floor FOLDER LINES BUCKETS ARRAY TRIGGER
+// It works out first what is written when, by these settings of the store and a hash of its own, and then times the calls alone:
 // of a first run over a new store, and of a second one over the same lines. Prints the seconds that each took.
 #include <fcntl.h>
 #include <stdint.h>
@@ -11,8 +11,8 @@
 #include <time.h>
 #include <unistd.h>
 
-enum { BUCKETS = 16, ARRAY = 1024, TRIGGER = 16384, ENTRY = 27, JUDGED = 48, PAIR = 16 };
-enum { HEAD = 0, MANIFEST = 100, CACHE = 101, JUDGED_FILE = 103, TEXTS = 104, JOURNAL = 110, AUX = 111 };
+enum { MOST_BUCKETS = 64, MOST_ARRAY = 8192, ENTRY = 27, JUDGED = 48, PAIR = 16 };
+enum { HEAD = 0, MANIFEST = 100, CACHE = 101, JUDGED_FILE = 103, TEXTS = 104, JOURNAL = 110, AUX = 111, SIDE = 490 };
 
 // One flush, of one array's texts, or one merge.
 struct step {
@@ -20,10 +20,13 @@ struct step {
   uint64_t offers, texts, keys;
 };
 
+static int buckets, bits; // 2 ^ bits buckets
+static uint64_t array, trigger;
+
 static struct step *steps;
 static size_t count, room;
-static int files[256];
-static uint64_t ends[256];
+static int files[1024];
+static uint64_t ends[1024];
 static char *zeros;
 
 static void die(const char *what) {
@@ -101,11 +104,12 @@ static void enter(uint64_t key) {
   set[i] = key;
 }
 
-static uint64_t waiting[BUCKETS], texts[BUCKETS], pending[BUCKETS], pending_texts[BUCKETS], kept[BUCKETS][ARRAY];
+static uint64_t waiting[MOST_BUCKETS], texts[MOST_BUCKETS], pending[MOST_BUCKETS], pending_texts[MOST_BUCKETS];
+static uint64_t kept[MOST_BUCKETS][MOST_ARRAY];
 
 static void merge(void) {
   struct step step = {-1, 0, 0, 0};
-  for (int b = 0; b < BUCKETS; b++) {
+  for (int b = 0; b < buckets; b++) {
     step.offers += pending[b];
     step.texts += pending_texts[b];
     pending[b] = pending_texts[b] = 0;
@@ -132,17 +136,17 @@ static void plan(const char *name) {
     if (line[n - 1] == '\n') n--;
     if (n == 0) continue;
     uint64_t key = hash(line, (size_t)n);
-    int b = (int)(key >> 60);
-    if (waiting[b] == ARRAY) {
+    int b = bits ? (int)(key >> (64 - bits)) : 0;
+    if (waiting[b] == array) {
       flush(b);
-      if (pending[b] >= TRIGGER) merge();
+      if (pending[b] >= trigger) merge();
     }
     kept[b][waiting[b]++] = key;
     texts[b] += (uint64_t)n;
   }
-  for (int b = 0; b < BUCKETS; b++)
+  for (int b = 0; b < buckets; b++)
     if (waiting[b]) flush(b);
-  for (int b = 0; b < BUCKETS; b++)
+  for (int b = 0; b < buckets; b++)
     if (pending[b]) {
       merge();
       break;
@@ -150,14 +154,32 @@ static void plan(const char *name) {
   fclose(lines);
 }
 
+static void empty(int f) {
+  if (ftruncate(files[f], 0)) die("cut");
+  ends[f] = 0;
+}
+
+static int live; // the side of the buckets' files that is
+
+static void empty_side(int side) { // the buckets' files, each journal with its closed gate
+  for (int b = 0; b < buckets; b++) {
+    empty(JOURNAL + SIDE * side + 2 * b);
+    empty(AUX + SIDE * side + 2 * b);
+  }
+  for (int b = 0; b < buckets; b++) {
+    put(JOURNAL + SIDE * side + 2 * b, 1);
+    sync_file(JOURNAL + SIDE * side + 2 * b);
+  }
+}
+
 static void carry_out(size_t from, size_t to) {
   static int side;
   for (size_t i = from; i < to; i++) {
     struct step step = steps[i];
     if (step.bucket >= 0) {
-      put(AUX + 2 * step.bucket, step.texts);
-      sync_file(AUX + 2 * step.bucket);
-      append(JOURNAL + 2 * step.bucket, ENTRY * step.offers);
+      put(AUX + SIDE * live + 2 * step.bucket, step.texts);
+      sync_file(AUX + SIDE * live + 2 * step.bucket);
+      append(JOURNAL + SIDE * live + 2 * step.bucket, ENTRY * step.offers);
       continue;
     }
     side = 1 - side;
@@ -167,7 +189,9 @@ static void carry_out(size_t from, size_t to) {
     sync_file(CACHE + side);
     sync_file(JUDGED_FILE);
     sync_file(TEXTS);
-    append(MANIFEST, 33 + 8 * BUCKETS);
+    empty_side(1 - live);
+    append(MANIFEST, 33 + 8 * (uint64_t)buckets);
+    live = 1 - live;
   }
 }
 
@@ -175,9 +199,11 @@ static void make(const char *folder) {
   if (mkdir(folder, 0777)) die(folder);
   open_file(folder, MANIFEST, 1);
   for (int f = CACHE; f <= TEXTS; f++) open_file(folder, f, 0);
-  for (int b = 0; b < BUCKETS; b++) {
+  for (int b = 0; b < buckets; b++) {
     open_file(folder, JOURNAL + 2 * b, 1);
     open_file(folder, AUX + 2 * b, 0);
+    open_file(folder, JOURNAL + SIDE + 2 * b, 0);
+    open_file(folder, AUX + SIDE + 2 * b, 0);
   }
   open_file(folder, HEAD, 1);
   append(HEAD, 100);
@@ -186,9 +212,9 @@ static void make(const char *folder) {
 static void sync_all(void) { // what opening a store syncs
   sync_file(HEAD);
   for (int f = MANIFEST; f <= TEXTS; f++) sync_file(f);
-  for (int b = 0; b < BUCKETS; b++) {
-    sync_file(JOURNAL + 2 * b);
-    sync_file(AUX + 2 * b);
+  for (int b = 0; b < buckets; b++) {
+    sync_file(JOURNAL + SIDE * live + 2 * b);
+    sync_file(AUX + SIDE * live + 2 * b);
   }
 }
 
@@ -199,7 +225,12 @@ static double now(void) {
 }
 
 int main(int argc, char **argv) {
-  if (argc != 3) return 2;
+  if (argc != 6) return 2;
+  buckets = atoi(argv[3]);
+  while (1 << bits < buckets) bits++;
+  array = (uint64_t)atoi(argv[4]);
+  trigger = (uint64_t)atoi(argv[5]);
+  if (buckets != 1 << bits || buckets > MOST_BUCKETS || array < 1 || array > MOST_ARRAY) return 2;
   if (!(zeros = calloc(1, 1 << 20))) die("memory");
   plan(argv[2]);
   size_t first = count;
