@@ -1,11 +1,12 @@
 -- A merge judges a bucket after another: what stays while it writes, and where damage stands.
 use Rattle.std.proofs.Common.{◌≡◌, ◌≢◌, ◌∙◌, ◌⊎◌, ⊎_elim, inl, inr, ℕ, suc, ◌+◌, ◌-◌, ◌*◌, ◌/◌, ◌^◌, ◌<◌, ◌≤◌, List, [], ◌∷◌, ◌++◌, map, length, take, drop, Option, None, Some, refl, sym, ap, subst, arith, rules, append-nil, length-append, length-drop, length-take-le, take-append-drop, zero-add}
 use Rattle.std.proofs.lemmas.Bool.Decides.{nat_tests}
-use Rattle.std.proofs.lemmas.List.{length-map}
+use Rattle.std.proofs.lemmas.List.{length-map, length-replicate}
 use Rattle.std.proofs.lemmas.List.Sums.{sum_by-append}
 use Rattle.std.proofs.Math.Seq.{take-append_seam}
 use Rattle.std.specs.List.{All, AllByRecursion}
 use Rattle.std.specs.Option.{ForSome}
+use Rattle.std.specs.Prelude.{replicate}
 use Rattle.std.specs.FinMap.{entries}
 use Rattle.irl_offer.specs.Buckets.{IsBucketCount, bucket_of}
 use Rattle.irl_offer.specs.Tuple.{Tuple}
@@ -233,6 +234,12 @@ offers_are (entry ∷ entries) texts size =
   where
     with_length : Entry → ℕ → Entry
     with_length entry n = record { op = entry.op; aux_len = n; key = entry.key; value = entry.value; from = entry.from }
+
+-- entries alone are those of some offers: whatever texts of that length are theirs
+pub some_offers : (entries : List Entry) → (news : List Tuple) × (map entry_of_offer news ≡ entries)
+some_offers entries =
+    let texts = replicate (text_length entries) 0 in
+    (offers_in entries texts, (offers_are entries texts (sym (length-replicate (text_length entries) 0))).entries_are)
 
 -- what the entries of offers ask
 pub ask_the_same : (news : List Tuple) (entries : List Entry) → map entry_of_offer news ≡ entries → AreEntriesOf news entries

@@ -17,7 +17,7 @@ ghost use Rattle.irl_bay.specs.Drum.{IsDrum, bucket_at, cache_front, durables, j
 ghost use Rattle.irl_bay.specs.Holding.{Holds, HoldsBucket, IsLong};
 ghost use Rattle.irl_bay.specs.Judging.{HasJudged, batch_of};
 ghost use Rattle.irl_bay.specs.Merging.{IsJudged, IsSynced, TakesOf, Writes};
-ghost use Rattle.irl_bay.specs.Pending.{AreOffersOf};
+ghost use Rattle.irl_bay.specs.Runs.{entry_of_offer, texts_of};
 ghost use Rattle.irl_bay.specs.Sides.{HasMerged, IsSidesOf};
 ghost use Rattle.irl_bay.specs.Spoilt.{IsSpoiltAt};
 ghost use Rattle.irl_bay.specs.Telling.{HasTold, IsTellingOf};
@@ -90,7 +90,9 @@ impl Bay {
         for b in 0..self.settings.buckets {
             let pending = self.pending_of(store, b)?;
             let verdicts = sides.sweep(store, b, pending.entries())?;
-            telling.tell(store, b, &pending, &verdicts)?;
+            // The texts don't wait in memory while the bucket is swept.
+            let texts = self.pending_texts_of(store, b)?;
+            telling.tell(store, b, pending.entries(), &texts, &verdicts)?;
         }
         Ok(())
     }
@@ -176,18 +178,17 @@ impl Bay {
         })
     }
 
-    // The offers of a bucket that are not judged, in order.
+    // The offers of a bucket that are not judged, in order, without their texts.
     fn pending_of<S: Store>(&self, store: &mut S, b: u32) -> Result<Pending, Fault>
         requires bucket { b < self.now.settings.buckets }
-        requires long { ForSome (S.snapshot store.old).files (λ files. IsLong self.now files) }
         ensures count { IfOk result (λ found. length (drop found.skip found.entries.items) ≡ pending_at self.now b) }
-        ensures texts { IfOk result (λ found.
-            text_length (drop found.skip found.entries.items) ≡ length found.texts.items) }
+        ensures texts { IfOk result (λ found. text_length (drop found.skip found.entries.items)
+            ≡ (bucket_at self.now b).aux.length - (bucket_at self.now b).text) }
         ensures here { IfOk result (λ found. All (λ entry. bucket_of self.now.settings.buckets entry.key ≡ b)
             (drop found.skip found.entries.items)) }
         ensures held { IfOk result (λ found. ForSome (S.snapshot store.old).files (λ _. (cut : ℕ) (list : List Tuple) →
             HoldsBucket (S.snapshot store.old).images self.now.settings.array cut (bucket_at self.now b) list →
-            AreOffersOf (drop cut list) (drop found.skip found.entries.items) found.texts.items)) }
+            map entry_of_offer (drop cut list) ≡ drop found.skip found.entries.items)) }
         ensures damaged { (f at : ℕ) → IsErrOf result (Fault.Damaged f at) →
             ForSome (S.snapshot store.old).files (λ files. IsSpoiltAt self.now files f at) }
         ensures whole { (f at : ℕ) → IsErrOf result (Fault.Damaged f at) →
@@ -204,6 +205,29 @@ impl Bay {
     {
         let bucket = &self.buckets[b as usize];
         bucket.pending(self.alloc, store, &self.settings, b, self.pending(b))
+    }
+
+    // The texts of those offers, one behind the other.
+    fn pending_texts_of<S: Store>(&self, store: &mut S, b: u32) -> Result<Vec<u8>, Fault>
+        requires bucket { b < self.now.settings.buckets }
+        requires long { ForSome (S.snapshot store.old).files (λ files. IsLong self.now files) }
+        ensures length { IfOk result (λ texts.
+            length texts.items ≡ (bucket_at self.now b).aux.length - (bucket_at self.now b).text) }
+        ensures held { IfOk result (λ texts. ForSome (S.snapshot store.old).files (λ _.
+            (array cut : ℕ) (list : List Tuple) →
+            HoldsBucket (S.snapshot store.old).images array cut (bucket_at self.now b) list →
+            texts.items ≡ texts_of (drop cut list))) }
+        ensures damaged { (f at : ℕ) → IsErrOf result (Fault.Damaged f at) →
+            ForSome (S.snapshot store.old).files (λ _. ⊥) }
+        ensures full { (n : ℕ) → IsErrOf result (Fault.Full n) → ⊥ }
+        ensures same { (S.snapshot store.new).files ≡ (S.snapshot store.old).files }
+        ensures stops { LeavesSame (S.snapshot store.old) (S.snapshot store.new) }
+        ensures taken { TakesAmong (IsFileOf self.now.base self.now.settings.buckets)
+            (S.taken store.old) (S.taken store.new) }
+        ensures unread { TakesOf (cache_front self.now).file 0 (S.taken store.old) (S.taken store.new) }
+        ensures cause { HasCause (IsErrOf result Fault.Failed) (S.faults store.old) (S.faults store.new) }
+    {
+        self.buckets[b as usize].pending_texts(self.alloc, store)
     }
 
     // How many offers each bucket has.

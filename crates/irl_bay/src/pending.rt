@@ -1,14 +1,16 @@
-ghost use Rattle.std.specs.Prelude.{◌≡◌, ◌↔◌, ◌+◌, ◌≤◌, ℕ, List, length as list_length, drop, IfOk, IsErrOf, IsTrue};
+ghost use Rattle.std.specs.Prelude.{◌≡◌, ◌↔◌, ◌+◌, ◌-◌, ◌≤◌, ℕ, List, length as list_length};
+ghost use Rattle.std.specs.Prelude.{map, take, drop, IfOk, IsErrOf, IsTrue};
 ghost use Rattle.std.specs.List.{All, AllByRecursion};
 ghost use Rattle.std.specs.Option.{ForSome};
 ghost use Rattle.irl_offer.specs.Buckets.{IsBucketCount, bucket_of as bucket_of_key};
 ghost use Rattle.irl_offer.specs.Faults.{HasCause};
 ghost use Rattle.irl_offer.specs.Tuple.{Tuple};
 ghost use Rattle.irl_disk.specs.Images.{LeavesSame};
-ghost use Rattle.irl_disk.specs.Taken.{TakesAmong, TakesOnly};
+ghost use Rattle.irl_disk.specs.Taken.{TakesOnly};
 ghost use Rattle.irl_bay.specs.Damage.{text_length};
-ghost use Rattle.irl_bay.specs.Holding.{HoldsBucket, IsFileOfBucket};
-ghost use Rattle.irl_bay.specs.Pending.{AreOffersOf, HasEntries, AreEntriesFrom, IsSpoiltJournal, IsSpoiltBucket};
+ghost use Rattle.irl_bay.specs.Holding.{HoldsBucket};
+ghost use Rattle.irl_bay.specs.Runs.{entry_of_offer, texts_of};
+ghost use Rattle.irl_bay.specs.Pending.{HasEntries, AreEntriesFrom, IsSpoiltJournal, IsSpoiltBucket};
 
 use crate::bucket::Bucket;
 use crate::gathering::Gathering;
@@ -18,14 +20,12 @@ use irl_journal::JournalFault;
 use irl_offer::{Entry, Fault, Settings, bucket_of};
 use std::alloc::Global;
 
-/// The offers of a bucket that are not judged.
+/// The offers of a bucket that are not judged, without their texts.
 #[derive(Drop)]
 pub struct Pending {
     /// The entries of the records that have them, of which so many are judged.
     pub entries: Vec<Entry>,
     pub skip: usize,
-    /// The texts of the others, one behind the other.
-    pub texts: Vec<u8>,
     ghost within: { skip ≤ list_length entries.items },
 }
 
@@ -39,7 +39,7 @@ impl Pending {
 }
 
 impl Bucket {
-    /// The offers that are not judged, of which there are so many. It changes nothing.
+    /// The offers that are not judged, of which there are so many, without their texts. It changes nothing.
     pub fn pending<S: Store>(
         &self,
         alloc: Global,
@@ -51,16 +51,15 @@ impl Bucket {
         requires settings { IsBucketCount settings.now.buckets }
         requires gate { self.now.gate ≤ self.now.journal.end }
         requires text { self.now.text ≤ self.now.aux.length }
-        requires long { ForSome (S.snapshot store.old).files (λ files.
-            self.now.aux.length ≤ list_length (files self.now.aux.file)) }
         ensures count { IfOk result (λ found. list_length (drop found.skip found.entries.items) ≡ count) }
+        // The texts are as long as their file says.
         ensures texts { IfOk result (λ found.
-            text_length (drop found.skip found.entries.items) ≡ list_length found.texts.items) }
+            text_length (drop found.skip found.entries.items) ≡ self.now.aux.length - self.now.text) }
         ensures here { IfOk result (λ found. All (λ entry. bucket_of_key settings.now.buckets entry.key ≡ b)
             (drop found.skip found.entries.items)) }
         ensures held { IfOk result (λ found. ForSome (S.snapshot store.old).files (λ _. (cut : ℕ) (list : List Tuple) →
             HoldsBucket (S.snapshot store.old).images settings.now.array cut self.now list →
-            AreOffersOf (drop cut list) (drop found.skip found.entries.items) found.texts.items)) }
+            map entry_of_offer (drop cut list) ≡ drop found.skip found.entries.items)) }
         ensures damaged { (f at : ℕ) → IsErrOf result (Fault.Damaged f at) →
             ForSome (S.snapshot store.old).files (λ files.
             IsSpoiltBucket settings.now b self.now count files f at) }
@@ -72,7 +71,7 @@ impl Bucket {
         ensures full { (n : ℕ) → IsErrOf result (Fault.Full n) → ⊥ }
         ensures same { (S.snapshot store.new).files ≡ (S.snapshot store.old).files }
         ensures stops { LeavesSame (S.snapshot store.old) (S.snapshot store.new) }
-        ensures taken { TakesAmong (IsFileOfBucket self.now) (S.taken store.old) (S.taken store.new) }
+        ensures taken { TakesOnly self.now.journal.file (S.taken store.old) (S.taken store.new) }
         ensures cause { HasCause (IsErrOf result Fault.Failed) (S.faults store.old) (S.faults store.new) }
     {
         let room = count.saturating_add(self.skip) as usize;
@@ -90,16 +89,36 @@ impl Bucket {
         if !are_of(&entries[skip..], settings.buckets, b) {
             return Err(Fault::Damaged(self.journal.file(), self.gate));
         }
-        let aux = self.aux.file();
-        let texts = read_part(alloc, store, aux, self.text, self.aux.length() - self.text)?;
-        if !have_length(&entries[skip..], texts.len() as u64) {
-            return Err(Fault::Damaged(aux, self.text));
+        if !have_length(&entries[skip..], self.aux.length() - self.text) {
+            return Err(Fault::Damaged(self.aux.file(), self.text));
         }
-        Ok(Pending {
-            entries,
-            skip,
-            texts,
-        })
+        Ok(Pending { entries, skip })
+    }
+
+    /// The texts of the offers that are not judged, one behind the other. It changes nothing.
+    pub fn pending_texts<S: Store>(&self, alloc: Global, store: &mut S) -> Result<Vec<u8>, Fault>
+        requires text { self.now.text ≤ self.now.aux.length }
+        requires long { ForSome (S.snapshot store.old).files (λ files.
+            self.now.aux.length ≤ list_length (files self.now.aux.file)) }
+        ensures length { IfOk result (λ texts. list_length texts.items ≡ self.now.aux.length - self.now.text) }
+        ensures bytes { IfOk result (λ texts. ForSome (S.snapshot store.old).files (λ files.
+            texts.items ≡ take (self.now.aux.length - self.now.text)
+            (drop self.now.text (files self.now.aux.file)))) }
+        ensures held { IfOk result (λ texts. ForSome (S.snapshot store.old).files (λ _.
+            (array cut : ℕ) (list : List Tuple) →
+            HoldsBucket (S.snapshot store.old).images array cut self.now list →
+            texts.items ≡ texts_of (drop cut list))) }
+        // A store that tells has the bytes.
+        ensures damaged { (f at : ℕ) → IsErrOf result (Fault.Damaged f at) →
+            ForSome (S.snapshot store.old).files (λ _. ⊥) }
+        ensures full { (n : ℕ) → IsErrOf result (Fault.Full n) → ⊥ }
+        ensures same { (S.snapshot store.new).files ≡ (S.snapshot store.old).files }
+        ensures stops { LeavesSame (S.snapshot store.old) (S.snapshot store.new) }
+        ensures taken { TakesOnly self.now.aux.file (S.taken store.old) (S.taken store.new) }
+        ensures cause { HasCause (IsErrOf result Fault.Failed) (S.faults store.old) (S.faults store.new) }
+    {
+        let length = self.aux.length() - self.text;
+        read_part(alloc, store, self.aux.file(), self.text, length)
     }
 
     // The entries of the bucket's runs, from the one with the first pending offer on.

@@ -1,4 +1,4 @@
-ghost use Rattle.std.specs.Prelude.{◌≡◌, ◌≢◌, ◌⊎◌, ◌+◌, ◌<◌, ◌++◌, ℕ, List, Option, drop, length, count_by, IfOk, OnOk, IsErrOf};
+ghost use Rattle.std.specs.Prelude.{◌≡◌, ◌≢◌, ◌⊎◌, ◌<◌, ◌++◌, ℕ, List, Option, length, count_by, OnOk, IsErrOf};
 ghost use Rattle.std.specs.List.{AllByRecursion};
 ghost use Rattle.std.specs.Option.{ForSome};
 ghost use Rattle.irl_offer.specs.Buckets.{bucket_of};
@@ -6,7 +6,10 @@ ghost use Rattle.irl_offer.specs.Faults.{HasCause};
 ghost use Rattle.irl_offer.specs.Tuple.{Tuple};
 ghost use Rattle.irl_offer.specs.declared.offer.Verdict.{Verdict as VerdictValue};
 ghost use Rattle.irl_model.specs.Book.{is_unique as is_unique_of};
-ghost use Rattle.irl_cache.specs.Writing.{ReachesPlace};
+ghost use Rattle.irl_disk.specs.Disk.{Changes, ChangesFile};
+ghost use Rattle.irl_disk.specs.Images.{LeavesBy};
+ghost use Rattle.irl_journal.specs.Blob.{KeepsFront};
+ghost use Rattle.irl_cache.specs.Writing.{HasPut, ReachesPlace};
 ghost use Rattle.irl_bay.specs.Drum.{Drum};
 ghost use Rattle.irl_bay.specs.Holding.{TellsOnly};
 ghost use Rattle.irl_bay.specs.JudgedEntries.{rows};
@@ -14,11 +17,10 @@ ghost use Rattle.irl_bay.specs.Merging.{Writes};
 ghost use Rattle.irl_bay.specs.Pending.{AreOffersOf};
 
 use crate::layout::push_judged;
-use crate::pending::Pending;
 use irl_cache::FileWriter;
 use irl_disk::Store;
 use irl_offer::{Entry, Fault, Verdict};
-use std::alloc::{AllocError, Global};
+use std::alloc::Global;
 
 /// The files of what is judged, while a merge writes behind what is committed of them.
 #[derive(Drop)]
@@ -41,16 +43,17 @@ impl Telling {
         &mut self,
         store: &mut S,
         b: u32,
-        pending: &Pending,
+        entries: &[Entry],
+        texts: &[u8],
         verdicts: &[Option<Verdict>],
     ) -> Result<(), Fault>
         requires bucket { b < 256 }
-        requires count { length verdicts.now ≡ length (drop pending.now.skip pending.now.entries.items) }
+        requires count { length verdicts.now ≡ length entries.now }
         requires judged { ForSome (S.snapshot store.old).files (ReachesPlace self.old.judged) }
         requires texts { ForSome (S.snapshot store.old).files (ReachesPlace self.old.texts) }
         ensures told { OnOk result ((drum : Drum) (offers : List Tuple) (before : List (Option VerdictValue))
             (news : List Tuple) → HasTold drum offers before (S.snapshot store.old).files self.old →
-            AreOffersOf news (drop pending.now.skip pending.now.entries.items) pending.now.texts.items →
+            AreOffersOf news entries.now texts.now →
             AllByRecursion (λ offer. bucket_of drum.settings.buckets offer.key ≡ b) news →
             HasTold drum (offers ++ news) (before ++ verdicts.now) (S.snapshot store.new).files self.new) }
         ensures damaged { (f at : ℕ) → IsErrOf result (Fault.Damaged f at) → ⊥ }
@@ -62,34 +65,52 @@ impl Telling {
         ensures taken { S.taken store.new ≡ S.taken store.old }
         ensures cause { HasCause (IsErrOf result Fault.Failed) (S.faults store.old) (S.faults store.new) }
     {
-        let found = judged_rows(self.alloc, self.place, b, pending.entries(), verdicts)?;
-        self.judged.put(store, &found)?;
-        self.texts.put(store, &pending.texts)?;
-        self.place = self.place.wrapping_add(pending.texts.len() as u64);
+        self.put_rows(store, b, entries, verdicts)?;
+        self.texts.put(store, texts)?;
+        self.place = self.place.wrapping_add(texts.len() as u64);
         self.unique = self.unique.saturating_add(count_unique(verdicts));
         Ok(())
     }
-}
 
-// The entries of a bucket's judged offers, the text of the first of which stands at this place.
-fn judged_rows(
-    alloc: Global,
-    place: u64,
-    b: u32,
-    entries: &[Entry],
-    verdicts: &[Option<Verdict>],
-) -> Result<Vec<u8>, AllocError>
-    requires bucket { b < 256 }
-    requires count { length verdicts.now ≡ length entries.now }
-    ensures { IfOk result (λ found. found.items ≡ rows place b entries.now verdicts.now) }
-{
-    let mut found = Vec::with_capacity(alloc, entries.len().saturating_mul(48))?;
-    let mut next = place;
-    for (i, entry) in entries.iter().enumerate() {
-        push_judged(&mut found, next, b, entry, verdicts[i])?;
-        next = next.wrapping_add(u64::from(entry.aux_len));
+    // Puts the entries of a bucket's judged offers one by one, through one small buffer. The text of the first is to
+    // stand at `place`.
+    fn put_rows<S: Store>(
+        &mut self,
+        store: &mut S,
+        b: u32,
+        entries: &[Entry],
+        verdicts: &[Option<Verdict>],
+    ) -> Result<(), Fault>
+        requires bucket { b < 256 }
+        requires count { length verdicts.now ≡ length entries.now }
+        requires long { ForSome (S.snapshot store.old).files (ReachesPlace self.old.judged) }
+        ensures put { OnOk result ((bytes : List ℕ) → HasPut (S.snapshot store.old).files bytes self.old.judged →
+            HasPut (S.snapshot store.new).files (bytes ++ rows self.old.place b entries.now verdicts.now)
+            self.new.judged) }
+        ensures file { self.new.judged.file ≡ self.old.judged.file }
+        ensures kept { self.new.judged.kept ≡ self.old.judged.kept }
+        ensures texts { self.new.texts ≡ self.old.texts }
+        ensures place { self.new.place ≡ self.old.place }
+        ensures unique { self.new.unique ≡ self.old.unique }
+        ensures damaged { (f at : ℕ) → IsErrOf result (Fault.Damaged f at) → ⊥ }
+        ensures full { (n : ℕ) → IsErrOf result (Fault.Full n) → ⊥ }
+        ensures changes { Changes self.old.judged.file (KeepsFront self.old.judged.kept)
+            (S.snapshot store.old).files (S.snapshot store.new).files }
+        ensures stops { LeavesBy (ChangesFile self.old.judged.file (KeepsFront self.old.judged.kept))
+            (S.snapshot store.old) (S.snapshot store.new) }
+        ensures taken { S.taken store.new ≡ S.taken store.old }
+        ensures cause { HasCause (IsErrOf result Fault.Failed) (S.faults store.old) (S.faults store.new) }
+    {
+        let mut row = Vec::with_capacity(self.alloc, 48)?;
+        let mut next = self.place;
+        for (i, entry) in entries.iter().enumerate() {
+            row.clear();
+            push_judged(&mut row, next, b, entry, verdicts[i])?;
+            self.judged.put(store, &row)?;
+            next = next.wrapping_add(u64::from(entry.aux_len));
+        }
+        Ok(())
     }
-    Ok(found)
 }
 
 // How many of these are verdicts on keys that were absent.

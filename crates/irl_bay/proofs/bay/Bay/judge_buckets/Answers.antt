@@ -8,22 +8,27 @@ use Rattle.irl_offer.specs.Tuple.{Tuple}
 use Rattle.irl_offer.specs.declared.entry.Entry.{Entry}
 use Rattle.irl_offer.specs.declared.receipt.Fault.TheVariants.{Damaged}
 use Rattle.irl_model.specs.Book.{judged_cut}
+use Rattle.irl_disk.specs.Disk.{Changes, ChangesFile}
+use Rattle.irl_disk.specs.Images.{IsConsistent, LeavesBy, LeavesSame, Snapshot}
 use Rattle.irl_disk.proofs.Frames.{takes_both, takes_none, takes_only}
 use Rattle.irl_disk.proofs.Stretches.{stays}
+use Rattle.irl_journal.specs.Blob.{KeepsFront}
 use Rattle.irl_cache.specs.Reading.{read_of}
 use Rattle.irl_cache.specs.SortedRun.{IsSpoiltRun}
-use Rattle.irl_bay.specs.BayFiles.{IsFileOf}
+use Rattle.irl_bay.specs.BayFiles.{IsFileOf, file_of}
 use Rattle.irl_bay.specs.Commits.{live_offers}
-use Rattle.irl_bay.specs.Drum.{IsDrum, bucket_at, cache_front, judged_at, pending_at}
+use Rattle.irl_bay.specs.declared.layout.files.BayFile.TheVariants.{Cache}
+use Rattle.irl_bay.specs.Drum.{Drum, IsDrum, bucket_at, cache_front, judged_at, pending_at}
 use Rattle.irl_bay.specs.Judging.{HasJudged, waiting}
-use Rattle.irl_bay.specs.Merging.{TakesOf}
+use Rattle.irl_bay.specs.Merging.{TakesOf, Writes}
+use Rattle.irl_bay.specs.Pending.{AreOffersOf}
 use Rattle.irl_bay.specs.Runs.{entry_of_offer}
 use Rattle.irl_bay.specs.Sides.{IsSidesOf}
 use Rattle.irl_bay.specs.Telling.{HasTold}
 use Rattle.irl_bay.proofs.BatchWrites.{cache_writes, step_then, writes_none}
 use Rattle.irl_bay.proofs.DrumFiles.{side_is_file, takes_of_both, takes_of_exactly, takes_of_none}
 use Rattle.irl_bay.proofs.HeldBuckets.{count_more, cut_held, cut_long, live_of, live_waits}
-use Rattle.irl_bay.proofs.Judges.{ask_the_same, few_bytes, held_on, judged_apart, long_kept, merged_on, of_bucket_too, offers_are, offers_in, only_same, reader_apart, run_spoilt, run_whole, spoilt_first, texts_apart, told_after, told_on, writer_apart}
+use Rattle.irl_bay.proofs.Judges.{ask_the_same, few_bytes, held_on, judged_apart, long_kept, merged_on, of_bucket_too, offers_are, offers_in, only_same, reader_apart, run_spoilt, run_whole, some_offers, spoilt_first, texts_apart, told_after, told_on, writer_apart}
 use Rattle.irl_bay.proofs.NextBatch.{waits_more, waits_none}
 use Rattle.irl_bay.proofs.PendingTexts.{same_offers}
 use Rattle.irl_bay.proofs.Sweeps.{put_reached, same_file, same_told, still_reached}
@@ -54,11 +59,6 @@ loop-b-init g c =
       later = omega arith;
     }
 
-pub pending_of-requires-clause-long : goal.pending_of-requires-clause-long
-pending_of-requires-clause-long g c =
-    let drum : IsDrum c.args.self.now = subst IsDrum c.self.view_is c.self.invariant in
-    long_kept c.args.self.now (g.S.Store.snapshot c.args.store.now) (g.S.Store.snapshot c.loop-b.store) drum c.loop-b.invariant.writes c.requires.long
-
 pub sweep-requires-clause-merged : goal.sweep-requires-clause-merged
 sweep-requires-clause-merged g c =
     let j = c.loop-b.invariant.judged in
@@ -71,13 +71,27 @@ sweep-requires-clause-entries g c =
     let j = c.loop-b.invariant.judged in
     let pending = c.in_ok-pending.pending in
     let left = drop pending.skip pending.entries.items in
-    let news = offers_in left pending.texts.items in
-    let are = (offers_are left pending.texts.items c.in_ok-pending.ensures.texts).entries_are in
+    let some = some_offers left in
     let same : c.entries.result.now ≡ left = c.entries.ensures in (
-      news,
-      ask_the_same news c.entries.result.now (are ∙ sym same),
-      subst (λ (n : ℕ). AllByRecursion (λ (o : Tuple). bucket_of n o.key ≡ c.loop-b.b) news) (sym j.of.buckets) (of_bucket_too c.args.self.now.settings.buckets c.loop-b.b news left are c.in_ok-pending.ensures.here),
+      some.0,
+      ask_the_same some.0 c.entries.result.now (some.1 ∙ sym same),
+      subst (λ (n : ℕ). AllByRecursion (λ (o : Tuple). bucket_of n o.key ≡ c.loop-b.b) some.0) (sym j.of.buckets) (of_bucket_too c.args.self.now.settings.buckets c.loop-b.b some.0 left some.1 c.in_ok-pending.ensures.here),
     )
+
+-- what was written until the bucket is swept
+swept_writes : (drum : Drum) (out : ℕ) (first here next swept : Snapshot) → IsConsistent here → IsConsistent next → out ≡ file_of drum.base 0 (Cache (1 - drum.last.side)) → Writes drum first here → next.files ≡ here.files → LeavesSame here next
+    → Changes out (KeepsFront 0) next.files swept.files → LeavesBy (ChangesFile out (KeepsFront 0)) next swept → Writes drum first swept
+swept_writes drum out first here next swept law law_next file before same stays changes stops =
+    step_then drum first next swept law_next (step_then drum first here next law before (writes_none drum here next same stays)) (cache_writes drum out next swept file changes stops)
+
+pub pending_texts_of-requires-clause-long : goal.pending_texts_of-requires-clause-long
+pending_texts_of-requires-clause-long g c =
+    let now = c.args.self.now in
+    let drum : IsDrum now = subst IsDrum c.self.view_is c.self.invariant in
+    let tells = g.S.Store.snapshot in
+    let law = g.met.S.Store.is_consistent in
+    let swept = swept_writes now c.loop-b.sides.writer.out.file (tells c.args.store.now) (tells c.loop-b.store) (tells c.pending_of.new.store) (tells c.sweep.new.store) (law c.loop-b.store) (law c.pending_of.new.store) c.loop-b.invariant.judged.of.to c.loop-b.invariant.writes c.pending_of.ensures.same c.pending_of.ensures.stops c.sweep.ensures.changes c.sweep.ensures.stops in
+    long_kept now (tells c.args.store.now) (tells c.sweep.new.store) drum swept c.requires.long
 
 pub tell-requires-clause-bucket : goal.tell-requires-clause-bucket
 tell-requires-clause-bucket g c =
@@ -92,8 +106,10 @@ tell-requires-clause-judged g c =
     let next = (g.S.Store.snapshot c.pending_of.new.store).files in
     let then_ = (g.S.Store.snapshot c.sweep.new.store).files in
     let file = c.loop-b.telling.judged.file in
-    still_reached next then_ c.loop-b.telling.judged (same_file c.loop-b.sides.writer.out.file file _ next then_ (judged_apart c.args.self.now c.loop-b.sides c.loop-b.telling j.of j.tells.of) c.sweep.ensures.changes)
-    (still_reached told next c.loop-b.telling.judged (same_told file told next c.in_ok-pending.ensures.same) (put_reached told _ c.loop-b.telling.judged j.tells.judged))
+    let read = (g.S.Store.snapshot c.pending_texts_of.new.store).files in
+    still_reached then_ read c.loop-b.telling.judged (same_told file then_ read c.pending_texts_of.ensures.same)
+    (still_reached next then_ c.loop-b.telling.judged (same_file c.loop-b.sides.writer.out.file file _ next then_ (judged_apart c.args.self.now c.loop-b.sides c.loop-b.telling j.of j.tells.of) c.sweep.ensures.changes)
+    (still_reached told next c.loop-b.telling.judged (same_told file told next c.in_ok-pending.ensures.same) (put_reached told _ c.loop-b.telling.judged j.tells.judged)))
 
 pub tell-requires-clause-texts : goal.tell-requires-clause-texts
 tell-requires-clause-texts g c =
@@ -103,8 +119,10 @@ tell-requires-clause-texts g c =
     let next = (g.S.Store.snapshot c.pending_of.new.store).files in
     let then_ = (g.S.Store.snapshot c.sweep.new.store).files in
     let file = c.loop-b.telling.texts.file in
-    still_reached next then_ c.loop-b.telling.texts (same_file c.loop-b.sides.writer.out.file file _ next then_ (texts_apart c.args.self.now c.loop-b.sides c.loop-b.telling j.of j.tells.of) c.sweep.ensures.changes)
-    (still_reached told next c.loop-b.telling.texts (same_told file told next c.in_ok-pending.ensures.same) (put_reached told _ c.loop-b.telling.texts j.tells.texts))
+    let read = (g.S.Store.snapshot c.pending_texts_of.new.store).files in
+    still_reached then_ read c.loop-b.telling.texts (same_told file then_ read c.pending_texts_of.ensures.same)
+    (still_reached next then_ c.loop-b.telling.texts (same_file c.loop-b.sides.writer.out.file file _ next then_ (texts_apart c.args.self.now c.loop-b.sides c.loop-b.telling j.of j.tells.of) c.sweep.ensures.changes)
+    (still_reached told next c.loop-b.telling.texts (same_told file told next c.in_ok-pending.ensures.same) (put_reached told _ c.loop-b.telling.texts j.tells.texts)))
 
 -- the bucket couldn't be read
 pub returns-in_err-pending-clause-writes : goal.returns-in_err-pending-clause-writes
@@ -186,6 +204,46 @@ returns-in_err-verdicts-clause-taken g c =
     let among = IsFileOf now.base now.settings.buckets in
     takes_both among _ _ _ (takes_both among _ _ _ c.loop-b.invariant.taken c.pending_of.ensures.taken) (takes_only among c.loop-b.sides.reader.file _ _ (subst among (sym c.loop-b.invariant.judged.of.from) (side_is_file now drum)) c.sweep.ensures.taken)
 
+-- the texts couldn't be read
+pub returns-in_err-texts-clause-writes : goal.returns-in_err-texts-clause-writes
+returns-in_err-texts-clause-writes g c =
+    let now = c.args.self.now in
+    let tells = g.S.Store.snapshot in
+    let law = g.met.S.Store.is_consistent in
+    let swept = swept_writes now c.loop-b.sides.writer.out.file (tells c.args.store.now) (tells c.loop-b.store) (tells c.pending_of.new.store) (tells c.sweep.new.store) (law c.loop-b.store) (law c.pending_of.new.store) c.loop-b.invariant.judged.of.to c.loop-b.invariant.writes c.pending_of.ensures.same c.pending_of.ensures.stops c.sweep.ensures.changes c.sweep.ensures.stops in
+    step_then now (tells c.args.store.now) (tells c.sweep.new.store) (tells c.pending_texts_of.new.store) (law c.sweep.new.store) swept (writes_none now _ _ c.pending_texts_of.ensures.same c.pending_texts_of.ensures.stops)
+
+-- a store that tells has them
+pub returns-in_err-texts-clause-damaged : goal.returns-in_err-texts-clause-damaged
+returns-in_err-texts-clause-damaged g c = λ f at e files told.
+    let now = c.args.self.now in
+    let tells = g.S.Store.snapshot in
+    let law = g.met.S.Store.is_consistent in
+    let out = err_from_is_err_and c.from_residual-in_err-texts.result c.from_residual-in_err-texts.ensures.1 in
+    let same : c.in_err-texts.field-0.0 ≡ Damaged f at = let is = rw (out.1, out.2) at e in cc in
+    let swept = swept_writes now c.loop-b.sides.writer.out.file (tells c.args.store.now) (tells c.loop-b.store) (tells c.pending_of.new.store) (tells c.sweep.new.store) (law c.loop-b.store) (law c.pending_of.new.store) c.loop-b.invariant.judged.of.to c.loop-b.invariant.writes c.pending_of.ensures.same c.pending_of.ensures.stops c.sweep.ensures.changes c.sweep.ensures.stops in
+    let then_ = told_after _ (tells c.args.store.now).files (tells c.sweep.new.store).files files swept.told told in
+    absurd (c.in_err-texts.ensures.damaged f at (rw same refl) then_.0 then_.1)
+
+pub returns-in_err-texts-clause-whole : goal.returns-in_err-texts-clause-whole
+returns-in_err-texts-clause-whole g c = λ f at e files told book holds.
+    let now = c.args.self.now in
+    let tells = g.S.Store.snapshot in
+    let law = g.met.S.Store.is_consistent in
+    let out = err_from_is_err_and c.from_residual-in_err-texts.result c.from_residual-in_err-texts.ensures.1 in
+    let same : c.in_err-texts.field-0.0 ≡ Damaged f at = let is = rw (out.1, out.2) at e in cc in
+    let swept = swept_writes now c.loop-b.sides.writer.out.file (tells c.args.store.now) (tells c.loop-b.store) (tells c.pending_of.new.store) (tells c.sweep.new.store) (law c.loop-b.store) (law c.pending_of.new.store) c.loop-b.invariant.judged.of.to c.loop-b.invariant.writes c.pending_of.ensures.same c.pending_of.ensures.stops c.sweep.ensures.changes c.sweep.ensures.stops in
+    let then_ = told_after _ (tells c.args.store.now).files (tells c.sweep.new.store).files files swept.told told in
+    c.in_err-texts.ensures.damaged f at (rw same refl) then_.0 then_.1
+
+pub returns-in_err-texts-clause-taken : goal.returns-in_err-texts-clause-taken
+returns-in_err-texts-clause-taken g c =
+    let now = c.args.self.now in
+    let drum : IsDrum now = subst IsDrum c.self.view_is c.self.invariant in
+    let among = IsFileOf now.base now.settings.buckets in
+    let first = takes_both among _ _ _ (takes_both among _ _ _ c.loop-b.invariant.taken c.pending_of.ensures.taken) (takes_only among c.loop-b.sides.reader.file _ _ (subst among (sym c.loop-b.invariant.judged.of.from) (side_is_file now drum)) c.sweep.ensures.taken) in
+    takes_both among _ _ _ first c.pending_texts_of.ensures.taken
+
 -- what is judged couldn't be written
 pub returns-in_err-tell-clause-writes : goal.returns-in_err-tell-clause-writes
 returns-in_err-tell-clause-writes g c =
@@ -193,9 +251,9 @@ returns-in_err-tell-clause-writes g c =
     let tells = g.S.Store.snapshot in
     let law = g.met.S.Store.is_consistent in
     let j = c.loop-b.invariant.judged in
-    let first = step_then now (tells c.args.store.now) (tells c.loop-b.store) (tells c.pending_of.new.store) (law c.loop-b.store) c.loop-b.invariant.writes (writes_none now _ _ c.pending_of.ensures.same c.pending_of.ensures.stops) in
-    let second = step_then now (tells c.args.store.now) (tells c.pending_of.new.store) (tells c.sweep.new.store) (law c.pending_of.new.store) first (cache_writes now c.loop-b.sides.writer.out.file _ _ j.of.to c.sweep.ensures.changes c.sweep.ensures.stops) in
-    step_then now (tells c.args.store.now) (tells c.sweep.new.store) (tells c.tell.new.store) (law c.sweep.new.store) second (c.tell.ensures.step now j.tells.of)
+    let swept = swept_writes now c.loop-b.sides.writer.out.file (tells c.args.store.now) (tells c.loop-b.store) (tells c.pending_of.new.store) (tells c.sweep.new.store) (law c.loop-b.store) (law c.pending_of.new.store) j.of.to c.loop-b.invariant.writes c.pending_of.ensures.same c.pending_of.ensures.stops c.sweep.ensures.changes c.sweep.ensures.stops in
+    let read = step_then now (tells c.args.store.now) (tells c.sweep.new.store) (tells c.pending_texts_of.new.store) (law c.sweep.new.store) swept (writes_none now _ _ c.pending_texts_of.ensures.same c.pending_texts_of.ensures.stops) in
+    step_then now (tells c.args.store.now) (tells c.pending_texts_of.new.store) (tells c.tell.new.store) (law c.pending_texts_of.new.store) read (c.tell.ensures.step now j.tells.of)
 
 pub returns-in_err-tell-clause-taken : goal.returns-in_err-tell-clause-taken
 returns-in_err-tell-clause-taken g c =
@@ -203,7 +261,7 @@ returns-in_err-tell-clause-taken g c =
     let drum : IsDrum now = subst IsDrum c.self.view_is c.self.invariant in
     let among = IsFileOf now.base now.settings.buckets in
     let first = takes_both among _ _ _ (takes_both among _ _ _ c.loop-b.invariant.taken c.pending_of.ensures.taken) (takes_only among c.loop-b.sides.reader.file _ _ (subst among (sym c.loop-b.invariant.judged.of.from) (side_is_file now drum)) c.sweep.ensures.taken) in
-    takes_both among _ _ _ first (takes_none among _ _ c.tell.ensures.taken)
+    takes_both among _ _ _ (takes_both among _ _ _ first c.pending_texts_of.ensures.taken) (takes_none among _ _ c.tell.ensures.taken)
 
 -- one bucket more
 pub loop-b-preserved : goal.loop-b-preserved
@@ -220,11 +278,13 @@ loop-b-preserved g c =
     let told = (tells c.loop-b.store).files in
     let next = (tells c.pending_of.new.store).files in
     let swept = (tells c.sweep.new.store).files in
+    let read = (tells c.pending_texts_of.new.store).files in
     let then_ = (tells c.tell.new.store).files in
     let pending = c.in_ok-pending.pending in
     let left = drop pending.skip pending.entries.items in
-    let news = offers_in left pending.texts.items in
-    let are = offers_are left pending.texts.items c.in_ok-pending.ensures.texts in
+    let texts = c.in_ok-texts.texts.items in
+    let news = offers_in left texts in
+    let are = offers_are left texts (c.in_ok-pending.ensures.texts ∙ sym c.in_ok-texts.ensures.length) in
     let here = of_bucket_too now.settings.buckets b news left are.entries_are c.in_ok-pending.ensures.here in
     let sides = c.loop-b.sides in
     let telling = c.loop-b.telling in
@@ -239,15 +299,19 @@ loop-b-preserved g c =
     let told_next = told_on now j.offers j.verdicts told next telling (same_told _ told next same) (same_told _ told next same) j.tells in
     let told_swept = told_on now j.offers j.verdicts next swept telling (same_file sides.writer.out.file telling.judged.file _ next swept (judged_apart now sides telling of j.tells.of) c.sweep.ensures.changes)
     (same_file sides.writer.out.file telling.texts.file _ next swept (texts_apart now sides telling of j.tells.of) c.sweep.ensures.changes) told_next in
-    let verdicts : c.deref.result.now ≡ c.in_ok-verdicts.verdicts.items = c.deref.ensures.value in
-    let all_told = c.in_ok-tell.ensures.told now j.offers j.verdicts news told_swept are here in
-    let merged_then = merged_on (b + 1) (j.offers ++ news) (j.verdicts ++ c.in_ok-verdicts.verdicts.items) swept then_ c.sweep.new.self
-    (only_same _ c.sweep.new.self.reader.file swept then_ (reader_apart now drum c.sweep.new.self telling of_new j.tells.of) c.tell.ensures.others)
-    (only_same _ c.sweep.new.self.writer.out.file swept then_ (writer_apart now drum c.sweep.new.self telling of_new j.tells.of) c.tell.ensures.others) merged_swept in
-    let first = step_then now (tells c.args.store.now) (tells c.loop-b.store) (tells c.pending_of.new.store) (law c.loop-b.store) before.writes (writes_none now _ _ c.pending_of.ensures.same c.pending_of.ensures.stops) in
-    let second = step_then now (tells c.args.store.now) (tells c.pending_of.new.store) (tells c.sweep.new.store) (law c.pending_of.new.store) first (cache_writes now sides.writer.out.file _ _ of.to c.sweep.ensures.changes c.sweep.ensures.stops) in
+    let stayed = c.in_ok-texts.ensures.same in
+    let told_read = told_on now j.offers j.verdicts swept read telling (same_told _ swept read stayed) (same_told _ swept read stayed) told_swept in
+    let verdicts : c.deref-in-loop-b.result.now ≡ c.in_ok-verdicts.verdicts.items = c.deref-in-loop-b.ensures.value in
+    let those : AreOffersOf news c.entries-in-loop-b.result.now c.deref.result.now = record { entries_are = are.entries_are ∙ sym c.entries-in-loop-b.ensures; texts_are = are.texts_are ∙ sym c.deref.ensures.value } in
+    let all_told = c.in_ok-tell.ensures.told now j.offers j.verdicts news told_read those here in
+    let merged_read = merged_on (b + 1) (j.offers ++ news) (j.verdicts ++ c.in_ok-verdicts.verdicts.items) swept read c.sweep.new.self (same_told _ swept read stayed) (same_told _ swept read stayed) merged_swept in
+    let merged_then = merged_on (b + 1) (j.offers ++ news) (j.verdicts ++ c.in_ok-verdicts.verdicts.items) read then_ c.sweep.new.self
+    (only_same _ c.sweep.new.self.reader.file read then_ (reader_apart now drum c.sweep.new.self telling of_new j.tells.of) c.tell.ensures.others)
+    (only_same _ c.sweep.new.self.writer.out.file read then_ (writer_apart now drum c.sweep.new.self telling of_new j.tells.of) c.tell.ensures.others) merged_read in
+    let first = swept_writes now sides.writer.out.file (tells c.args.store.now) (tells c.loop-b.store) (tells c.pending_of.new.store) (tells c.sweep.new.store) (law c.loop-b.store) (law c.pending_of.new.store) of.to before.writes c.pending_of.ensures.same c.pending_of.ensures.stops c.sweep.ensures.changes c.sweep.ensures.stops in
+    let second = step_then now (tells c.args.store.now) (tells c.sweep.new.store) (tells c.pending_texts_of.new.store) (law c.sweep.new.store) first (writes_none now _ _ c.pending_texts_of.ensures.same c.pending_texts_of.ensures.stops) in
     record {
-      writes = step_then now (tells c.args.store.now) (tells c.sweep.new.store) (tells c.tell.new.store) (law c.sweep.new.store) second (c.tell.ensures.step now j.tells.of);
+      writes = step_then now (tells c.args.store.now) (tells c.pending_texts_of.new.store) (tells c.tell.new.store) (law c.pending_texts_of.new.store) second (c.tell.ensures.step now j.tells.of);
       judged = record {
         offers = j.offers ++ news;
         verdicts = j.verdicts ++ c.in_ok-verdicts.verdicts.items;
@@ -263,24 +327,32 @@ loop-b-preserved g c =
             let to = told_after _ (tells c.args.store.now).files told files before.writes.told is in
             let list = get_or book.lists b [] in
             let within : b < book.buckets = omega (arith, lt, held.book_is.buckets) in
-            let those = c.in_ok-pending.ensures.held to.0 to.1 (judged_at now b - (bucket_at now b).start) (live_offers book now.last b) (held.buckets b within) in
-            let live = drop (judged_at now b - (bucket_at now b).start) (live_offers book now.last b) in
-            let items : news ≡ drop (judged_at now b) list = same_offers news live (are.entries_are ∙ sym those.entries_are) (are.texts_are ∙ sym those.texts_are) ∙ live_waits _ now book held drum b within in
+            let first_one : ℕ = judged_at now b - (bucket_at now b).start in
+            let live = drop first_one (live_offers book now.last b) in
+            let entries_held = c.in_ok-pending.ensures.held to.0 to.1 first_one (live_offers book now.last b) (held.buckets b within) in
+            -- the sweep left the bucket's texts
+            let held_then = held_on now (tells c.args.store.now) (tells c.sweep.new.store) drum first.stops book (law c.sweep.new.store) holds in
+            let to_then = told_after _ (tells c.args.store.now).files swept files first.told is in
+            let texts_held = c.in_ok-texts.ensures.held to_then.0 to_then.1 now.settings.array first_one (live_offers book now.last b) (held_then.buckets b within) in
+            let items : news ≡ drop (judged_at now b) list = same_offers news live (are.entries_are ∙ sym entries_held) (are.texts_are ∙ texts_held) ∙ live_waits _ now book held drum b within in
             let more = waits_more book held.book_is.is_book held.book_is.dropped (cut_long _ now book held) b within in
             let cut : get_or (judged_cut book) b 0 ≡ judged_at now b = ap (λ (l : List ℕ). get_or l b 0) (cut_held _ now book held) in
             ap (λ (l : List Tuple). l ++ news) (j.of_book files is book holds) ∙ ap (λ (l : List Tuple). waiting book b ++ l) items ∙ sym (more ∙ ap (λ (n : ℕ). waiting book b ++ drop n list) cut);
       };
-      taken = takes_both among _ _ _ (takes_both among _ _ _ (takes_both among _ _ _ before.taken c.in_ok-pending.ensures.taken) (takes_only among sides.reader.file _ _ (subst among (sym of.from) (side_is_file now drum)) c.sweep.ensures.taken)) (takes_none among _ _ c.tell.ensures.taken);
+      taken =
+          let to_sweep = takes_both among _ _ _ (takes_both among _ _ _ before.taken c.in_ok-pending.ensures.taken) (takes_only among sides.reader.file _ _ (subst among (sym of.from) (side_is_file now drum)) c.sweep.ensures.taken) in
+          takes_both among _ _ _ (takes_both among _ _ _ to_sweep c.in_ok-texts.ensures.taken) (takes_none among _ _ c.tell.ensures.taken);
       read =
           let more = c.in_ok-verdicts.ensures.read in
           let file = (cache_front now).file in
           let took = subst (λ (f : ℕ). TakesOf f (16 * (read_of c.sweep.new.self.reader - read_of sides.reader)) (g.S.Store.taken c.pending_of.new.store) (g.S.Store.taken c.sweep.new.store)) of.from (takes_of_exactly sides.reader.file _ _ _ more.1) in
           let first = takes_of_both file _ 0 _ _ _ before.read c.in_ok-pending.ensures.unread in
           let second = takes_of_both file _ _ _ _ _ first took in
-          let third = takes_of_both file _ 0 _ _ _ second (takes_of_none file _ _ c.tell.ensures.taken) in
-          let all : ((16 * read_of sides.reader + 0) + 16 * (read_of c.sweep.new.self.reader - read_of sides.reader)) + 0 ≡ 16 * read_of c.sweep.new.self.reader = omega (arith, more.0) in
-          subst (λ (n : ℕ). TakesOf file n (g.S.Store.taken c.args.store.now) (g.S.Store.taken c.tell.new.store)) all third;
-      later = omega (arith, before.later, c.pending_of.ensures.cause.later, c.sweep.ensures.cause.later, c.tell.ensures.cause.later);
+          let third = takes_of_both file _ 0 _ _ _ second c.in_ok-texts.ensures.unread in
+          let fourth = takes_of_both file _ 0 _ _ _ third (takes_of_none file _ _ c.tell.ensures.taken) in
+          let all : (((16 * read_of sides.reader + 0) + 16 * (read_of c.sweep.new.self.reader - read_of sides.reader)) + 0) + 0 ≡ 16 * read_of c.sweep.new.self.reader = omega (arith, more.0) in
+          subst (λ (n : ℕ). TakesOf file n (g.S.Store.taken c.args.store.now) (g.S.Store.taken c.tell.new.store)) all fourth;
+      later = omega (arith, before.later, c.pending_of.ensures.cause.later, c.sweep.ensures.cause.later, c.pending_texts_of.ensures.cause.later, c.tell.ensures.cause.later);
     }
 
 pub returns-clause-judged : goal.returns-clause-judged

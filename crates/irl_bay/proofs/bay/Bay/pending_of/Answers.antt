@@ -1,24 +1,17 @@
-use Rattle.std.proofs.Common.{◌≡◌, ◌∙◌, ◌+◌, ◌-◌, ◌≤◌, ℕ, length, inr, ⊎_elim, sym, ap, subst, arith}
+use Rattle.std.proofs.Common.{◌≡◌, ◌∙◌, ◌+◌, ◌-◌, ℕ, length, inl, inr, sym, ap, subst, arith}
 use Rattle.std.proofs.lemmas.Result.{IfOk-weaker}
 use Rattle.std.specs.List.{AllByRecursion}
 use Rattle.irl_offer.specs.Buckets.{bucket_of}
 use Rattle.irl_offer.specs.declared.settings.Settings.{Settings}
+use Rattle.irl_disk.proofs.Frames.{takes_only}
 use Rattle.irl_bay.specs.declared.bucket.Bucket.{Bucket}
 use Rattle.irl_bay.specs.BayFiles.{IsFileOf}
-use Rattle.irl_bay.specs.Drum.{Drum, IsDrum, bucket_at, cache_front, judged_at}
-use Rattle.irl_bay.specs.Holding.{IsFileOfBucket, HoldsBucket}
+use Rattle.irl_bay.specs.Drum.{Drum, IsDrum, bucket_at, judged_at}
+use Rattle.irl_bay.specs.Holding.{HoldsBucket}
 use Rattle.irl_bay.specs.Pending.{IsSpoiltBucket}
-use Rattle.irl_bay.proofs.DrumFiles.{bucket_is_file, takes_of_others, takes_wider}
+use Rattle.irl_bay.proofs.DrumFiles.{bucket_is_file}
 use Rattle.irl_bay.proofs.HeldBuckets.{same_bucket}
 use Rattle.irl_bay.proofs.bay.Bay.pending_of.Goals as goal
-
-pub pending-requires-2-clause-long : goal.pending-requires-2-clause-long
-pending-requires-2-clause-long g c = λ files tells.
-    let drum = c.args.self.now in
-    let drum_is : IsDrum drum = subst IsDrum c.self.view_is c.self.invariant in
-    let long : length c.self.inside.buckets.items ≡ length drum.buckets = ap (λ (d : Drum). length d.buckets) c.self.view_is in
-    let is : c.index-bucket.result.now ≡ bucket_at drum c.args.b = same_bucket c.self.inside.buckets.items c.args.b c.index-bucket.result.now (omega (arith, long, drum_is.count, c.requires.bucket)) c.index-bucket.ensures ∙ ap (λ (d : Drum). bucket_at d c.args.b) c.self.view_is in
-    subst (λ (bucket : Bucket). bucket.aux.length ≤ length (files bucket.aux.file)) (sym is) ((c.requires.long files tells).auxes c.args.b c.requires.bucket)
 
 pub returns-clause-held : goal.returns-clause-held
 returns-clause-held g c =
@@ -66,15 +59,4 @@ returns-clause-taken g c =
     let drum_is : IsDrum drum = subst IsDrum c.self.view_is c.self.invariant in
     let long : length c.self.inside.buckets.items ≡ length drum.buckets = ap (λ (d : Drum). length d.buckets) c.self.view_is in
     let is : c.index-bucket.result.now ≡ bucket_at drum c.args.b = same_bucket c.self.inside.buckets.items c.args.b c.index-bucket.result.now (omega (arith, long, drum_is.count, c.requires.bucket)) c.index-bucket.ensures ∙ ap (λ (d : Drum). bucket_at d c.args.b) c.self.view_is in
-    takes_wider (IsFileOfBucket c.index-bucket.result.now) (IsFileOf drum.base drum.settings.buckets) _ _ (λ f file. bucket_is_file drum b f drum_is c.requires.bucket (subst (λ (bucket : Bucket). IsFileOfBucket bucket f) is file)) c.pending-2.ensures.taken
-
-pub returns-clause-unread : goal.returns-clause-unread
-returns-clause-unread g c =
-    let drum = c.args.self.now in
-    let b = c.args.b in
-    let drum_is : IsDrum drum = subst IsDrum c.self.view_is c.self.invariant in
-    let long : length c.self.inside.buckets.items ≡ length drum.buckets = ap (λ (d : Drum). length d.buckets) c.self.view_is in
-    let is : c.index-bucket.result.now ≡ bucket_at drum c.args.b = same_bucket c.self.inside.buckets.items c.args.b c.index-bucket.result.now (omega (arith, long, drum_is.count, c.requires.bucket)) c.index-bucket.ensures ∙ ap (λ (d : Drum). bucket_at d c.args.b) c.self.view_is in
-    let files = drum_is.buckets b c.requires.bucket in
-    let apart : IsFileOfBucket (bucket_at drum b) (cache_front drum).file → ⊥ = λ of. ⊎_elim (λ e. omega (arith, e, files.journal, drum_is.last.side)) (λ e. omega (arith, e, files.aux, drum_is.last.side)) of in
-    takes_of_others (IsFileOfBucket c.index-bucket.result.now) (cache_front drum).file _ _ (λ of. apart (subst (λ (bucket : Bucket). IsFileOfBucket bucket (cache_front drum).file) is of)) c.pending-2.ensures.taken
+    takes_only (IsFileOf drum.base drum.settings.buckets) c.index-bucket.result.now.journal.file _ _ (bucket_is_file drum b _ drum_is c.requires.bucket (inl (ap (λ (bucket : Bucket). bucket.journal.file) is))) c.pending-2.ensures.taken

@@ -1,13 +1,11 @@
-use Rattle.std.proofs.Common.{rules, ◌≡◌, ◌∙◌, ◌+◌, ◌-◌, ◌++◌, ◌∷◌, ◌<◌, ℕ, zero, suc, List, [], Bool, true, false, take, drop, get_or, length, inl, refl, sym, ap, subst, arith}
+use Rattle.std.proofs.Common.{rules, ◌≡◌, ◌∙◌, ◌+◌, ◌-◌, ◌++◌, ◌∷◌, ◌<◌, ℕ, zero, suc, List, [], Bool, true, false, take, drop, get_or, length, sym, ap, subst, arith}
 use Rattle.std.specs.Prelude.{◌↔◌, IsTrue}
 use Rattle.std.specs.List.{All, AllByRecursion}
 use Rattle.irl_offer.specs.Buckets.{bucket_of}
 use Rattle.irl_offer.specs.declared.entry.Entry.{Entry}
 use Rattle.irl_offer.specs.declared.settings.Settings.{Settings}
 use Rattle.irl_disk.specs.Disk.{Files}
-use Rattle.irl_disk.proofs.Frames.{takes_only}
 use Rattle.irl_bay.specs.Damage.{IsEntryOf, IsEntryRun, entries_in, text_length}
-use Rattle.irl_bay.specs.Holding.{IsFileOfBucket}
 use Rattle.irl_bay.specs.Pending.{HasEntries}
 use Rattle.irl_bay.specs.declared.bucket.Bucket.{Bucket}
 use Rattle.irl_bay.proofs.PendingTexts.{length-texts, tail_slice, texts_held}
@@ -21,18 +19,6 @@ pub returns-then-ne-clause-whole : goal.returns-then-ne-clause-whole
 returns-then-ne-clause-whole g c = λ f at e files tells cut list holds buckets count.
     let other : length c.in-Ok.entries.items ≡ c.args.self.now.skip + c.args.count → ⊥ = search rules in
     other (omega (arith, (c.in-Ok.ensures.held files tells cut list holds).count, count))
-
-pub returns-clause-held : goal.returns-clause-held
-returns-clause-held g c = λ files tells cut list holds.
-    let bucket = c.args.self.now in
-    let now = (g.met.S.Store.is_consistent c.args.store.now).told files tells in
-    let read : c.in_ok-texts.texts.items ≡ take (c.length.result - bucket.text) (drop bucket.text (files c.file-aux.result)) = c.in_ok-texts.ensures.bytes files (c.in-Ok.ensures.same ∙ tells) in
-    let there : c.in_ok-texts.texts.items ≡ take (bucket.aux.length - bucket.text) (drop bucket.text (files bucket.aux.file)) = rw (c.length.ensures, c.file-aux.ensures.value) at read in
-    let texts = texts_held list cut bucket.text bucket.aux.length (files bucket.aux.file) holds.text holds.aux.size (holds.aux.each files now) in
-    record {
-      entries_are = sym (c.in-Ok.ensures.held files tells cut list holds).entries_are;
-      texts_are = sym (there ∙ texts.0);
-    }
 
 each_all : (P : Entry → Type 0) (l : List Entry) → AllByRecursion P l → (k : ℕ) (d : Entry) → k < length l → P (get_or l k d)
 each_all P [] all k d lt = absurd (omega arith)
@@ -77,19 +63,14 @@ pub returns-then-not-are_of-clause-whole : goal.returns-then-not-are_of-clause-w
 returns-then-not-are_of-clause-whole g c = λ f at e files tells cut list holds buckets count.
     no_other c.args.settings.now c.args.b c.args.self.now.skip c.args.self.now files c.in-Ok.entries.items _ c.are_of.result (c.in-Ok.ensures.found files tells) (tail_slice c.args.self.now.skip c.deref.result.now ∙ ap (drop c.args.self.now.skip) c.deref.ensures.value) c.are_of.ensures c.if-not-are_of.true
 
-pub returns-then-not-are_of-clause-taken : goal.returns-then-not-are_of-clause-taken
-returns-then-not-are_of-clause-taken g c = takes_only (IsFileOfBucket c.args.self.now) c.args.self.now.journal.file _ _ (inl refl) c.in-Ok.ensures.taken
-
 pub returns-then-not-have_length-clause-whole : goal.returns-then-not-have_length-clause-whole
 returns-then-not-have_length-clause-whole g c = λ f at e files tells cut list holds buckets count.
     let bucket = c.args.self.now in
     let now = (g.met.S.Store.is_consistent c.args.store.now).told files tells in
     let tail = tail_slice bucket.skip c.deref-2.result.now ∙ ap (drop bucket.skip) c.deref-2.ensures.value in
     let texts = texts_held list cut bucket.text bucket.aux.length (files bucket.aux.file) holds.text holds.aux.size (holds.aux.each files now) in
-    let size : length c.in_ok-texts.texts.items ≡ c.length.result - bucket.text = c.in_ok-texts.ensures.size in
-    let read : length c.in_ok-texts.texts.items ≡ text_length (drop bucket.skip c.in-Ok.entries.items) =
-    size ∙ ap (λ (n : ℕ). n - bucket.text) c.length.ensures ∙ texts.1 ∙ length-texts (drop cut list) ∙ ap text_length (sym (c.in-Ok.ensures.held files tells cut list holds).entries_are) in
-    let same : text_length (take (length c.deref-2.result.now - bucket.skip) (drop bucket.skip c.deref-2.result.now)) ≡ c.len-2.result = ap text_length tail ∙ sym read ∙ omega (arith, c.len-2.ensures, c.in_ok-texts.texts.ok) in
+    let read : bucket.aux.length - bucket.text ≡ text_length (drop bucket.skip c.in-Ok.entries.items) = texts.1 ∙ length-texts (drop cut list) ∙ ap text_length (sym (c.in-Ok.ensures.held files tells cut list holds).entries_are) in
+    let same : text_length (take (length c.deref-2.result.now - bucket.skip) (drop bucket.skip c.deref-2.result.now)) ≡ c.length.result - bucket.text = ap text_length tail ∙ sym read ∙ ap (λ (n : ℕ). n - bucket.text) (sym c.length.ensures) in
     contrary c.have_length.result c.if-not-have_length.true (c.have_length.ensures.1 same)
   where
     false_is_not : IsTrue false → ⊥

@@ -1,7 +1,8 @@
 use Rattle.std.proofs.Common.{◌≡◌, ◌≢◌, ◌∙◌, ◌+◌, ◌%◌, ◌^◌, ◌++◌, ℕ, List, map, length, sym, ap, subst, arith, length-append}
 use Rattle.std.proofs.lemmas.List.{length-map}
+use Rattle.std.specs.Option.{ForSome}
 use Rattle.irl_offer.specs.declared.entry.Entry.{Entry}
-use Rattle.irl_cache.specs.Writing.{HasPut}
+use Rattle.irl_cache.specs.Writing.{HasPut, ReachesPlace, Writer}
 use Rattle.irl_bay.specs.JudgedEntries.{judged_entries, rows}
 use Rattle.irl_bay.specs.Runs.{entry_of_offer, texts_of}
 use Rattle.irl_bay.specs.Telling.{judged_with}
@@ -13,53 +14,67 @@ use Rattle.irl_bay.proofs.telling.Telling.tell.Goals as goal
 flip : (m n : ℕ) → m ≢ n → n ≢ m
 flip m n apart e = apart (sym e)
 
-pub returns-in_err-put-clause-step : goal.returns-in_err-put-clause-step
-returns-in_err-put-clause-step g c = λ drum of. judged_writes drum _ _ _ _ of.judged_file of.judged_kept c.put.ensures.changes c.put.ensures.stops
+pub returns-in_err-put_rows-clause-step : goal.returns-in_err-put_rows-clause-step
+returns-in_err-put_rows-clause-step g c = λ drum of. judged_writes drum _ _ _ _ of.judged_file of.judged_kept c.put_rows.ensures.changes c.put_rows.ensures.stops
 
-pub put-requires-2 : goal.put-requires-2
-put-requires-2 g c =
+pub put-requires : goal.put-requires
+put-requires g c =
     let now = c.args.self.now in
     let tells = g.S.Store.snapshot in
-    still_reached (tells c.args.store.now).files (tells c.put.new.store).files now.texts (same_file now.judged.file now.texts.file _ _ _ (flip _ _ now.apart) c.put.ensures.changes) c.requires.texts
+    let next = (tells c.put_rows.new.store).files in
+    subst (λ (w : Writer). ForSome next (ReachesPlace w)) (sym c.put_rows.ensures.texts)
+    (still_reached (tells c.args.store.now).files next now.texts (same_file now.judged.file now.texts.file _ _ _ (flip _ _ now.apart) c.put_rows.ensures.changes) c.requires.texts)
 
-pub returns-in_err-put-2-clause-step : goal.returns-in_err-put-2-clause-step
-returns-in_err-put-2-clause-step g c = λ drum of.
-    step_then drum _ _ _ (g.met.S.Store.is_consistent c.put.new.store) (judged_writes drum _ _ _ _ of.judged_file of.judged_kept c.put.ensures.changes c.put.ensures.stops) (texts_writes drum _ _ _ _ of.texts_file of.texts_kept c.put-2.ensures.changes c.put-2.ensures.stops)
+pub returns-in_err-put-clause-step : goal.returns-in_err-put-clause-step
+returns-in_err-put-clause-step g c = λ drum of.
+    let same = c.put_rows.ensures.texts in
+    step_then drum _ _ _ (g.met.S.Store.is_consistent c.put_rows.new.store) (judged_writes drum _ _ _ _ of.judged_file of.judged_kept c.put_rows.ensures.changes c.put_rows.ensures.stops)
+    (texts_writes drum _ _ _ _ (ap (λ (w : Writer). w.file) same ∙ of.texts_file) (ap (λ (w : Writer). w.kept) same ∙ of.texts_kept) c.put.ensures.changes c.put.ensures.stops)
 
 pub returns-clause-step : goal.returns-clause-step
 returns-clause-step g c = λ drum of.
-    step_then drum _ _ _ (g.met.S.Store.is_consistent c.put.new.store) (judged_writes drum _ _ _ _ of.judged_file of.judged_kept c.put.ensures.changes c.put.ensures.stops) (texts_writes drum _ _ _ _ of.texts_file of.texts_kept c.put-2.ensures.changes c.put-2.ensures.stops)
+    let same = c.put_rows.ensures.texts in
+    step_then drum _ _ _ (g.met.S.Store.is_consistent c.put_rows.new.store) (judged_writes drum _ _ _ _ of.judged_file of.judged_kept c.put_rows.ensures.changes c.put_rows.ensures.stops)
+    (texts_writes drum _ _ _ _ (ap (λ (w : Writer). w.file) same ∙ of.texts_file) (ap (λ (w : Writer). w.kept) same ∙ of.texts_kept) c.put.ensures.changes c.put.ensures.stops)
 
 pub returns-clause-told : goal.returns-clause-told
 returns-clause-told g c = λ drum offers before news has are here.
     let now = c.args.self.now in
+    let mid_self = c.put_rows.new.self in
     let b = c.args.b in
     let tells = g.S.Store.snapshot in
     let told = (tells c.args.store.now).files in
-    let mid = (tells c.put.new.store).files in
-    let new = (tells c.put-2.new.store).files in
+    let mid = (tells c.put_rows.new.store).files in
+    let new = (tells c.put.new.store).files in
     let buckets = drum.settings.buckets in
     let verdicts = c.args.verdicts.now in
-    let entries = c.entries.result.now in
+    let entries = c.args.entries.now in
+    let same = c.put_rows.ensures.texts in
+    let file = ap (λ (w : Writer). w.file) same in
     let many : length verdicts ≡ length news = c.requires.count ∙ ap (λ (l : List Entry). length l) (sym are.entries_are) ∙ length-map news entry_of_offer in
-    let mine : entries ≡ map entry_of_offer news = c.entries.ensures ∙ sym are.entries_are in
     let bytes = judged_entries drum.last.texts (judged_with buckets offers before) in
-    let found : c.deref.result.now ≡ rows ((drum.last.texts + length (texts_of offers)) % 2 ^ 64) b (map entry_of_offer news) verdicts =
-    c.deref.ensures.value ∙ c.in_ok-found.ensures ∙ ap (λ (l : List Entry). rows now.place b l verdicts) mine ∙ ap (λ (n : ℕ). rows n b (map entry_of_offer news) verdicts) has.place in
-    let all : bytes ++ c.deref.result.now ≡ judged_entries drum.last.texts (judged_with buckets (offers ++ news) (before ++ verdicts)) =
+    let found : rows now.place b entries verdicts ≡ rows ((drum.last.texts + length (texts_of offers)) % 2 ^ 64) b (map entry_of_offer news) verdicts =
+    ap (λ (l : List Entry). rows now.place b l verdicts) (sym are.entries_are) ∙ ap (λ (n : ℕ). rows n b (map entry_of_offer news) verdicts) has.place in
+    let all : bytes ++ rows now.place b entries verdicts ≡ judged_entries drum.last.texts (judged_with buckets (offers ++ news) (before ++ verdicts)) =
     ap (λ (l : List ℕ). bytes ++ l) found ∙ sym (more_entries drum.last.texts b buckets offers news before verdicts has.count many here) in
-    let texts : texts_of offers ++ c.deref-2.result.now ≡ texts_of (offers ++ news) = ap (λ (l : List ℕ). texts_of offers ++ l) (c.deref-2.ensures.value ∙ sym are.texts_are) ∙ sym (more_texts offers news) in
-    let judged_put = c.in_ok-put.ensures.put bytes has.judged in
-    let texts_moved = put_on told mid (texts_of offers) now.texts (same_file now.judged.file now.texts.file _ told mid (flip _ _ now.apart) c.put.ensures.changes) has.texts in
-    let judged_apart : c.put.new.self.file ≢ now.texts.file = λ e. now.apart (sym c.put.ensures.file ∙ e) in
-    let judged_moved = put_on mid new _ c.put.new.self (same_file now.texts.file c.put.new.self.file _ mid new judged_apart c.put-2.ensures.changes) judged_put in
+    let texts : texts_of offers ++ c.args.texts.now ≡ texts_of (offers ++ news) = ap (λ (l : List ℕ). texts_of offers ++ l) (sym are.texts_are) ∙ sym (more_texts offers news) in
+    let judged_put = c.in_ok-put_rows.ensures.put bytes has.judged in
+    let texts_moved = put_on told mid (texts_of offers) now.texts (same_file now.judged.file now.texts.file _ told mid (flip _ _ now.apart) c.put_rows.ensures.changes) has.texts in
+    let texts_there = subst (λ (w : Writer). HasPut mid (texts_of offers) w) (sym same) texts_moved in
+    let judged_apart : mid_self.judged.file ≢ mid_self.texts.file = λ e. now.apart (sym c.put_rows.ensures.file ∙ e ∙ file) in
+    let judged_moved = put_on mid new _ mid_self.judged (same_file mid_self.texts.file mid_self.judged.file _ mid new judged_apart c.put.ensures.changes) judged_put in
     let more_long = ap (λ (l : List ℕ). length l) (more_texts offers news) ∙ length-append (texts_of offers) (texts_of news) in
-    let text_long : length (texts_of news) ≡ c.len.result = omega (arith, ap (λ (l : List ℕ). length l) are.texts_are, c.len.ensures, c.args.pending.now.texts.ok) in
+    let text_long : length (texts_of news) ≡ length c.args.texts.now = ap (λ (l : List ℕ). length l) are.texts_are in
     record {
-      of = record { judged_file = c.put.ensures.file ∙ has.of.judged_file; judged_kept = c.put.ensures.kept ∙ has.of.judged_kept; texts_file = c.put-2.ensures.file ∙ has.of.texts_file; texts_kept = c.put-2.ensures.kept ∙ has.of.texts_kept };
+      of = record {
+        judged_file = c.put_rows.ensures.file ∙ has.of.judged_file;
+        judged_kept = c.put_rows.ensures.kept ∙ has.of.judged_kept;
+        texts_file = c.put.ensures.file ∙ file ∙ has.of.texts_file;
+        texts_kept = c.put.ensures.kept ∙ ap (λ (w : Writer). w.kept) same ∙ has.of.texts_kept;
+      };
       count = length-append before verdicts ∙ omega (arith, has.count, many, length-append offers news);
-      judged = subst (λ (l : List ℕ). HasPut new l c.put.new.self) all judged_moved;
-      texts = subst (λ (l : List ℕ). HasPut new l c.put-2.new.self) texts (c.in_ok-put-2.ensures.put (texts_of offers) texts_moved);
-      place = omega (arith, has.place, more_long, text_long);
-      unique = omega (arith, c.saturating_add-self.ensures, c.count_unique.ensures, has.unique, more_uniques buckets offers news before verdicts has.count many);
+      judged = subst (λ (l : List ℕ). HasPut new l mid_self.judged) all judged_moved;
+      texts = subst (λ (l : List ℕ). HasPut new l c.put.new.self) texts (c.in_ok-put.ensures.put (texts_of offers) texts_there);
+      place = omega (arith, c.put_rows.ensures.place, has.place, more_long, text_long);
+      unique = omega (arith, c.saturating_add-self.ensures, c.count_unique.ensures, c.put_rows.ensures.unique, has.unique, more_uniques buckets offers news before verdicts has.count many);
     }
