@@ -30,13 +30,13 @@ module _ (base side buckets f b : ℕ) (within : b < buckets) (is : IsBucketFile
 -- ---- the cuts
 -- the files of the first buckets are cut
 pub record CutSoFar (base side buckets : ℕ) (old now : Snapshot) (b : ℕ) : Type 0 where
-  pub cut : ForSome now.files (λ files. (k : ℕ) → k < b → files (file_of base 0 (Journal side k)) ≡ [])
+  pub cut : ForSome now.files (λ files. (f : ℕ) → IsSideFile base side b f → files f ≡ [])
   pub others : TellsOnly (IsSideFile base side buckets) old.files now.files
   pub stops : LeavesBy (ChangesOnly (IsSideFile base side buckets)) old now
 
 pub cut_none : (base side buckets : ℕ) (now : Snapshot) → IsConsistent now → CutSoFar base side buckets now now 0
 cut_none base side buckets now law = record {
-  cut = λ files told k within. absurd (omega (arith, within));
+  cut = λ files told f is. absurd (omega (arith, is.1));
   others = tells_same (IsSideFile base side buckets) now.files now.files refl;
   stops = leaves_same (IsSideFile base side buckets) now now (stays now now.images law (λ image was. was));
 }
@@ -44,15 +44,19 @@ cut_none base side buckets now law = record {
 pub cut_more : (base side buckets f g b : ℕ) (old mid between new : Snapshot) → IsConsistent mid → IsConsistent between → b < buckets → f ≡ file_of base 0 (Journal side b) → g ≡ file_of base 0 (Aux side b) → CutSoFar base side buckets old mid b
     → Changes f (IsPrefix 0) mid.files between.files → LeavesBy (ChangesFile f (PartlyCut 0)) mid between → Changes g (IsPrefix 0) between.files new.files → LeavesBy (ChangesFile g (PartlyCut 0)) between new → CutSoFar base side buckets old new (b + 1)
 cut_more base side buckets f g b old mid between new law_mid law_between within journal aux so_far first first_stops second second_stops = record {
-  cut = λ files told k inside.
+  cut = λ files told h is.
       let later = told_from g (IsPrefix 0) between.files new.files files second told in
       let before = told_from f (IsPrefix 0) mid.files between.files later.0 first later.1 in
-      let apart : file_of base 0 (Journal side k) ≢ g = λ e. omega (arith, e, aux) in
-      later.2.others (file_of base 0 (Journal side k)) apart
+      ⊎_elim
+      (λ (e : h ≡ g). subst (λ (n : ℕ). files n ≡ []) (sym e) later.2.changed)
+      (λ (not_aux : h ≢ g). later.2.others h not_aux
       ∙ ⊎_elim
-      (λ (e : k ≡ b). subst (λ (h : ℕ). later.0 h ≡ []) (journal ∙ ap (λ (n : ℕ). file_of base 0 (Journal side n)) (sym e)) before.2.changed)
-      (λ (other : k ≢ b). before.2.others (file_of base 0 (Journal side k)) (λ e. omega (arith, e, journal, other)) ∙ so_far.cut before.0 before.1 k (omega (arith, inside, other)))
-      (same_or_other k b);
+      (λ (e : h ≡ f). subst (λ (n : ℕ). later.0 n ≡ []) (sym e) before.2.changed)
+      (λ (not_journal : h ≢ f).
+      let earlier : is.0 < b = ⊎_elim (λ (e : h ≡ file_of base 0 (Journal side is.0)). omega (arith, e, journal, not_journal, is.1)) (λ (e : h ≡ file_of base 0 (Aux side is.0)). omega (arith, e, aux, not_aux, is.1)) is.2 in
+      before.2.others h not_journal ∙ so_far.cut before.0 before.1 h (is.0, earlier, is.2))
+      (same_or_other h f))
+      (same_or_other h g);
   others = side_tells base side buckets g b within (inr aux) _ old.files between.files new.files (side_tells base side buckets f b within (inl journal) _ old.files mid.files between.files so_far.others first) second;
   stops = side_leaves base side buckets g b within (inr aux) _ old between new law_between (side_leaves base side buckets f b within (inl journal) _ old mid between law_mid so_far.stops first_stops) second_stops;
 }
@@ -63,19 +67,21 @@ pub record EmptiedSoFar (drum : Drum) (side buckets : ℕ) (old now : Snapshot) 
   pub made_are : made ≡ take b (emptied_from drum.base side 0 drum.buckets)
   pub count : length made ≡ b
   pub holds : (k : ℕ) → k < b → (array : ℕ) → HoldsBucket now.images array 0 (emptied drum.base side k (durable_at drum k)) []
-  pub long : ForSome now.files (λ files. (k : ℕ) → k < b → 0 < length (files (file_of drum.base 0 (Journal side k))))
+  pub journals : ForSome now.files (λ files. (k : ℕ) → k < b → length (files (file_of drum.base 0 (Journal side k))) ≡ 1)
+  pub auxes : ForSome now.files (λ files. (k : ℕ) → k < buckets → files (file_of drum.base 0 (Aux side k)) ≡ [])
   pub cut : ForSome now.files (λ files. (k : ℕ) → b ≤ k → k < buckets → files (file_of drum.base 0 (Journal side k)) ≡ [])
   pub others : TellsOnly (IsSideFile drum.base side buckets) old.files now.files
   pub stops : LeavesBy (ChangesOnly (IsSideFile drum.base side buckets)) old now
 
-pub emptied_none : (drum : Drum) (side buckets : ℕ) (old now : Snapshot) (made : List Bucket) → made ≡ [] → ForSome now.files (λ files. (k : ℕ) → k < buckets → files (file_of drum.base 0 (Journal side k)) ≡ []) → TellsOnly (IsSideFile drum.base side buckets) old.files now.files
+pub emptied_none : (drum : Drum) (side buckets : ℕ) (old now : Snapshot) (made : List Bucket) → made ≡ [] → ForSome now.files (λ files. (f : ℕ) → IsSideFile drum.base side buckets f → files f ≡ []) → TellsOnly (IsSideFile drum.base side buckets) old.files now.files
     → LeavesBy (ChangesOnly (IsSideFile drum.base side buckets)) old now → EmptiedSoFar drum side buckets old now made 0
 emptied_none drum side buckets old now made none cut others stops = record {
   made_are = none;
   count = ap length none;
   holds = λ k within. absurd (omega (arith, within));
-  long = λ files told k within. absurd (omega (arith, within));
-  cut = λ files told k from within. cut files told k within;
+  journals = λ files told k within. absurd (omega (arith, within));
+  auxes = λ files told k within. cut files told (file_of drum.base 0 (Aux side k)) (k, within, inr refl);
+  cut = λ files told k from within. cut files told (file_of drum.base 0 (Journal side k)) (k, within, inl refl);
   others = others;
   stops = stops;
 }
@@ -92,12 +98,17 @@ emptied_more drum side buckets f old mid new made b bucket law_mid law within al
           (λ (e : k ≡ b). subst (λ (one : Bucket). HoldsBucket new.images array 0 one []) (is ∙ ap (λ (n : ℕ). emptied drum.base side n (durable_at drum n)) (sym e)) (holds array))
           (λ (other : k ≢ b). bucket_stays (λ g. g ≡ f) array 0 (emptied drum.base side k (durable_at drum k)) [] mid new law only (λ e. omega (arith, e, file, other)) (λ e. omega (arith, e, file)) (so_far.holds k (omega (arith, inside, other)) array))
           (same_or_other k b);
-      long = λ files told k inside.
+      journals = λ files told k inside.
           let from = told_from f (λ x y. length y ≡ 1) mid.files new.files files changes told in
           ⊎_elim
-          (λ (e : k ≡ b). let here : f ≡ file_of drum.base 0 (Journal side k) = omega (arith, file, e) in let one = from.2.changed in let some : 0 < length (files f) = omega (arith, one) in subst (λ (h : ℕ). 0 < length (files h)) here some)
-          (λ (other : k ≢ b). let same = from.2.others (file_of drum.base 0 (Journal side k)) (λ e. omega (arith, e, file, other)) in subst (λ (bytes : List ℕ). 0 < length bytes) (sym same) (so_far.long from.0 from.1 k (omega (arith, inside, other))))
+          (λ (e : k ≡ b). let here : f ≡ file_of drum.base 0 (Journal side k) = omega (arith, file, e) in subst (λ (h : ℕ). length (files h) ≡ 1) here from.2.changed)
+          (λ (other : k ≢ b).
+          let same = from.2.others (file_of drum.base 0 (Journal side k)) (λ e. omega (arith, e, file, other)) in
+          ap (λ (bytes : List ℕ). length bytes) same ∙ so_far.journals from.0 from.1 k (omega (arith, inside, other)))
           (same_or_other k b);
+      auxes = λ files told k inside.
+          let from = told_from f (λ x y. length y ≡ 1) mid.files new.files files changes told in
+          from.2.others (file_of drum.base 0 (Aux side k)) (λ e. omega (arith, e, file)) ∙ so_far.auxes from.0 from.1 k inside;
       cut = λ files told k later inside.
           let from = told_from f (λ x y. length y ≡ 1) mid.files new.files files changes told in
           from.2.others (file_of drum.base 0 (Journal side k)) (λ e. omega (arith, e, file, later)) ∙ so_far.cut from.0 from.1 k (omega (arith, later)) inside;

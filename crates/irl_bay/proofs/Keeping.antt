@@ -7,9 +7,9 @@ use Rattle.std.specs.Option.{ForSome}
 use Rattle.irl_offer.specs.Tuple.{Tuple}
 use Rattle.irl_model.specs.Book.{Book, merged}
 use Rattle.irl_disk.specs.Disk.{Files, Changes, ChangesFile}
-use Rattle.irl_disk.specs.Images.{Snapshot, IsConsistent, Follows, Leaves, LeavesBy, LeavesSame}
+use Rattle.irl_disk.specs.Images.{Snapshot, IsConsistent, Follows, Leaves, LeavesBy}
 use Rattle.irl_disk.proofs.Frames.{told_from}
-use Rattle.irl_disk.proofs.Stretches.{widens, widens_by, joins, joins_by, same_by, left_now}
+use Rattle.irl_disk.proofs.Stretches.{stays, widens, widens_by, joins, joins_by, same_by, left_now}
 use Rattle.irl_journal.specs.Appending.{Tail, IsOpen, HasOrGains}
 use Rattle.irl_journal.specs.Format.{StandsFor, HasRecords}
 use Rattle.irl_journal.proofs.Fronts.{keeps_both}
@@ -20,7 +20,8 @@ use Rattle.irl_bay.specs.Runs.{run_bytes, IsRun}
 use Rattle.irl_bay.specs.Commits.{Commit, IsCommit, HasLiveRecords, commit_bytes, first_commit, last_commit, live_side, live_offers}
 use Rattle.irl_bay.specs.Drum.{bucket_at, durable_at, Drum, IsDrum, SomePending}
 use Rattle.irl_bay.specs.Holding.{Holds, HoldsBucket, Becomes, ChangesOnly, TellsOnly, IsLong, TellsBy}
-use Rattle.irl_bay.specs.Merging.{Batch, KeepsCommitted, FitsBatch, HasRoom, IsBatchFile, IsMergeFile, IsJudged, IsLongBatch, emptied, next_commit, next_cache, next_judged, next_texts, with_commit}
+use Rattle.irl_bay.specs.Merging.{AreEmpty, Batch, KeepsCommitted, FitsBatch, IsBatchFile, IsMergeFile, IsJudged, IsLongBatch, emptied, next_commit, next_cache, next_judged, next_texts, with_commit, Writes}
+use Rattle.irl_bay.proofs.BatchWrites.{step_others}
 use Rattle.irl_bay.proofs.Live.{live_merged}
 use Rattle.irl_bay.proofs.MergeFrames.{AreEmptied, Empties, Stays, batch_keeps_manifest, batch_stays, empties_stays, holds_moved, keeps_all, low_apart, tail_moved}
 use Rattle.irl_bay.proofs.Merges.{IsMerged, IsReady, Only, ready, ready_leaves, holds_merged}
@@ -67,7 +68,7 @@ spares_then drum x y z first second = record {
 pub written_spares : (drum : Drum) (a b : Snapshot) → IsDrum drum → LeavesBy (KeepsCommitted drum) a b → LeavesBy (Spares drum) a b
 written_spares drum a b law first = widens_by a b _ _ first (λ y z. batch_spares drum y z law)
 
-pub spares_both : (drum : Drum) (a b d : Snapshot) → IsDrum drum → IsConsistent b → LeavesBy (KeepsCommitted drum) a b → LeavesBy (Empties drum) b d → LeavesBy (Spares drum) a d
+spares_both : (drum : Drum) (a b d : Snapshot) → IsDrum drum → IsConsistent b → LeavesBy (KeepsCommitted drum) a b → LeavesBy (Empties drum) b d → LeavesBy (Spares drum) a d
 spares_both drum a b d law law_b first second =
     joins_by a b d (Spares drum) law_b (spares_then drum) (written_spares drum a b law first) (widens_by b d _ _ second (λ y z. side_spares drum y z law))
 
@@ -101,64 +102,106 @@ open_empty : (images : Files → Type 0) (array cut : ℕ) (bucket : Bucket) (li
 open_empty images array cut bucket list none holds =
     subst (λ (runs : List (List Tuple)). IsOpen images bucket.journal (map run_bytes runs)) (no_runs array (holds.before ++ holds.behind) (sym none ∙ holds.are.joined) holds.are.sizes) holds.journal
 
--- ---- what a stop leaves until then
+-- ---- which files are told to change
+wider : (among wide : ℕ → Type 0) (old new : Option Files) → ((f : ℕ) → among f → wide f) → TellsOnly among old new → TellsOnly wide old new
+wider among wide None new more tells = tells
+wider among wide (Some old) new more tells = (tells.0, tells.1, only_wider among wide old tells.0 more tells.2)
+
+batch_others : (drum : Drum) (a b : Option Files) → TellsOnly (IsBatchFile drum) a b → TellsOnly (IsMergeFile drum) a b
+batch_others drum a b = wider (IsBatchFile drum) (IsMergeFile drum) a b (λ f is. inr (inl is))
+
+-- the files of the side that isn't live
+abbrev pub IsOtherSide : Drum → ℕ → Type 0
+IsOtherSide drum = IsSideFile drum.base (1 - live_side drum.last) drum.settings.buckets
+
+side_others : (drum : Drum) (a b d : Option Files) → TellsOnly (IsBatchFile drum) a b → TellsOnly (IsOtherSide drum) b d → TellsOnly (IsMergeFile drum) a d
+side_others drum a b d first second = tells_both (IsMergeFile drum) a b d (batch_others drum a b first) (wider (IsOtherSide drum) (IsMergeFile drum) b d (λ f is. inr (inr is)) second)
+
+-- ---- what a merge leaves of what was
 -- the live journals have their records, or none
 abbrev pub HasOrEmpties : Drum → ℕ → List (List ℕ) → Files → Type 0
 HasOrEmpties drum n payloads image = HasLiveRecords drum.base drum.settings.buckets n payloads image ⊎ HasLiveRecords drum.base drum.settings.buckets n [] image
 
-module _ (drum : Drum) (a b : Snapshot) (law : IsDrum drum) (stops : LeavesBy (Spares drum) a b) where
+-- From one snapshot to a later one only a merge's files change, and a stop leaves files that stand for the book, with the
+-- cut or without, and live journals with their records, or with none.
+pub record IsMerging (drum : Drum) (a b : Snapshot) : Type 0 where
+  pub others : TellsOnly (IsMergeFile drum) a.files b.files
+  pub others_stop : LeavesBy (ChangesOnly (IsMergeFile drum)) a b
+  pub stops : (book : Book) → Holds a.images drum book → LeavesBy (Becomes (IsMergeFile drum) drum.base drum.settings book (merged book)) a b
+  pub records_stop : (book : Book) (n : ℕ) (payloads : List (List ℕ)) → Holds a.images drum book → n < drum.settings.buckets → IsOpen a.images (bucket_at drum n).journal payloads → Leaves a b (HasOrEmpties drum n payloads)
+
+module _ (drum : Drum) (a b : Snapshot) (law : IsDrum drum) (spares : LeavesBy (Spares drum) a b) where
   -- the bay goes on holding its book
   pub holds_on : (book : Book) → IsConsistent b → Holds a.images drum book → Holds b.images drum book
-  holds_on book law_b holds = holds_spared a.images b.images drum book (λ z left. left_now a b _ law_b stops z left) holds
+  holds_on book law_b holds = holds_spared a.images b.images drum book (λ z left. left_now a b _ law_b spares z left) holds
 
-  -- only its files change
-  pub spared_others : LeavesBy (ChangesOnly (IsMergeFile drum)) a b
-  spared_others = widens_by a b _ _ stops (λ y z spares. spares.others)
+  only_holds : (book : Book) (image : Files) → Holds a.images drum book → Follows (Spares drum) a.images image → Holds (Only image) drum book
+  only_holds book image holds from = holds_spared a.images (Only image) drum book (λ z is. (from.0, from.1, subst (λ (z : Files). Spares drum from.0 z) (sym is) from.2)) holds
 
-  only_holds : (x : Book) (image : Files) → Holds a.images drum x → Follows (Spares drum) a.images image → Holds (Only image) drum x
-  only_holds x image holds from = holds_spared a.images (Only image) drum x (λ z is. (from.0, from.1, subst (λ (z : Files). Spares drum from.0 z) (sym is) from.2)) holds
+  merging_spared : TellsOnly (IsMergeFile drum) a.files b.files → IsMerging drum a b
+  merging_spared others = record {
+    others = others;
+    others_stop = widens_by a b _ _ spares (λ y z spares. spares.others);
+    stops = λ book holds. widens a b _ _ spares (λ image from. (
+      from.0,
+      from.1,
+      record { others = from.2.others; stands = inl (holds_stands (Only image) drum book image law (only_holds book image holds from) refl) },
+    ));
+    records_stop = λ book n payloads holds within is_open. widens a b _ _ spares (λ image from.
+        inl (live_records (Only image) drum book n payloads image law within (only_holds book image holds from)
+        (tail_moved (bucket_at drum n).journal payloads a.images (Only image) (λ z is. (from.0, from.1, ap (λ (z : Files). z (bucket_at drum n).journal.file) is ∙ from.2.stays.journals n within)) is_open) refl));
+  }
 
-  -- files that stand for it
-  pub spared_stops : (x y : Book) → Holds a.images drum x → LeavesBy (Becomes (IsMergeFile drum) drum.base drum.settings x y) a b
-  spared_stops x y holds = widens a b _ _ stops (λ image from. (
-    from.0,
-    from.1,
-    record { others = from.2.others; stands = inl (holds_stands (Only image) drum x image law (only_holds x image holds from) refl) },
-  ))
+-- before a call, and while the batch is written
+tells_none : (step : Files → Files → Type 0) (told : Option Files) → ((x : Files) → step x x) → TellsBy step told told
+tells_none step None none = refl
+tells_none step (Some files) none = (files, refl, none files)
 
-  -- and journals with their records
-  pub spared_records : (x : Book) (n : ℕ) (payloads : List (List ℕ)) → n < drum.settings.buckets → Holds a.images drum x → IsOpen a.images (bucket_at drum n).journal payloads → Leaves a b (HasOrEmpties drum n payloads)
-  spared_records x n payloads within holds is_open = widens a b _ _ stops (λ image from.
-      inl (live_records (Only image) drum x n payloads image law within (only_holds x image holds from)
-      (tail_moved (bucket_at drum n).journal payloads a.images (Only image) (λ z is. (from.0, from.1, ap (λ (z : Files). z (bucket_at drum n).journal.file) is ∙ from.2.stays.journals n within)) is_open) refl))
+pub writes_none : (drum : Drum) (now : Snapshot) → IsConsistent now → Writes drum now now
+writes_none drum now law = record {
+  told = tells_none (KeepsCommitted drum) now.files (keeps_all drum);
+  stops = same_by now now (KeepsCommitted drum) (keeps_all drum) (stays now now.images law (λ image was. was));
+}
+
+pub merging_written : (drum : Drum) (a b : Snapshot) → IsDrum drum → Writes drum a b → IsMerging drum a b
+merging_written drum a b law writes = merging_spared drum a b law (written_spares drum a b law writes.stops) (batch_others drum a.files b.files (step_others drum a b writes))
+
+pub merging_none : (drum : Drum) (now : Snapshot) → IsDrum drum → IsConsistent now → IsMerging drum now now
+merging_none drum now law law_now = merging_written drum now now law (writes_none drum now law_now)
+
+-- while the other side is emptied
+pub merging_emptied : (drum : Drum) (a b d : Snapshot) → IsDrum drum → IsConsistent b → Writes drum a b → TellsOnly (IsOtherSide drum) b.files d.files → LeavesBy (Empties drum) b d → IsMerging drum a d
+merging_emptied drum a b d law law_b writes others emptying = merging_spared drum a d law (spares_both drum a b d law law_b writes.stops emptying) (side_others drum a.files b.files d.files (step_others drum a b writes) others)
 
 -- ---- once the side is emptied
 -- From one snapshot to a later one a batch of which this is the commit was written, and the side that isn't live emptied.
-pub record IsPrepared (drum : Drum) (next : Commit) (a d : Snapshot) : Type 0 where
+pub record IsPrepared (drum : Drum) (batch : Batch) (next : Commit) (a d : Snapshot) : Type 0 where
   pub law : IsDrum drum
-  pub sound : drum.is_sound ≡ true
-  pub some : SomePending drum
-  pub batch : Batch
   pub next_is : next ≡ next_commit drum batch
   pub fits : FitsBatch drum batch
-  pub room : HasRoom drum.settings.buckets (next_commit drum batch)
   pub spares : LeavesBy (Spares drum) a d
+  pub merging : IsMerging drum a d
   pub ready_for : (files : Files) → a.files ≡ Some files → (book : Book) → Holds a.images drum book → IsReady d.images drum book batch
 
-pub prepared : (drum : Drum) (next : Commit) (a b d : Snapshot) → IsDrum drum → drum.is_sound ≡ true → SomePending drum → IsConsistent b → IsConsistent d → LeavesBy (KeepsCommitted drum) a b → IsJudged drum a b next → LeavesBy (Empties drum) b d → AreEmptied d.images drum → IsPrepared drum next a d
-prepared drum next a b d law sound some law_b law_d stops j emptying emptied_are = record {
+pub prepared : (drum : Drum) (next : Commit) (a b d : Snapshot) → IsDrum drum → drum.is_sound ≡ true → SomePending drum → IsConsistent b → IsConsistent d → Writes drum a b → (j : IsJudged drum a b next) → TellsOnly (IsOtherSide drum) b.files d.files → LeavesBy (Empties drum) b d → AreEmptied d.images drum
+    → IsPrepared drum j.batch next a d
+prepared drum next a b d law sound some law_b law_d writes j others emptying emptied_are = record {
   law = law;
-  sound = sound;
-  some = some;
-  batch = j.batch;
   next_is = j.synced.next_is;
   fits = j.fits;
-  room = j.synced.room;
-  spares = spares_both drum a b d law law_b stops emptying;
+  spares = spares_both drum a b d law law_b writes.stops emptying;
+  merging = merging_emptied drum a b d law law_b writes others emptying;
   ready_for = λ files told book holds.
-      ready a.images b.images d.images drum book j.batch law sound some j.fits j.synced.room holds (holds_on drum a b law (written_spares drum a b law stops) book law_b holds) (j.of_book files told book holds) j.synced.written
+      ready a.images b.images d.images drum book j.batch law sound some j.fits j.synced.room holds (holds_on drum a b law (written_spares drum a b law writes.stops) book law_b holds) (j.of_book files told book holds) j.synced.written
       (λ z left. left_now b d _ law_d emptying z left) emptied_are;
 }
+
+-- the manifest is as long as before the side was emptied
+pub manifest_long : (drum : Drum) (b d : Option Files) → IsDrum drum → ForSome b (λ files. IsLong drum files) → TellsOnly (IsOtherSide drum) b d → ForSome d (λ files. drum.manifest.end < length (files drum.manifest.file))
+manifest_long drum b d law long changes = λ files told.
+    let from = told_before (IsOtherSide drum) b d files changes told in
+    let stays = from.2 drum.manifest.file (low_apart drum.base (1 - live_side drum.last) drum.settings.buckets drum.manifest.file (omega (arith, law.manifest))) in
+    subst (λ (bytes : List ℕ). drum.manifest.end < length bytes) (sym stays) (long from.0 from.1).manifest
 
 -- ---- and then the record
 not_manifest : (drum : Drum) (f : ℕ) → IsDrum drum → (IsMergeFile drum f → ⊥) → f ≡ drum.manifest.file → ⊥
@@ -169,46 +212,46 @@ pub told_leaves : (step : Files → Files → Type 0) (P : Files → Type 0) (to
 told_leaves step P None b c is law_b stops where_told = widens b c _ _ stops (λ image from. let t = (law_b.tells from.0 from.1).1 in absurd (cc))
 told_leaves step P (Some files) b c is law_b stops where_told = where_told files is
 
-module _ (drum : Drum) (next : Commit) (a d e : Snapshot) (p : IsPrepared drum next a d) (law_a : IsConsistent a) (law_d : IsConsistent d) (appended : LeavesBy (ChangesFile drum.manifest.file (λ _ _. ⊤)) d e) where
+module _ (drum : Drum) (batch : Batch) (next : Commit) (a d e : Snapshot) (p : IsPrepared drum batch next a d) (law_a : IsConsistent a) (law_d : IsConsistent d) (appended : LeavesBy (ChangesFile drum.manifest.file (λ _ _. ⊤)) d e) where
   -- only the merge's files change
-  pub merge_others_stop : LeavesBy (ChangesOnly (IsMergeFile drum)) a e
-  merge_others_stop =
-      joins_by a d e _ law_d (λ x y z first second f out. second f out ∙ first f out) (spared_others drum a d p.law p.spares)
+  others_stop : LeavesBy (ChangesOnly (IsMergeFile drum)) a e
+  others_stop =
+      joins_by a d e _ law_d (λ x y z first second f out. second f out ∙ first f out) p.merging.others_stop
       (widens_by d e _ _ appended (λ y z change f out. change.others f (not_manifest drum f p.law out)))
 
   -- the record may have been gained
   abbrev pub Gains : Type 0
   Gains = (payloads : List (List ℕ)) → IsOpen d.images drum.manifest payloads → LeavesBy (ChangesFile drum.manifest.file (HasOrGains payloads (commit_bytes next))) d e
 
-  gained : Gains → (book : Book) → (r : IsReady d.images drum book p.batch) → LeavesBy (ChangesFile drum.manifest.file (HasOrGains (map commit_bytes r.holds.commits) (commit_bytes (next_commit drum p.batch)))) d e
+  gained : Gains → (book : Book) → (r : IsReady d.images drum book batch) → LeavesBy (ChangesFile drum.manifest.file (HasOrGains (map commit_bytes r.holds.commits) (commit_bytes (next_commit drum batch)))) d e
   gained gains book r = subst (λ (commit : Commit). LeavesBy (ChangesFile drum.manifest.file (HasOrGains (map commit_bytes r.holds.commits) (commit_bytes commit))) d e) p.next_is (gains (map commit_bytes r.holds.commits) r.holds.manifest)
 
   -- a stop leaves files that stand for the book, with the cut or without
-  pub merge_stops : Gains → (book : Book) → Holds a.images drum book → LeavesBy (Becomes (IsMergeFile drum) drum.base drum.settings book (merged book)) a e
-  merge_stops gains book holds = told_leaves _ _ a.files a e refl law_a merge_others_stop (λ files told.
+  stops : Gains → (book : Book) → Holds a.images drum book → LeavesBy (Becomes (IsMergeFile drum) drum.base drum.settings book (merged book)) a e
+  stops gains book holds = told_leaves _ _ a.files a e refl law_a others_stop (λ files told.
       let r = p.ready_for files told book holds in
-      joins a d e _ (spared_stops drum a d p.law p.spares book (merged book) holds) (widens d e _ _ (gained gains book r) (λ image from.
+      joins a d e _ (p.merging.stops book holds) (widens d e _ _ (gained gains book r) (λ image from.
       let before = left_now a d _ law_d p.spares from.0 from.1 in (
         before.0,
         before.1,
         record {
           others = λ f out. from.2.others f (not_manifest drum f p.law out) ∙ before.2.others f out;
-          stands = ⊎_elim (λ old. inl (holds_stands (Only image) drum book image p.law old refl)) (λ new. inr (holds_stands (Only image) (with_commit new.manifest (next_commit drum p.batch) drum) (merged book) image new.law new.holds refl)) (ready_leaves d.images drum book p.batch from.0 image r from.1 from.2);
+          stands = ⊎_elim (λ old. inl (holds_stands (Only image) drum book image p.law old refl)) (λ new. inr (holds_stands (Only image) (with_commit new.manifest (next_commit drum batch) drum) (merged book) image new.law new.holds refl)) (ready_leaves d.images drum book batch from.0 image r from.1 from.2);
         },
       ))))
 
   -- and journals with their records, or with none
-  merged_records : (book : Book) (n : ℕ) (payloads : List (List ℕ)) (image : Files) → n < drum.settings.buckets → Holds a.images drum book → IsMerged drum book p.batch image → IsReady d.images drum book p.batch → HasOrEmpties drum n payloads image
+  merged_records : (book : Book) (n : ℕ) (payloads : List (List ℕ)) (image : Files) → n < drum.settings.buckets → Holds a.images drum book → IsMerged drum book batch image → IsReady d.images drum book batch → HasOrEmpties drum n payloads image
   merged_records book n payloads image within holds m r =
       let there : n < book.buckets = omega (arith, within, holds.book_is.buckets) in
-      let new = with_commit m.manifest (next_commit drum p.batch) drum in
-      let none = live_merged drum.settings book (next_commit drum p.batch) (1 - live_side drum.last) n holds.book_is there refl (p.fits.cut ∙ holds.numbers.offers) in
-      inr (live_records (Only image) new (merged book) n [] image m.law within m.holds (open_empty (Only image) drum.settings.array _ (bucket_at new n) (live_offers (merged book) (next_commit drum p.batch) n) none (m.holds.buckets n there)) refl)
+      let new = with_commit m.manifest (next_commit drum batch) drum in
+      let none = live_merged drum.settings book (next_commit drum batch) (1 - live_side drum.last) n holds.book_is there refl (p.fits.cut ∙ holds.numbers.offers) in
+      inr (live_records (Only image) new (merged book) n [] image m.law within m.holds (open_empty (Only image) drum.settings.array _ (bucket_at new n) (live_offers (merged book) (next_commit drum batch) n) none (m.holds.buckets n there)) refl)
 
-  pub merge_records : Gains → (book : Book) (n : ℕ) (payloads : List (List ℕ)) → Holds a.images drum book → n < drum.settings.buckets → IsOpen a.images (bucket_at drum n).journal payloads → Leaves a e (HasOrEmpties drum n payloads)
-  merge_records gains book n payloads holds within is_open = told_leaves _ _ a.files a e refl law_a merge_others_stop (λ files told.
+  records_stop : Gains → (book : Book) (n : ℕ) (payloads : List (List ℕ)) → Holds a.images drum book → n < drum.settings.buckets → IsOpen a.images (bucket_at drum n).journal payloads → Leaves a e (HasOrEmpties drum n payloads)
+  records_stop gains book n payloads holds within is_open = told_leaves _ _ a.files a e refl law_a others_stop (λ files told.
       let r = p.ready_for files told book holds in
-      joins a d e _ (spared_records drum a d p.law p.spares book n payloads within holds is_open) (widens d e _ _ (gained gains book r) (λ image from.
+      joins a d e _ (p.merging.records_stop book n payloads holds within is_open) (widens d e _ _ (gained gains book r) (λ image from.
       let before = left_now a d _ law_d p.spares from.0 from.1 in
       let journal = (p.law.buckets n within).journal in
       let manifest = p.law.manifest in
@@ -216,44 +259,41 @@ module _ (drum : Drum) (next : Commit) (a d e : Snapshot) (p : IsPrepared drum n
       ⊎_elim
       (λ old. inl (live_records (Only image) drum book n payloads image p.law within old (tail_moved (bucket_at drum n).journal payloads a.images (Only image) (λ z is. (before.0, before.1, ap (λ (z : Files). z (bucket_at drum n).journal.file) is ∙ same)) is_open) refl))
       (λ new. merged_records book n payloads image within holds new r)
-      (ready_leaves d.images drum book p.batch from.0 image r from.1 from.2))))
+      (ready_leaves d.images drum book batch from.0 image r from.1 from.2))))
 
--- ---- what is told
-wider : (among wide : ℕ → Type 0) (old new : Option Files) → ((f : ℕ) → among f → wide f) → TellsOnly among old new → TellsOnly wide old new
-wider among wide None new more tells = tells
-wider among wide (Some old) new more tells = (tells.0, tells.1, only_wider among wide old tells.0 more tells.2)
-
-pub batch_others : (drum : Drum) (a b : Option Files) → TellsOnly (IsBatchFile drum) a b → TellsOnly (IsMergeFile drum) a b
-batch_others drum a b = wider (IsBatchFile drum) (IsMergeFile drum) a b (λ f is. inr (inl is))
-
--- the files of the side that isn't live
-abbrev pub IsOtherSide : Drum → ℕ → Type 0
-IsOtherSide drum = IsSideFile drum.base (1 - live_side drum.last) drum.settings.buckets
-
-pub side_others : (drum : Drum) (a b d : Option Files) → TellsOnly (IsBatchFile drum) a b → TellsOnly (IsOtherSide drum) b d → TellsOnly (IsMergeFile drum) a d
-side_others drum a b d first second = tells_both (IsMergeFile drum) a b d (batch_others drum a b first) (wider (IsOtherSide drum) (IsMergeFile drum) b d (λ f is. inr (inr is)) second)
-
-pub merge_others : (drum : Drum) (a b d e : Option Files) → IsDrum drum → TellsOnly (IsBatchFile drum) a b → TellsOnly (IsOtherSide drum) b d → Changes drum.manifest.file (λ _ _. ⊤) d e → TellsOnly (IsMergeFile drum) a e
-merge_others drum a b d e law first second third = tells_both (IsMergeFile drum) a d e (side_others drum a b d first second) (tells_one (IsMergeFile drum) drum.manifest.file (λ _ _. ⊤) d e (inl law.manifest) third)
-
--- the manifest is as long as before the side was emptied
-pub manifest_long : (drum : Drum) (b d : Option Files) → IsDrum drum → ForSome b (λ files. IsLong drum files) → TellsOnly (IsOtherSide drum) b d → ForSome d (λ files. drum.manifest.end < length (files drum.manifest.file))
-manifest_long drum b d law long changes = λ files told.
-    let from = told_before (IsOtherSide drum) b d files changes told in
-    let stays = from.2 drum.manifest.file (low_apart drum.base (1 - live_side drum.last) drum.settings.buckets drum.manifest.file (omega (arith, law.manifest))) in
-    subst (λ (bytes : List ℕ). drum.manifest.end < length bytes) (sym stays) (long from.0 from.1).manifest
+  pub merging_appended : Gains → Changes drum.manifest.file (λ _ _. ⊤) d.files e.files → IsMerging drum a e
+  merging_appended gains changes = record {
+    others = tells_both (IsMergeFile drum) a.files d.files e.files p.merging.others (tells_one (IsMergeFile drum) drum.manifest.file (λ _ _. ⊤) d.files e.files (inl p.law.manifest) changes);
+    others_stop = others_stop;
+    stops = stops gains;
+    records_stop = records_stop gains;
+  }
 
 -- ---- the bay afterwards
 -- it has the book with one cut more
-pub merge_holds : (drum : Drum) (next : Commit) (manifest : Tail) (a d e : Snapshot) (p : IsPrepared drum next a d) → IsConsistent e → LeavesBy (ChangesFile drum.manifest.file (λ _ _. ⊤)) d e → ((payloads : List (List ℕ)) → IsOpen d.images drum.manifest payloads → IsOpen e.images manifest (payloads ++ commit_bytes next ∷ []))
-    → (files : Files) → a.files ≡ Some files → (book : Book) → Holds a.images drum book → Holds e.images (with_commit manifest (next_commit drum p.batch) drum) (merged book)
-merge_holds drum next manifest a d e p law_e appended gains files told book holds =
+pub merge_holds : (drum : Drum) (batch : Batch) (next : Commit) (manifest : Tail) (a d e : Snapshot) (p : IsPrepared drum batch next a d) → IsConsistent e → LeavesBy (ChangesFile drum.manifest.file (λ _ _. ⊤)) d e → ((payloads : List (List ℕ)) → IsOpen d.images drum.manifest payloads → IsOpen e.images manifest (payloads ++ commit_bytes next ∷ []))
+    → (files : Files) → a.files ≡ Some files → (book : Book) → Holds a.images drum book → Holds e.images (with_commit manifest (next_commit drum batch) drum) (merged book)
+merge_holds drum batch next manifest a d e p law_e appended gains files told book holds =
     let r = p.ready_for files told book holds in
     let payloads = map commit_bytes r.holds.commits in
-    holds_merged (λ _ _. ⊤) d.images e.images drum book p.batch manifest r (λ z left. left_now d e _ law_e appended z left)
+    holds_merged (λ _ _. ⊤) d.images e.images drum book batch manifest r (λ z left. left_now d e _ law_e appended z left)
     (subst (λ (commit : Commit). IsOpen e.images manifest (payloads ++ commit_bytes commit ∷ [])) p.next_is (gains payloads r.holds.manifest))
 
--- its live journals are empty
+-- the files of the other side are empty
+abbrev pub IsOtherEmpty : Drum → Files → Type 0
+IsOtherEmpty drum = AreEmpty drum.base (1 - live_side drum.last) drum.settings.buckets
+
+pub merge_cuts : (drum : Drum) (d e : Option Files) → IsDrum drum → ForSome d (IsOtherEmpty drum) → Changes drum.manifest.file (λ _ _. ⊤) d e → ForSome e (IsOtherEmpty drum)
+merge_cuts drum d e law empty appended = λ files told.
+    let from = told_from drum.manifest.file (λ _ _. ⊤) d e files appended told in
+    let was = empty from.0 from.1 in
+    let manifest = law.manifest in
+    record {
+      journals = λ n within. ap (λ (bytes : List ℕ). length bytes) (from.2.others (file_of drum.base 0 (Journal (1 - live_side drum.last) n)) (λ e. omega (arith, e, manifest))) ∙ was.journals n within;
+      auxes = λ n within. from.2.others (file_of drum.base 0 (Aux (1 - live_side drum.last) n)) (λ e. omega (arith, e, manifest)) ∙ was.auxes n within;
+    }
+
+-- its live journals have no record
 pub merge_empties : (drum : Drum) (next : Commit) (manifest : Tail) (d e : Snapshot) (n : ℕ) → IsDrum drum → n < drum.settings.buckets → IsConsistent e → AreEmptied d.images drum → LeavesBy (ChangesFile drum.manifest.file (λ _ _. ⊤)) d e → IsOpen e.images (bucket_at (with_commit manifest next drum) n).journal []
 merge_empties drum next manifest d e n law within law_e emptied_are appended =
     let one = emptied drum.base (1 - live_side drum.last) n (durable_at drum n) in
@@ -262,13 +302,7 @@ merge_empties drum next manifest d e n law within law_e emptied_are appended =
     let is = tail_moved one.journal [] d.images e.images (λ z left. let y = left_now d e _ law_e appended z left in (y.0, y.1, y.2.others one.journal.file (λ same. omega (arith, same, file)))) was in
     subst (λ (bucket : Bucket). IsOpen e.images bucket.journal []) (sym (bucket_emptied drum (1 - live_side drum.last) n (omega (arith, law.count, within)))) is
 
--- ---- before the batch is written
-pub same_stops : (drum : Drum) (a b : Snapshot) (x y : Book) → IsDrum drum → Holds a.images drum x → LeavesSame a b → LeavesBy (Becomes (IsMergeFile drum) drum.base drum.settings x y) a b
-same_stops drum a b x y law holds same = widens a b _ _ same (λ image was. (image, was, record { others = λ f out. refl; stands = inl (holds_stands a.images drum x image law holds was) }))
-
-pub same_records : (drum : Drum) (a b : Snapshot) (book : Book) (n : ℕ) (payloads : List (List ℕ)) → IsDrum drum → n < drum.settings.buckets → Holds a.images drum book → IsOpen a.images (bucket_at drum n).journal payloads → LeavesSame a b → Leaves a b (HasOrEmpties drum n payloads)
-same_records drum a b book n payloads law within holds is_open same = widens a b _ _ same (λ image was. inl (live_records a.images drum book n payloads image law within holds is_open was))
-
+-- ---- a bay that failed
 -- what a bay keeps and holds doesn't turn on whether it is said to be sound
 pub drum_failed : (drum : Drum) → IsDrum drum → IsDrum (record { base = drum.base; settings = drum.settings; is_sound = false; manifest = drum.manifest; last = drum.last; cuts = drum.cuts; buckets = drum.buckets })
 drum_failed drum law = record {
@@ -317,9 +351,9 @@ long_said drum is_sound told long = λ files is.
     record { manifest = l.manifest; cache = l.cache; judged = l.judged; texts = l.texts; journals = l.journals; auxes = l.auxes }
 
 pub merge_long : (drum : Drum) (batch : Batch) (manifest : Tail) (payload : List ℕ) (b d e : Option Files) → IsDrum drum → ForSome b (IsLongBatch drum batch) → TellsOnly (IsOtherSide drum) b d
-    → ForSome d (λ files. (n : ℕ) → n < drum.settings.buckets → 0 < length (files (file_of drum.base 0 (Journal (1 - live_side drum.last) n)))) → Changes drum.manifest.file (λ _ _. ⊤) d e → ForSome e (λ files. drum.manifest.end + length payload < length (files drum.manifest.file)) → manifest.file ≡ drum.manifest.file
+    → ForSome d (IsOtherEmpty drum) → Changes drum.manifest.file (λ _ _. ⊤) d e → ForSome e (λ files. drum.manifest.end + length payload < length (files drum.manifest.file)) → manifest.file ≡ drum.manifest.file
     → manifest.end ≡ drum.manifest.end + length payload → ForSome e (λ files. IsLong (with_commit manifest (next_commit drum batch) drum) files)
-merge_long drum batch manifest payload b d e law batch_long emptying side_long appended longer file end = λ files told.
+merge_long drum batch manifest payload b d e law batch_long emptying empty appended longer file end = λ files told.
     let third = told_from drum.manifest.file (λ _ _. ⊤) d e files appended told in
     let second = told_before (IsOtherSide drum) b d third.0 emptying third.1 in
     let long = batch_long second.0 second.1 in
@@ -337,7 +371,7 @@ merge_long drum batch manifest payload b d e law batch_long emptying side_long a
           let one = emptied drum.base (1 - live_side drum.last) n (durable_at drum n) in
           let same = third.2.others one.journal.file (λ same. omega (arith, same, m)) in
           subst (λ (bucket : Bucket). bucket.journal.end < length (files bucket.journal.file)) (sym (bucket_emptied drum (1 - live_side drum.last) n (omega (arith, law.count, within))))
-          (subst (λ (bytes : List ℕ). 0 < length bytes) (sym same) (side_long third.0 third.1 n within));
+          (let byte = (empty third.0 third.1).journals n within in omega (arith, ap (λ (bytes : List ℕ). length bytes) same, byte));
       auxes = λ n within.
           let none : 0 ≤ length (files (file_of drum.base 0 (Aux (1 - live_side drum.last) n))) = omega arith in
           subst (λ (bucket : Bucket). bucket.aux.length ≤ length (files bucket.aux.file)) (sym (bucket_emptied drum (1 - live_side drum.last) n (omega (arith, law.count, within)))) none;
@@ -345,11 +379,3 @@ merge_long drum batch manifest payload b d e law batch_long emptying side_long a
   where
     stays : (z y x : Files) (f : ℕ) → f < drum.base + 10 → (f ≡ drum.manifest.file → ⊥) → ChangesFile drum.manifest.file (λ _ _. ⊤) y z → ChangesOnly (IsOtherSide drum) x y → z f ≡ x f
     stays z y x f low apart last first = last.others f apart ∙ first f (low_apart drum.base (1 - live_side drum.last) drum.settings.buckets f low)
-
--- ---- a stretch that changes nothing keeps what is committed
-tells_same : (step : Files → Files → Type 0) (old new : Option Files) → ((x : Files) → step x x) → new ≡ old → TellsBy step old new
-tells_same step None new none same = same
-tells_same step (Some files) new none same = (files, same, none files)
-
-pub same_files : (drum : Drum) (a b : Snapshot) → b.files ≡ a.files → LeavesSame a b → TellsBy (KeepsCommitted drum) a.files b.files × LeavesBy (KeepsCommitted drum) a b
-same_files drum a b same leaves = (tells_same (KeepsCommitted drum) a.files b.files (keeps_all drum) same, same_by a b (KeepsCommitted drum) (keeps_all drum) leaves)

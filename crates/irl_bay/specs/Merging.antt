@@ -66,6 +66,11 @@ abbrev pub emptied_from : ℕ → ℕ → ℕ → List Bucket → List Bucket
 emptied_from base side b [] = []
 emptied_from base side b (bucket ∷ buckets) = emptied base side b bucket.durable ∷ emptied_from base side (b + 1) buckets
 
+-- a side whose files were cut: each bucket's journal has one byte, that of its first gate, and its texts have none
+pub record AreEmpty (base side buckets : ℕ) (files : Files) : Type 0 where
+  pub journals : (b : ℕ) → b < buckets → length (files (file_of base 0 (Journal side b))) ≡ 1
+  pub auxes : (b : ℕ) → b < buckets → files (file_of base 0 (Aux side b)) ≡ []
+
 -- a bay after a merge, whose manifest is this one then
 abbrev pub with_commit : Tail → Commit → Drum → Drum
 with_commit manifest commit drum = record { base = drum.base; settings = drum.settings; is_sound = true; manifest = manifest; last = commit; cuts = drum.cuts + 1; buckets = emptied_from drum.base (1 - live_side drum.last) 0 drum.buckets }

@@ -1,13 +1,12 @@
-ghost use Rattle.std.specs.Prelude.{◌≡◌, ◌-◌, ◌<◌, ◌≤◌, ℕ, [], length, vec_capacity, IfOk, OnOk, IsErr};
+ghost use Rattle.std.specs.Prelude.{◌≡◌, ◌-◌, ◌<◌, ◌≤◌, ℕ, [], vec_capacity, IfOk, OnOk, IsErr};
 ghost use Rattle.std.specs.Option.{ForSome};
 ghost use Rattle.irl_offer.specs.Faults.{HasCause};
 ghost use Rattle.irl_disk.specs.Images.{LeavesBy};
-ghost use Rattle.irl_bay.specs.BayFiles.{file_of, IsSideFile};
-ghost use Rattle.irl_bay.specs.declared.layout.files.BayFile.TheVariants.{Journal as JournalFile};
+ghost use Rattle.irl_bay.specs.BayFiles.{IsSideFile};
 ghost use Rattle.irl_bay.specs.Commits.{live_side};
 ghost use Rattle.irl_bay.specs.Drum.{durable_at};
 ghost use Rattle.irl_bay.specs.Holding.{HoldsBucket, TellsOnly, ChangesOnly};
-ghost use Rattle.irl_bay.specs.Merging.{emptied, emptied_from};
+ghost use Rattle.irl_bay.specs.Merging.{AreEmpty, emptied, emptied_from};
 
 use crate::bay::Bay;
 use crate::bucket::Bucket;
@@ -15,9 +14,9 @@ use crate::layout::BayFile;
 use irl_disk::{Failed, Store};
 
 impl Bay {
-    /// Empties the buckets' files on the side that isn't live: cuts each to nothing, and writes the closed gates of their
-    /// journals and syncs them. Gives the buckets over these files, all of whose offers are judged, in a list that has room for
-    /// them.
+    /// Empties the buckets' files on the side that isn't live: cuts each to nothing, and writes the closed gates of
+    /// their journals and syncs them. Gives the buckets over these files, all of whose offers are judged, in a list that
+    /// has room for them.
     pub(crate) fn empty_side<S: Store>(
         &self,
         store: &mut S,
@@ -31,10 +30,9 @@ impl Bay {
         ensures holds { OnOk result ((array b : ℕ) → b < self.now.settings.buckets →
             HoldsBucket (S.snapshot store.new).images array 0
             (emptied self.now.base (1 - live_side self.now.last) b (durable_at self.now b)) []) }
-        // and what is told has the closed gate.
-        ensures long { OnOk result (ForSome (S.snapshot store.new).files (λ files. (b : ℕ) →
-            b < self.now.settings.buckets →
-            0 < length (files (file_of self.now.base 0 (JournalFile (1 - live_side self.now.last) b))))) }
+        // and what is told has a byte of each journal, and no text.
+        ensures empty { OnOk result (ForSome (S.snapshot store.new).files
+            (AreEmpty self.now.base (1 - live_side self.now.last) self.now.settings.buckets)) }
         ensures others { TellsOnly (IsSideFile self.now.base (1 - live_side self.now.last) self.now.settings.buckets)
             (S.snapshot store.old).files (S.snapshot store.new).files }
         ensures others_stop { LeavesBy
@@ -56,8 +54,8 @@ impl Bay {
     // Cuts the buckets' files on a side to nothing.
     fn cut_side<S: Store>(&self, store: &mut S, side: u8) -> Result<(), Failed>
         requires { side ≤ 1 }
-        ensures cut { OnOk result (ForSome (S.snapshot store.new).files (λ files. (b : ℕ) →
-            b < self.now.settings.buckets → files (file_of self.now.base 0 (JournalFile side b)) ≡ [])) }
+        ensures cut { OnOk result (ForSome (S.snapshot store.new).files (λ files. (f : ℕ) →
+            IsSideFile self.now.base side self.now.settings.buckets f → files f ≡ [])) }
         ensures others { TellsOnly (IsSideFile self.now.base side self.now.settings.buckets)
             (S.snapshot store.old).files (S.snapshot store.new).files }
         ensures others_stop { LeavesBy (ChangesOnly (IsSideFile self.now.base side self.now.settings.buckets))

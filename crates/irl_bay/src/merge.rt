@@ -12,7 +12,8 @@ ghost use Rattle.irl_bay.specs.BayFiles.{IsFileOf};
 ghost use Rattle.irl_bay.specs.Drum.{IsDrum, SomePending, KeepsCounts, CountsMerge, bucket_at, cache_front, durables};
 ghost use Rattle.irl_bay.specs.Holding.{Holds, IsLong, Becomes, TellsBy, TellsOnly, ChangesOnly};
 ghost use Rattle.irl_bay.specs.Commits.{HasLiveRecords, commit_bytes, live_side};
-ghost use Rattle.irl_bay.specs.Merging.{HasRoom, IsMergeFile, KeepsCommitted, TakesOf, emptied_from, with_commit};
+ghost use Rattle.irl_bay.specs.Merging.{AreEmpty, HasRoom, IsMergeFile, KeepsCommitted, TakesOf};
+ghost use Rattle.irl_bay.specs.Merging.{emptied_from, with_commit};
 ghost use Rattle.irl_bay.specs.Spoilt.{IsSpoiltAt};
 
 use crate::bay::Bay;
@@ -24,9 +25,9 @@ use irl_offer::Fault;
 
 impl Bay {
     /// Judges every pending offer of every bucket, bucket 0 first, and adds one cut. It reads the live cache side and
-    /// the pending offers, writes the other side, the judged entries and their texts, and syncs the three; it empties the
-    /// buckets' files on the side that isn't live, which is the live one from then on; and it appends one record to the
-    /// manifest. `Ok` gives the number of cuts. `Memory` and `Damaged` leave the book as it was, and the
+    /// the pending offers, writes the other side, the judged entries and their texts, and syncs the three; it empties
+    /// the buckets' files on the side that isn't live, which is the live one from then on; and it appends one record to
+    /// the manifest. `Ok` gives the number of cuts. `Memory` and `Damaged` leave the book as it was, and the
     /// merge may be asked again; `Failed` ends the bay's soundness.
     pub fn merge<S: Store>(&mut self, store: &mut S) -> Result<u64, Fault>
         requires sound { self.old.is_sound ≡ true }
@@ -78,6 +79,9 @@ impl Bay {
             Leaves (S.snapshot store.old) (S.snapshot store.new) (λ image.
             HasLiveRecords self.old.base self.old.settings.buckets b payloads image
             ⊎ HasLiveRecords self.old.base self.old.settings.buckets b [] image) }
+        // The files that are live from then on were cut: what they had from two merges ago is given back to the disk.
+        ensures cut { OnOk result (ForSome (S.snapshot store.new).files
+            (AreEmpty self.old.base (1 - live_side self.old.last) self.old.settings.buckets)) }
         ensures others { TellsOnly (IsMergeFile self.old) (S.snapshot store.old).files (S.snapshot store.new).files }
         ensures others_stop { LeavesBy (ChangesOnly (IsMergeFile self.old))
             (S.snapshot store.old) (S.snapshot store.new) }
@@ -108,7 +112,8 @@ impl Bay {
         Ok(self.cuts)
     }
 
-    // Appends the record of the next commit to the manifest, by a frame with room for it. The buckets are empty from then on.
+    // Appends the record of the next commit to the manifest, by a frame with room for it. The buckets are empty from
+    // then on.
     fn keep<S: Store>(
         &mut self,
         store: &mut S,

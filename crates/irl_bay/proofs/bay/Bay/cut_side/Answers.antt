@@ -48,4 +48,6 @@ loop-b-preserved g c =
 
 -- all are cut
 pub returns-clause-cut : goal.returns-clause-cut
-returns-clause-cut g c = λ files told b within. c.loop-b.invariant.cut.cut files told b (omega (arith, within, c.loop-b-test.false, ap (λ (d : Drum). d.settings.buckets) c.self.view_is))
+returns-clause-cut g c = λ files told f is.
+    let count = ap (λ (d : Drum). d.settings.buckets) c.self.view_is in
+    c.loop-b.invariant.cut.cut files told f (is.0, omega (arith, is.1, c.loop-b-test.false, count), is.2)

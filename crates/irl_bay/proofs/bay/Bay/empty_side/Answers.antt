@@ -77,3 +77,12 @@ returns-clause-buckets g c =
     let count : now.settings.buckets ≡ c.self.inside.settings.buckets = ap (λ (d : Drum). d.settings.buckets) (sym c.self.view_is) in
     let all : c.loop-b.b ≡ length now.buckets = omega (arith, c.loop-b-test.false, c.loop-b.auto.b-end, law.count, count) in
     emptied_all now (1 - live_side now.last) now.settings.buckets (tells c.args.store.now) (tells c.loop-b.store) c.loop-b.buckets.items c.loop-b.b all c.loop-b.invariant.made
+
+pub returns-clause-empty : goal.returns-clause-empty
+returns-clause-empty g c = λ files told.
+    let made = c.loop-b.invariant.made in
+    let count : c.args.self.now.settings.buckets ≡ c.self.inside.settings.buckets = ap (λ (d : Drum). d.settings.buckets) (sym c.self.view_is) in
+    record {
+      journals = λ b within. made.journals files told b (omega (arith, within, count, c.loop-b-test.false));
+      auxes = made.auxes files told;
+    }

@@ -1,8 +1,7 @@
 -- It reads and writes, the side that isn't live is emptied, and then the record stands in the manifest.
 use Rattle.std.proofs.Common.{◌≡◌, ◌∙◌, ◌+◌, ◌*◌, ℕ, [], refl, sym, ap, subst, arith}
 use Rattle.std.specs.Option.{ForSome}
-use Rattle.irl_disk.proofs.Stretches.{stays}
-use Rattle.irl_model.specs.Book.{merged}
+use Rattle.irl_model.specs.Book.{Book, merged}
 use Rattle.irl_journal.specs.Appending.{IsOpen}
 use Rattle.irl_journal.specs.Format.{record_text}
 use Rattle.irl_bay.specs.declared.bay.Bay.TheInside.{Inside}
@@ -11,75 +10,90 @@ use Rattle.irl_bay.specs.Drum.{CountsMerge, Drum, IsDrum, bucket_at, cache_front
 use Rattle.irl_bay.specs.Holding.{Holds, IsLong}
 use Rattle.irl_bay.specs.Merging.{HasRoom, TakesOf, next_commit, with_commit}
 use Rattle.irl_bay.proofs.DrumFiles.{takes_of_both, takes_of_none}
-use Rattle.irl_bay.proofs.BatchWrites.{step_others}
 use Rattle.irl_bay.proofs.Judges.{long_kept}
-use Rattle.irl_bay.proofs.Keeping.{batch_others, drum_failed, error_of, holds_on, holds_said, long_said, manifest_long, merge_empties, merge_holds, merge_long, merge_others, merge_others_stop, merge_records, merge_stops, prepared, same_files, same_records, same_stops, side_others, spared_others, spared_records, spared_stops, spares_both, written_spares}
+use Rattle.irl_bay.proofs.Keeping.{IsMerging, IsPrepared, drum_failed, error_of, holds_on, holds_said, long_said, manifest_long, merge_cuts, merge_empties, merge_holds, merge_long, merging_appended, merging_emptied, merging_none, merging_written, prepared, writes_none, written_spares}
 use Rattle.irl_bay.proofs.Merged.{counts_merged}
+use Rattle.irl_bay.proofs.bay.Bay.merge.Given.{Over}
+use Rattle.irl_bay.proofs.bay.Bay.merge.Goals.{After-empty_side, After-judge, After-keep, In_ok-keep}
 use Rattle.irl_bay.proofs.bay.Bay.merge.Goals as goal
 
 abbrev drum_of : Inside → Drum
 drum_of b = record { base = b.base; settings = b.settings; is_sound = b.is_sound; manifest = b.manifest; last = b.last; cuts = b.cuts; buckets = b.buckets.items }
 
+-- ---- what each ending leaves
+-- while it is judged
+judged : (g : Over) (c : After-judge g) → IsMerging c.args.self.now (g.S.Store.snapshot c.args.store.now) (g.S.Store.snapshot c.judge.new.store)
+judged g c = merging_written c.args.self.now (g.S.Store.snapshot c.args.store.now) (g.S.Store.snapshot c.judge.new.store) (rw c.self.view_is at c.self.invariant) c.judge.ensures.writes
+
+-- the bay holds its book then
+holds_judged : (g : Over) (c : After-judge g) (book : Book) → Holds (g.S.Store.snapshot c.args.store.now).images c.args.self.now book → Holds (g.S.Store.snapshot c.judge.new.store).images c.args.self.now book
+holds_judged g c book holds =
+    let now = c.args.self.now in
+    let law : IsDrum now = rw c.self.view_is at c.self.invariant in
+    let a = g.S.Store.snapshot c.args.store.now in
+    let b = g.S.Store.snapshot c.judge.new.store in
+    holds_on now a b law (written_spares now a b law c.judge.ensures.writes.stops) book (g.met.S.Store.is_consistent c.judge.new.store) holds
+
+-- while the other side is emptied
+emptied : (g : Over) (c : After-empty_side g) → IsMerging c.args.self.now (g.S.Store.snapshot c.args.store.now) (g.S.Store.snapshot c.empty_side.new.store)
+emptied g c =
+    let tells = g.S.Store.snapshot in
+    merging_emptied c.args.self.now (tells c.args.store.now) (tells c.judge.new.store) (tells c.empty_side.new.store) (rw c.self.view_is at c.self.invariant) (g.met.S.Store.is_consistent c.judge.new.store) c.judge.ensures.writes c.empty_side.ensures.others c.empty_side.ensures.others_stop
+
+-- and then kept
+before_keep : (g : Over) (c : After-keep g) → IsPrepared c.args.self.now c.in-Ok.ensures.judged.batch c.in-Ok.next (g.S.Store.snapshot c.args.store.now) (g.S.Store.snapshot c.empty_side.new.store)
+before_keep g c =
+    let tells = g.S.Store.snapshot in
+    let laws = g.met.S.Store.is_consistent in
+    prepared c.args.self.now c.in-Ok.next (tells c.args.store.now) (tells c.judge.new.store) (tells c.empty_side.new.store) (rw c.self.view_is at c.self.invariant) c.requires.sound c.requires.pending (laws c.judge.new.store) (laws c.empty_side.new.store) c.judge.ensures.writes
+    c.in-Ok.ensures.judged c.empty_side.ensures.others c.empty_side.ensures.others_stop c.in-Ok-empty_side.ensures.holds
+
+kept : (g : Over) (c : After-keep g) → IsMerging c.args.self.now (g.S.Store.snapshot c.args.store.now) (g.S.Store.snapshot c.keep.new.store)
+kept g c =
+    let tells = g.S.Store.snapshot in
+    let laws = g.met.S.Store.is_consistent in
+    merging_appended c.args.self.now c.in-Ok.ensures.judged.batch c.in-Ok.next (tells c.args.store.now) (tells c.empty_side.new.store) (tells c.keep.new.store) (before_keep g c) (laws c.args.store.now) (laws c.empty_side.new.store) c.keep.ensures.others_stop c.keep.ensures.gains_stop c.keep.ensures.others
+
+committed : (g : Over) (c : In_ok-keep g) → c.keep.new.self ≡ with_commit c.keep.new.self.manifest (next_commit c.args.self.now c.in-Ok.ensures.judged.batch) c.args.self.now
+committed g c = c.in_ok-keep.ensures.value ∙ ap (λ (next : Commit). with_commit c.keep.new.self.manifest next c.args.self.now) c.in-Ok.ensures.judged.synced.next_is
+
+-- ---- each clause
 -- no memory for the frame
 pub returns-in_err-frame-clause-stops : goal.returns-in_err-frame-clause-stops
-returns-in_err-frame-clause-stops g c = rw (← c.self.view_is) (λ book holds.
-    let now = g.S.Store.snapshot c.args.store.now in
-    same_stops (drum_of c.self.inside) now now book (merged book) c.self.invariant holds (stays now now.images (g.met.S.Store.is_consistent c.args.store.now) (λ image was. was)))
+returns-in_err-frame-clause-stops g c = (merging_none c.args.self.now (g.S.Store.snapshot c.args.store.now) (rw c.self.view_is at c.self.invariant) (g.met.S.Store.is_consistent c.args.store.now)).stops
 
 pub returns-in_err-frame-clause-records_stop : goal.returns-in_err-frame-clause-records_stop
-returns-in_err-frame-clause-records_stop g c = rw (← c.self.view_is) (λ book b payloads holds within is_open.
-    let now = g.S.Store.snapshot c.args.store.now in
-    same_records (drum_of c.self.inside) now now book b payloads c.self.invariant within holds is_open (stays now now.images (g.met.S.Store.is_consistent c.args.store.now) (λ image was. was)))
+returns-in_err-frame-clause-records_stop g c = (merging_none c.args.self.now (g.S.Store.snapshot c.args.store.now) (rw c.self.view_is at c.self.invariant) (g.met.S.Store.is_consistent c.args.store.now)).records_stop
 
 pub returns-in_err-frame-clause-memory_files : goal.returns-in_err-frame-clause-memory_files
-returns-in_err-frame-clause-memory_files g c = λ is.
-    let now = g.S.Store.snapshot c.args.store.now in
-    same_files c.args.self.now now now refl (stays now now.images (g.met.S.Store.is_consistent c.args.store.now) (λ image was. was))
+returns-in_err-frame-clause-memory_files g c = λ is. let none = writes_none c.args.self.now (g.S.Store.snapshot c.args.store.now) (g.met.S.Store.is_consistent c.args.store.now) in (none.told, none.stops)
 
 pub returns-in_err-frame-clause-damaged_files : goal.returns-in_err-frame-clause-damaged_files
-returns-in_err-frame-clause-damaged_files g c = λ f at is.
-    let now = g.S.Store.snapshot c.args.store.now in
-    same_files c.args.self.now now now refl (stays now now.images (g.met.S.Store.is_consistent c.args.store.now) (λ image was. was))
+returns-in_err-frame-clause-damaged_files g c = λ f at is. let none = writes_none c.args.self.now (g.S.Store.snapshot c.args.store.now) (g.met.S.Store.is_consistent c.args.store.now) in (none.told, none.stops)
 
 -- or for the buckets
 pub returns-in_err-buckets-clause-stops : goal.returns-in_err-buckets-clause-stops
-returns-in_err-buckets-clause-stops g c = rw (← c.self.view_is) (λ book holds.
-    let now = g.S.Store.snapshot c.args.store.now in
-    same_stops (drum_of c.self.inside) now now book (merged book) c.self.invariant holds (stays now now.images (g.met.S.Store.is_consistent c.args.store.now) (λ image was. was)))
+returns-in_err-buckets-clause-stops g c = (merging_none c.args.self.now (g.S.Store.snapshot c.args.store.now) (rw c.self.view_is at c.self.invariant) (g.met.S.Store.is_consistent c.args.store.now)).stops
 
 pub returns-in_err-buckets-clause-records_stop : goal.returns-in_err-buckets-clause-records_stop
-returns-in_err-buckets-clause-records_stop g c = rw (← c.self.view_is) (λ book b payloads holds within is_open.
-    let now = g.S.Store.snapshot c.args.store.now in
-    same_records (drum_of c.self.inside) now now book b payloads c.self.invariant within holds is_open (stays now now.images (g.met.S.Store.is_consistent c.args.store.now) (λ image was. was)))
+returns-in_err-buckets-clause-records_stop g c = (merging_none c.args.self.now (g.S.Store.snapshot c.args.store.now) (rw c.self.view_is at c.self.invariant) (g.met.S.Store.is_consistent c.args.store.now)).records_stop
 
 pub returns-in_err-buckets-clause-memory_files : goal.returns-in_err-buckets-clause-memory_files
-returns-in_err-buckets-clause-memory_files g c = λ is.
-    let now = g.S.Store.snapshot c.args.store.now in
-    same_files c.args.self.now now now refl (stays now now.images (g.met.S.Store.is_consistent c.args.store.now) (λ image was. was))
+returns-in_err-buckets-clause-memory_files g c = λ is. let none = writes_none c.args.self.now (g.S.Store.snapshot c.args.store.now) (g.met.S.Store.is_consistent c.args.store.now) in (none.told, none.stops)
 
 pub returns-in_err-buckets-clause-damaged_files : goal.returns-in_err-buckets-clause-damaged_files
-returns-in_err-buckets-clause-damaged_files g c = λ f at is.
-    let now = g.S.Store.snapshot c.args.store.now in
-    same_files c.args.self.now now now refl (stays now now.images (g.met.S.Store.is_consistent c.args.store.now) (λ image was. was))
+returns-in_err-buckets-clause-damaged_files g c = λ f at is. let none = writes_none c.args.self.now (g.S.Store.snapshot c.args.store.now) (g.met.S.Store.is_consistent c.args.store.now) in (none.told, none.stops)
 
 -- it couldn't be judged
 pub returns-in-Err-clause-memory_holds : goal.returns-in-Err-clause-memory_holds
-returns-in-Err-clause-memory_holds g c = rw (← c.self.view_is) (λ is book holds.
-    let tells = g.S.Store.snapshot in
-    let d = drum_of c.self.inside in
-    let writes = rw (← c.self.view_is) at c.judge.ensures.writes in
-    let a = tells c.args.store.now in
-    let b = tells c.judge.new.store in
-    holds_said _ d _ book (holds_on d a b c.self.invariant (written_spares d a b c.self.invariant writes.stops) book (g.met.S.Store.is_consistent c.judge.new.store) holds))
+returns-in-Err-clause-memory_holds g c = λ is book holds.
+    let held = holds_judged g (goal.at.returns-in-Err-clause-memory_holds g c).After-judge book holds in
+    holds_said _ (drum_of c.self.inside) _ book (rw (← c.self.view_is) at held)
 
 pub returns-in-Err-clause-damaged_holds : goal.returns-in-Err-clause-damaged_holds
-returns-in-Err-clause-damaged_holds g c = rw (← c.self.view_is) (λ f at is book holds.
-    let tells = g.S.Store.snapshot in
-    let d = drum_of c.self.inside in
-    let writes = rw (← c.self.view_is) at c.judge.ensures.writes in
-    let a = tells c.args.store.now in
-    let b = tells c.judge.new.store in
-    holds_said _ d _ book (holds_on d a b c.self.invariant (written_spares d a b c.self.invariant writes.stops) book (g.met.S.Store.is_consistent c.judge.new.store) holds))
+returns-in-Err-clause-damaged_holds g c = λ f at is book holds.
+    let held = holds_judged g (goal.at.returns-in-Err-clause-damaged_holds g c).After-judge book holds in
+    holds_said _ (drum_of c.self.inside) _ book (rw (← c.self.view_is) at held)
 
 pub returns-in-Err-clause-damaged : goal.returns-in-Err-clause-damaged
 returns-in-Err-clause-damaged g c = λ f at is. c.in-Err.ensures.damaged f at (error_of c.in-Err.fault _ is)
@@ -88,42 +102,16 @@ pub returns-in-Err-clause-whole : goal.returns-in-Err-clause-whole
 returns-in-Err-clause-whole g c = λ f at is. c.in-Err.ensures.whole f at (error_of c.in-Err.fault _ is)
 
 pub returns-in-Err-clause-stops : goal.returns-in-Err-clause-stops
-returns-in-Err-clause-stops g c = λ book holds.
-    let tells = g.S.Store.snapshot in
-    let now = c.args.self.now in
-    let law : IsDrum now = rw c.self.view_is at c.self.invariant in
-    let a = tells c.args.store.now in
-    let b = tells c.judge.new.store in
-    let spares = written_spares now a b law c.judge.ensures.writes.stops in
-    spared_stops now a b law spares book (merged book) holds
+returns-in-Err-clause-stops g c = (judged g (goal.at.returns-in-Err-clause-stops g c).After-judge).stops
 
 pub returns-in-Err-clause-records_stop : goal.returns-in-Err-clause-records_stop
-returns-in-Err-clause-records_stop g c = λ book n payloads holds within is_open.
-    let tells = g.S.Store.snapshot in
-    let now = c.args.self.now in
-    let law : IsDrum now = rw c.self.view_is at c.self.invariant in
-    let a = tells c.args.store.now in
-    let b = tells c.judge.new.store in
-    let spares = written_spares now a b law c.judge.ensures.writes.stops in
-    spared_records now a b law spares book n payloads within holds is_open
+returns-in-Err-clause-records_stop g c = (judged g (goal.at.returns-in-Err-clause-records_stop g c).After-judge).records_stop
 
 pub returns-in-Err-clause-others : goal.returns-in-Err-clause-others
-returns-in-Err-clause-others g c =
-    let tells = g.S.Store.snapshot in
-    let now = c.args.self.now in
-    let a = tells c.args.store.now in
-    let b = tells c.judge.new.store in
-    batch_others now a.files b.files (step_others now a b c.judge.ensures.writes)
+returns-in-Err-clause-others g c = (judged g (goal.at.returns-in-Err-clause-others g c).After-judge).others
 
 pub returns-in-Err-clause-others_stop : goal.returns-in-Err-clause-others_stop
-returns-in-Err-clause-others_stop g c =
-    let tells = g.S.Store.snapshot in
-    let now = c.args.self.now in
-    let law : IsDrum now = rw c.self.view_is at c.self.invariant in
-    let a = tells c.args.store.now in
-    let b = tells c.judge.new.store in
-    let spares = written_spares now a b law c.judge.ensures.writes.stops in
-    spared_others now a b law spares
+returns-in-Err-clause-others_stop g c = (judged g (goal.at.returns-in-Err-clause-others_stop g c).After-judge).others_stop
 
 pub returns-in-Err-clause-memory_files : goal.returns-in-Err-clause-memory_files
 returns-in-Err-clause-memory_files g c = λ is. (c.judge.ensures.writes.told, c.judge.ensures.writes.stops)
@@ -147,46 +135,16 @@ pub returns-in-Err-empty_side-clause-drum : goal.returns-in-Err-empty_side-claus
 returns-in-Err-empty_side-clause-drum g c = drum_failed (drum_of c.self.inside) c.self.invariant
 
 pub returns-in-Err-empty_side-clause-stops : goal.returns-in-Err-empty_side-clause-stops
-returns-in-Err-empty_side-clause-stops g c = λ book holds.
-    let tells = g.S.Store.snapshot in
-    let now = c.args.self.now in
-    let law : IsDrum now = rw c.self.view_is at c.self.invariant in
-    let a = tells c.args.store.now in
-    let b = tells c.judge.new.store in
-    let d = tells c.empty_side.new.store in
-    let spares = spares_both now a b d law (g.met.S.Store.is_consistent c.judge.new.store) c.judge.ensures.writes.stops c.empty_side.ensures.others_stop in
-    spared_stops now a d law spares book (merged book) holds
+returns-in-Err-empty_side-clause-stops g c = (emptied g (goal.at.returns-in-Err-empty_side-clause-stops g c).After-empty_side).stops
 
 pub returns-in-Err-empty_side-clause-records_stop : goal.returns-in-Err-empty_side-clause-records_stop
-returns-in-Err-empty_side-clause-records_stop g c = λ book n payloads holds within is_open.
-    let tells = g.S.Store.snapshot in
-    let now = c.args.self.now in
-    let law : IsDrum now = rw c.self.view_is at c.self.invariant in
-    let a = tells c.args.store.now in
-    let b = tells c.judge.new.store in
-    let d = tells c.empty_side.new.store in
-    let spares = spares_both now a b d law (g.met.S.Store.is_consistent c.judge.new.store) c.judge.ensures.writes.stops c.empty_side.ensures.others_stop in
-    spared_records now a d law spares book n payloads within holds is_open
+returns-in-Err-empty_side-clause-records_stop g c = (emptied g (goal.at.returns-in-Err-empty_side-clause-records_stop g c).After-empty_side).records_stop
 
 pub returns-in-Err-empty_side-clause-others : goal.returns-in-Err-empty_side-clause-others
-returns-in-Err-empty_side-clause-others g c =
-    let tells = g.S.Store.snapshot in
-    let now = c.args.self.now in
-    let a = tells c.args.store.now in
-    let b = tells c.judge.new.store in
-    let d = tells c.empty_side.new.store in
-    side_others now a.files b.files d.files (step_others now a b c.judge.ensures.writes) c.empty_side.ensures.others
+returns-in-Err-empty_side-clause-others g c = (emptied g (goal.at.returns-in-Err-empty_side-clause-others g c).After-empty_side).others
 
 pub returns-in-Err-empty_side-clause-others_stop : goal.returns-in-Err-empty_side-clause-others_stop
-returns-in-Err-empty_side-clause-others_stop g c =
-    let tells = g.S.Store.snapshot in
-    let now = c.args.self.now in
-    let law : IsDrum now = rw c.self.view_is at c.self.invariant in
-    let a = tells c.args.store.now in
-    let b = tells c.judge.new.store in
-    let d = tells c.empty_side.new.store in
-    let spares = spares_both now a b d law (g.met.S.Store.is_consistent c.judge.new.store) c.judge.ensures.writes.stops c.empty_side.ensures.others_stop in
-    spared_others now a d law spares
+returns-in-Err-empty_side-clause-others_stop g c = (emptied g (goal.at.returns-in-Err-empty_side-clause-others_stop g c).After-empty_side).others_stop
 
 -- it is judged and emptied
 pub keep-requires-clause-room : goal.keep-requires-clause-room
@@ -211,52 +169,16 @@ keep-requires-clause-long g c =
 
 -- the record couldn't be appended
 pub returns-in_err-keep-clause-stops : goal.returns-in_err-keep-clause-stops
-returns-in_err-keep-clause-stops g c = λ book holds.
-    let tells = g.S.Store.snapshot in
-    let now = c.args.self.now in
-    let law : IsDrum now = rw c.self.view_is at c.self.invariant in
-    let a = tells c.args.store.now in
-    let b = tells c.judge.new.store in
-    let d = tells c.empty_side.new.store in
-    let e = tells c.keep.new.store in
-    let laws = g.met.S.Store.is_consistent in
-    let p = prepared now c.in-Ok.next a b d law c.requires.sound c.requires.pending (laws c.judge.new.store) (laws c.empty_side.new.store) c.judge.ensures.writes.stops c.in-Ok.ensures.judged c.empty_side.ensures.others_stop c.in-Ok-empty_side.ensures.holds in
-    merge_stops now c.in-Ok.next a d e p (laws c.args.store.now) (laws c.empty_side.new.store) c.keep.ensures.others_stop c.keep.ensures.gains_stop book holds
+returns-in_err-keep-clause-stops g c = (kept g (goal.at.returns-in_err-keep-clause-stops g c).After-keep).stops
 
 pub returns-in_err-keep-clause-records_stop : goal.returns-in_err-keep-clause-records_stop
-returns-in_err-keep-clause-records_stop g c = λ book n payloads holds within is_open.
-    let tells = g.S.Store.snapshot in
-    let now = c.args.self.now in
-    let law : IsDrum now = rw c.self.view_is at c.self.invariant in
-    let a = tells c.args.store.now in
-    let b = tells c.judge.new.store in
-    let d = tells c.empty_side.new.store in
-    let e = tells c.keep.new.store in
-    let laws = g.met.S.Store.is_consistent in
-    let p = prepared now c.in-Ok.next a b d law c.requires.sound c.requires.pending (laws c.judge.new.store) (laws c.empty_side.new.store) c.judge.ensures.writes.stops c.in-Ok.ensures.judged c.empty_side.ensures.others_stop c.in-Ok-empty_side.ensures.holds in
-    merge_records now c.in-Ok.next a d e p (laws c.args.store.now) (laws c.empty_side.new.store) c.keep.ensures.others_stop c.keep.ensures.gains_stop book n payloads holds within is_open
+returns-in_err-keep-clause-records_stop g c = (kept g (goal.at.returns-in_err-keep-clause-records_stop g c).After-keep).records_stop
 
 pub returns-in_err-keep-clause-others : goal.returns-in_err-keep-clause-others
-returns-in_err-keep-clause-others g c =
-    let tells = g.S.Store.snapshot in
-    let now = c.args.self.now in
-    let law : IsDrum now = rw c.self.view_is at c.self.invariant in
-    let a = tells c.args.store.now in
-    let b = tells c.judge.new.store in
-    merge_others now a.files b.files (tells c.empty_side.new.store).files (tells c.keep.new.store).files law (step_others now a b c.judge.ensures.writes) c.empty_side.ensures.others c.keep.ensures.others
+returns-in_err-keep-clause-others g c = (kept g (goal.at.returns-in_err-keep-clause-others g c).After-keep).others
 
 pub returns-in_err-keep-clause-others_stop : goal.returns-in_err-keep-clause-others_stop
-returns-in_err-keep-clause-others_stop g c =
-    let tells = g.S.Store.snapshot in
-    let now = c.args.self.now in
-    let law : IsDrum now = rw c.self.view_is at c.self.invariant in
-    let a = tells c.args.store.now in
-    let b = tells c.judge.new.store in
-    let d = tells c.empty_side.new.store in
-    let e = tells c.keep.new.store in
-    let laws = g.met.S.Store.is_consistent in
-    let p = prepared now c.in-Ok.next a b d law c.requires.sound c.requires.pending (laws c.judge.new.store) (laws c.empty_side.new.store) c.judge.ensures.writes.stops c.in-Ok.ensures.judged c.empty_side.ensures.others_stop c.in-Ok-empty_side.ensures.holds in
-    merge_others_stop now c.in-Ok.next a d e p (laws c.args.store.now) (laws c.empty_side.new.store) c.keep.ensures.others_stop
+returns-in_err-keep-clause-others_stop g c = (kept g (goal.at.returns-in_err-keep-clause-others_stop g c).After-keep).others_stop
 
 pub returns-in_err-keep-clause-cause : goal.returns-in_err-keep-clause-cause
 returns-in_err-keep-clause-cause g c =
@@ -267,105 +189,51 @@ returns-in_err-keep-clause-cause g c =
 
 -- and kept
 pub returns-clause-stops : goal.returns-clause-stops
-returns-clause-stops g c = λ book holds.
-    let tells = g.S.Store.snapshot in
-    let now = c.args.self.now in
-    let law : IsDrum now = rw c.self.view_is at c.self.invariant in
-    let a = tells c.args.store.now in
-    let b = tells c.judge.new.store in
-    let d = tells c.empty_side.new.store in
-    let e = tells c.keep.new.store in
-    let laws = g.met.S.Store.is_consistent in
-    let p = prepared now c.in-Ok.next a b d law c.requires.sound c.requires.pending (laws c.judge.new.store) (laws c.empty_side.new.store) c.judge.ensures.writes.stops c.in-Ok.ensures.judged c.empty_side.ensures.others_stop c.in-Ok-empty_side.ensures.holds in
-    merge_stops now c.in-Ok.next a d e p (laws c.args.store.now) (laws c.empty_side.new.store) c.keep.ensures.others_stop c.keep.ensures.gains_stop book holds
+returns-clause-stops g c = (kept g (goal.at.returns-clause-stops g c).After-keep).stops
 
 pub returns-clause-records_stop : goal.returns-clause-records_stop
-returns-clause-records_stop g c = λ book n payloads holds within is_open.
-    let tells = g.S.Store.snapshot in
-    let now = c.args.self.now in
-    let law : IsDrum now = rw c.self.view_is at c.self.invariant in
-    let a = tells c.args.store.now in
-    let b = tells c.judge.new.store in
-    let d = tells c.empty_side.new.store in
-    let e = tells c.keep.new.store in
-    let laws = g.met.S.Store.is_consistent in
-    let p = prepared now c.in-Ok.next a b d law c.requires.sound c.requires.pending (laws c.judge.new.store) (laws c.empty_side.new.store) c.judge.ensures.writes.stops c.in-Ok.ensures.judged c.empty_side.ensures.others_stop c.in-Ok-empty_side.ensures.holds in
-    merge_records now c.in-Ok.next a d e p (laws c.args.store.now) (laws c.empty_side.new.store) c.keep.ensures.others_stop c.keep.ensures.gains_stop book n payloads holds within is_open
+returns-clause-records_stop g c = (kept g (goal.at.returns-clause-records_stop g c).After-keep).records_stop
 
 pub returns-clause-others : goal.returns-clause-others
-returns-clause-others g c =
-    let tells = g.S.Store.snapshot in
-    let now = c.args.self.now in
-    let law : IsDrum now = rw c.self.view_is at c.self.invariant in
-    let a = tells c.args.store.now in
-    let b = tells c.judge.new.store in
-    merge_others now a.files b.files (tells c.empty_side.new.store).files (tells c.keep.new.store).files law (step_others now a b c.judge.ensures.writes) c.empty_side.ensures.others c.keep.ensures.others
+returns-clause-others g c = (kept g (goal.at.returns-clause-others g c).After-keep).others
 
 pub returns-clause-others_stop : goal.returns-clause-others_stop
-returns-clause-others_stop g c =
-    let tells = g.S.Store.snapshot in
-    let now = c.args.self.now in
-    let law : IsDrum now = rw c.self.view_is at c.self.invariant in
-    let a = tells c.args.store.now in
-    let b = tells c.judge.new.store in
-    let d = tells c.empty_side.new.store in
-    let e = tells c.keep.new.store in
-    let laws = g.met.S.Store.is_consistent in
-    let p = prepared now c.in-Ok.next a b d law c.requires.sound c.requires.pending (laws c.judge.new.store) (laws c.empty_side.new.store) c.judge.ensures.writes.stops c.in-Ok.ensures.judged c.empty_side.ensures.others_stop c.in-Ok-empty_side.ensures.holds in
-    merge_others_stop now c.in-Ok.next a d e p (laws c.args.store.now) (laws c.empty_side.new.store) c.keep.ensures.others_stop
+returns-clause-others_stop g c = (kept g (goal.at.returns-clause-others_stop g c).After-keep).others_stop
 
 pub returns-clause-counts : goal.returns-clause-counts
 returns-clause-counts g c =
     let now = c.args.self.now in
-    let law : IsDrum now = rw c.self.view_is at c.self.invariant in
-    let j = c.in-Ok.ensures.judged in
-    let manifest = c.keep.new.self.manifest in
-    let new_is : c.keep.new.self ≡ with_commit manifest (next_commit now j.batch) now = c.in_ok-keep.ensures.value ∙ ap (λ (next : Commit). with_commit manifest next now) j.synced.next_is in
-    subst (λ (new : Drum). CountsMerge now new) (sym new_is) (counts_merged now j.batch manifest law j.fits)
+    let p = before_keep g (goal.at.returns-clause-counts g c).After-keep in
+    subst (λ (new : Drum). CountsMerge now new) (sym (committed g (goal.at.returns-clause-counts g c).In_ok-keep)) (counts_merged now c.in-Ok.ensures.judged.batch c.keep.new.self.manifest p.law p.fits)
 
 pub returns-clause-holds : goal.returns-clause-holds
 returns-clause-holds g c = λ files told book holds.
     let tells = g.S.Store.snapshot in
-    let now = c.args.self.now in
-    let law : IsDrum now = rw c.self.view_is at c.self.invariant in
-    let a = tells c.args.store.now in
-    let b = tells c.judge.new.store in
-    let d = tells c.empty_side.new.store in
     let e = tells c.keep.new.store in
-    let laws = g.met.S.Store.is_consistent in
-    let p = prepared now c.in-Ok.next a b d law c.requires.sound c.requires.pending (laws c.judge.new.store) (laws c.empty_side.new.store) c.judge.ensures.writes.stops c.in-Ok.ensures.judged c.empty_side.ensures.others_stop c.in-Ok-empty_side.ensures.holds in
-    let manifest = c.keep.new.self.manifest in
-    let new_is : c.keep.new.self ≡ with_commit manifest (next_commit now p.batch) now = c.in_ok-keep.ensures.value ∙ ap (λ (next : Commit). with_commit manifest next now) p.next_is in
-    subst (λ (new : Drum). Holds e.images new (merged book)) (sym new_is) (merge_holds now c.in-Ok.next manifest a d e p (laws c.keep.new.store) c.keep.ensures.others_stop c.in_ok-keep.ensures.gains files told book holds)
+    let p = before_keep g (goal.at.returns-clause-holds g c).After-keep in
+    subst (λ (new : Drum). Holds e.images new (merged book)) (sym (committed g (goal.at.returns-clause-holds g c).In_ok-keep))
+    (merge_holds c.args.self.now c.in-Ok.ensures.judged.batch c.in-Ok.next c.keep.new.self.manifest (tells c.args.store.now) (tells c.empty_side.new.store) e p (g.met.S.Store.is_consistent c.keep.new.store) c.keep.ensures.others_stop c.in_ok-keep.ensures.gains files told book holds)
 
 pub returns-clause-empty : goal.returns-clause-empty
 returns-clause-empty g c = λ n within.
     let tells = g.S.Store.snapshot in
-    let now = c.args.self.now in
-    let law : IsDrum now = rw c.self.view_is at c.self.invariant in
-    let a = tells c.args.store.now in
-    let b = tells c.judge.new.store in
-    let d = tells c.empty_side.new.store in
     let e = tells c.keep.new.store in
-    let laws = g.met.S.Store.is_consistent in
     subst (λ (new : Drum). IsOpen e.images (bucket_at new n).journal []) (sym c.in_ok-keep.ensures.value)
-    (merge_empties now c.in-Ok.next c.keep.new.self.manifest d e n law within (laws c.keep.new.store) c.in-Ok-empty_side.ensures.holds c.keep.ensures.others_stop)
+    (merge_empties c.args.self.now c.in-Ok.next c.keep.new.self.manifest (tells c.empty_side.new.store) e n (rw c.self.view_is at c.self.invariant) within (g.met.S.Store.is_consistent c.keep.new.store) c.in-Ok-empty_side.ensures.holds c.keep.ensures.others_stop)
+
+pub returns-clause-cut : goal.returns-clause-cut
+returns-clause-cut g c =
+    let tells = g.S.Store.snapshot in
+    merge_cuts c.args.self.now (tells c.empty_side.new.store).files (tells c.keep.new.store).files (rw c.self.view_is at c.self.invariant) c.in-Ok-empty_side.ensures.empty c.keep.ensures.others
 
 pub returns-clause-long_kept : goal.returns-clause-long_kept
 returns-clause-long_kept g c = λ yes.
     let tells = g.S.Store.snapshot in
-    let now = c.args.self.now in
-    let law : IsDrum now = rw c.self.view_is at c.self.invariant in
-    let a = tells c.args.store.now in
-    let b = tells c.judge.new.store in
-    let d = tells c.empty_side.new.store in
     let e = tells c.keep.new.store in
-    let laws = g.met.S.Store.is_consistent in
     let j = c.in-Ok.ensures.judged in
-    let manifest = c.keep.new.self.manifest in
-    let new_is : c.keep.new.self ≡ with_commit manifest (next_commit now j.batch) now = c.in_ok-keep.ensures.value ∙ ap (λ (next : Commit). with_commit manifest next now) j.synced.next_is in
-    subst (λ (new : Drum). ForSome e.files (λ files. IsLong new files)) (sym new_is)
-    (merge_long now j.batch manifest (record_text (commit_bytes c.in-Ok.next)) b.files d.files e.files law j.synced.long c.empty_side.ensures.others c.in-Ok-empty_side.ensures.long c.keep.ensures.others c.in_ok-keep.ensures.long_kept c.keep.ensures.file c.in_ok-keep.ensures.end)
+    subst (λ (new : Drum). ForSome e.files (λ files. IsLong new files)) (sym (committed g (goal.at.returns-clause-long_kept g c).In_ok-keep))
+    (merge_long c.args.self.now j.batch c.keep.new.self.manifest (record_text (commit_bytes c.in-Ok.next)) (tells c.judge.new.store).files (tells c.empty_side.new.store).files e.files (rw c.self.view_is at c.self.invariant) j.synced.long c.empty_side.ensures.others c.in-Ok-empty_side.ensures.empty
+    c.keep.ensures.others c.in_ok-keep.ensures.long_kept c.keep.ensures.file c.in_ok-keep.ensures.end)
 
 pub returns-clause-read : goal.returns-clause-read
 returns-clause-read g c =
