@@ -1,109 +1,32 @@
 -- A bay that is opened, part by part: what changes, what is damaged, and what it is as a drum.
-use Rattle.std.proofs.Common.{◌≡◌, ◌∙◌, ◌⊎◌, inl, inr, ⊎_elim, ℕ, suc, zero, ◌+◌, ◌*◌, ◌-◌, ◌^◌, ◌<◌, ◌≤◌, min, List, [], ◌∷◌, ◌++◌, length, map, get_or, replicate, Option, Some, None, true, refl, sym, ap, subst, arith}
+use Rattle.std.proofs.Common.{◌≡◌, ◌∙◌, inl, inr, ℕ, suc, zero, ◌+◌, ◌*◌, ◌-◌, ◌^◌, ◌<◌, ◌≤◌, min, List, [], ◌∷◌, ◌++◌, length, map, get_or, replicate, Option, Some, None, true, refl, sym, ap, subst, arith}
 use Rattle.std.proofs.lemmas.List.{length-map, length-replicate, get_or-replicate}
+use Rattle.std.specs.Prelude.{sum, IfSome, IsSome}
 use Rattle.std.specs.List.{AllByRecursion}
 use Rattle.irl_offer.specs.declared.entry.Entry.{Entry}
 use Rattle.irl_offer.specs.declared.settings.Settings.{Settings}
-use Rattle.std.specs.FinMap.{entries}
-use Rattle.irl_model.specs.Judging.{after}
-use Rattle.irl_model.specs.Book.{Book, IsBelow, judged, judged_offers}
-use Rattle.irl_disk.specs.Disk.{Files, Changes, ChangesFile}
-use Rattle.irl_disk.specs.Images.{Snapshot, IsConsistent, Follows, LeavesBy, LeavesSame}
-use Rattle.irl_disk.proofs.Stretches.{goes_on, widens_by, same_by, reads_on, stays}
-use Rattle.irl_disk.proofs.Frames.{among_one, among_joins}
+use Rattle.irl_model.specs.Book.{IsBelow, judged}
+use Rattle.irl_disk.specs.Disk.{Files, ChangesFile}
 use Rattle.irl_journal.specs.Format.{StandsFor, records_text}
 use Rattle.irl_journal.specs.Visiting.{IsOpened}
 use Rattle.irl_journal.proofs.Lists.{one_list}
-use Rattle.irl_journal.proofs.Opened.{opened_stands}
 use Rattle.irl_bay.specs.BayFiles.{file_of, max_base}
 use Rattle.irl_bay.specs.declared.layout.files.BayFile.TheVariants.{Manifest, Cache, Judged, Texts, Journal, Aux}
 use Rattle.irl_bay.specs.declared.bucket.Bucket.{Bucket}
-use Rattle.irl_bay.specs.Commits.{Commit, IsCommit, commit_bytes, first_commit, last_commit, live_side, live_offers, starts_by}
-use Rattle.irl_bay.specs.Damage.{HasRuns, HasManifest, HasFronts, IsAdopted, IsDamagedBucket, IsDamagedFront, IsWholeBucket, IsDamagedJournal, AreRunPayloads, IsCutAbove, IsReached, RiseFrom, starts_of, entries_bytes, entries_in, text_length}
+use Rattle.irl_bay.specs.Commits.{Commit, IsCommit, commit_bytes, first_commit, last_commit, live_side, starts_by}
+use Rattle.irl_bay.specs.Damage.{HasRuns, HasManifest, HasFronts, IsDamagedBucket, IsDamagedFront, IsWholeBucket, IsDamagedJournal, AreRunPayloads, IsCutAbove, IsReached, RiseFrom, starts_of, entries_bytes, entries_in, text_length}
 use Rattle.irl_offer.specs.Settings.{AreValid}
 use Rattle.irl_journal.specs.Appending.{Tail}
 use Rattle.irl_bay.specs.Drum.{Drum, IsDrum, no_bucket}
 use Rattle.irl_bay.specs.Holding.{TellsBy, IsLong}
-use Rattle.irl_bay.specs.Making.{IsJournalOf}
-use Rattle.irl_bay.specs.Opening.{HasWhole, IsOpenBucket, IsLongBucket, IsJournalBelow, OpensBelow, IsFirstAbove, AdoptsTo}
-use Rattle.irl_cache.specs.SortedRun.{pairs_bytes}
-use Rattle.irl_bay.specs.JudgedEntries.{judged_entries}
-use Rattle.irl_journal.specs.Blob.{BeginsWith}
-use Rattle.irl_bay.specs.Runs.{run_bytes, texts_of}
+use Rattle.irl_bay.specs.Opening.{HasWhole, IsOpenBucket, IsLongBucket, OpensBelow, IsWithin, IsFirstAbove, most_by, most_of}
 use Rattle.irl_bay.specs.Damage.{IsShort}
-use Rattle.irl_bay.specs.Standing.{Stands}
 use Rattle.irl_disk.specs.Taken.{TakesAmong}
 use Rattle.irl_bay.specs.declared.history.History.{History}
 use Rattle.irl_bay.proofs.Reached.{TookCommits, rise_each, few_commits, zeros_fit}
-use Rattle.irl_bay.proofs.Adopting.{opened_none, opened_both, side_fits}
+use Rattle.irl_bay.proofs.Adopting.{side_fits}
 use Rattle.irl_bay.proofs.Below.{below_each, each_below}
 use Rattle.irl_bay.proofs.Buckets.{same_runs}
-use Rattle.irl_bay.proofs.EntryBytes.{below_or_not}
-
--- ---- frames
-adopted_none : (base buckets : ℕ) (files : Files) → IsAdopted base buckets files files
-adopted_none base buckets files = record { changed = λ f is. opened_none (files f); others = λ f out. refl }
-
-adopted_both : (base buckets : ℕ) (old mid new : Files) → IsAdopted base buckets old mid → IsAdopted base buckets mid new → IsAdopted base buckets old new
-adopted_both base buckets old mid new first second = among_joins (IsJournalOf base buckets) (λ f. IsOpened) old mid new (λ g x y z is. opened_both x y z) first second
-
-adopted_manifest : (base buckets : ℕ) (old new : Files) → ChangesFile (file_of base 0 Manifest) IsOpened old new → IsAdopted base buckets old new
-adopted_manifest base buckets old new step = among_one (IsJournalOf base buckets) (λ f. IsOpened) (file_of base 0 Manifest) IsOpened old new (inl refl) (λ x y is. is) (λ g x is. opened_none x) step
-
-manifest_apart : (base side buckets : ℕ) → IsJournalBelow base side buckets (file_of base 0 Manifest) → ⊥
-manifest_apart base side buckets is = omega (arith, is.2)
-
-other_below : (base side n f : ℕ) → (IsJournalBelow base side n f → ⊥) → (f ≡ file_of base 0 (Journal side n) → ⊥) → IsJournalBelow base side (suc n) f → ⊥
-other_below base side n f out other is = ⊎_elim (λ (under : is.0 < n). out (is.0, under, is.2)) (λ (past : n ≤ is.0). other (omega (arith, is.1, is.2, past))) (below_or_not is.0 n)
-
--- a file is one of these journals or not
-journal_or_not : (base side n f : ℕ) → IsJournalBelow base side n f ⊎ (IsJournalBelow base side n f → ⊥)
-journal_or_not base side zero f = inr (λ is. omega (arith, is.1))
-journal_or_not base side (suc n) f = ⊎_elim
-    (λ (was : IsJournalBelow base side n f). inl (was.0, omega (arith, was.1), was.2))
-    (λ (out : IsJournalBelow base side n f → ⊥). ⊎_elim
-    (λ (low : f < file_of base 0 (Journal side n)). inr (other_below base side n f out (λ is. omega (arith, is, low))))
-    (λ (high : file_of base 0 (Journal side n) ≤ f). ⊎_elim
-    (λ (over : file_of base 0 (Journal side n) < f). inr (other_below base side n f out (λ is. omega (arith, is, over))))
-    (λ (same : f ≤ file_of base 0 (Journal side n)). inl (n, omega arith, omega (arith, same, high)))
-    (below_or_not (file_of base 0 (Journal side n)) f))
-    (below_or_not f (file_of base 0 (Journal side n))))
-    (journal_or_not base side n f)
-
-adopted_below : (base side buckets : ℕ) (old new : Files) → side ≤ 1 → OpensBelow base side buckets old new → IsAdopted base buckets old new
-adopted_below base side buckets old new fits step = record {
-  changed = λ f is. ⊎_elim (λ (below : IsJournalBelow base side buckets f). step.changed f below) (λ (out : IsJournalBelow base side buckets f → ⊥). inl (step.others f out)) (journal_or_not base side buckets f);
-  others = λ f out. step.others f (λ below. out (inr (side, below.0, fits, below.1, below.2)));
-}
-
-tells_none : (base buckets : ℕ) (files : Option Files) → TellsBy (IsAdopted base buckets) files files
-tells_none base buckets None = refl
-tells_none base buckets (Some files) = (files, refl, adopted_none base buckets files)
-
-pub adopts_none : (base buckets : ℕ) (now : Snapshot) → IsConsistent now → AdoptsTo base buckets now now
-adopts_none base buckets now law = record { files = tells_none base buckets now.files; stops = same_by now now (IsAdopted base buckets) (adopted_none base buckets) (stays now now.images law (λ image left. left)) }
-
-tells_manifest : (base buckets : ℕ) (old new : Option Files) → Changes (file_of base 0 Manifest) IsOpened old new → TellsBy (IsAdopted base buckets) old new
-tells_manifest base buckets None new changes = changes
-tells_manifest base buckets (Some old) new changes = (changes.0, changes.1, adopted_manifest base buckets old changes.0 changes.2)
-
-tells_buckets : (base side buckets : ℕ) (old mid new : Option Files) → side ≤ 1 → TellsBy (IsAdopted base buckets) old mid → TellsBy (OpensBelow base side buckets) mid new → TellsBy (IsAdopted base buckets) old new
-tells_buckets base side buckets None mid new fits first second = subst (λ (files : Option Files). TellsBy (OpensBelow base side buckets) files new) first second
-tells_buckets base side buckets (Some old) mid new fits first second =
-    let next = subst (λ (files : Option Files). TellsBy (OpensBelow base side buckets) files new) first.1 second in
-    (next.0, next.1, adopted_both base buckets old first.0 next.0 first.2 (adopted_below base side buckets first.0 next.0 fits next.2))
-
-pub adopts_manifest : (base buckets : ℕ) (old new : Snapshot) → Changes (file_of base 0 Manifest) IsOpened old.files new.files → LeavesBy (ChangesFile (file_of base 0 Manifest) IsOpened) old new → AdoptsTo base buckets old new
-adopts_manifest base buckets old new changes stops = record { files = tells_manifest base buckets old.files new.files changes; stops = widens_by old new _ (IsAdopted base buckets) stops (adopted_manifest base buckets) }
-
-pub adopts_same : (base buckets : ℕ) (old mid new : Snapshot) → IsConsistent mid → AdoptsTo base buckets old mid → new.files ≡ mid.files → LeavesSame mid new → AdoptsTo base buckets old new
-adopts_same base buckets old mid new law first same stops = record { files = subst (TellsBy (IsAdopted base buckets) old.files) (sym same) first.files; stops = reads_on old mid new _ law first.stops stops }
-
-pub adopts_buckets : (base side buckets : ℕ) (old mid new : Snapshot) → side ≤ 1 → IsConsistent mid → AdoptsTo base buckets old mid → TellsBy (OpensBelow base side buckets) mid.files new.files → LeavesBy (OpensBelow base side buckets) mid new → AdoptsTo base buckets old new
-adopts_buckets base side buckets old mid new fits law first files stops = record {
-  files = tells_buckets base side buckets old.files mid.files new.files fits first.files files;
-  stops = goes_on old mid new (Follows (IsAdopted base buckets) old.images) (OpensBelow base side buckets) law first.stops stops (λ before image was step. (was.0, was.1, adopted_both base buckets was.0 before image was.2 (adopted_below base side buckets before image fits step)));
-}
 
 -- ---- the last commit
 pub first_is : (buckets : ℕ) → IsCommit buckets (first_commit buckets)
@@ -112,47 +35,6 @@ first_is buckets = record { side = omega arith; live = tt; entries = omega arith
 pub last_is : (buckets : ℕ) (first : Commit) (commits : List Commit) → IsCommit buckets first → AllByRecursion (IsCommit buckets) commits → IsCommit buckets (last_commit first commits)
 last_is buckets first [] here each = here
 last_is buckets first (commit ∷ commits) here each = last_is buckets commit commits each.0 each.1
-
-pub last_side : (buckets : ℕ) (first : Commit) (commits : List Commit) → first.side ≤ 1 → AllByRecursion (IsCommit buckets) commits → (last_commit first commits).side ≤ 1
-last_side buckets first [] here each = here
-last_side buckets first (commit ∷ commits) here each = last_side buckets commit commits each.0.side each.1
-
--- ---- a book's files that are opened stand for it
-same_aux : (base side buckets b : ℕ) (old new : Files) → IsAdopted base buckets old new → new (file_of base 0 (Aux side b)) ≡ old (file_of base 0 (Aux side b))
-same_aux base side buckets b old new step = step.others (file_of base 0 (Aux side b)) (λ is. ⊎_elim
-    (λ (here : file_of base 0 (Aux side b) ≡ file_of base 0 Manifest). omega (arith, here))
-    (λ (below : (s c : ℕ) × (s ≤ 1) × (c < buckets) × (file_of base 0 (Aux side b) ≡ file_of base 0 (Journal s c))). omega (arith, below.4))
-    is)
-
-same_front : (base buckets f : ℕ) (old new : Files) → IsAdopted base buckets old new → base < f → f < base + 10 → new f ≡ old f
-same_front base buckets f old new step above below = step.others f (λ is. ⊎_elim
-    (λ (here : f ≡ file_of base 0 Manifest). omega (arith, here, above))
-    (λ (under : (s c : ℕ) × (s ≤ 1) × (c < buckets) × (f ≡ file_of base 0 (Journal s c))). omega (arith, under.4, below))
-    is)
-
-pub stands_adopted : (base : ℕ) (settings : Settings) (book : Book) (old new : Files) → IsAdopted base settings.buckets old new → Stands base settings book old → Stands base settings book new
-stands_adopted base settings book old new step stands =
-    let last : Commit = last_commit (first_commit book.buckets) stands.commits in
-    let side : last.side ≤ 1 = last_side book.buckets (first_commit book.buckets) stands.commits (omega arith) stands.commits_are.form in
-    let live : live_side last ≤ 1 = side_fits book.buckets last (last_is book.buckets (first_commit book.buckets) stands.commits (first_is book.buckets) stands.commits_are.form) in
-    record {
-      book_is = stands.book_is;
-      commits = stands.commits;
-      commits_are = stands.commits_are;
-      manifest = opened_stands (old (file_of base 0 Manifest)) (new (file_of base 0 Manifest)) (map commit_bytes stands.commits) (step.changed (file_of base 0 Manifest) (inl refl)) stands.manifest;
-      offers = stands.offers;
-      buckets = λ b within.
-          let has = stands.buckets b within in
-          record {
-            runs = has.runs;
-            are = has.are;
-            records = opened_stands (old (file_of base 0 (Journal (live_side last) b))) (new (file_of base 0 (Journal (live_side last) b))) (map run_bytes has.runs) (step.changed (file_of base 0 (Journal (live_side last) b)) (inr (live_side last, b, live, omega (arith, within, stands.book_is.buckets), refl))) has.records;
-            texts = subst (λ (file : List ℕ). BeginsWith file (texts_of (live_offers book last b))) (sym (same_aux base (live_side last) settings.buckets b old new step)) has.texts;
-          };
-      cache = record { count = stands.cache.count; bytes = subst (λ (file : List ℕ). BeginsWith file (pairs_bytes (entries (after book.rule book.base (judged_offers book))))) (sym (same_front base settings.buckets (file_of base 0 (Cache last.side)) old new step (omega arith) (omega (arith, side)))) stands.cache.bytes };
-      judged_are = subst (λ (file : List ℕ). BeginsWith file (judged_entries 0 (judged book))) (sym (same_front base settings.buckets (file_of base 0 Judged) old new step (omega arith) (omega arith))) stands.judged_are;
-      texts = subst (λ (file : List ℕ). BeginsWith file (texts_of (judged_offers book))) (sym (same_front base settings.buckets (file_of base 0 Texts) old new step (omega arith) (omega arith))) stands.texts;
-    }
 
 -- ---- damage that stood there before the manifest was opened
 pub elsewhere : (base f : ℕ) (old new : Files) → ChangesFile (file_of base 0 Manifest) IsOpened old new → base < f → new f ≡ old f
@@ -215,22 +97,43 @@ pub record AreWhole (base : ℕ) (settings : Settings) (files : Files) (last : C
   pub starts : (b : ℕ) → b < settings.buckets → (get_or buckets b d).start ≡ get_or (starts_of settings.buckets last) b 0
   pub whole : (b : ℕ) → b < settings.buckets → HasWhole base (live_side last) settings b files (get_or buckets b d)
 
--- a cut that is below the lengths is reached
-pub below_reached : (base : ℕ) (settings : Settings) (files : Files) (last : Commit) (buckets : List Bucket) (d : Bucket) (commit : Commit) → AreWhole base settings files last buckets d → IsBelow commit.cut (map (λ bucket. bucket.durable) buckets) → IsReached base settings files last commit
-below_reached base settings files last buckets d commit are below = λ b within.
-    let has = are.whole b within in
-    (has.runs, has.has, omega (arith, each_below commit.cut (map (λ bucket. bucket.durable) buckets) below b, durable-at buckets d b (omega (arith, within, are.count)), has.durable, are.starts b within))
+-- how many offers a cut may count
+within_said : (count n : ℕ) (live : Option ℕ) → IfSome (most_by count live) (λ most. n ≤ most) → IsSome live → n ≤ count
+within_said count n None few named = absurd (cc)
+within_said count n (Some side) few named = few
 
--- and one that is reached is below them
-pub reached_below : (base : ℕ) (settings : Settings) (files : Files) (last : Commit) (buckets : List Bucket) (d : Bucket) (commit : Commit) → AreWhole base settings files last buckets d → IsCommit settings.buckets commit → IsReached base settings files last commit → IsBelow commit.cut (map (λ bucket. bucket.durable) buckets)
-reached_below base settings files last buckets d commit are is reached =
-    below_each commit.cut (map (λ bucket. bucket.durable) buckets) (omega (arith, is.count, are.count, length-map buckets (λ (bucket : Bucket). bucket.durable)))
-    (λ b within.
-    let inside : b < settings.buckets = omega (arith, within, is.count) in
-    let has = are.whole b inside in
-    let other = reached b inside in
-    let same : has.runs ≡ other.0 = same_runs settings b has.runs other.0 has.has.each other.1.each (one_list (files (file_of base 0 (Journal (live_side last) b))) (map entries_bytes has.runs) (map entries_bytes other.0) has.has.records other.1.records) in
-    omega (arith, other.2, number_fits commit.cut b is.cut, durable-at buckets d b (omega (arith, inside, are.count)), has.durable, are.starts b inside, ap (λ (runs : List (List Entry)). length (entries_in runs)) same))
+said_within : (count n : ℕ) (live : Option ℕ) → (IsSome live → n ≤ count) → IfSome (most_by count live) (λ most. n ≤ most)
+said_within count n None few = tt
+said_within count n (Some side) few = few refl
+
+-- a cut that is within the bounds is reached
+pub within_reached : (base : ℕ) (settings : Settings) (files : Files) (last : Commit) (buckets : List Bucket) (d : Bucket) (commit : Commit) → AreWhole base settings files last buckets d → IsWithin (map (λ bucket. bucket.durable) buckets) (most_of last) commit.cut → IsReached base settings files last commit
+within_reached base settings files last buckets d commit are within = record {
+  lists = λ b inside.
+      let has = are.whole b inside in
+      (has.runs, has.has, omega (arith, each_below commit.cut (map (λ bucket. bucket.durable) buckets) within.lists b, durable-at buckets d b (omega (arith, inside, are.count)), has.durable, are.starts b inside));
+  judged = within_said last.judged (sum commit.cut) last.live within.all;
+}
+
+-- and one that is reached is within them
+pub reached_within : (base : ℕ) (settings : Settings) (files : Files) (last : Commit) (buckets : List Bucket) (d : Bucket) (commit : Commit) → AreWhole base settings files last buckets d → IsCommit settings.buckets commit → IsReached base settings files last commit → IsWithin (map (λ bucket. bucket.durable) buckets) (most_of last) commit.cut
+reached_within base settings files last buckets d commit are is reached = record {
+  lists = below_each commit.cut (map (λ bucket. bucket.durable) buckets) (omega (arith, is.count, are.count, length-map buckets (λ (bucket : Bucket). bucket.durable)))
+      (λ b within.
+      let inside : b < settings.buckets = omega (arith, within, is.count) in
+      let has = are.whole b inside in
+      let other = reached.lists b inside in
+      let same : has.runs ≡ other.0 = same_runs settings b has.runs other.0 has.has.each other.1.each (one_list (files (file_of base 0 (Journal (live_side last) b))) (map entries_bytes has.runs) (map entries_bytes other.0) has.has.records other.1.records) in
+      omega (arith, other.2, number_fits commit.cut b is.cut, durable-at buckets d b (omega (arith, inside, are.count)), has.durable, are.starts b inside, ap (λ (runs : List (List Entry)). length (entries_in runs)) same));
+  all = said_within last.judged (sum commit.cut) last.live reached.judged;
+}
+
+-- the same of the lengths and of the last commit as they are found
+pub within_end : (lengths ls : List ℕ) (last x : Commit) → lengths ≡ ls → last ≡ x → IsWithin lengths (most_of last) last.cut → IsWithin ls (most_of x) x.cut
+within_end lengths ls last x same_l same within = subst (λ (l : List ℕ). IsWithin l (most_of x) x.cut) same_l (subst (λ (y : Commit). IsWithin lengths (most_of y) y.cut) same within)
+
+pub first_end : (lengths ls : List ℕ) (last x : Commit) (commits : List Commit) (at : ℕ) → lengths ≡ ls → last ≡ x → IsFirstAbove lengths (most_of last) commits at → IsFirstAbove ls (most_of x) commits at
+first_end lengths ls last x commits at same_l same first = subst (λ (l : List ℕ). IsFirstAbove l (most_of x) commits at) same_l (subst (λ (y : Commit). IsFirstAbove lengths (most_of y) commits at) same first)
 
 all-map : (P Q : Commit → Type 0) (xs : List Commit) → ((x : Commit) → P x → Q x) → AllByRecursion P xs → AllByRecursion Q xs
 all-map P Q [] wide each = tt
@@ -241,7 +144,7 @@ each_split P [] ys each = each
 each_split P (x ∷ xs) ys each = each_split P xs ys each.1
 
 pub cut_above : (base : ℕ) (settings : Settings) (files : Files) (buckets : List Bucket) (d : Bucket) (commits : List Commit) (at : ℕ) → AreWhole base settings files (last_commit (first_commit settings.buckets) commits) buckets d
-    → AllByRecursion (IsCommit settings.buckets) commits → IsFirstAbove (map (λ bucket. bucket.durable) buckets) commits at → IsCutAbove base settings files commits at
+    → AllByRecursion (IsCommit settings.buckets) commits → IsFirstAbove (map (λ bucket. bucket.durable) buckets) (most_of (last_commit (first_commit settings.buckets) commits)) commits at → IsCutAbove base settings files commits at
 cut_above base settings files buckets d commits at are each first =
     let last = last_commit (first_commit settings.buckets) commits in
     record {
@@ -250,8 +153,8 @@ cut_above base settings files buckets d commits at are each first =
       more = first.more;
       among = first.among;
       place = first.place;
-      reached = all-map (λ old. IsBelow old.cut (map (λ bucket. bucket.durable) buckets)) (IsReached base settings files last) first.before (λ commit. below_reached base settings files last buckets d commit are) first.below;
-      above = λ reached. first.above (reached_below base settings files last buckets d first.commit are (each_split (IsCommit settings.buckets) first.before (first.commit ∷ first.more) (subst (AllByRecursion (IsCommit settings.buckets)) first.among each)).0 reached);
+      reached = all-map (λ old. IsWithin (map (λ bucket. bucket.durable) buckets) (most_of last) old.cut) (IsReached base settings files last) first.before (λ commit. within_reached base settings files last buckets d commit are) first.within;
+      above = λ reached. first.above (reached_within base settings files last buckets d first.commit are (each_split (IsCommit settings.buckets) first.before (first.commit ∷ first.more) (subst (AllByRecursion (IsCommit settings.buckets)) first.among each)).0 reached);
     }
 
 pub has_back : (base side : ℕ) (settings : Settings) (b : ℕ) (old new : Files) (bucket : Bucket) → ChangesFile (file_of base 0 Manifest) IsOpened old new → HasWhole base side settings b new bucket → HasWhole base side settings b old bucket
@@ -264,10 +167,6 @@ whole_of base settings old new last x buckets same step count opened has = subst
     (record { count = count; starts = λ b within. (opened b within).start; whole = λ b within. has_back base (live_side last) settings b old new (get_or buckets b no_bucket) step (has b within) })
 
 -- ---- the manifest
-pub adopts_first : (base buckets f : ℕ) (old new : Snapshot) → f ≡ file_of base 0 Manifest → Changes f IsOpened old.files new.files → LeavesBy (ChangesFile f IsOpened) old new → AdoptsTo base buckets old new
-adopts_first base buckets f old new is changes stops =
-    adopts_manifest base buckets old new (subst (λ (n : ℕ). Changes n IsOpened old.files new.files) is changes) (subst (λ (n : ℕ). LeavesBy (ChangesFile n IsOpened) old new) is stops)
-
 pub took_is : (buckets : ℕ) (first : Commit) (count : ℕ) (payloads : List (List ℕ)) (new : History) → first ≡ first_commit buckets → TookCommits buckets first count payloads new → IsCommit buckets new.last
 took_is buckets first count payloads new is took =
     subst (IsCommit buckets) (sym took.last) (last_is buckets first took.commits (subst (IsCommit buckets) (sym is) (first_is buckets)) (rise_each buckets first took.commits took.rise))

@@ -113,11 +113,15 @@ same_commits buckets (x ∷ xs) (y ∷ ys) each_x each_y same =
 pub starts_same : (settings : Settings) (book : Book) (last : Commit) → IsBookOf settings book → starts book last ≡ starts_of settings.buckets last
 starts_same settings book last is = ap (λ (firsts : List ℕ). starts_by firsts last.cut last.live) ((is.is_book.none is.dropped).1 ∙ ap (λ (n : ℕ). replicate n 0) is.buckets)
 
--- a bucket's cut counts judged offers
-cut_counts : (settings : Settings) (book : Book) (last : Commit) (b : ℕ) → IsBookOf settings book → IsCommitOf book last → IsCommit settings.buckets last → b < settings.buckets → get_or last.cut b 0 ≤ last.judged
-cut_counts settings book last b is commit form within =
+-- a cut counts the judged offers
+pub cut_sum : (settings : Settings) (book : Book) (last : Commit) → IsBookOf settings book → IsCommitOf book last → sum last.cut ≡ last.judged
+cut_sum settings book last is commit =
     let zeros : gone book ≡ book.buckets * 0 = ap sum (is.is_book.none is.dropped).1 ∙ sum_by-replicate (λ (m : ℕ). m) book.buckets 0 in
-    omega (arith, get_or-le-sum_by (λ (n : ℕ). n) last.cut b 0 (omega (arith, within, form.count)), ap sum commit.cut, judged_count book is.is_book, zeros, commit.judged)
+    omega (arith, ap sum commit.cut, judged_count book is.is_book, zeros, commit.judged)
+
+-- and a bucket's cut those of the bucket
+cut_counts : (settings : Settings) (book : Book) (last : Commit) (b : ℕ) → IsBookOf settings book → IsCommitOf book last → IsCommit settings.buckets last → b < settings.buckets → get_or last.cut b 0 ≤ last.judged
+cut_counts settings book last b is commit form within = omega (arith, get_or-le-sum_by (λ (n : ℕ). n) last.cut b 0 (omega (arith, within, form.count)), cut_sum settings book last is commit)
 
 all_drop : (P : Tuple → Type 0) (n : ℕ) (xs : List Tuple) → AllByRecursion P xs → AllByRecursion P (drop n xs)
 all_drop P zero xs each = each

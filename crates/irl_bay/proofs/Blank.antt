@@ -25,7 +25,7 @@ use Rattle.irl_bay.specs.Runs.{IsOffer}
 use Rattle.irl_bay.specs.Commits.{Commit, IsCommit, IsCommitOf, first_commit, starts, live_offers}
 use Rattle.irl_bay.specs.Drum.{Drum, IsDrum, no_bucket}
 use Rattle.irl_bay.specs.Holding.{Holds, HoldsBucket, ChangesOnly, TellsBy}
-use Rattle.irl_bay.specs.Making.{IsUnmade, IsJournalOf, Makes}
+use Rattle.irl_bay.specs.Making.{IsUnmade, IsJournalOn, Makes}
 use Rattle.irl_bay.specs.Merging.{emptied}
 use Rattle.irl_bay.proofs.Staying.{only_one, only_both, leaves_one, open_stays}
 use Rattle.irl_bay.proofs.Bucketing.{bucket_stays}
@@ -40,9 +40,9 @@ scribbled_short : StaysShort (Scribbled 0 1)
 scribbled_short x y short torn = omega (arith, short, torn.no_longer)
 
 -- making a journal changes nothing else
-makes_one : (base buckets f : ℕ) (step : List ℕ → List ℕ → Type 0) (old new : Files) → StaysShort step → IsJournalOf base buckets f → ChangesFile f step old new → Makes base buckets old new
+makes_one : (base buckets f : ℕ) (step : List ℕ → List ℕ → Type 0) (old new : Files) → StaysShort step → IsJournalOn base 0 buckets f → ChangesFile f step old new → Makes base buckets old new
 makes_one base buckets f step old new short is changes = record {
-  others = only_one (IsJournalOf base buckets) f step old new is changes;
+  others = only_one (IsJournalOn base 0 buckets) f step old new is changes;
   unmade = λ was g at. ⊎_elim
       (λ (e : g ≡ f). subst (λ (h : ℕ). length (new h) ≤ 1) (sym e) (short (old f) (new f) (was f (subst (IsFileOf base buckets) e at)) changes.changed))
       (λ (other : g ≢ f). subst (λ (file : List ℕ). length file ≤ 1) (sym (changes.others g other)) (was g at))
@@ -51,16 +51,16 @@ makes_one base buckets f step old new short is changes = record {
 
 makes_both : (base buckets : ℕ) (old mid new : Files) → Makes base buckets old mid → Makes base buckets mid new → Makes base buckets old new
 makes_both base buckets old mid new first second = record {
-  others = only_both (IsJournalOf base buckets) old mid new first.others second.others;
+  others = only_both (IsJournalOn base 0 buckets) old mid new first.others second.others;
   unmade = λ was. second.unmade (first.unmade was);
 }
 
 -- what is told changes so
-told_made : (base buckets f : ℕ) (step : List ℕ → List ℕ → Type 0) (old new : Option Files) → StaysShort step → IsJournalOf base buckets f → Changes f step old new → TellsBy (Makes base buckets) old new
+told_made : (base buckets f : ℕ) (step : List ℕ → List ℕ → Type 0) (old new : Option Files) → StaysShort step → IsJournalOn base 0 buckets f → Changes f step old new → TellsBy (Makes base buckets) old new
 told_made base buckets f step None new short is changes = changes
 told_made base buckets f step (Some old) new short is changes = (changes.0, changes.1, makes_one base buckets f step old changes.0 short is changes.2)
 
-pub told_torn : (base buckets f : ℕ) (old new : Option Files) → IsJournalOf base buckets f → Changes f (Scribbled 0 1) old new → TellsBy (Makes base buckets) old new
+pub told_torn : (base buckets f : ℕ) (old new : Option Files) → IsJournalOn base 0 buckets f → Changes f (Scribbled 0 1) old new → TellsBy (Makes base buckets) old new
 told_torn base buckets f old new is changes = told_made base buckets f (Scribbled 0 1) old new scribbled_short is changes
 
 pub told_more : (base buckets : ℕ) (old mid new : Option Files) → TellsBy (Makes base buckets) old mid → TellsBy (Makes base buckets) mid new → TellsBy (Makes base buckets) old new
@@ -74,10 +74,10 @@ told_same base buckets None = refl
 told_same base buckets (Some files) = (files, refl, record { others = λ f out. refl; unmade = λ was. was })
 
 -- and so does what a stop leaves
-pub leaves_made : (base buckets f : ℕ) (old new : Snapshot) → IsJournalOf base buckets f → LeavesBy (ChangesFile f (Scribbled 0 1)) old new → LeavesBy (Makes base buckets) old new
+pub leaves_made : (base buckets f : ℕ) (old new : Snapshot) → IsJournalOn base 0 buckets f → LeavesBy (ChangesFile f (Scribbled 0 1)) old new → LeavesBy (Makes base buckets) old new
 leaves_made base buckets f old new is stops = widens_by old new _ _ stops (λ x y changes. makes_one base buckets f (Scribbled 0 1) x y scribbled_short is changes)
 
-pub leaves_more : (base buckets f : ℕ) (old mid new : Snapshot) → IsConsistent mid → IsJournalOf base buckets f → LeavesBy (Makes base buckets) old mid → LeavesBy (ChangesFile f (Scribbled 0 1)) mid new → LeavesBy (Makes base buckets) old new
+pub leaves_more : (base buckets f : ℕ) (old mid new : Snapshot) → IsConsistent mid → IsJournalOn base 0 buckets f → LeavesBy (Makes base buckets) old mid → LeavesBy (ChangesFile f (Scribbled 0 1)) mid new → LeavesBy (Makes base buckets) old new
 leaves_more base buckets f old mid new law is first second = joins_by old mid new _ law (λ x y z. makes_both base buckets x y z) first (leaves_made base buckets f mid new is second)
 
 -- what is told has at most one byte in each file of the bay
@@ -129,8 +129,8 @@ made_more old mid new base buckets manifest made b bucket law_mid law within fil
       (same_or_other k b);
   manifest_open = open_stays (λ f. f ≡ file_of base 0 (Journal 0 b)) mid new manifest [] law others (λ e. omega (arith, e, file)) so_far.manifest_open;
   unmade = still_unmade base buckets (file_of base 0 (Journal 0 b)) _ mid.files new.files (λ x y one. omega (arith, one)) changes so_far.unmade;
-  files = told_more base buckets old.files mid.files new.files so_far.files (told_made base buckets (file_of base 0 (Journal 0 b)) _ mid.files new.files (λ x y short one. omega (arith, one)) (inr (0, b, omega arith, within, refl)) changes);
-  stops = leaves_more base buckets (file_of base 0 (Journal 0 b)) old mid new law_mid (inr (0, b, omega arith, within, refl)) so_far.stops stops;
+  files = told_more base buckets old.files mid.files new.files so_far.files (told_made base buckets (file_of base 0 (Journal 0 b)) _ mid.files new.files (λ x y short one. omega (arith, one)) (inr (b, within, refl)) changes);
+  stops = leaves_more base buckets (file_of base 0 (Journal 0 b)) old mid new law_mid (inr (b, within, refl)) so_far.stops stops;
 }
   where
     others : LeavesBy (ChangesOnly (λ f. f ≡ file_of base 0 (Journal 0 b))) mid new

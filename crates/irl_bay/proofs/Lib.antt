@@ -27,6 +27,7 @@ pub mod Judges
 pub mod Keeping
 pub mod LastCommit
 pub mod Live
+pub mod LiveJournals
 pub mod MergeFrames
 pub mod Merged
 pub mod Merges

@@ -1,6 +1,7 @@
 -- The commits of a manifest: what a visitor took of them, and the first whose cut is above the lists.
-use Rattle.std.proofs.Common.{◌≡◌, ◌∙◌, ℕ, suc, zero, ◌+◌, ◌-◌, ◌^◌, ◌<◌, ◌≤◌, min, List, [], ◌∷◌, ◌++◌, length, map, refl, sym, ap, subst, arith, append_assoc, ◌⊎◌, inl, inr}
-use Rattle.std.specs.Prelude.{replicate}
+use Rattle.std.proofs.Common.{◌≡◌, ◌∙◌, ℕ, suc, zero, ◌+◌, ◌-◌, ◌^◌, ◌<◌, ◌≤◌, min, List, [], ◌∷◌, ◌++◌, length, map, refl, sym, ap, subst, arith, append_assoc, ◌⊎◌, inl, inr, Option, None, Some}
+use Rattle.std.specs.Prelude.{replicate, sum, IfSome}
+use Rattle.std.proofs.lemmas.List.Folds.{sum_by-replicate}
 use Rattle.std.specs.List.{AllByRecursion}
 use Rattle.irl_model.specs.Book.{IsBelow}
 use Rattle.irl_journal.specs.Format.{records_text, record_text, body_text, open_gate, placed_from}
@@ -8,24 +9,24 @@ use Rattle.irl_journal.specs.Visiting.{TakesAll, IsBrokenFor, IsRefusedAt}
 use Rattle.irl_journal.proofs.Reading.{length-cons}
 use Rattle.irl_bay.specs.Commits.{Commit, IsCommit, commit_bytes, first_commit, last_commit}
 use Rattle.irl_bay.specs.Damage.{IsAtOrAbove, RiseFrom, AreCommitPayloads, IsDamagedJournal}
-use Rattle.irl_bay.specs.Opening.{IsFirstAbove}
+use Rattle.irl_bay.specs.Opening.{IsFirstAbove, IsWithin}
 use Rattle.irl_bay.specs.declared.history.History.{History}
 use Rattle.irl_bay.specs.declared.history.Reaching.{Reaching}
 use Rattle.irl_bay.proofs.CommitBytes.{one_commit}
 
 -- ---- against the lists
 abbrev pub TakesBelow : Reaching → ℕ → List ℕ → Reaching → Type 0
-TakesBelow old at payload new = (commit : Commit) × IsCommit old.buckets commit × (payload ≡ commit_bytes commit) × IsBelow commit.cut old.lengths.items × (new ≡ old)
+TakesBelow old at payload new = (commit : Commit) × IsCommit old.buckets commit × (payload ≡ commit_bytes commit) × IsWithin old.lengths.items old.most commit.cut × (new ≡ old)
 
--- commits that were taken are below the lengths
+-- commits that were taken are within the bounds
 pub took_below : (buckets at : ℕ) (old new : Reaching) (commits : List Commit) → old.buckets ≡ buckets → AllByRecursion (IsCommit buckets) commits → TakesAll TakesBelow old (placed_from at (map commit_bytes commits)) new
-    → AllByRecursion (λ (commit : Commit). IsBelow commit.cut old.lengths.items) commits × (new ≡ old)
+    → AllByRecursion (λ (commit : Commit). IsWithin old.lengths.items old.most commit.cut) commits × (new ≡ old)
 took_below buckets at old new [] same each took = (tt, took)
 took_below buckets at old new (commit ∷ commits) same each took =
     let step = took.1 in
     let is : commit ≡ step.0 = one_commit buckets (commit_bytes commit) commit step.0 each.0 (subst (λ (k : ℕ). IsCommit k step.0) same step.1) refl step.2 in
     let rest = took_below buckets (at + length (record_text (commit_bytes commit))) old new commits same each.1 (subst (λ (v : Reaching). TakesAll TakesBelow v (placed_from (at + length (record_text (commit_bytes commit))) (map commit_bytes commits)) new) step.4 took.2) in
-    ((subst (λ (x : Commit). IsBelow x.cut old.lengths.items) (sym is) step.3, rest.0), rest.1)
+    ((subst (λ (x : Commit). IsWithin old.lengths.items old.most x.cut) (sym is) step.3, rest.0), rest.1)
 
 pub rise_each : (buckets : ℕ) (old : Commit) (commits : List Commit) → RiseFrom buckets old commits → AllByRecursion (IsCommit buckets) commits
 rise_each buckets old [] rise = tt
@@ -57,10 +58,10 @@ all-apart : (P : Commit → Type 0) (xs ys : List Commit) → AllByRecursion P (
 all-apart P [] ys each = (tt, each)
 all-apart P (x ∷ xs) ys each = let rest = all-apart P xs ys each.1 in ((each.0, rest.0), rest.1)
 
--- a commit that was refused is the first above the lengths
+-- a commit that was refused is the first that isn't
 pub first_refused : (buckets at : ℕ) (old reached : Reaching) (commits : List Commit) (first : List (List ℕ)) (payload : List ℕ) (rest : List (List ℕ)) → old.buckets ≡ buckets → RiseFrom buckets (first_commit buckets) commits
-    → map commit_bytes commits ≡ first ++ payload ∷ rest → at ≡ 0 + length (records_text first) → TakesAll TakesBelow old (placed_from 0 first) reached → ((commit : Commit) → IsCommit reached.buckets commit → payload ≡ commit_bytes commit → IsBelow commit.cut reached.lengths.items → ⊥)
-    → IsFirstAbove old.lengths.items commits at
+    → map commit_bytes commits ≡ first ++ payload ∷ rest → at ≡ 0 + length (records_text first) → TakesAll TakesBelow old (placed_from 0 first) reached → ((commit : Commit) → IsCommit reached.buckets commit → payload ≡ commit_bytes commit → IsWithin reached.lengths.items reached.most commit.cut → ⊥)
+    → IsFirstAbove old.lengths.items old.most commits at
 first_refused buckets at old reached commits first payload rest same rise is place took refused =
     let so = splits commits first payload rest is in
     let each = all-apart (IsCommit buckets) so.before (so.commit ∷ so.more) (subst (AllByRecursion (IsCommit buckets)) so.among (rise_each buckets (first_commit buckets) commits rise)) in
@@ -71,14 +72,20 @@ first_refused buckets at old reached commits first payload rest same rise is pla
       more = so.more;
       among = so.among;
       place = omega (arith, place, ap (λ (ps : List (List ℕ)). length (records_text ps)) so.first_are);
-      below = below.0;
-      above = λ here. refused so.commit (subst (λ (v : Reaching). IsCommit v.buckets so.commit) (sym below.1) (subst (λ (k : ℕ). IsCommit k so.commit) (sym same) each.1.0)) so.payload_is (subst (λ (v : Reaching). IsBelow so.commit.cut v.lengths.items) (sym below.1) here);
+      within = below.0;
+      above = λ here. refused so.commit (subst (λ (v : Reaching). IsCommit v.buckets so.commit) (sym below.1) (subst (λ (k : ℕ). IsCommit k so.commit) (sym same) each.1.0)) so.payload_is (subst (λ (v : Reaching). IsWithin v.lengths.items v.most so.commit.cut) (sym below.1) here);
     }
 
--- where all were taken, the last is below too
-last_below : (lengths : List ℕ) (first : Commit) (commits : List Commit) → IsBelow first.cut lengths → AllByRecursion (λ (commit : Commit). IsBelow commit.cut lengths) commits → IsBelow (last_commit first commits).cut lengths
-last_below lengths first [] here each = here
-last_below lengths first (commit ∷ commits) here each = last_below lengths commit commits each.0 each.1
+-- the same of what is known of the visitor
+pub first_as : (buckets n : ℕ) (lengths ls : List ℕ) (most m : Option ℕ) (commits : List Commit) (at : ℕ) → buckets ≡ n → lengths ≡ ls → most ≡ m → (RiseFrom buckets (first_commit buckets) commits → IsFirstAbove lengths most commits at) → RiseFrom n (first_commit n) commits → IsFirstAbove ls m commits at
+first_as buckets n lengths ls most m commits at same_n same_l same_m first rise =
+    subst (λ (l : List ℕ). IsFirstAbove l m commits at) same_l
+    (subst (λ (k : Option ℕ). IsFirstAbove lengths k commits at) same_m (first (subst (λ (k : ℕ). RiseFrom k (first_commit k) commits) (sym same_n) rise)))
+
+-- where all were taken, the last is within them too
+last_within : (lengths : List ℕ) (most : Option ℕ) (first : Commit) (commits : List Commit) → IsWithin lengths most first.cut → AllByRecursion (λ (commit : Commit). IsWithin lengths most commit.cut) commits → IsWithin lengths most (last_commit first commits).cut
+last_within lengths most first [] here each = here
+last_within lengths most first (commit ∷ commits) here each = last_within lengths most commit commits each.0 each.1
 
 pub zeros_fit : (n : ℕ) → AllByRecursion (λ (x : ℕ). x < 2 ^ 64) (replicate n 0)
 zeros_fit zero = tt
@@ -90,10 +97,14 @@ zeros_below zero (x ∷ xs) same = absurd (omega (arith, same))
 zeros_below (suc n) [] same = absurd (omega (arith, same))
 zeros_below (suc n) (x ∷ xs) same = (omega arith, zeros_below n xs (omega (arith, same)))
 
-pub all_below : (buckets : ℕ) (old new : Reaching) (commits : List Commit) → old.buckets ≡ buckets → length old.lengths.items ≡ buckets → RiseFrom buckets (first_commit buckets) commits → TakesAll TakesBelow old (placed_from 0 (map commit_bytes commits)) new
-    → IsBelow (last_commit (first_commit buckets) commits).cut old.lengths.items
-all_below buckets old new commits same count rise took =
-    last_below old.lengths.items (first_commit buckets) commits (zeros_below buckets old.lengths.items count)
+zeros_few : (n : ℕ) (most : Option ℕ) → IfSome most (λ k. sum (replicate n 0) ≤ k)
+zeros_few n None = tt
+zeros_few n (Some k) = omega (arith, sum_by-replicate (λ (m : ℕ). m) n 0)
+
+pub all_within : (buckets : ℕ) (old new : Reaching) (commits : List Commit) → old.buckets ≡ buckets → length old.lengths.items ≡ buckets → RiseFrom buckets (first_commit buckets) commits → TakesAll TakesBelow old (placed_from 0 (map commit_bytes commits)) new
+    → IsWithin old.lengths.items old.most (last_commit (first_commit buckets) commits).cut
+all_within buckets old new commits same count rise took =
+    last_within old.lengths.items old.most (first_commit buckets) commits (record { lists = zeros_below buckets old.lengths.items count; all = zeros_few buckets old.most })
     (took_below buckets 0 old new commits same (rise_each buckets (first_commit buckets) commits rise) took).0
 
 -- ---- the history of a manifest

@@ -3,7 +3,8 @@ use Rattle.std.proofs.Common.{◌≡◌, ◌∙◌, ℕ, suc, zero, ◌+◌, ◌
 use Rattle.std.proofs.lemmas.List.{length-map}
 use Rattle.std.proofs.lemmas.Grind.{flat_map-append}
 use Rattle.std.proofs.Math.Seq.{take-add, take-append-add}
-use Rattle.std.specs.Prelude.{IsSome}
+use Rattle.std.proofs.lemmas.List.Sums.{sum_by-cons}
+use Rattle.std.specs.Prelude.{IsSome, sum}
 use Rattle.std.specs.List.{take-map, AllByRecursion}
 use Rattle.std.specs.FinMap.{entries}
 use Rattle.irl_offer.specs.Tuple.{Tuple}
@@ -26,7 +27,7 @@ use Rattle.irl_bay.specs.JudgedEntries.{judged_entries}
 use Rattle.irl_bay.specs.Runs.{IsOffer, entry_of_offer, texts_of}
 use Rattle.irl_bay.specs.Standing.{Stands, IsBookOf, HasBucketOf}
 use Rattle.irl_bay.proofs.Adopted.{first_is, last_is}
-use Rattle.irl_bay.proofs.AdoptedBook.{IsLastOf, cut_in, live_here, length-pairs, length-judged, same_commits}
+use Rattle.irl_bay.proofs.AdoptedBook.{IsLastOf, cut_in, cut_sum, live_here, length-pairs, length-judged, same_commits}
 use Rattle.irl_bay.proofs.Below.{below_both, each_below}
 use Rattle.irl_bay.proofs.Buckets.{entry_runs, runs_entries, entries_in-runs, text_length-offers, runs_of, same_runs, IsOfferOf}
 use Rattle.irl_bay.proofs.LastCommit.{first_of, last_of_book}
@@ -174,11 +175,21 @@ no_bucket_damage base side settings files b f at whole (inr (is, (runs, has, sho
     let same : runs ≡ whole.0 = same_runs settings b runs whole.0 has.each whole.1.each (one_list (files (file_of base 0 (Journal side b))) (map entries_bytes runs) (map entries_bytes whole.0) has.records whole.1.records) in
     omega (arith, whole.2, short.short, ap (λ (g : ℕ). length (files g)) is, ap (λ (rs : List (List Entry)). text_length (entries_in rs)) same)
 
+-- a cut that is below another counts no more
+sum_below : (xs ys : List ℕ) → IsBelow xs ys → sum xs ≤ sum ys
+sum_below [] [] below = omega arith
+sum_below [] (y ∷ ys) below = absurd below
+sum_below (x ∷ xs) [] below = absurd below
+sum_below (x ∷ xs) (y ∷ ys) below = omega (arith, below.0, sum_below xs ys below.1, sum_by-cons (λ (n : ℕ). n) x xs, sum_by-cons (λ (n : ℕ). n) y ys)
+
 reached_too : (base : ℕ) (settings : Settings) (files : Files) (last commit other : Commit) → IsReached base settings files last other → IsBelow commit.cut other.cut → IsReached base settings files last commit
-reached_too base settings files last commit other reached below = λ b within.
-    let has = reached b within in
-    let under = each_below commit.cut other.cut below b in
-    (has.0, has.1, omega (arith, under, has.2))
+reached_too base settings files last commit other reached below = record {
+  lists = λ b within.
+      let has = reached.lists b within in
+      let under = each_below commit.cut other.cut below b in
+      (has.0, has.1, omega (arith, under, has.2));
+  judged = λ named. omega (arith, sum_below commit.cut other.cut below, reached.judged named);
+}
 
 -- the parts of a bay that are as the layout asks, behind the last of its commits
 pub record IsSane (base : ℕ) (settings : Settings) (files : Files) (commits : List Commit) (last : Commit) : Type 0 where
@@ -221,10 +232,13 @@ stands_sane base settings book files last stands here =
       last_is = sym (last_same settings book stands.commits is) ∙ here;
       fronts = subst (λ (x : Commit). HasFronts base x files) here (stands_fronts base settings book files stands);
       buckets = λ b within. let so = runs b within in (so.runs, so.has, so.texts);
-      reached = λ b within.
-          let so = runs b within in
-          let cut = cut_in settings book last b ends within in
-          (so.runs, so.has, omega (arith, cut.within, cut.live, so.count));
+      reached = record {
+        lists = λ b within.
+            let so = runs b within in
+            let cut = cut_in settings book last b ends within in
+            (so.runs, so.has, omega (arith, cut.within, cut.live, so.count));
+        judged = λ named. omega (arith, cut_sum settings book last is commit);
+      };
     }
 
 pub stands_whole : (base : ℕ) (settings : Settings) (book : Book) (files : Files) (f at : ℕ) → Stands base settings book files → IsDamagedAt base settings files f at → ⊥

@@ -1,6 +1,6 @@
 -- What opening a bay names as damage: the first place at which its files break the layout. They are read in this order: the
 -- manifest, the parts that its last commit names, each bucket's two files on the side that it leaves live; and then each commit's cut is held against the lists.
-use Rattle.std.specs.Prelude.{◌≡◌, ◌⊎◌, ℕ, ◌+◌, ◌*◌, ◌^◌, ◌<◌, ◌≤◌, List, [], ◌∷◌, ◌++◌, map, length, replicate, slice_index, IsSome}
+use Rattle.std.specs.Prelude.{◌≡◌, ◌⊎◌, ℕ, ◌+◌, ◌*◌, ◌^◌, ◌<◌, ◌≤◌, List, [], ◌∷◌, ◌++◌, map, length, sum, replicate, slice_index, IsSome}
 use Rattle.std.specs.List.{flat_map, sum_by, AllByRecursion}
 use Rattle.irl_offer.specs.Buckets.{bucket_of}
 use Rattle.irl_offer.specs.Entries.{entry_bytes}
@@ -14,7 +14,6 @@ use Rattle.irl_journal.specs.Visiting.{IsOpened}
 use Rattle.irl_bay.specs.BayFiles.{file_of}
 use Rattle.irl_bay.specs.declared.layout.files.BayFile.TheVariants.{Manifest, Cache, Judged, Texts, Journal, Aux}
 use Rattle.irl_bay.specs.Commits.{Commit, IsCommit, HasCommits, commit_bytes, first_commit, last_commit, live_side, starts_by}
-use Rattle.irl_bay.specs.Making.{IsJournalOf}
 
 -- a file is shorter than what is committed of it, and this is where it ends
 pub record IsShort (length_committed : ℕ) (file : List ℕ) (at : ℕ) : Type 0 where
@@ -132,10 +131,12 @@ IsWholeBucket base side settings files b = (runs : List (List Entry)) × HasRuns
 abbrev pub starts_of : ℕ → Commit → List ℕ
 starts_of buckets last = starts_by (replicate buckets 0) last.cut last.live
 
--- behind this last commit, each bucket has the offers that a commit says are judged
-abbrev pub IsReached : ℕ → Settings → Files → Commit → Commit → Type 0
-IsReached base settings files last commit =
-    (b : ℕ) → b < settings.buckets → (runs : List (List Entry)) × HasRuns base (live_side last) settings b files runs × (slice_index commit.cut b ≤ slice_index (starts_of settings.buckets last) b + length (entries_in runs))
+-- Behind this last commit, the lists have the offers that a commit says are judged. Where the last names a side, the live
+-- files begin at its own cut, and the offers before it stand in the judged file alone, which opening doesn't read. But each
+-- judged offer is one bucket's, so that a cut which counts more offers in all than are judged is above some bucket's list.
+pub record IsReached (base : ℕ) (settings : Settings) (files : Files) (last commit : Commit) : Type 0 where
+  pub lists : (b : ℕ) → b < settings.buckets → (runs : List (List Entry)) × HasRuns base (live_side last) settings b files runs × (slice_index commit.cut b ≤ slice_index (starts_of settings.buckets last) b + length (entries_in runs))
+  pub judged : IsSome last.live → sum commit.cut ≤ last.judged
 
 -- the first of the commits whose cut is above a list has its gate at this place of the manifest
 pub record IsCutAbove (base : ℕ) (settings : Settings) (files : Files) (commits : List Commit) (at : ℕ) : Type 0 where
@@ -164,6 +165,12 @@ IsDamagedAt base settings files f at =
     ⊎ ((commits : List Commit) × HasManifest base settings.buckets files commits × IsDamagedBehind base settings files commits (last_commit (first_commit settings.buckets) commits) f at)
 
 -- ---- what opening does to the files
--- each journal changes at most as opening one may, and every other file stays
+-- the manifest, and each bucket's journal on the side that its last commit leaves live; without a manifest no bucket's
+abbrev pub IsLiveJournal : ℕ → ℕ → Files → ℕ → Type 0
+IsLiveJournal base buckets files f =
+    (f ≡ file_of base 0 Manifest)
+    ⊎ ((commits : List Commit) × HasManifest base buckets files commits × ((b : ℕ) × (b < buckets) × (f ≡ file_of base 0 (Journal (live_side (last_commit (first_commit buckets) commits)) b))))
+
+-- each of them changes at most as opening a journal may, and every other file stays
 abbrev pub IsAdopted : ℕ → ℕ → Files → Files → Type 0
-IsAdopted base buckets old new = ChangesAmong (IsJournalOf base buckets) (λ f. IsOpened) old new
+IsAdopted base buckets old new = ChangesAmong (IsLiveJournal base buckets old) (λ f. IsOpened) old new

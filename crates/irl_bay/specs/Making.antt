@@ -9,11 +9,15 @@ use Rattle.irl_bay.specs.Holding.{ChangesOnly}
 abbrev pub IsUnmade : ℕ → ℕ → Files → Type 0
 IsUnmade base buckets files = (f : ℕ) → IsFileOf base buckets f → length (files f) ≤ 1
 
--- the journals of a bay, on both sides
+-- the manifest, and the buckets' journals on a side
+abbrev pub IsJournalOn : ℕ → ℕ → ℕ → ℕ → Type 0
+IsJournalOn base side buckets f = (f ≡ file_of base 0 Manifest) ⊎ ((b : ℕ) × (b < buckets) × (f ≡ file_of base 0 (Journal side b)))
+
+-- and on both sides
 abbrev pub IsJournalOf : ℕ → ℕ → ℕ → Type 0
 IsJournalOf base buckets f = (f ≡ file_of base 0 Manifest) ⊎ ((side b : ℕ) × (side ≤ 1) × (b < buckets) × (f ≡ file_of base 0 (Journal side b)))
 
--- only journals change, and a bay that wasn't made isn't made yet
+-- only the manifest and the journals on side 0 change, and a bay that wasn't made isn't made yet
 pub record Makes (base buckets : ℕ) (old new : Files) : Type 0 where
-  pub others : ChangesOnly (IsJournalOf base buckets) old new
+  pub others : ChangesOnly (IsJournalOn base 0 buckets) old new
   pub unmade : IsUnmade base buckets old → IsUnmade base buckets new

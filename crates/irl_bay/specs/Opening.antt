@@ -1,6 +1,7 @@
 -- What opening the parts of a bay gives.
-use Rattle.std.specs.Prelude.{◌≡◌, ℕ, ◌+◌, ◌-◌, ◌*◌, ◌^◌, ◌<◌, ◌≤◌, min, true, List, ◌∷◌, ◌++◌, map, length, take}
+use Rattle.std.specs.Prelude.{◌≡◌, ℕ, ◌+◌, ◌-◌, ◌*◌, ◌^◌, ◌<◌, ◌≤◌, min, true, List, ◌∷◌, ◌++◌, map, length, sum, take, Option, None, Some, IfSome}
 use Rattle.std.specs.List.{AllByRecursion}
+use Rattle.std.specs.Option.{ForSome}
 use Rattle.irl_offer.specs.Buckets.{bucket_of}
 use Rattle.irl_offer.specs.Tuple.{Tuple}
 use Rattle.irl_offer.specs.declared.entry.Entry.{Entry}
@@ -8,6 +9,7 @@ use Rattle.irl_offer.specs.declared.settings.Settings.{Settings}
 use Rattle.irl_model.specs.Book.{IsBelow}
 use Rattle.irl_disk.specs.Disk.{Files, ChangesAmong}
 use Rattle.irl_disk.specs.Images.{Snapshot, LeavesBy}
+use Rattle.irl_disk.specs.Taken.{TakesAmong}
 use Rattle.irl_journal.specs.Format.{records_text}
 use Rattle.irl_journal.specs.Blob.{IsCommitted}
 use Rattle.irl_journal.specs.Visiting.{IsOpened}
@@ -15,8 +17,9 @@ use Rattle.irl_bay.specs.BayFiles.{file_of}
 use Rattle.irl_bay.specs.declared.layout.files.BayFile.TheVariants.{Cache, Judged, Texts, Journal, Aux}
 use Rattle.irl_bay.specs.declared.bucket.Bucket.{Bucket}
 use Rattle.irl_bay.specs.Commits.{Commit, commit_bytes}
-use Rattle.irl_bay.specs.Damage.{HasRuns, IsAdopted, entries_in, text_length}
+use Rattle.irl_bay.specs.Damage.{HasRuns, IsLiveJournal, IsAdopted, entries_in, text_length}
 use Rattle.irl_bay.specs.Holding.{TellsBy}
+use Rattle.irl_bay.specs.Making.{IsJournalOn}
 use Rattle.irl_bay.specs.Runs.{HasBucket}
 
 -- what a commit names of the three files is committed: the bytes that they have up to there
@@ -60,17 +63,36 @@ IsJournalBelow base side n f = (c : ℕ) × (c < n) × (f ≡ file_of base 0 (Jo
 abbrev pub OpensBelow : ℕ → ℕ → ℕ → Files → Files → Type 0
 OpensBelow base side n old new = ChangesAmong (IsJournalBelow base side n) (λ f. IsOpened) old new
 
--- the first of the commits whose cut is above these lengths has its gate at this place of the manifest
-pub record IsFirstAbove (lengths : List ℕ) (commits : List Commit) (at : ℕ) : Type 0 where
+-- how many offers a cut may count in all: as many as are judged, where the last commit names a side
+abbrev pub most_by : ℕ → Option ℕ → Option ℕ
+most_by judged None = None
+most_by judged (Some side) = Some judged
+
+abbrev pub most_of : Commit → Option ℕ
+most_of last = most_by last.judged last.live
+
+-- a cut is below these lengths of the lists, and counts no more offers than that
+pub record IsWithin (lengths : List ℕ) (most : Option ℕ) (cut : List ℕ) : Type 0 where
+  pub lists : IsBelow cut lengths
+  pub all : IfSome most (λ n. sum cut ≤ n)
+
+-- the first of the commits whose cut isn't has its gate at this place of the manifest
+pub record IsFirstAbove (lengths : List ℕ) (most : Option ℕ) (commits : List Commit) (at : ℕ) : Type 0 where
   pub before : List Commit
   pub commit : Commit
   pub more : List Commit
   pub among : commits ≡ before ++ commit ∷ more
   pub place : at ≡ length (records_text (map commit_bytes before))
-  pub below : AllByRecursion (λ old. IsBelow old.cut lengths) before
-  pub above : IsBelow commit.cut lengths → ⊥
+  pub within : AllByRecursion (λ old. IsWithin lengths most old.cut) before
+  pub above : IsWithin lengths most commit.cut → ⊥
 
 -- from one snapshot to a later one the files change at most as opening the bay may, for what is told and at each stop
 pub record AdoptsTo (base buckets : ℕ) (old new : Snapshot) : Type 0 where
   pub files : TellsBy (IsAdopted base buckets) old.files new.files
   pub stops : LeavesBy (IsAdopted base buckets) old new
+
+-- no byte is read but of the manifest and of the buckets' journals on one side; where the store tells its files, that is
+-- the live one
+pub record ReadsLive (base buckets : ℕ) (files : Option Files) (old new : Option (ℕ → ℕ)) : Type 0 where
+  pub side : (side : ℕ) × (side ≤ 1) × TakesAmong (IsJournalOn base side buckets) old new
+  pub live : ForSome files (λ told. TakesAmong (IsLiveJournal base buckets told) old new)

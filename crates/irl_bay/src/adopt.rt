@@ -1,31 +1,32 @@
-ghost use Rattle.std.specs.Prelude.{◌≡◌, ◌-◌, ◌<◌, ◌≤◌, ◌^◌, ◌*◌, ℕ, List, map, true, length, slice_index, slice_index_or};
-ghost use Rattle.std.specs.Prelude.{IfOk, OnOk, IsErrOf};
+ghost use Rattle.std.specs.Prelude.{◌≡◌, ◌-◌, ◌<◌, ◌≤◌, ◌^◌, ◌*◌, ℕ, List, map, true, length};
+ghost use Rattle.std.specs.Prelude.{slice_index, slice_index_or, IfOk, OnOk, IsErrOf};
 ghost use Rattle.std.specs.Option.{ForSome};
 ghost use Rattle.irl_offer.specs.Faults.{HasCause};
 ghost use Rattle.irl_offer.specs.Settings.{AreValid};
 ghost use Rattle.irl_offer.specs.Tuple.{Tuple};
 ghost use Rattle.irl_offer.specs.declared.receipt.Fault.TheVariants.{Failed as FailedFault, Full as FullFault};
 ghost use Rattle.irl_offer.specs.declared.receipt.Fault.TheVariants.{Damaged as DamagedFault};
-ghost use Rattle.irl_model.specs.Book.{Book, IsBelow};
+ghost use Rattle.irl_model.specs.Book.{Book};
 ghost use Rattle.irl_disk.specs.Disk.{Files};
 ghost use Rattle.irl_disk.specs.Images.{Leaves, LeavesBy, LeavesSame};
 ghost use Rattle.irl_disk.specs.Taken.{TakesAmong, TakesOnly};
 ghost use Rattle.irl_journal.specs.Appending.{Ends};
 ghost use Rattle.irl_bay.specs.BayFiles.{file_of, max_base};
 ghost use Rattle.irl_bay.specs.declared.layout.files.BayFile.TheVariants.{Manifest as ManifestFile};
-ghost use Rattle.irl_bay.specs.Commits.{Commit as CommitValue, IsCommit, commit_bytes, first_commit, last_commit, live_side};
+ghost use Rattle.irl_bay.specs.Commits.{Commit as CommitValue, IsCommit, commit_bytes, first_commit, last_commit};
+ghost use Rattle.irl_bay.specs.Commits.{live_side};
 ghost use Rattle.irl_bay.specs.Damage.{IsDamagedAt, IsAdopted, IsDamagedFront, IsDamagedBucket, IsWholeBucket};
-ghost use Rattle.irl_bay.specs.Damage.{HasFronts, RiseFrom, starts_of};
+ghost use Rattle.irl_bay.specs.Damage.{IsLiveJournal, HasFronts, RiseFrom, starts_of};
 ghost use Rattle.irl_bay.specs.Drum.{IsDrum, no_bucket};
 ghost use Rattle.irl_bay.specs.Holding.{Holds, HoldsBucket, IsLong, TellsBy};
-ghost use Rattle.irl_bay.specs.Making.{IsJournalOf};
+ghost use Rattle.irl_bay.specs.Making.{IsJournalOn};
 ghost use Rattle.irl_bay.specs.Opening.{AreFronts, IsOpenBucket, HasWhole, IsLongBucket, HasListOf, IsJournalBelow};
-ghost use Rattle.irl_bay.specs.Opening.{OpensBelow, IsFirstAbove, AdoptsTo};
+ghost use Rattle.irl_bay.specs.Opening.{OpensBelow, IsWithin, most_of, IsFirstAbove, AdoptsTo, ReadsLive};
 ghost use Rattle.irl_bay.specs.Standing.{Stands};
 
 use crate::bay::Bay;
 use crate::bucket::Bucket;
-use crate::history::{History, Reaching, is_below};
+use crate::history::{History, Reaching, is_below, is_sum_within};
 use crate::layout::{BayFile, Commit};
 use crate::parts::{fault_in, open_blob};
 use irl_disk::{Failed, Store};
@@ -34,11 +35,11 @@ use irl_offer::{Fault, Settings};
 use std::alloc::{AllocError, Global};
 
 impl Bay {
-    /// Opens a bay over files that are there. It reads the manifest and each bucket's journal, and no byte of the cache
-    /// and of the texts, of which it asks only the lengths; and it syncs each of them. `Damaged` names the first place
-    /// that breaks the layout, files in ascending number, but that a commit's cut is held against the lists at the end.
-    /// No file changes but a journal of at most one byte, which becomes an empty one; so `Memory` may come after such a
-    /// change.
+    /// Opens a bay over files that are there. It reads the manifest and each bucket's journal on the side that this
+    /// leaves live, and no byte of the cache, of the judged offers and of the texts, of which it asks only the lengths;
+    /// and it syncs each of them. `Damaged` names the first place that breaks the layout, files in ascending number,
+    /// but that a commit's cut is held against the lists at the end. No file changes but a journal that is read, of at
+    /// most one byte, which becomes an empty one; so `Memory` may come after such a change.
     pub fn adopt<S: Store>(
         alloc: Global,
         store: &mut S,
@@ -64,16 +65,20 @@ impl Bay {
         ensures sane { OnOk result (ForSome (S.snapshot store.old).files (λ files. (f at : ℕ) →
             IsDamagedAt base settings.now files f at → ⊥)) }
         ensures full { (n : ℕ) → IsErrOf result (Fault.Full n) → ⊥ }
-        // A stop at any moment leaves each file as it was, but that a journal of at most one byte has at most one; so
-        // it leaves files that stand for a book, where all did before.
+        // A stop at any moment leaves each file as it was, but that the manifest or a live journal of at most one byte
+        // has at most one; so it leaves files that stand for a book, where all did before.
         ensures files { TellsBy (IsAdopted base settings.now.buckets)
             (S.snapshot store.old).files (S.snapshot store.new).files }
         ensures stops { LeavesBy (IsAdopted base settings.now.buckets) (S.snapshot store.old) (S.snapshot store.new) }
         ensures stands_stop { (book : Book) → ((image : Files) → (S.snapshot store.old).images image →
             Stands base settings.now book image) → Leaves (S.snapshot store.old) (S.snapshot store.new)
             (λ image. Stands base settings.now book image) }
-        // No byte is read but of journals.
-        ensures taken { TakesAmong (IsJournalOf base settings.now.buckets) (S.taken store.old) (S.taken store.new) }
+        // No byte is read but of the manifest and of the buckets' journals on one side,
+        ensures taken { (side : ℕ) × (side ≤ 1)
+            × TakesAmong (IsJournalOn base side settings.now.buckets) (S.taken store.old) (S.taken store.new) }
+        // which is the side that the manifest leaves live, where the store tells its files.
+        ensures taken_live { ForSome (S.snapshot store.old).files (λ files.
+            TakesAmong (IsLiveJournal base settings.now.buckets files) (S.taken store.old) (S.taken store.new)) }
         ensures cause { HasCause (IsErrOf result Fault.Failed) (S.faults store.old) (S.faults store.new) }
     {
         open_bay(alloc, store, base, settings)
@@ -102,7 +107,8 @@ fn open_bay<S: Store>(
         IsDamagedAt base settings.now files f at → ⊥)) }
     ensures full { (n : ℕ) → IsErrOf result (Fault.Full n) → ⊥ }
     ensures adopts { AdoptsTo base settings.now.buckets (S.snapshot store.old) (S.snapshot store.new) }
-    ensures taken { TakesAmong (IsJournalOf base settings.now.buckets) (S.taken store.old) (S.taken store.new) }
+    ensures taken { ReadsLive base settings.now.buckets (S.snapshot store.old).files
+        (S.taken store.old) (S.taken store.new) }
     ensures cause { HasCause (IsErrOf result Fault.Failed) (S.faults store.old) (S.faults store.new) }
 {
     let mut history = History::blank(alloc, settings.buckets)?;
@@ -115,9 +121,7 @@ fn open_bay<S: Store>(
     open_fronts(store, base, &history.last)?;
     let buckets = open_buckets(alloc, store, base, settings, &history.last)?;
     let lengths = lengths(alloc, &buckets)?;
-    if !is_below(&history.last.cut, &lengths) {
-        return Err(first_above(alloc, store, &manifest, f, settings.buckets, lengths));
-    }
+    check_cuts(alloc, store, &manifest, f, &history, lengths)?;
     Ok(Bay {
         alloc,
         base,
@@ -211,36 +215,72 @@ fn lengths(alloc: Global, buckets: &[Bucket]) -> Result<Vec<u64>, AllocError>
     buckets.iter().map(|bucket| bucket.durable).collect(alloc)
 }
 
-// The damage of a manifest with a commit whose cut is above these lengths: at the first of them.
+// Refuses a manifest with a commit whose cut is above these lengths of the lists, or counts more offers than are judged
+// where the lists' first ones stand in the judged file alone. No cut is above the last, so the last alone is looked at.
+fn check_cuts<S: Store>(
+    alloc: Global,
+    store: &mut S,
+    manifest: &Journal,
+    f: u16,
+    history: &History,
+    lengths: Vec<u64>,
+) -> Result<(), Fault>
+    requires count { length lengths.items ≡ history.now.buckets }
+    // The manifest has these commits.
+    requires last { ForSome (S.snapshot store.old).files (λ files. (commits : List CommitValue)
+        × Ends manifest.now.end (files manifest.now.file) (map commit_bytes commits)
+        × RiseFrom history.now.buckets (first_commit history.now.buckets) commits
+        × (history.now.last ≡ last_commit (first_commit history.now.buckets) commits)) }
+    ensures within { OnOk result (IsWithin lengths.items (most_of history.now.last) history.now.last.cut) }
+    ensures idle { OnOk result (store.new ≡ store.old) }
+    ensures damaged { (g at : ℕ) → IsErrOf result (Fault.Damaged g at) → (g ≡ f)
+        × ForSome (S.snapshot store.old).files (λ files. (commits : List CommitValue) →
+        Ends manifest.now.end (files manifest.now.file) (map commit_bytes commits) →
+        RiseFrom history.now.buckets (first_commit history.now.buckets) commits →
+        IsFirstAbove lengths.items (most_of history.now.last) commits at) }
+    ensures full { (n : ℕ) → IsErrOf result (Fault.Full n) → ⊥ }
+    ensures same { (S.snapshot store.new).files ≡ (S.snapshot store.old).files }
+    ensures stops { LeavesSame (S.snapshot store.old) (S.snapshot store.new) }
+    ensures taken { TakesOnly manifest.now.file (S.taken store.old) (S.taken store.new) }
+    ensures cause { HasCause (IsErrOf result Fault.Failed) (S.faults store.old) (S.faults store.new) }
+{
+    if !is_below(&history.last.cut, &lengths) {
+        let reaching = history.reaching(lengths);
+        return Err(first_above(alloc, store, manifest, f, reaching));
+    }
+    let reaching = history.reaching(lengths);
+    if !is_sum_within(&history.last.cut, reaching.most) {
+        return Err(first_above(alloc, store, manifest, f, reaching));
+    }
+    Ok(())
+}
+
+// The damage of a manifest with a commit that this visitor refuses: at the first of them.
 fn first_above<S: Store>(
     alloc: Global,
     store: &mut S,
     manifest: &Journal,
     f: u16,
-    buckets: u32,
-    lengths: Vec<u64>,
+    mut reaching: Reaching,
 ) -> Fault
-    requires count { length lengths.items ≡ buckets }
+    requires count { length reaching.lengths.items ≡ reaching.buckets }
     // There is such a commit.
     requires above { ForSome (S.snapshot store.old).files (λ files. (commits : List CommitValue)
         × Ends manifest.now.end (files manifest.now.file) (map commit_bytes commits)
-        × RiseFrom buckets (first_commit buckets) commits
-        × (IsBelow (last_commit (first_commit buckets) commits).cut lengths.items → ⊥)) }
+        × RiseFrom reaching.buckets (first_commit reaching.buckets) commits
+        × (IsWithin reaching.lengths.items reaching.most
+        (last_commit (first_commit reaching.buckets) commits).cut → ⊥)) }
     ensures damaged { (g at : ℕ) → result ≡ Fault.Damaged g at → (g ≡ f)
         × ForSome (S.snapshot store.old).files (λ files. (commits : List CommitValue) →
         Ends manifest.now.end (files manifest.now.file) (map commit_bytes commits) →
-        RiseFrom buckets (first_commit buckets) commits → IsFirstAbove lengths.items commits at) }
+        RiseFrom reaching.buckets (first_commit reaching.buckets) commits →
+        IsFirstAbove reaching.lengths.items reaching.most commits at) }
     ensures full { (n : ℕ) → result ≡ Fault.Full n → ⊥ }
     ensures same { (S.snapshot store.new).files ≡ (S.snapshot store.old).files }
     ensures stops { LeavesSame (S.snapshot store.old) (S.snapshot store.new) }
     ensures taken { TakesOnly manifest.now.file (S.taken store.old) (S.taken store.new) }
     ensures cause { HasCause (result ≡ Fault.Failed) (S.faults store.old) (S.faults store.new) }
 {
-    let mut reaching = Reaching {
-        alloc,
-        buckets,
-        lengths,
-    };
     match manifest.revisit(alloc, store, 0, &mut reaching) {
         Ok(()) => Fault::Damaged(f, 0),
         Err(fault) => fault_in(f, fault),

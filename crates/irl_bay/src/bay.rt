@@ -81,7 +81,8 @@ impl Bay {
         // From then on each stop leaves files that stand for the book without an offer.
         ensures holds { IfOk result (λ bay. Holds (S.snapshot store.new).images bay
             (blank_book settings.now.buckets settings.now.rule)) }
-        // A stop at any moment leaves each file as it was, but that a journal of at most one byte has at most one.
+        // A stop at any moment leaves each file as it was, but that the manifest or a journal on side 0 of at most one
+        // byte has at most one.
         ensures files { TellsBy (Makes base settings.now.buckets)
             (S.snapshot store.old).files (S.snapshot store.new).files }
         ensures stops { LeavesBy (Makes base settings.now.buckets) (S.snapshot store.old) (S.snapshot store.new) }

@@ -1,7 +1,9 @@
-ghost use Rattle.std.specs.Prelude.{◌≡◌, ◌+◌, ◌-◌, ◌^◌, ◌≤◌, ℕ, List, min, true, IfOk, IsTrue, ◌↔◌, length};
+ghost use Rattle.std.specs.Prelude.{◌≡◌, ◌+◌, ◌-◌, ◌^◌, ◌≤◌, ℕ, List, min, true, IfOk, IfSome, IsTrue, ◌↔◌, length};
+ghost use Rattle.std.specs.Prelude.{sum};
 ghost use Rattle.irl_model.specs.Book.{IsBelow};
 ghost use Rattle.irl_bay.specs.Commits.{Commit as CommitValue, IsCommit, commit_bytes, first_commit};
 ghost use Rattle.irl_bay.specs.Damage.{IsAtOrAbove};
+ghost use Rattle.irl_bay.specs.Opening.{IsWithin, most_of};
 
 use crate::layout::Commit;
 use irl_journal::Visit;
@@ -29,6 +31,20 @@ impl History {
             last: Commit::first(alloc, buckets)?,
             count: 0,
         })
+    }
+
+    /// What takes the commits that lists of these lengths have.
+    pub fn reaching(&self, lengths: Vec<u64>) -> Reaching
+        ensures buckets { result.buckets ≡ self.now.buckets }
+        ensures lengths { result.lengths.items ≡ lengths.items }
+        ensures most { result.most ≡ most_of self.now.last }
+    {
+        Reaching {
+            alloc: self.alloc,
+            buckets: self.buckets,
+            lengths,
+            most: self.last.live.map(|_| self.last.judged),
+        }
     }
 }
 
@@ -80,25 +96,44 @@ pub fn is_below(xs: &[u64], ys: &[u64]) -> bool
     true
 }
 
-/// Takes the commits whose cut is below these lengths of the buckets' lists.
+/// Whether the sum of these numbers is at most this bound, where there is one. What is left of the bound is counted,
+/// since the sum may pass 64 bits.
+pub fn is_sum_within(numbers: &[u64], most: Option<u64>) -> bool
+    ensures { IsTrue result ↔ IfSome most (λ n. sum numbers.now ≤ n) }
+{
+    let Some(mut left) = most else {
+        return true;
+    };
+    for n in numbers {
+        if *n > left {
+            return false;
+        }
+        left -= *n;
+    }
+    true
+}
+
+/// Takes the commits whose cut is below these lengths of the buckets' lists, and counts no more offers than are judged.
 #[derive(Drop)]
 pub struct Reaching {
-    pub alloc: Global,
-    pub buckets: u32,
-    pub lengths: Vec<u64>,
+    alloc: Global,
+    buckets: u32,
+    lengths: Vec<u64>,
+    /// How many those are, where the lists' first offers stand in the judged file alone.
+    pub most: Option<u64>,
 }
 
 impl Visit for Reaching {
     ghost takes = { λ old _ payload new. (commit : CommitValue) × IsCommit old.buckets commit
-        × (payload ≡ commit_bytes commit) × IsBelow commit.cut old.lengths.items × (new ≡ old) };
+        × (payload ≡ commit_bytes commit) × IsWithin old.lengths.items old.most commit.cut × (new ≡ old) };
 
     ghost refuses = { λ old _ payload _. (commit : CommitValue) → IsCommit old.buckets commit →
-        payload ≡ commit_bytes commit → IsBelow commit.cut old.lengths.items → ⊥ };
+        payload ≡ commit_bytes commit → IsWithin old.lengths.items old.most commit.cut → ⊥ };
 
     fn take(&mut self, _at: u64, payload: &[u8]) -> Result<bool, AllocError> {
         let Some(commit) = Commit::decode(self.alloc, payload, self.buckets)? else {
             return Ok(false);
         };
-        Ok(is_below(&commit.cut, &self.lengths))
+        Ok(is_below(&commit.cut, &self.lengths) && is_sum_within(&commit.cut, self.most))
     }
 }

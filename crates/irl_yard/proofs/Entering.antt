@@ -22,9 +22,10 @@ use Rattle.irl_bay.specs.Commits.{Commit, IsCommit, first_commit, last_commit, l
 use Rattle.irl_bay.specs.declared.layout.files.BayFile.TheVariants.{Manifest, Cache, Judged, Texts, Journal, Aux}
 use Rattle.irl_bay.specs.Damage.{IsAdopted}
 use Rattle.irl_bay.specs.Holding.{TellsBy}
-use Rattle.irl_bay.specs.Making.{IsJournalOf, Makes}
+use Rattle.irl_bay.specs.Making.{IsJournalOn, IsJournalOf, Makes}
 use Rattle.irl_bay.proofs.Adopted.{takes_wider}
 use Rattle.irl_bay.proofs.Apart.{stands_kept, unmade_stands, journal_files}
+use Rattle.irl_bay.proofs.LiveJournals.{adopted_wider}
 use Rattle.irl_yard.specs.StoreFiles.{head_file, crawl_file, urls_base, IsOtherFile}
 use Rattle.irl_yard.specs.Head.{head_bytes}
 use Rattle.irl_yard.specs.Standing.{IsBlank, IsMade, HasState}
@@ -33,7 +34,7 @@ use Rattle.irl_yard.specs.Opening.{new_state, entered_state}
 use Rattle.irl_yard.specs.Entering.{IsRestFile, GainsFirst, IsStoreJournal, OpensStore, MakesStore, Enters, KeepsBlank}
 use Rattle.irl_yard.proofs.Beginning.{same_then, file_stays}
 use Rattle.irl_yard.proofs.Grounds.{blank_has, none_or_one}
-use Rattle.irl_yard.proofs.Rest.{few, pairs_rest, head_no_journal, rest_no_head, rest_no_urls}
+use Rattle.irl_yard.proofs.Rest.{few, pairs_rest, one_side, head_no_side, head_no_journal, rest_no_head, rest_no_urls}
 use Rattle.irl_yard.proofs.Making.{urls_other, pairs_other, head_no_urls}
 
 -- ---- the journals of a store
@@ -95,20 +96,22 @@ head_opens x y z first second = record {
 
 -- the bay's journals are opened
 pub adopted_opens : (buckets : ℕ) (old new : Files) → buckets ≤ 64 → IsAdopted urls_base buckets old new → OpensStore old new
-adopted_opens buckets old new small adopted = record {
-  changed = λ f is. ⊎_elim
-      (λ (e : f ≡ head_file). inl (adopted.others f (λ journal. head_no_journal buckets small (subst (IsJournalOf urls_base buckets) e journal))))
-      (λ (journal : IsJournalOf urls_base 64 f). ⊎_elim (λ within. adopted.changed f within) (λ out. inl (adopted.others f (λ within. out (journal_files urls_base buckets f within)))) (journal_or_none buckets f journal))
-      is;
-  others = λ f out. adopted.others f (λ within. out (inr (journal_wider buckets f small within)));
-}
+adopted_opens buckets old new small step =
+    let adopted = adopted_wider urls_base buckets old new step in
+    record {
+      changed = λ f is. ⊎_elim
+          (λ (e : f ≡ head_file). inl (adopted.others f (λ journal. head_no_journal buckets small (subst (IsJournalOf urls_base buckets) e journal))))
+          (λ (journal : IsJournalOf urls_base 64 f). ⊎_elim (λ within. adopted.changed f within) (λ out. inl (adopted.others f (λ within. out (journal_files urls_base buckets f within)))) (journal_or_none buckets f journal))
+          is;
+      others = λ f out. adopted.others f (λ within. out (inr (journal_wider buckets f small within)));
+    }
 
 -- ---- a step of making
 pub makes_then : (settings : Settings) (x y z : Files) → settings.buckets ≤ 64 → Makes urls_base settings.buckets x y → ChangesFile head_file (GainsFirst (head_bytes settings)) y z → MakesStore settings x z
 makes_then settings x y z small makes gains = record {
-  others = λ f no out. gains.others f no ∙ makes.others f out;
+  others = λ f no out. gains.others f no ∙ makes.others f (λ journal. out (one_side 0 settings.buckets f (omega arith) journal));
   unmade = λ unmade f is. subst (λ (file : List ℕ). length file ≤ 1) (sym (gains.others f (head_no_urls urls_base settings.buckets f refl small is))) (makes.unmade unmade f is);
-  head = λ none. gains.changed (subst (λ (file : List ℕ). StandsFor file []) (sym (makes.others head_file (head_no_journal settings.buckets small))) none);
+  head = λ none. gains.changed (subst (λ (file : List ℕ). StandsFor file []) (sym (makes.others head_file (head_no_side settings.buckets small))) none);
 }
 
 pub makes_alone : (settings : Settings) (x y : Files) → settings.buckets ≤ 64 → Makes urls_base settings.buckets x y → MakesStore settings x y
@@ -311,7 +314,7 @@ told_same (Some old) new same = (old, same, λ blank. blank)
 -- while its bay is made,
 makes_blank : (settings : Settings) (old new : Files) → settings.buckets ≤ 64 → Makes urls_base settings.buckets old new → KeepsBlank old new
 makes_blank settings old new small makes blank = record {
-  head = subst (λ (file : List ℕ). StandsFor file []) (sym (makes.others head_file (head_no_journal settings.buckets small))) blank.head;
+  head = subst (λ (file : List ℕ). StandsFor file []) (sym (makes.others head_file (head_no_side settings.buckets small))) blank.head;
   others = makes_short settings old new small (makes_alone settings old new small makes) blank;
 }
 
@@ -355,9 +358,9 @@ blank_stops old new keeps blank = widens old new (Follows KeepsBlank old.images)
 pub head_takes : (old new : Option (ℕ → ℕ)) → TakesOnly head_file old new → TakesAmong IsStoreJournal old new
 head_takes old new takes = takes_only IsStoreJournal head_file old new (inl refl) takes
 
-pub adopted_takes : (buckets : ℕ) (old mid new : Option (ℕ → ℕ)) → buckets ≤ 64 → mid ≡ old → TakesAmong (IsJournalOf urls_base buckets) mid new → TakesAmong IsStoreJournal old new
+pub adopted_takes : (buckets : ℕ) (old mid new : Option (ℕ → ℕ)) → buckets ≤ 64 → mid ≡ old → (side : ℕ) × (side ≤ 1) × TakesAmong (IsJournalOn urls_base side buckets) mid new → TakesAmong IsStoreJournal old new
 adopted_takes buckets old mid new small same takes =
-    subst (λ (from : Option (ℕ → ℕ)). TakesAmong IsStoreJournal from new) same (takes_wider (IsJournalOf urls_base buckets) IsStoreJournal mid new (λ f is. inr (journal_wider buckets f small is)) takes)
+    subst (λ (from : Option (ℕ → ℕ)). TakesAmong IsStoreJournal from new) same (takes_wider (IsJournalOn urls_base takes.0 buckets) IsStoreJournal mid new (λ f is. inr (journal_wider buckets f small (one_side takes.0 buckets f takes.1 is))) takes.2)
 
 -- ---- the records of a bucket
 live_low : (live : Option ℕ) → IfSome live (λ side. side ≤ 1) → side_of live ≤ 1

@@ -15,7 +15,7 @@ use Rattle.irl_yard.specs.Opening.{Agrees}
 use Rattle.irl_bay.proofs.Apart.{files_within}
 use Rattle.irl_yard.specs.StoreFiles.{head_file, crawl_file, urls_base, pairs_base, IsOtherFile}
 use Rattle.irl_yard.specs.Standing.{IsBlank}
-use Rattle.irl_yard.proofs.Rest.{head_no_journal}
+use Rattle.irl_yard.proofs.Rest.{head_no_side}
 
 -- the files of both bays are files behind the head
 pub urls_other : (buckets f : ℕ) → buckets ≤ 64 → IsFileOf urls_base buckets f → IsOtherFile f
@@ -33,7 +33,7 @@ pub no_record_yet : (buckets : ℕ) (old new : Option Files) → buckets ≤ 64 
 no_record_yet buckets None new small makes blank = λ files told. cc
 no_record_yet buckets (Some old) new small makes blank = λ files told.
     let same : makes.0 ≡ files = cc in
-    let head = subst (λ (file : List ℕ). StandsFor file []) (sym (makes.2.others head_file (head_no_journal buckets small))) (blank old refl) in
+    let head = subst (λ (file : List ℕ). StandsFor file []) (sym (makes.2.others head_file (head_no_side buckets small))) (blank old refl) in
     subst (λ (f : Files). StandsFor (f head_file) []) same head
 
 -- ---- a new store is as it was asked for

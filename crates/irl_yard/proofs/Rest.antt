@@ -7,7 +7,7 @@ use Rattle.irl_journal.specs.Format.{HasRecords}
 use Rattle.irl_bay.specs.BayFiles.{IsFileOf}
 use Rattle.irl_bay.specs.declared.layout.files.BayFile.TheVariants.{Manifest, Cache, Judged, Texts, Journal, Aux}
 use Rattle.irl_bay.specs.Drum.{Drum}
-use Rattle.irl_bay.specs.Making.{IsUnmade, IsJournalOf}
+use Rattle.irl_bay.specs.Making.{IsUnmade, IsJournalOn, IsJournalOf}
 use Rattle.irl_bay.proofs.Apart.{files_within, journal_files}
 use Rattle.irl_yard.specs.StoreFiles.{head_file, crawl_file, urls_base, pairs_base}
 use Rattle.irl_yard.specs.Head.{head_bytes}
@@ -54,8 +54,16 @@ rest_no_urls buckets more f few few_more rest (inr is) = rest_or_journal buckets
 pub rest_no_journal : (buckets f : ℕ) → buckets ≤ 64 → IsRestFile buckets f → IsJournalOf urls_base buckets f → ⊥
 rest_no_journal buckets f few rest is = rest_no_urls buckets buckets f few few rest is
 
+-- those on one side are the bay's
+pub one_side : (side buckets f : ℕ) → side ≤ 1 → IsJournalOn urls_base side buckets f → IsJournalOf urls_base buckets f
+one_side side buckets f low (inl manifest) = inl manifest
+one_side side buckets f low (inr (b, within, e)) = inr (side, b, low, within, e)
+
 pub head_no_journal : (buckets : ℕ) → buckets ≤ 64 → IsJournalOf urls_base buckets head_file → ⊥
 head_no_journal buckets few is = omega (arith, (files_within urls_base buckets head_file few (journal_files urls_base buckets head_file is)).0)
+
+pub head_no_side : (buckets : ℕ) → buckets ≤ 64 → IsJournalOn urls_base 0 buckets head_file → ⊥
+head_no_side buckets few is = head_no_journal buckets few (one_side 0 buckets head_file (omega arith) is)
 
 -- ---- a joint image with the head, and the rest as it was told
 pub rest_has : (urls : Drum) (settings : Settings) (files image : Files) → urls.settings ≡ settings → HasRecords (image head_file) (head_bytes settings ∷ []) → ((f : ℕ) → IsRestFile settings.buckets f → image f ≡ files f) → length (files crawl_file) ≤ 1 → IsUnmade pairs_base settings.buckets files → HasRest urls image

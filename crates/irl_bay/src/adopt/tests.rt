@@ -128,7 +128,8 @@ fn a_live_side_has_the_offers_that_wait(rt: HostRuntime) -> Result<(), Fail> {
     // The byte of the sides, and the journal of the live side and of the other.
     for (sides, live, other) in [(2, 110, 600), (3, 110, 600), (4, 600, 110), (5, 600, 110)] {
         let mut store = MemStore::new(alloc, Vec::new(alloc));
-        put(&mut store, 100, &commit([sides, 0, 0, 0, 0, 3]))?;
+        put(&mut store, 100, &commit([sides, 0, 3, 0, 0, 3]))?;
+        put(&mut store, 103, &[0; 144])?;
         put(&mut store, live, b"\xA5\x1B\0\0\0")?;
         put(&mut store, live, &entry(1))?;
         put(&mut store, live, b"\0")?;
@@ -151,8 +152,9 @@ fn opened(alloc: Global, manifest: &[u8], journal: &[u8]) -> Result<(u64, u64, u
 #[test]
 fn damage_of_a_commit_is_named(rt: HostRuntime) -> Result<(), Fail> {
     let alloc = rt.alloc();
-    // The commit's numbers, and the damage: sides that are none, each file that is too short, and a cut above the list.
-    let table: [([u8; 6], u16); 8] = [
+    // The commit's numbers, and the damage: sides that are none, each file that is too short, and a cut above the list,
+    // by the journal of the one side or by the judged offers.
+    let table: [([u8; 6], u16); 9] = [
         ([6, 0, 0, 0, 0, 0], 100),
         ([0, 1, 0, 0, 0, 0], 101),
         ([1, 1, 0, 0, 0, 0], 102),
@@ -161,6 +163,7 @@ fn damage_of_a_commit_is_named(rt: HostRuntime) -> Result<(), Fail> {
         ([0, 0, 1, 0, 0, 0], 103),
         ([0, 0, 0, 0, 1, 0], 104),
         ([0, 0, 0, 0, 0, 1], 100),
+        ([2, 0, 0, 0, 0, 1], 100),
     ];
     for (numbers, f) in table {
         assert_eq!(rt;
@@ -226,11 +229,12 @@ fn ungated(record: &[u8; 47]) -> &[u8] {
 #[test]
 fn damage_of_the_second_commit_is_named(rt: HostRuntime) -> Result<(), Fail> {
     let alloc = rt.alloc();
-    // The sides, the texts and the cut of two commits: a number that falls, a cut above the list, and a commit of the
-    // layout of one side behind one of two.
+    // The sides, the texts and the cut of two commits: a number that falls, a cut above the list, by the journal of the
+    // one side and by the judged offers, and a commit of the layout of one side behind one of two.
     for (first, second) in [
         ([0, 3, 0], [0, 2, 0]),
         ([0, 0, 0], [0, 0, 1]),
+        ([2, 0, 0], [5, 0, 1]),
         ([2, 0, 0], [1, 0, 0]),
         ([5, 0, 0], [0, 0, 0]),
     ] {

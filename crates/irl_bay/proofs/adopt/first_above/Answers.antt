@@ -1,7 +1,7 @@
 use Rattle.std.proofs.Common.{◌∙◌, [], map, refl, sym, rules}
 use Rattle.irl_bay.specs.Commits.{commit_bytes}
 use Rattle.irl_bay.proofs.Buckets.{damaged_fault}
-use Rattle.irl_bay.proofs.Reached.{first_refused, all_below}
+use Rattle.irl_bay.proofs.Reached.{first_refused, all_within}
 use Rattle.irl_bay.proofs.adopt.first_above.Goals as goal
 
 pub returns-in-Ok-clause-damaged : goal.returns-in-Ok-clause-damaged
@@ -10,7 +10,7 @@ returns-in-Ok-clause-damaged g c = λ f at is. (
   λ files tells.
       let there = c.requires.above files tells in
       let took = c.in-Ok.ensures.records files tells [] (map commit_bytes there.0) there.1 refl in
-      absurd (there.3 (all_below c.args.buckets _ c.revisit.new.visitor there.0 refl c.requires.count there.2 took)),
+      absurd (there.3 (all_within _ _ c.revisit.new.visitor there.0 refl c.requires.count there.2 took)),
 )
 
 pub returns-clause-damaged : goal.returns-clause-damaged
@@ -19,5 +19,5 @@ returns-clause-damaged g c = λ f at is.
       sym out.1,
       λ files tells commits ends rise.
           let refused = c.in-Err.ensures.refused at (search rules) files tells [] (map commit_bytes commits) ends refl in
-          first_refused c.args.buckets at _ refused.reached commits refused.first refused.payload refused.more refl rise refused.among refused.place refused.took refused.refused,
+          first_refused _ at _ refused.reached commits refused.first refused.payload refused.more refl rise refused.among refused.place refused.took refused.refused,
     )

@@ -1,28 +1,29 @@
 -- The parts of a bay are opened one after the other.
-use Rattle.std.proofs.Common.{◌≡◌, ◌∙◌, ℕ, ◌≤◌, IsTrue, List, length, map, inl, inr, refl, sym, ap, subst, arith, rules}
+use Rattle.std.proofs.Common.{◌≡◌, ◌∙◌, ℕ, ◌≤◌, List, length, map, inl, inr, refl, sym, ap, subst, arith, rules}
+use Rattle.std.proofs.lemmas.List.{length-map}
 use Rattle.std.proofs.lemmas.Result.{err_from_is_err_and}
 use Rattle.irl_offer.specs.declared.receipt.Fault.TheVariants.{Damaged as StoreDamaged}
 use Rattle.irl_model.specs.Book.{IsBelow}
 use Rattle.irl_disk.specs.Disk.{ChangesFile}
-use Rattle.irl_disk.specs.Taken.{TakesAmong}
+use Rattle.irl_disk.specs.Images.{Snapshot}
+use Rattle.irl_bay.specs.Holding.{Holds}
 use Rattle.std.specs.List.{AllByRecursion}
 use Rattle.irl_disk.proofs.Stretches.{left_now}
 use Rattle.irl_journal.specs.Format.{StandsFor, records_text}
 use Rattle.irl_bay.proofs.Whole.{undamaged}
 use Rattle.irl_bay.proofs.AdoptedBook.{same_commits, holds_is}
-use Rattle.irl_disk.proofs.Frames.{takes_both, takes_only, told_from}
+use Rattle.irl_disk.proofs.Frames.{told_from}
 use Rattle.irl_journal.specs.Appending.{Ends}
 use Rattle.irl_journal.specs.Visiting.{IsOpened}
 use Rattle.irl_bay.specs.declared.bucket.Bucket.{Bucket}
-use Rattle.irl_bay.specs.declared.history.History.{History}
 use Rattle.irl_bay.specs.Commits.{Commit, IsCommit, commit_bytes, first_commit, last_commit}
-use Rattle.irl_bay.specs.Damage.{IsDamagedJournal, IsDamagedBehind, AreCommitPayloads, HasFronts}
+use Rattle.irl_bay.specs.Damage.{IsDamagedJournal, IsDamagedBehind, AreCommitPayloads, HasFronts, RiseFrom}
 use Rattle.irl_bay.specs.Drum.{no_bucket}
-use Rattle.irl_bay.specs.Making.{IsJournalOf}
-use Rattle.irl_bay.specs.Opening.{IsJournalBelow, OpensBelow, IsFirstAbove}
+use Rattle.irl_bay.specs.Opening.{OpensBelow}
 use Rattle.irl_bay.proofs.Buckets.{damaged_fault, ends_within}
 use Rattle.irl_bay.proofs.Reached.{few_commits, took_commits, damaged_commits}
-use Rattle.irl_bay.proofs.Adopted.{adopts_first, adopts_same, adopts_buckets, takes_wider, manifest_of, took_is, took_side, front_back_as, fronts_back, whole_back, bucket_back, whole_of, below_reached, cut_above, tells_from, below_same, drum_is, long_is}
+use Rattle.irl_bay.proofs.Adopted.{manifest_of, took_is, front_back_as, fronts_back, whole_back, bucket_back, whole_of, within_reached, within_end, first_end, cut_above, tells_from, below_same, drum_is, long_is, opened_drum}
+use Rattle.irl_bay.proofs.LiveJournals.{visited, adopts_first, adopts_same, adopts_buckets, takes_first, takes_first_alone, takes_buckets, takes_more}
 use Rattle.irl_bay.proofs.adopt.open_bay.Goals as goal
 
 -- ---- what changes
@@ -33,84 +34,99 @@ pub returns-in_err-open_fronts-clause-adopts : goal.returns-in_err-open_fronts-c
 returns-in_err-open_fronts-clause-adopts g c =
     let tell = g.S.Store.snapshot in
     let law = g.met.S.Store.is_consistent in
-    adopts_same c.args.base c.args.settings.now.buckets (tell c.args.store.now) (tell c.visit.new.store) (tell c.open_fronts.new.store) (law c.visit.new.store) (adopts_first c.args.base c.args.settings.now.buckets c.number-f.result (tell c.args.store.now) (tell c.visit.new.store) c.number-f.ensures.value c.in-Ok.ensures.changes c.in-Ok.ensures.stops) c.in_err-open_fronts.ensures.same c.in_err-open_fronts.ensures.stops
+    adopts_same c.args.base c.args.settings.now.buckets (tell c.args.store.now) (tell c.visit.new.store) (tell c.open_fronts.new.store) (law c.visit.new.store)
+    (adopts_first c.args.base c.args.settings.now.buckets c.number-f.result (tell c.args.store.now) (tell c.visit.new.store) c.number-f.ensures.value c.in-Ok.ensures.changes c.in-Ok.ensures.stops) c.in_err-open_fronts.ensures.same c.in_err-open_fronts.ensures.stops
 
 pub returns-in_err-buckets-clause-adopts : goal.returns-in_err-buckets-clause-adopts
 returns-in_err-buckets-clause-adopts g c =
     let tell = g.S.Store.snapshot in
     let law = g.met.S.Store.is_consistent in
-    let took = took_commits c.args.settings.now.buckets 0 c.in_ok-history.history c.visit.new.visitor c.in-Ok.ensures.took.payloads c.in_ok-history.ensures.buckets (omega (arith, c.in_ok-history.ensures.count)) c.in-Ok.ensures.took.took in
-    let fits = took_side c.args.settings.now.buckets c.in_ok-history.history.last c.in_ok-history.history.count c.in-Ok.ensures.took.payloads c.visit.new.visitor _ c.in_ok-history.ensures.last took (ap (λ (h : History). h.last) c.history.view_is) in
-    adopts_buckets c.args.base _ c.args.settings.now.buckets (tell c.args.store.now) (tell c.open_fronts.new.store) (tell c.open_buckets.new.store) fits (law c.open_fronts.new.store) (adopts_same c.args.base c.args.settings.now.buckets (tell c.args.store.now) (tell c.visit.new.store) (tell c.open_fronts.new.store) (law c.visit.new.store) (adopts_first c.args.base c.args.settings.now.buckets c.number-f.result (tell c.args.store.now) (tell c.visit.new.store) c.number-f.ensures.value c.in-Ok.ensures.changes c.in-Ok.ensures.stops) c.in_ok-open_fronts.ensures.same c.in_ok-open_fronts.ensures.stops) c.in_err-buckets.ensures.files c.in_err-buckets.ensures.stops
+    let visit = visited c.args.base c.args.settings.now.buckets c.number-f.result (tell c.args.store.now) (tell c.visit.new.store) c.in-Ok.manifest c.in_ok-history.history c.visit.new.visitor _ (law c.visit.new.store) c.number-f.ensures.value c.in-Ok.ensures.journal.0
+    c.in_ok-history.ensures.buckets c.in_ok-history.ensures.last c.in_ok-history.ensures.count refl c.in-Ok.ensures.changes c.in-Ok.ensures.stops c.in-Ok.ensures.found c.in-Ok.ensures.records c.in-Ok.ensures.took in
+    adopts_buckets c.args.base _ c.args.settings.now.buckets (tell c.args.store.now) (tell c.visit.new.store) (tell c.open_fronts.new.store) (tell c.open_buckets.new.store) visit (law c.visit.new.store) (law c.open_fronts.new.store) c.in_ok-open_fronts.ensures.same c.in_ok-open_fronts.ensures.stops c.in_err-buckets.ensures.files c.in_err-buckets.ensures.stops
 
 pub returns-in_err-lengths-clause-adopts : goal.returns-in_err-lengths-clause-adopts
 returns-in_err-lengths-clause-adopts g c =
     let tell = g.S.Store.snapshot in
     let law = g.met.S.Store.is_consistent in
-    let took = took_commits c.args.settings.now.buckets 0 c.in_ok-history.history c.visit.new.visitor c.in-Ok.ensures.took.payloads c.in_ok-history.ensures.buckets (omega (arith, c.in_ok-history.ensures.count)) c.in-Ok.ensures.took.took in
-    let fits = took_side c.args.settings.now.buckets c.in_ok-history.history.last c.in_ok-history.history.count c.in-Ok.ensures.took.payloads c.visit.new.visitor _ c.in_ok-history.ensures.last took (ap (λ (h : History). h.last) c.history.view_is) in
-    adopts_buckets c.args.base _ c.args.settings.now.buckets (tell c.args.store.now) (tell c.open_fronts.new.store) (tell c.open_buckets.new.store) fits (law c.open_fronts.new.store) (adopts_same c.args.base c.args.settings.now.buckets (tell c.args.store.now) (tell c.visit.new.store) (tell c.open_fronts.new.store) (law c.visit.new.store) (adopts_first c.args.base c.args.settings.now.buckets c.number-f.result (tell c.args.store.now) (tell c.visit.new.store) c.number-f.ensures.value c.in-Ok.ensures.changes c.in-Ok.ensures.stops) c.in_ok-open_fronts.ensures.same c.in_ok-open_fronts.ensures.stops) c.in_ok-buckets.ensures.files c.in_ok-buckets.ensures.stops
+    let visit = visited c.args.base c.args.settings.now.buckets c.number-f.result (tell c.args.store.now) (tell c.visit.new.store) c.in-Ok.manifest c.in_ok-history.history c.visit.new.visitor _ (law c.visit.new.store) c.number-f.ensures.value c.in-Ok.ensures.journal.0
+    c.in_ok-history.ensures.buckets c.in_ok-history.ensures.last c.in_ok-history.ensures.count refl c.in-Ok.ensures.changes c.in-Ok.ensures.stops c.in-Ok.ensures.found c.in-Ok.ensures.records c.in-Ok.ensures.took in
+    adopts_buckets c.args.base _ c.args.settings.now.buckets (tell c.args.store.now) (tell c.visit.new.store) (tell c.open_fronts.new.store) (tell c.open_buckets.new.store) visit (law c.visit.new.store) (law c.open_fronts.new.store) c.in_ok-open_fronts.ensures.same c.in_ok-open_fronts.ensures.stops c.in_ok-buckets.ensures.files c.in_ok-buckets.ensures.stops
 
-pub returns-then-not-is_below-clause-adopts : goal.returns-then-not-is_below-clause-adopts
-returns-then-not-is_below-clause-adopts g c =
+pub returns-in_err-check_cuts-clause-adopts : goal.returns-in_err-check_cuts-clause-adopts
+returns-in_err-check_cuts-clause-adopts g c =
     let tell = g.S.Store.snapshot in
     let law = g.met.S.Store.is_consistent in
-    let took = took_commits c.args.settings.now.buckets 0 c.in_ok-history.history c.visit.new.visitor c.in-Ok.ensures.took.payloads c.in_ok-history.ensures.buckets (omega (arith, c.in_ok-history.ensures.count)) c.in-Ok.ensures.took.took in
-    let fits = took_side c.args.settings.now.buckets c.in_ok-history.history.last c.in_ok-history.history.count c.in-Ok.ensures.took.payloads c.visit.new.visitor _ c.in_ok-history.ensures.last took (ap (λ (h : History). h.last) c.history.view_is) in
-    adopts_same c.args.base c.args.settings.now.buckets (tell c.args.store.now) (tell c.open_buckets.new.store) (tell c.first_above.new.store) (law c.open_buckets.new.store) (adopts_buckets c.args.base _ c.args.settings.now.buckets (tell c.args.store.now) (tell c.open_fronts.new.store) (tell c.open_buckets.new.store) fits (law c.open_fronts.new.store) (adopts_same c.args.base c.args.settings.now.buckets (tell c.args.store.now) (tell c.visit.new.store) (tell c.open_fronts.new.store) (law c.visit.new.store) (adopts_first c.args.base c.args.settings.now.buckets c.number-f.result (tell c.args.store.now) (tell c.visit.new.store) c.number-f.ensures.value c.in-Ok.ensures.changes c.in-Ok.ensures.stops) c.in_ok-open_fronts.ensures.same c.in_ok-open_fronts.ensures.stops) c.in_ok-buckets.ensures.files c.in_ok-buckets.ensures.stops) c.first_above.ensures.same c.first_above.ensures.stops
+    let visit = visited c.args.base c.args.settings.now.buckets c.number-f.result (tell c.args.store.now) (tell c.visit.new.store) c.in-Ok.manifest c.in_ok-history.history c.visit.new.visitor _ (law c.visit.new.store) c.number-f.ensures.value c.in-Ok.ensures.journal.0
+    c.in_ok-history.ensures.buckets c.in_ok-history.ensures.last c.in_ok-history.ensures.count refl c.in-Ok.ensures.changes c.in-Ok.ensures.stops c.in-Ok.ensures.found c.in-Ok.ensures.records c.in-Ok.ensures.took in
+    adopts_same c.args.base c.args.settings.now.buckets (tell c.args.store.now) (tell c.open_buckets.new.store) (tell c.check_cuts.new.store) (law c.open_buckets.new.store)
+    (adopts_buckets c.args.base _ c.args.settings.now.buckets (tell c.args.store.now) (tell c.visit.new.store) (tell c.open_fronts.new.store) (tell c.open_buckets.new.store) visit (law c.visit.new.store) (law c.open_fronts.new.store) c.in_ok-open_fronts.ensures.same c.in_ok-open_fronts.ensures.stops c.in_ok-buckets.ensures.files c.in_ok-buckets.ensures.stops)
+    c.in_err-check_cuts.ensures.same c.in_err-check_cuts.ensures.stops
 
 pub returns-clause-adopts : goal.returns-clause-adopts
 returns-clause-adopts g c =
     let tell = g.S.Store.snapshot in
     let law = g.met.S.Store.is_consistent in
-    let took = took_commits c.args.settings.now.buckets 0 c.in_ok-history.history c.visit.new.visitor c.in-Ok.ensures.took.payloads c.in_ok-history.ensures.buckets (omega (arith, c.in_ok-history.ensures.count)) c.in-Ok.ensures.took.took in
-    let fits = took_side c.args.settings.now.buckets c.in_ok-history.history.last c.in_ok-history.history.count c.in-Ok.ensures.took.payloads c.visit.new.visitor _ c.in_ok-history.ensures.last took (ap (λ (h : History). h.last) c.history.view_is) in
-    adopts_buckets c.args.base _ c.args.settings.now.buckets (tell c.args.store.now) (tell c.open_fronts.new.store) (tell c.open_buckets.new.store) fits (law c.open_fronts.new.store) (adopts_same c.args.base c.args.settings.now.buckets (tell c.args.store.now) (tell c.visit.new.store) (tell c.open_fronts.new.store) (law c.visit.new.store) (adopts_first c.args.base c.args.settings.now.buckets c.number-f.result (tell c.args.store.now) (tell c.visit.new.store) c.number-f.ensures.value c.in-Ok.ensures.changes c.in-Ok.ensures.stops) c.in_ok-open_fronts.ensures.same c.in_ok-open_fronts.ensures.stops) c.in_ok-buckets.ensures.files c.in_ok-buckets.ensures.stops
+    let visit = visited c.args.base c.args.settings.now.buckets c.number-f.result (tell c.args.store.now) (tell c.visit.new.store) c.in-Ok.manifest c.in_ok-history.history c.visit.new.visitor _ (law c.visit.new.store) c.number-f.ensures.value c.in-Ok.ensures.journal.0
+    c.in_ok-history.ensures.buckets c.in_ok-history.ensures.last c.in_ok-history.ensures.count refl c.in-Ok.ensures.changes c.in-Ok.ensures.stops c.in-Ok.ensures.found c.in-Ok.ensures.records c.in-Ok.ensures.took in
+    adopts_same c.args.base c.args.settings.now.buckets (tell c.args.store.now) (tell c.open_buckets.new.store) (tell c.check_cuts.new.store) (law c.open_buckets.new.store)
+    (adopts_buckets c.args.base _ c.args.settings.now.buckets (tell c.args.store.now) (tell c.visit.new.store) (tell c.open_fronts.new.store) (tell c.open_buckets.new.store) visit (law c.visit.new.store) (law c.open_fronts.new.store) c.in_ok-open_fronts.ensures.same c.in_ok-open_fronts.ensures.stops c.in_ok-buckets.ensures.files c.in_ok-buckets.ensures.stops)
+    c.in_ok-check_cuts.ensures.same c.in_ok-check_cuts.ensures.stops
 
 -- ---- what is read
 pub returns-in-Err-clause-taken : goal.returns-in-Err-clause-taken
-returns-in-Err-clause-taken g c = takes_only (IsJournalOf c.args.base c.args.settings.now.buckets) c.number-f.result _ _ (inl c.number-f.ensures.value) c.in-Err.ensures.taken
+returns-in-Err-clause-taken g c = takes_first c.args.base c.args.settings.now.buckets c.number-f.result _ _ _ c.number-f.ensures.value c.in-Err.ensures.taken
 
 pub returns-in_err-open_fronts-clause-taken : goal.returns-in_err-open_fronts-clause-taken
-returns-in_err-open_fronts-clause-taken g c = subst (TakesAmong (IsJournalOf c.args.base c.args.settings.now.buckets) (g.S.Store.taken c.args.store.now)) (sym c.in_err-open_fronts.ensures.taken) (takes_only (IsJournalOf c.args.base c.args.settings.now.buckets) c.number-f.result _ _ (inl c.number-f.ensures.value) c.in-Ok.ensures.taken)
+returns-in_err-open_fronts-clause-taken g c = takes_first_alone c.args.base c.args.settings.now.buckets c.number-f.result _ _ _ _ c.number-f.ensures.value c.in-Ok.ensures.taken c.in_err-open_fronts.ensures.taken
 
 pub returns-in_err-buckets-clause-taken : goal.returns-in_err-buckets-clause-taken
 returns-in_err-buckets-clause-taken g c =
-    let took = took_commits c.args.settings.now.buckets 0 c.in_ok-history.history c.visit.new.visitor c.in-Ok.ensures.took.payloads c.in_ok-history.ensures.buckets (omega (arith, c.in_ok-history.ensures.count)) c.in-Ok.ensures.took.took in
-    let fits = took_side c.args.settings.now.buckets c.in_ok-history.history.last c.in_ok-history.history.count c.in-Ok.ensures.took.payloads c.visit.new.visitor _ c.in_ok-history.ensures.last took (ap (λ (h : History). h.last) c.history.view_is) in
-    takes_both (IsJournalOf c.args.base c.args.settings.now.buckets) _ _ _ (subst (TakesAmong (IsJournalOf c.args.base c.args.settings.now.buckets) (g.S.Store.taken c.args.store.now)) (sym c.in_ok-open_fronts.ensures.taken) (takes_only (IsJournalOf c.args.base c.args.settings.now.buckets) c.number-f.result _ _ (inl c.number-f.ensures.value) c.in-Ok.ensures.taken)) (takes_wider (IsJournalBelow c.args.base _ c.args.settings.now.buckets) (IsJournalOf c.args.base c.args.settings.now.buckets) _ _ (λ f is. inr (_, is.0, fits, is.1, is.2)) c.in_err-buckets.ensures.taken)
+    let tell = g.S.Store.snapshot in
+    let law = g.met.S.Store.is_consistent in
+    let visit = visited c.args.base c.args.settings.now.buckets c.number-f.result (tell c.args.store.now) (tell c.visit.new.store) c.in-Ok.manifest c.in_ok-history.history c.visit.new.visitor _ (law c.visit.new.store) c.number-f.ensures.value c.in-Ok.ensures.journal.0
+    c.in_ok-history.ensures.buckets c.in_ok-history.ensures.last c.in_ok-history.ensures.count refl c.in-Ok.ensures.changes c.in-Ok.ensures.stops c.in-Ok.ensures.found c.in-Ok.ensures.records c.in-Ok.ensures.took in
+    takes_buckets c.args.base _ c.args.settings.now.buckets c.number-f.result (tell c.args.store.now) (tell c.visit.new.store) _ _ _ _ c.number-f.ensures.value visit c.in-Ok.ensures.taken c.in_ok-open_fronts.ensures.taken c.in_err-buckets.ensures.taken
 
 pub returns-in_err-lengths-clause-taken : goal.returns-in_err-lengths-clause-taken
 returns-in_err-lengths-clause-taken g c =
-    let took = took_commits c.args.settings.now.buckets 0 c.in_ok-history.history c.visit.new.visitor c.in-Ok.ensures.took.payloads c.in_ok-history.ensures.buckets (omega (arith, c.in_ok-history.ensures.count)) c.in-Ok.ensures.took.took in
-    let fits = took_side c.args.settings.now.buckets c.in_ok-history.history.last c.in_ok-history.history.count c.in-Ok.ensures.took.payloads c.visit.new.visitor _ c.in_ok-history.ensures.last took (ap (λ (h : History). h.last) c.history.view_is) in
-    takes_both (IsJournalOf c.args.base c.args.settings.now.buckets) _ _ _ (subst (TakesAmong (IsJournalOf c.args.base c.args.settings.now.buckets) (g.S.Store.taken c.args.store.now)) (sym c.in_ok-open_fronts.ensures.taken) (takes_only (IsJournalOf c.args.base c.args.settings.now.buckets) c.number-f.result _ _ (inl c.number-f.ensures.value) c.in-Ok.ensures.taken)) (takes_wider (IsJournalBelow c.args.base _ c.args.settings.now.buckets) (IsJournalOf c.args.base c.args.settings.now.buckets) _ _ (λ f is. inr (_, is.0, fits, is.1, is.2)) c.in_ok-buckets.ensures.taken)
+    let tell = g.S.Store.snapshot in
+    let law = g.met.S.Store.is_consistent in
+    let visit = visited c.args.base c.args.settings.now.buckets c.number-f.result (tell c.args.store.now) (tell c.visit.new.store) c.in-Ok.manifest c.in_ok-history.history c.visit.new.visitor _ (law c.visit.new.store) c.number-f.ensures.value c.in-Ok.ensures.journal.0
+    c.in_ok-history.ensures.buckets c.in_ok-history.ensures.last c.in_ok-history.ensures.count refl c.in-Ok.ensures.changes c.in-Ok.ensures.stops c.in-Ok.ensures.found c.in-Ok.ensures.records c.in-Ok.ensures.took in
+    takes_buckets c.args.base _ c.args.settings.now.buckets c.number-f.result (tell c.args.store.now) (tell c.visit.new.store) _ _ _ _ c.number-f.ensures.value visit c.in-Ok.ensures.taken c.in_ok-open_fronts.ensures.taken c.in_ok-buckets.ensures.taken
 
-pub returns-then-not-is_below-clause-taken : goal.returns-then-not-is_below-clause-taken
-returns-then-not-is_below-clause-taken g c =
-    let took = took_commits c.args.settings.now.buckets 0 c.in_ok-history.history c.visit.new.visitor c.in-Ok.ensures.took.payloads c.in_ok-history.ensures.buckets (omega (arith, c.in_ok-history.ensures.count)) c.in-Ok.ensures.took.took in
-    let fits = took_side c.args.settings.now.buckets c.in_ok-history.history.last c.in_ok-history.history.count c.in-Ok.ensures.took.payloads c.visit.new.visitor _ c.in_ok-history.ensures.last took (ap (λ (h : History). h.last) c.history.view_is) in
-    takes_both (IsJournalOf c.args.base c.args.settings.now.buckets) _ _ _ (takes_both (IsJournalOf c.args.base c.args.settings.now.buckets) _ _ _ (subst (TakesAmong (IsJournalOf c.args.base c.args.settings.now.buckets) (g.S.Store.taken c.args.store.now)) (sym c.in_ok-open_fronts.ensures.taken) (takes_only (IsJournalOf c.args.base c.args.settings.now.buckets) c.number-f.result _ _ (inl c.number-f.ensures.value) c.in-Ok.ensures.taken)) (takes_wider (IsJournalBelow c.args.base _ c.args.settings.now.buckets) (IsJournalOf c.args.base c.args.settings.now.buckets) _ _ (λ f is. inr (_, is.0, fits, is.1, is.2)) c.in_ok-buckets.ensures.taken)) (takes_only (IsJournalOf c.args.base c.args.settings.now.buckets) c.in-Ok.manifest.file _ _ (inl (c.in-Ok.ensures.journal.0 ∙ c.number-f.ensures.value)) c.first_above.ensures.taken)
+pub returns-in_err-check_cuts-clause-taken : goal.returns-in_err-check_cuts-clause-taken
+returns-in_err-check_cuts-clause-taken g c =
+    let tell = g.S.Store.snapshot in
+    let law = g.met.S.Store.is_consistent in
+    let visit = visited c.args.base c.args.settings.now.buckets c.number-f.result (tell c.args.store.now) (tell c.visit.new.store) c.in-Ok.manifest c.in_ok-history.history c.visit.new.visitor _ (law c.visit.new.store) c.number-f.ensures.value c.in-Ok.ensures.journal.0
+    c.in_ok-history.ensures.buckets c.in_ok-history.ensures.last c.in_ok-history.ensures.count refl c.in-Ok.ensures.changes c.in-Ok.ensures.stops c.in-Ok.ensures.found c.in-Ok.ensures.records c.in-Ok.ensures.took in
+    takes_more c.args.base c.args.settings.now.buckets c.in-Ok.manifest.file _ _ _ _ (c.in-Ok.ensures.journal.0 ∙ c.number-f.ensures.value)
+    (takes_buckets c.args.base _ c.args.settings.now.buckets c.number-f.result (tell c.args.store.now) (tell c.visit.new.store) _ _ _ _ c.number-f.ensures.value visit c.in-Ok.ensures.taken c.in_ok-open_fronts.ensures.taken c.in_ok-buckets.ensures.taken)
+    c.in_err-check_cuts.ensures.taken
 
 pub returns-clause-taken : goal.returns-clause-taken
 returns-clause-taken g c =
-    let took = took_commits c.args.settings.now.buckets 0 c.in_ok-history.history c.visit.new.visitor c.in-Ok.ensures.took.payloads c.in_ok-history.ensures.buckets (omega (arith, c.in_ok-history.ensures.count)) c.in-Ok.ensures.took.took in
-    let fits = took_side c.args.settings.now.buckets c.in_ok-history.history.last c.in_ok-history.history.count c.in-Ok.ensures.took.payloads c.visit.new.visitor _ c.in_ok-history.ensures.last took (ap (λ (h : History). h.last) c.history.view_is) in
-    takes_both (IsJournalOf c.args.base c.args.settings.now.buckets) _ _ _ (subst (TakesAmong (IsJournalOf c.args.base c.args.settings.now.buckets) (g.S.Store.taken c.args.store.now)) (sym c.in_ok-open_fronts.ensures.taken) (takes_only (IsJournalOf c.args.base c.args.settings.now.buckets) c.number-f.result _ _ (inl c.number-f.ensures.value) c.in-Ok.ensures.taken)) (takes_wider (IsJournalBelow c.args.base _ c.args.settings.now.buckets) (IsJournalOf c.args.base c.args.settings.now.buckets) _ _ (λ f is. inr (_, is.0, fits, is.1, is.2)) c.in_ok-buckets.ensures.taken)
+    let tell = g.S.Store.snapshot in
+    let law = g.met.S.Store.is_consistent in
+    let visit = visited c.args.base c.args.settings.now.buckets c.number-f.result (tell c.args.store.now) (tell c.visit.new.store) c.in-Ok.manifest c.in_ok-history.history c.visit.new.visitor _ (law c.visit.new.store) c.number-f.ensures.value c.in-Ok.ensures.journal.0
+    c.in_ok-history.ensures.buckets c.in_ok-history.ensures.last c.in_ok-history.ensures.count refl c.in-Ok.ensures.changes c.in-Ok.ensures.stops c.in-Ok.ensures.found c.in-Ok.ensures.records c.in-Ok.ensures.took in
+    takes_more c.args.base c.args.settings.now.buckets c.in-Ok.manifest.file _ _ _ _ (c.in-Ok.ensures.journal.0 ∙ c.number-f.ensures.value)
+    (takes_buckets c.args.base _ c.args.settings.now.buckets c.number-f.result (tell c.args.store.now) (tell c.visit.new.store) _ _ _ _ c.number-f.ensures.value visit c.in-Ok.ensures.taken c.in_ok-open_fronts.ensures.taken c.in_ok-buckets.ensures.taken)
+    c.in_ok-check_cuts.ensures.taken
 
 -- ---- what the commit says
 pub open_fronts-requires-clause-side : goal.open_fronts-requires-clause-side
 open_fronts-requires-clause-side g c =
     let took = took_commits c.args.settings.now.buckets 0 c.in_ok-history.history c.visit.new.visitor c.in-Ok.ensures.took.payloads c.in_ok-history.ensures.buckets (omega (arith, c.in_ok-history.ensures.count)) c.in-Ok.ensures.took.took in
     let is = took_is c.args.settings.now.buckets c.in_ok-history.history.last c.in_ok-history.history.count c.in-Ok.ensures.took.payloads c.visit.new.visitor c.in_ok-history.ensures.last took in
-    let same = ap (λ (h : History). h.last.side) c.history.view_is in
-    omega (arith, is.side, same)
+    omega (arith, is.side)
 
 pub open_buckets-requires-clause-commit : goal.open_buckets-requires-clause-commit
 open_buckets-requires-clause-commit g c =
     let took = took_commits c.args.settings.now.buckets 0 c.in_ok-history.history c.visit.new.visitor c.in-Ok.ensures.took.payloads c.in_ok-history.ensures.buckets (omega (arith, c.in_ok-history.ensures.count)) c.in-Ok.ensures.took.took in
-    let is = took_is c.args.settings.now.buckets c.in_ok-history.history.last c.in_ok-history.history.count c.in-Ok.ensures.took.payloads c.visit.new.visitor c.in_ok-history.ensures.last took in
-    subst (IsCommit c.args.settings.now.buckets) (sym (ap (λ (h : History). h.last) c.history.view_is)) is
+    took_is c.args.settings.now.buckets c.in_ok-history.history.last c.in_ok-history.history.count c.in-Ok.ensures.took.payloads c.visit.new.visitor c.in_ok-history.ensures.last took
 
 -- ---- what is damaged
 pub returns-in-Err-clause-damaged : goal.returns-in-Err-clause-damaged
@@ -134,8 +150,7 @@ returns-in_err-open_fronts-clause-damaged g c = λ f at e files tells.
     let changed = rw tells at c.in-Ok.ensures.changes in
     let step = subst (λ (n : ℕ). ChangesFile n IsOpened files changed.0) c.number-f.ensures.value changed.2 in
     let named = c.in_err-open_fronts.ensures.damaged f at (search rules) changed.0 changed.1 in
-    let last = ap (λ (h : History). h.last) c.history.view_is ∙ told.last_is in
-    inr (told.commits, told.has, inl (front_back_as c.args.base _ _ files changed.0 f at last step named))
+    inr (told.commits, told.has, inl (front_back_as c.args.base _ _ files changed.0 f at told.last_is step named))
 
 pub returns-in_err-buckets-clause-damaged : goal.returns-in_err-buckets-clause-damaged
 returns-in_err-buckets-clause-damaged g c = λ f at e files tells.
@@ -148,18 +163,25 @@ returns-in_err-buckets-clause-damaged g c = λ f at e files tells.
     let changed = rw tells at c.in-Ok.ensures.changes in
     let step = subst (λ (n : ℕ). ChangesFile n IsOpened files changed.0) c.number-f.ensures.value changed.2 in
     let named = c.in_err-buckets.ensures.damaged f at (search rules) changed.0 (c.in_ok-open_fronts.ensures.same ∙ changed.1) in
-    let last = ap (λ (h : History). h.last) c.history.view_is ∙ told.last_is in
     let fronts = fronts_back c.args.base _ files changed.0 step (c.in_ok-open_fronts.ensures.has changed.0 changed.1) in
     inr (
       told.commits,
       told.has,
-      subst (λ (x : Commit). IsDamagedBehind c.args.base c.args.settings.now files told.commits x f at) last
+      subst (λ (x : Commit). IsDamagedBehind c.args.base c.args.settings.now files told.commits x f at) told.last_is
           (inr (fronts, inl (named.0, named.1, (λ b below. whole_back c.args.base _ c.args.settings.now b files changed.0 step (named.2 b below)), bucket_back c.args.base _ c.args.settings.now named.0 files changed.0 f at step named.3))),
     )
 
+-- ---- the cuts
+pub check_cuts-requires-clause-count : goal.check_cuts-requires-clause-count
+check_cuts-requires-clause-count g c =
+    let took = took_commits c.args.settings.now.buckets 0 c.in_ok-history.history c.visit.new.visitor c.in-Ok.ensures.took.payloads c.in_ok-history.ensures.buckets (omega (arith, c.in_ok-history.ensures.count)) c.in-Ok.ensures.took.took in
+    let many : c.in_ok-lengths.lengths.items ≡ map (λ (bucket : Bucket). bucket.durable) c.in_ok-buckets.buckets.items = c.in_ok-lengths.ensures ∙ ap (map (λ (bucket : Bucket). bucket.durable)) c.deref.ensures.value in
+    omega (arith, ap (λ (l : List ℕ). length l) many, length-map c.in_ok-buckets.buckets.items (λ (bucket : Bucket). bucket.durable), c.in_ok-buckets.ensures.count, took.buckets_are)
+
 -- the manifest's records stand in what is told after the buckets were opened
-pub first_above-requires-clause-above : goal.first_above-requires-clause-above
-first_above-requires-clause-above g c = λ now tells_now.
+pub check_cuts-requires-clause-last : goal.check_cuts-requires-clause-last
+check_cuts-requires-clause-last g c = λ now tells_now.
+    let took = took_commits c.args.settings.now.buckets 0 c.in_ok-history.history c.visit.new.visitor c.in-Ok.ensures.took.payloads c.in_ok-history.ensures.buckets (omega (arith, c.in_ok-history.ensures.count)) c.in-Ok.ensures.took.took in
     let tell = g.S.Store.snapshot in
     let law = g.met.S.Store.is_consistent in
     let mid = tells_from (OpensBelow c.args.base _ c.args.settings.now.buckets) _ _ now c.in_ok-buckets.ensures.files tells_now in
@@ -171,23 +193,19 @@ first_above-requires-clause-above g c = λ now tells_now.
     let read = c.in-Ok.ensures.records files tells found.0 found.1 in
     let told = manifest_of c.args.base c.args.settings.now.buckets c.number-f.result files c.in_ok-history.history.last c.in_ok-history.history.count found.0 c.visit.new.visitor c.number-f.ensures.value c.in_ok-history.ensures.last c.in_ok-history.ensures.count found.1
     (took_commits c.args.settings.now.buckets 0 c.in_ok-history.history c.visit.new.visitor found.0 c.in_ok-history.ensures.buckets (omega (arith, c.in_ok-history.ensures.count)) read.1) in
-    let last = ap (λ (h : History). h.last) c.history.view_is in
-    let many : c.in_ok-lengths.lengths.items ≡ map (λ (bucket : Bucket). bucket.durable) c.in_ok-buckets.buckets.items = c.in_ok-lengths.ensures ∙ ap (map (λ (bucket : Bucket). bucket.durable)) c.deref.ensures.value in
     let ends = read.2 mid.0 ((law c.visit.new.store).told mid.0 mid_told) in
     let stays = below_same c.args.base _ c.args.settings.now.buckets c.in-Ok.manifest.file mid.0 now mid.2 (omega (arith, c.in-Ok.ensures.journal.0, c.number-f.ensures.value)) in (
       told.commits,
       subst (λ (file : List ℕ). Ends c.in-Ok.manifest.end file (map commit_bytes told.commits)) (sym stays) (subst (λ (ps : List (List ℕ)). Ends c.in-Ok.manifest.end (mid.0 c.in-Ok.manifest.file) ps) told.payloads_are ends),
-      told.has.rise,
-      λ below.
-          let cut : c.deref-2.result.now ≡ (last_commit (first_commit c.args.settings.now.buckets) told.commits).cut = c.deref-2.ensures.value ∙ ap (λ (x : Commit). x.cut) (last ∙ told.last_is) in
-          let yes = c.is_below.ensures.1 (subst (λ (x : List ℕ). IsBelow x c.deref-3.result.now) (sym cut) (subst (λ (y : List ℕ). IsBelow (last_commit (first_commit c.args.settings.now.buckets) told.commits).cut y) (sym c.deref-3.ensures.value) below)) in
-          let never = subst IsTrue c.if-not-is_below.true yes in
-          cc,
+      subst (λ (k : ℕ). RiseFrom k (first_commit k) told.commits) (sym took.buckets_are) told.has.rise,
+      told.last_is ∙ ap (λ (k : ℕ). last_commit (first_commit k) told.commits) (sym took.buckets_are),
     )
 
-pub returns-then-not-is_below-clause-damaged : goal.returns-then-not-is_below-clause-damaged
-returns-then-not-is_below-clause-damaged g c = λ f at e files tells.
-    let same : c.first_above.result ≡ StoreDamaged f at = cc in
+pub returns-in_err-check_cuts-clause-damaged : goal.returns-in_err-check_cuts-clause-damaged
+returns-in_err-check_cuts-clause-damaged g c = λ f at e files tells.
+    let out = err_from_is_err_and c.from_residual-in_err-check_cuts.result c.from_residual-in_err-check_cuts.ensures.1 in
+    let is = rw (out.1, out.2) at e in
+    let took = took_commits c.args.settings.now.buckets 0 c.in_ok-history.history c.visit.new.visitor c.in-Ok.ensures.took.payloads c.in_ok-history.ensures.buckets (omega (arith, c.in_ok-history.ensures.count)) c.in-Ok.ensures.took.took in
     let tell = g.S.Store.snapshot in
     let law = g.met.S.Store.is_consistent in
     let found = c.in-Ok.ensures.found files tells in
@@ -196,16 +214,14 @@ returns-then-not-is_below-clause-damaged g c = λ f at e files tells.
     (took_commits c.args.settings.now.buckets 0 c.in_ok-history.history c.visit.new.visitor found.0 c.in_ok-history.ensures.buckets (omega (arith, c.in_ok-history.ensures.count)) read.1) in
     let changed = rw tells at c.in-Ok.ensures.changes in
     let step = subst (λ (n : ℕ). ChangesFile n IsOpened files changed.0) c.number-f.ensures.value changed.2 in
-    let last = ap (λ (h : History). h.last) c.history.view_is in
     let many : c.in_ok-lengths.lengths.items ≡ map (λ (bucket : Bucket). bucket.durable) c.in_ok-buckets.buckets.items = c.in_ok-lengths.ensures ∙ ap (map (λ (bucket : Bucket). bucket.durable)) c.deref.ensures.value in
-    let front_last = last ∙ told.last_is in
-    let fronts = subst (λ (x : Commit). HasFronts c.args.base x files) front_last (fronts_back c.args.base _ files changed.0 step (c.in_ok-open_fronts.ensures.has changed.0 changed.1)) in
+    let fronts = subst (λ (x : Commit). HasFronts c.args.base x files) told.last_is (fronts_back c.args.base _ files changed.0 step (c.in_ok-open_fronts.ensures.has changed.0 changed.1)) in
     let now = rw (c.in_ok-open_fronts.ensures.same ∙ changed.1) at c.in_ok-buckets.ensures.files in
     let ends = read.2 changed.0 ((law c.visit.new.store).told changed.0 changed.1) in
     let stays = below_same c.args.base _ c.args.settings.now.buckets c.in-Ok.manifest.file changed.0 now.0 now.2 (omega (arith, c.in-Ok.ensures.journal.0, c.number-f.ensures.value)) in
-    let named = c.first_above.ensures.damaged f at same in
-    let first = named.1 now.0 now.1 told.commits (subst (λ (file : List ℕ). Ends c.in-Ok.manifest.end file (map commit_bytes told.commits)) (sym stays) (subst (λ (ps : List (List ℕ)). Ends c.in-Ok.manifest.end (changed.0 c.in-Ok.manifest.file) ps) told.payloads_are ends)) told.has.rise in
-    let are = whole_of c.args.base c.args.settings.now files changed.0 _ (last_commit (first_commit c.args.settings.now.buckets) told.commits) c.in_ok-buckets.buckets.items front_last step c.in_ok-buckets.ensures.count c.in_ok-buckets.ensures.opened (c.in_ok-buckets.ensures.found changed.0 (c.in_ok-open_fronts.ensures.same ∙ changed.1)) in
+    let named = c.in_err-check_cuts.ensures.damaged f at (search rules) in
+    let first = named.1 now.0 now.1 told.commits (subst (λ (file : List ℕ). Ends c.in-Ok.manifest.end file (map commit_bytes told.commits)) (sym stays) (subst (λ (ps : List (List ℕ)). Ends c.in-Ok.manifest.end (changed.0 c.in-Ok.manifest.file) ps) told.payloads_are ends)) (subst (λ (k : ℕ). RiseFrom k (first_commit k) told.commits) (sym took.buckets_are) told.has.rise) in
+    let are = whole_of c.args.base c.args.settings.now files changed.0 _ (last_commit (first_commit c.args.settings.now.buckets) told.commits) c.in_ok-buckets.buckets.items told.last_is step c.in_ok-buckets.ensures.count c.in_ok-buckets.ensures.opened (c.in_ok-buckets.ensures.found changed.0 (c.in_ok-open_fronts.ensures.same ∙ changed.1)) in
     inr (
       told.commits,
       told.has,
@@ -214,7 +230,7 @@ returns-then-not-is_below-clause-damaged g c = λ f at e files tells.
         inr (
           (λ b within. let one = are.whole b within in (one.runs, one.has, one.texts)),
           named.0 ∙ c.number-f.ensures.value,
-          cut_above c.args.base c.args.settings.now files c.in_ok-buckets.buckets.items no_bucket told.commits at are told.each (subst (λ (l : List ℕ). IsFirstAbove l told.commits at) many first),
+          cut_above c.args.base c.args.settings.now files c.in_ok-buckets.buckets.items no_bucket told.commits at are told.each (first_end _ _ _ _ told.commits at many told.last_is first),
         ),
       ),
     )
@@ -224,28 +240,25 @@ pub invariant_of-result : goal.invariant_of-result
 invariant_of-result g c =
     let took = took_commits c.args.settings.now.buckets 0 c.in_ok-history.history c.visit.new.visitor c.in-Ok.ensures.took.payloads c.in_ok-history.ensures.buckets (omega (arith, c.in_ok-history.ensures.count)) c.in-Ok.ensures.took.took in
     let is = took_is c.args.settings.now.buckets c.in_ok-history.history.last c.in_ok-history.history.count c.in-Ok.ensures.took.payloads c.visit.new.visitor c.in_ok-history.ensures.last took in
-    let last = ap (λ (h : History). h.last) c.history.view_is in
     let many : c.in_ok-lengths.lengths.items ≡ map (λ (bucket : Bucket). bucket.durable) c.in_ok-buckets.buckets.items = c.in_ok-lengths.ensures ∙ ap (map (λ (bucket : Bucket). bucket.durable)) c.deref.ensures.value in
-    let below = c.is_below.ensures.0 (search rules) in
-    drum_is c.args.base c.args.settings.now c.in-Ok.manifest _ _ c.in_ok-buckets.buckets.items c.requires.base c.requires.settings (subst (IsCommit c.args.settings.now.buckets) (sym last) is) c.in_ok-open_fronts.ensures.judged c.in_ok-open_fronts.ensures.entries
+    drum_is c.args.base c.args.settings.now c.in-Ok.manifest _ _ c.in_ok-buckets.buckets.items c.requires.base c.requires.settings is c.in_ok-open_fronts.ensures.judged c.in_ok-open_fronts.ensures.entries
     (c.in-Ok.ensures.journal.0 ∙ c.number-f.ensures.value) c.in-Ok.ensures.journal.1 (omega (arith, c.min-cuts.ensures, c.end.ensures)) c.in_ok-buckets.ensures.count c.in_ok-buckets.ensures.opened
-    (subst (λ (x : List ℕ). IsBelow x (map (λ (bucket : Bucket). bucket.durable) c.in_ok-buckets.buckets.items)) c.deref-2.ensures.value (subst (λ (y : List ℕ). IsBelow c.deref-2.result.now y) (c.deref-3.ensures.value ∙ many) below))
+    (subst (λ (y : List ℕ). IsBelow c.visit.new.visitor.last.cut y) many c.in_ok-check_cuts.ensures.within.lists)
 
 pub returns-clause-drum : goal.returns-clause-drum
 returns-clause-drum g c =
     let took = took_commits c.args.settings.now.buckets 0 c.in_ok-history.history c.visit.new.visitor c.in-Ok.ensures.took.payloads c.in_ok-history.ensures.buckets (omega (arith, c.in_ok-history.ensures.count)) c.in-Ok.ensures.took.took in
     let is = took_is c.args.settings.now.buckets c.in_ok-history.history.last c.in_ok-history.history.count c.in-Ok.ensures.took.payloads c.visit.new.visitor c.in_ok-history.ensures.last took in
-    let last = ap (λ (h : History). h.last) c.history.view_is in
     let many : c.in_ok-lengths.lengths.items ≡ map (λ (bucket : Bucket). bucket.durable) c.in_ok-buckets.buckets.items = c.in_ok-lengths.ensures ∙ ap (map (λ (bucket : Bucket). bucket.durable)) c.deref.ensures.value in
-    let below = c.is_below.ensures.0 (search rules) in
-    drum_is c.args.base c.args.settings.now c.in-Ok.manifest _ _ c.in_ok-buckets.buckets.items c.requires.base c.requires.settings (subst (IsCommit c.args.settings.now.buckets) (sym last) is) c.in_ok-open_fronts.ensures.judged c.in_ok-open_fronts.ensures.entries
+    drum_is c.args.base c.args.settings.now c.in-Ok.manifest _ _ c.in_ok-buckets.buckets.items c.requires.base c.requires.settings is c.in_ok-open_fronts.ensures.judged c.in_ok-open_fronts.ensures.entries
     (c.in-Ok.ensures.journal.0 ∙ c.number-f.ensures.value) c.in-Ok.ensures.journal.1 (omega (arith, c.min-cuts.ensures, c.end.ensures)) c.in_ok-buckets.ensures.count c.in_ok-buckets.ensures.opened
-    (subst (λ (x : List ℕ). IsBelow x (map (λ (bucket : Bucket). bucket.durable) c.in_ok-buckets.buckets.items)) c.deref-2.ensures.value (subst (λ (y : List ℕ). IsBelow c.deref-2.result.now y) (c.deref-3.ensures.value ∙ many) below))
+    (subst (λ (y : List ℕ). IsBelow c.visit.new.visitor.last.cut y) many c.in_ok-check_cuts.ensures.within.lists)
 
 pub returns-clause-long : goal.returns-clause-long
-returns-clause-long g c = λ now tells_now.
+returns-clause-long g c = λ now tells_after.
     let tell = g.S.Store.snapshot in
     let law = g.met.S.Store.is_consistent in
+    let tells_now = sym c.in_ok-check_cuts.ensures.same ∙ tells_after in
     let mid = tells_from (OpensBelow c.args.base _ c.args.settings.now.buckets) _ _ now c.in_ok-buckets.ensures.files tells_now in
     let mid_told = sym c.in_ok-open_fronts.ensures.same ∙ mid.1 in
     let old = told_from c.number-f.result IsOpened _ _ mid.0 c.in-Ok.ensures.changes mid_told in
@@ -255,10 +268,9 @@ returns-clause-long g c = λ now tells_now.
     let read = c.in-Ok.ensures.records files tells found.0 found.1 in
     let took = took_commits c.args.settings.now.buckets 0 c.in_ok-history.history c.visit.new.visitor c.in-Ok.ensures.took.payloads c.in_ok-history.ensures.buckets (omega (arith, c.in_ok-history.ensures.count)) c.in-Ok.ensures.took.took in
     let is = took_is c.args.settings.now.buckets c.in_ok-history.history.last c.in_ok-history.history.count c.in-Ok.ensures.took.payloads c.visit.new.visitor c.in_ok-history.ensures.last took in
-    let last = ap (λ (h : History). h.last.side) c.history.view_is in
     let ends = read.2 mid.0 ((law c.visit.new.store).told mid.0 mid_told) in
     let stays = below_same c.args.base _ c.args.settings.now.buckets c.in-Ok.manifest.file mid.0 now mid.2 (omega (arith, c.in-Ok.ensures.journal.0, c.number-f.ensures.value)) in
-    long_is c.args.base c.args.settings.now c.in-Ok.manifest _ _ c.in_ok-buckets.buckets.items mid.0 now (omega (arith, is.side, last)) (c.in_ok-open_fronts.ensures.has mid.0 mid_told) mid.2
+    long_is c.args.base c.args.settings.now c.in-Ok.manifest _ _ c.in_ok-buckets.buckets.items mid.0 now (omega (arith, is.side)) (c.in_ok-open_fronts.ensures.has mid.0 mid_told) mid.2
     (omega (arith, ends_within c.in-Ok.manifest.end (mid.0 c.in-Ok.manifest.file) found.0 ends, ap length stays)) (c.in_ok-buckets.ensures.long now tells_now)
 
 -- ---- the book
@@ -276,15 +288,15 @@ returns-clause-holds g c = λ files tells book stands.
     let changed = rw tells at c.in-Ok.ensures.changes in
     let step = subst (λ (n : ℕ). ChangesFile n IsOpened files changed.0) c.number-f.ensures.value changed.2 in
     let mid_told = c.in_ok-open_fronts.ensures.same ∙ changed.1 in
-    let last = ap (λ (h : History). h.last) c.history.view_is ∙ told.last_is ∙ ap (λ (l : List Commit). last_commit (first_commit c.args.settings.now.buckets) l) (sym same) in
-    let count = ap (λ (h : History). h.count) c.history.view_is in
+    let last = told.last_is ∙ ap (λ (l : List Commit). last_commit (first_commit c.args.settings.now.buckets) l) (sym same) in
     let few : length told.commits ≤ c.in-Ok.manifest.end = omega (arith, read.0, few_commits told.commits, ap (λ (ps : List (List ℕ)). length (records_text ps)) told.payloads_are) in
     let synced = left_now _ _ _ (law c.open_fronts.new.store) c.in_ok-open_fronts.ensures.stops in
     let kept = left_now _ _ _ (law c.open_buckets.new.store) c.in_ok-buckets.ensures.stops in
-    holds_is c.args.base c.args.settings.now c.in-Ok.manifest _ _ c.in_ok-buckets.buckets.items (tell c.open_fronts.new.store).images (tell c.open_buckets.new.store).images files changed.0 book stands step kept
+    subst (λ (s : Snapshot). Holds s.images (opened_drum c.args.base c.args.settings.now c.in-Ok.manifest c.visit.new.visitor.last c.min-cuts.result c.in_ok-buckets.buckets.items) book) (sym (ap tell c.in_ok-check_cuts.ensures.idle))
+    (holds_is c.args.base c.args.settings.now c.in-Ok.manifest _ _ c.in_ok-buckets.buckets.items (tell c.open_fronts.new.store).images (tell c.open_buckets.new.store).images files changed.0 book stands step kept
     (c.in-Ok.ensures.journal.0 ∙ c.number-f.ensures.value) (λ image left. read.2 image (synced image left)) last
-    (omega (arith, count, told.counted, few, c.end.ensures, c.end.type_inv, c.min-cuts.ensures, ap (λ (l : List Commit). length l) same))
-    c.in_ok-open_fronts.ensures.judged (c.in_ok-open_fronts.ensures.committed changed.0 changed.1) c.in_ok-buckets.ensures.count c.in_ok-buckets.ensures.opened (c.in_ok-buckets.ensures.holds changed.0 mid_told)
+    (omega (arith, told.counted, few, c.end.ensures, c.end.type_inv, c.min-cuts.ensures, ap (λ (l : List Commit). length l) same))
+    c.in_ok-open_fronts.ensures.judged (c.in_ok-open_fronts.ensures.committed changed.0 changed.1) c.in_ok-buckets.ensures.count c.in_ok-buckets.ensures.opened (c.in_ok-buckets.ensures.holds changed.0 mid_told))
 
 -- ---- no damage
 pub returns-clause-sane : goal.returns-clause-sane
@@ -295,18 +307,14 @@ returns-clause-sane g c = λ files tells f at.
     (took_commits c.args.settings.now.buckets 0 c.in_ok-history.history c.visit.new.visitor found.0 c.in_ok-history.ensures.buckets (omega (arith, c.in_ok-history.ensures.count)) read.1) in
     let changed = rw tells at c.in-Ok.ensures.changes in
     let step = subst (λ (n : ℕ). ChangesFile n IsOpened files changed.0) c.number-f.ensures.value changed.2 in
-    let last = ap (λ (h : History). h.last) c.history.view_is ∙ told.last_is in
     let many : c.in_ok-lengths.lengths.items ≡ map (λ (bucket : Bucket). bucket.durable) c.in_ok-buckets.buckets.items = c.in_ok-lengths.ensures ∙ ap (map (λ (bucket : Bucket). bucket.durable)) c.deref.ensures.value in
     let end : Commit = last_commit (first_commit c.args.settings.now.buckets) told.commits in
-    let are = whole_of c.args.base c.args.settings.now files changed.0 _ end c.in_ok-buckets.buckets.items last step c.in_ok-buckets.ensures.count c.in_ok-buckets.ensures.opened (c.in_ok-buckets.ensures.found changed.0 (c.in_ok-open_fronts.ensures.same ∙ changed.1)) in
-    let under = c.is_below.ensures.0 (search rules) in
-    let cut : c.deref-2.result.now ≡ (last_commit (first_commit c.args.settings.now.buckets) told.commits).cut = c.deref-2.ensures.value ∙ ap (λ (x : Commit). x.cut) last in
-    let below = subst (λ (x : List ℕ). IsBelow x (map (λ (bucket : Bucket). bucket.durable) c.in_ok-buckets.buckets.items)) cut (subst (λ (y : List ℕ). IsBelow c.deref-2.result.now y) (c.deref-3.ensures.value ∙ many) under) in
+    let are = whole_of c.args.base c.args.settings.now files changed.0 _ end c.in_ok-buckets.buckets.items told.last_is step c.in_ok-buckets.ensures.count c.in_ok-buckets.ensures.opened (c.in_ok-buckets.ensures.found changed.0 (c.in_ok-open_fronts.ensures.same ∙ changed.1)) in
     undamaged c.args.base c.args.settings.now files told.commits end f at
     (record {
       manifest = told.has;
       last_is = refl;
-      fronts = subst (λ (x : Commit). HasFronts c.args.base x files) last (fronts_back c.args.base _ files changed.0 step (c.in_ok-open_fronts.ensures.has changed.0 changed.1));
+      fronts = subst (λ (x : Commit). HasFronts c.args.base x files) told.last_is (fronts_back c.args.base _ files changed.0 step (c.in_ok-open_fronts.ensures.has changed.0 changed.1));
       buckets = λ b within. let one = are.whole b within in (one.runs, one.has, one.texts);
-      reached = below_reached c.args.base c.args.settings.now files end c.in_ok-buckets.buckets.items no_bucket end are below;
+      reached = within_reached c.args.base c.args.settings.now files end c.in_ok-buckets.buckets.items no_bucket end are (within_end _ _ _ _ many told.last_is c.in_ok-check_cuts.ensures.within);
     })

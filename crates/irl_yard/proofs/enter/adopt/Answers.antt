@@ -8,6 +8,7 @@ use Rattle.irl_disk.proofs.Stretches.{left_now, widens_by}
 use Rattle.irl_journal.specs.Format.{HasRecords}
 use Rattle.irl_bay.specs.Holding.{TellsBy}
 use Rattle.irl_bay.specs.Damage.{IsAdopted}
+use Rattle.irl_bay.proofs.LiveJournals.{adopted_wider}
 use Rattle.irl_yard.specs.StoreFiles.{head_file, urls_base}
 use Rattle.irl_yard.specs.Head.{head_bytes}
 use Rattle.irl_yard.specs.Opening.{Agrees}
@@ -35,9 +36,10 @@ returns-in-Ok-clause-holds g c = λ files told state has.
       rest = λ image left.
           let from = left_now (tells c.sync_rest.new.store) (tells c.adopt.new.store) _ (g.met.S.Store.is_consistent c.adopt.new.store) c.adopt.ensures.stops image left in
           let was = left_now (tells c.args.store.now) (tells c.sync_rest.new.store) _ (g.met.S.Store.is_consistent c.sync_rest.new.store) c.sync_rest.ensures.stops from.0 from.1 in
+          let opened = adopted_wider urls_base settings.buckets from.0 image from.2 in
           rest_has c.in-Ok.urls settings files image same
-          (subst (λ (file : List ℕ). HasRecords file (head_bytes settings ∷ [])) (sym (from.2.others head_file (head_no_journal settings.buckets small))) (c.requires.kept from.0 was))
-          (λ f is. from.2.others f (rest_no_journal settings.buckets f small is) ∙ c.in_ok-sync_rest.ensures.synced files told from.0 from.1 f is)
+          (subst (λ (file : List ℕ). HasRecords file (head_bytes settings ∷ [])) (sym (opened.others head_file (head_no_journal settings.buckets small))) (c.requires.kept from.0 was))
+          (λ f is. opened.others f (rest_no_journal settings.buckets f small is) ∙ c.in_ok-sync_rest.ensures.synced files told from.0 from.1 f is)
           made.crawl made.pairs;
     })
 

@@ -1,4 +1,4 @@
-use Rattle.std.proofs.Common.{◌≡◌, ◌≢◌, ◌∙◌, ◌≤◌, Some, Option, ℕ, List, [], ◌∷◌, refl, sym, ap, subst}
+use Rattle.std.proofs.Common.{◌≡◌, ◌≢◌, ◌∙◌, ◌≤◌, Some, Option, ℕ, List, [], ◌∷◌, refl, sym, ap, subst, arith}
 use Rattle.irl_offer.specs.declared.settings.Settings.{Settings}
 use Rattle.irl_offer.specs.declared.offer.Rule.TheVariants.{Keep}
 use Rattle.irl_model.specs.Book.{blank_book}
@@ -13,7 +13,7 @@ use Rattle.irl_journal.specs.Format.{HasRecords}
 use Rattle.irl_yard.specs.StoreFiles.{head_file, crawl_file}
 use Rattle.irl_yard.specs.Entering.{GainsFirst, HasGround, KeepsBlank}
 use Rattle.irl_yard.specs.declared.open_fault.OpenFault.TheVariants.{Failed}
-use Rattle.irl_yard.proofs.Rest.{few, rest_has, rest_no_head, rest_no_journal}
+use Rattle.irl_yard.proofs.Rest.{few, rest_has, one_side, rest_no_head, rest_no_journal}
 use Rattle.irl_yard.proofs.Making.{blank_both, if_err, of_err, told_on, crawl_other, pairs_other, head_no_urls, no_record_yet}
 use Rattle.irl_yard.proofs.Grounds.{found_ground}
 use Rattle.irl_yard.proofs.Entering.{bay_blank, bay_told, same_blank, same_enters, made_steps, made_told, written_steps, written_told}
@@ -161,7 +161,7 @@ returns-clause-holds g c =
           let none = c.in_ok-has_others.ensures.none c.if-branch.false told.0 (sym (c.sync_rest.ensures.same ∙ c.has_others.ensures.same) ∙ told.1) in
           rest_has urls settings told.0 image same
           (subst (λ (bytes : List ℕ). HasRecords (image head_file) (bytes ∷ [])) c.in_ok-frame.ensures (c.in_ok-write_head.ensures.kept image left))
-          (λ f is. from.2.others f (rest_no_head settings.buckets f is) ∙ was.2.others f (rest_no_journal settings.buckets f small is) ∙ c.in_ok-sync_rest.ensures.synced told.0 (sym c.sync_rest.ensures.same ∙ told.1) was.0 was.1 f is)
+          (λ f is. from.2.others f (rest_no_head settings.buckets f is) ∙ was.2.others f (λ journal. rest_no_journal settings.buckets f small is (one_side 0 settings.buckets f (omega arith) journal)) ∙ c.in_ok-sync_rest.ensures.synced told.0 (sym c.sync_rest.ensures.same ∙ told.1) was.0 was.1 f is)
           (none crawl_file (crawl_other)) (λ f is. none f (pairs_other settings.buckets f small is));
     }
 

@@ -77,7 +77,7 @@ type Damage = (u16, Change<'static>, (u16, u64));
 // Of the store in which the row was judged and waits once more, whose files have 106 bytes (the head), 47 (the manifest),
 // 32 (the live side of the cache, 0102), 144 (the judged offers), 42 (their texts), 87 (the bucket's live journal, 0600) and
 // 42 (its texts).
-const OF_ONE_RUN: [Damage; 22] = [
+const OF_ONE_RUN: [Damage; 24] = [
     (0, Cut(105), (0, 0)),
     (0, Cut(6), (0, 0)),
     // Arrays of two offers, where three stand in one record.
@@ -89,6 +89,9 @@ const OF_ONE_RUN: [Damage; 22] = [
     (100, Put(6, b"\x03"), (102, 32)),
     (100, Put(14, b"\x04"), (103, 144)),
     (100, Put(30, b"\x2B"), (104, 42)),
+    // The cut counts an offer more than are judged.
+    (100, Put(14, b"\x02"), (100, 0)),
+    (100, Put(38, b"\x04"), (100, 0)),
     (102, Cut(31), (102, 31)),
     (103, Cut(100), (103, 100)),
     (104, Cut(41), (104, 41)),
@@ -106,7 +109,7 @@ const OF_ONE_RUN: [Damage; 22] = [
 
 // After a second merge the manifest's second record stands at 46, side 0 is live again, and its journal's second record
 // stands at 86.
-const OF_TWO_RUNS: [Damage; 11] = [
+const OF_TWO_RUNS: [Damage; 12] = [
     (100, Put(38, b"\x07"), (100, 46)),
     (100, Put(51, b"\x06"), (100, 46)),
     // The layout of one side behind that of two.
@@ -117,6 +120,7 @@ const OF_TWO_RUNS: [Damage; 11] = [
     (100, Put(68, b"\x01"), (100, 46)),
     (100, Put(76, b"\x29"), (100, 46)),
     (100, Put(84, b"\x02"), (100, 46)),
+    (100, Put(84, b"\x07"), (100, 46)),
     (101, Cut(31), (101, 31)),
     (110, Cut(172), (110, 86)),
     (110, Put(91, b"\x03"), (110, 86)),

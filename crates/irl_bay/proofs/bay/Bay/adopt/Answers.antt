@@ -1,7 +1,7 @@
 use Rattle.irl_disk.specs.Disk.{Files}
 use Rattle.irl_disk.proofs.Stretches.{widens}
 use Rattle.irl_bay.specs.Standing.{Stands}
-use Rattle.irl_bay.proofs.Adopted.{stands_adopted}
+use Rattle.irl_bay.proofs.LiveJournals.{stands_adopted}
 use Rattle.irl_bay.proofs.Whole.{stands_whole}
 use Rattle.irl_bay.proofs.bay.Bay.adopt.Goals as goal
 

@@ -33,12 +33,12 @@ make-requires-in-loop-b-clause-short g c = λ files told.
 pub returns-in_err-make-clause-files : goal.returns-in_err-make-clause-files
 returns-in_err-make-clause-files g c =
     told_more c.args.base c.args.settings.now.buckets _ _ _ c.loop-b.invariant.made.files
-    (told_torn c.args.base c.args.settings.now.buckets (file_of c.args.base 0 (Journal 0 c.loop-b.b)) _ _ (inr (0, c.loop-b.b, omega arith, c.loop-b-test.true, refl)) c.in_err-make.ensures.err)
+    (told_torn c.args.base c.args.settings.now.buckets (file_of c.args.base 0 (Journal 0 c.loop-b.b)) _ _ (inr (c.loop-b.b, c.loop-b-test.true, refl)) c.in_err-make.ensures.err)
 
 pub returns-in_err-make-clause-stops : goal.returns-in_err-make-clause-stops
 returns-in_err-make-clause-stops g c =
     let tells = g.S.Store.snapshot in
-    leaves_more c.args.base c.args.settings.now.buckets (file_of c.args.base 0 (Journal 0 c.loop-b.b)) (tells c.args.store.now) (tells c.loop-b.store) (tells c.make-in-loop-b.new.store) (g.met.S.Store.is_consistent c.loop-b.store) (inr (0, c.loop-b.b, omega arith, c.loop-b-test.true, refl)) c.loop-b.invariant.made.stops c.make-in-loop-b.ensures.stops
+    leaves_more c.args.base c.args.settings.now.buckets (file_of c.args.base 0 (Journal 0 c.loop-b.b)) (tells c.args.store.now) (tells c.loop-b.store) (tells c.make-in-loop-b.new.store) (g.met.S.Store.is_consistent c.loop-b.store) (inr (c.loop-b.b, c.loop-b-test.true, refl)) c.loop-b.invariant.made.stops c.make-in-loop-b.ensures.stops
 
 pub loop-b-preserved : goal.loop-b-preserved
 loop-b-preserved g c =
