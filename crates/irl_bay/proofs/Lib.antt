@@ -22,6 +22,7 @@ pub mod JudgedBytes
 pub mod JudgedHeld
 pub mod JudgedLists
 pub mod JudgedMore
+pub mod JudgedParts
 pub mod JudgedReading
 pub mod Judges
 pub mod Keeping

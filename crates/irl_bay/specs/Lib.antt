@@ -8,6 +8,7 @@ pub mod Finding
 pub mod Holding
 pub mod Judging
 pub mod JudgedEntries
+pub mod JudgedParts
 pub mod JudgedSpoilt
 pub mod Making
 pub mod Merging

@@ -1,9 +1,8 @@
 ghost use Rattle.std.specs.Prelude.{◌≡◌, ◌+◌, ◌-◌, ◌*◌, ◌≤◌, ◌<◌, ◌^◌, ℕ, None, Some, min, take, drop, length, true};
 ghost use Rattle.std.specs.Prelude.{IfOk, IfSome, IsErrOf, slice_get};
-ghost use Rattle.std.specs.List.{flat_map, AllByRecursion};
+ghost use Rattle.std.specs.List.{flat_map};
 ghost use Rattle.std.specs.Option.{ForSome};
 ghost use Rattle.irl_offer.specs.Faults.{HasCause};
-ghost use Rattle.irl_offer.specs.Limits.{max_text};
 ghost use Rattle.irl_model.specs.Book.{Book, gone, judged as judged_of};
 ghost use Rattle.irl_disk.specs.Images.{LeavesSame};
 ghost use Rattle.irl_disk.specs.Taken.{TakesAmong, TakesOnly};
@@ -11,16 +10,15 @@ ghost use Rattle.irl_bay.specs.declared.layout.judged_entry.JudgedEntry.{JudgedE
 ghost use Rattle.irl_bay.specs.Drum.{judged_front, texts_front};
 ghost use Rattle.irl_bay.specs.Holding.{Holds, IsLong};
 ghost use Rattle.irl_bay.specs.JudgedEntries.{entry_spelling};
-ghost use Rattle.irl_bay.specs.JudgedEntries.{with_text as judged_with_text, with_texts as judged_with_texts};
 ghost use Rattle.irl_bay.specs.JudgedEntries.{first_place as place_of_first, texts_length as length_of_texts};
 ghost use Rattle.irl_bay.specs.JudgedSpoilt.{FitsBehind, FitEach, NoneFits, IsJudgedSpoiltAt, IsJudgedFile};
 
 use crate::bay::Bay;
+use crate::judged_part::JudgedPart;
 use crate::layout::{BayFile, JudgedEntry};
 use crate::reading::read_part;
 use irl_disk::Store;
-use irl_offer::{Fault, Judged, Offer, Text, bucket_of};
-use std::alloc::{AllocError, Global};
+use irl_offer::{Fault, Judged, bucket_of};
 
 impl Bay {
     /// So many judged offers, or as many as there are, from the one with this place in the judged order on. It reads
@@ -30,15 +28,15 @@ impl Bay {
         store: &mut S,
         i: u64,
         most: u32,
-    ) -> Result<Vec<Judged>, Fault>
+    ) -> Result<JudgedPart, Fault>
         requires sound { self.now.is_sound ≡ true }
         requires place { i < self.now.last.judged }
         requires long { ForSome (S.snapshot store.old).files (λ files. IsLong self.now files) }
-        ensures count { IfOk result (λ found. length found.items ≡ min most (self.now.last.judged - i)) }
+        ensures count { IfOk result (λ found. length found ≡ min most (self.now.last.judged - i)) }
         // They are those of the book.
         ensures value { IfOk result (λ found. ForSome (S.snapshot store.old).files (λ _. (book : Book) →
             Holds (S.snapshot store.old).images self.now book →
-            found.items ≡ take most (drop (i - gone book) (judged_of book)))) }
+            found ≡ take most (drop (i - gone book) (judged_of book)))) }
         // Damage is named only where it is, and never over files that stand for a book.
         ensures damaged { (f at : ℕ) → IsErrOf result (Fault.Damaged f at) →
             ForSome (S.snapshot store.old).files (λ files. IsJudgedSpoiltAt self.now files f at) }
@@ -51,11 +49,10 @@ impl Bay {
         ensures taken { TakesAmong (IsJudgedFile self.now) (S.taken store.old) (S.taken store.new) }
         ensures cause { HasCause (IsErrOf result Fault.Failed) (S.faults store.old) (S.faults store.new) }
     {
-        let alloc = self.alloc;
-        let count = u64::from(most).min(self.judged_len() - i);
+        let count = u64::from(most).min(self.last.judged - i);
         let entries = self.entries_from(store, i, count)?;
         let texts = self.texts_of(store, &entries)?;
-        Ok(with_texts(alloc, &entries, &texts)?)
+        Ok(JudgedPart::new(entries, texts))
     }
 
     /// A judged offer, by its place in the judged order.
@@ -79,7 +76,8 @@ impl Bay {
         ensures taken { TakesAmong (IsJudgedFile self.now) (S.taken store.old) (S.taken store.new) }
         ensures cause { HasCause (IsErrOf result Fault.Failed) (S.faults store.old) (S.faults store.new) }
     {
-        let mut found = self.judged_from(store, i, 1)?;
+        let part = self.judged_from(store, i, 1)?;
+        let mut found = part.to_vec(self.alloc)?;
         Ok(found.swap_remove(0))
     }
 
@@ -202,42 +200,4 @@ fn texts_length(entries: &[JudgedEntry]) -> u64
     ensures { result ≡ length_of_texts entries.now }
 {
     entries.iter().map(|entry| u64::from(entry.aux_len)).sum()
-}
-
-// The judged offers of entries whose texts stand one behind the other.
-fn with_texts(
-    alloc: Global,
-    entries: &[JudgedEntry],
-    texts: &[u8],
-) -> Result<Vec<Judged>, AllocError>
-    requires length { length texts.now ≡ length_of_texts entries.now }
-    requires each { AllByRecursion (λ entry. entry.aux_len ≤ max_text) entries.now }
-    ensures { IfOk result (λ found. found.items ≡ judged_with_texts entries.now texts.now) }
-{
-    let mut found = Vec::with_capacity(alloc, entries.len())?;
-    let mut rest = texts;
-    for entry in entries {
-        let (text, behind) = rest.split_at(entry.aux_len as usize);
-        found.push_reserved(with_text(alloc, entry, text)?);
-        rest = behind;
-    }
-    Ok(found)
-}
-
-// The judged offer of an entry with this text.
-fn with_text(alloc: Global, entry: &JudgedEntry, text: &[u8]) -> Result<Judged, AllocError>
-    requires { length text.now ≤ max_text }
-    ensures { IfOk result (λ one. one ≡ judged_with_text entry.now text.now) }
-{
-    Ok(Judged {
-        bucket: u32::from(entry.bucket),
-        offer: Offer {
-            op: entry.op,
-            key: entry.key,
-            value: entry.value,
-            from: entry.from,
-            aux: Text::from_bytes(alloc, text)?,
-        },
-        verdict: entry.verdict,
-    })
 }

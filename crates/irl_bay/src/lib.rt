@@ -10,6 +10,7 @@ mod found;
 mod gathering;
 mod history;
 mod judged;
+mod judged_part;
 mod laws;
 mod layout;
 mod merge;
@@ -21,6 +22,7 @@ mod tally;
 mod telling;
 
 pub use bay::Bay;
+pub use judged_part::{JudgedPart, JudgedRef};
 pub use laws::{
     a_bays_files_are_its_own, a_blank_bay_stands, one_book, opening_keeps_the_book,
     other_files_are_free, what_is_held_stands,

@@ -18,8 +18,9 @@ ghost use Rattle.irl_intake.specs.Feeding.{moment_of, Moves, Stays, Feeds, Stran
 ghost use Rattle.irl_intake.specs.Schedule.{IsDue, none_more, one_more, one_more_at, uneven_flush};
 
 use irl_array::Array;
+use irl_bay::JudgedPart;
 use irl_disk::Store;
-use irl_offer::{Fault, Judged, Offer, Settings, bucket_of};
+use irl_offer::{Fault, Offer, Settings, bucket_of};
 use irl_yard::Yard;
 use std::alloc::{AllocError, Global};
 
@@ -472,14 +473,14 @@ impl<S: Store> Intake<S> {
 
     /// So many judged offers, or as many as there are, from the one with this place in the judged order on. It changes
     /// nothing; `Failed` ends the soundness.
-    pub fn judged_from(&mut self, i: u64, most: u32) -> Result<Vec<Judged>, Fault>
+    pub fn judged_from(&mut self, i: u64, most: u32) -> Result<JudgedPart, Fault>
         requires sound { IsSound self.old.yard.parts }
         requires place { i < self.old.yard.parts.urls.last.judged }
-        ensures count { IfOk result (λ found. length found.items ≡ min most (self.old.yard.parts.urls.last.judged - i)) }
+        ensures count { IfOk result (λ found. length found ≡ min most (self.old.yard.parts.urls.last.judged - i)) }
         // They are those of the state.
         ensures value { IfOk result (λ found. ForSome (S.snapshot self.old.yard.store).files (λ _. (state : State) →
             HoldsState (S.snapshot self.old.yard.store).images self.old.yard.parts state →
-            found.items ≡ take most (drop (i - gone state.urls) (judged_of state.urls)))) }
+            found ≡ take most (drop (i - gone state.urls) (judged_of state.urls)))) }
         ensures holds { (state : State) → HoldsState (S.snapshot self.old.yard.store).images self.old.yard.parts state →
             HoldsState (S.snapshot self.new.yard.store).images self.new.yard.parts state }
         ensures fed { Feeds 0 none_more []

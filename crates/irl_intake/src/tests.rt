@@ -95,7 +95,7 @@ fn all_judged(alloc: Global, intake: &mut Intake<MemStore>) -> Result<Vec<Judged
     if !intake.is_sound() || intake.judged_len() == 0 {
         return Ok(Vec::new(alloc));
     }
-    intake.judged_from(0, 10_000)
+    Ok(intake.judged_from(0, 10_000)?.to_vec(alloc)?)
 }
 
 // The text of each, with the letter of its verdict.

@@ -1,29 +1,35 @@
 ghost use Rattle.std.specs.Prelude.{◌≡◌, ◌++◌, IfOk, OnOk};
+ghost use Rattle.irl_bay.specs.JudgedParts.{as_judged};
 ghost use Rattle.irl_top.specs.Printed.{judged_line, judged_lines, line_if_unique};
 
 use crate::line::LineKind;
-use irl_offer::{Judged, Verdict};
+use irl_bay::{JudgedPart, JudgedRef};
+use irl_offer::Verdict;
 use irl_tuple::push_verdict;
 use std::alloc::{AllocError, Global};
 
 /// What is printed of judged offers, which lines of a kind were read as.
-pub fn judged_text(alloc: Global, kind: LineKind, judged: &[Judged]) -> Result<Vec<u8>, AllocError>
+pub fn judged_text(
+    alloc: Global,
+    kind: LineKind,
+    judged: &JudgedPart,
+) -> Result<Vec<u8>, AllocError>
     ensures { IfOk result (λ text. text.items ≡ judged_lines kind judged.now) }
 {
     let mut text = Vec::new(alloc);
-    for one in judged {
-        push_judged(kind, one, &mut text)?;
+    for i in 0..judged.len() {
+        push_judged(kind, &judged.get(i), &mut text)?;
     }
     Ok(text)
 }
 
 // Puts behind a text what is printed of one.
-fn push_judged(kind: LineKind, one: &Judged, text: &mut Vec<u8>) -> Result<(), AllocError>
-    ensures { OnOk result (text.new.items ≡ text.old.items ++ judged_line kind one.now) }
+fn push_judged(kind: LineKind, one: &JudgedRef<'_>, text: &mut Vec<u8>) -> Result<(), AllocError>
+    ensures { OnOk result (text.new.items ≡ text.old.items ++ judged_line kind (as_judged one.now)) }
 {
     match kind {
-        LineKind::Text => push_if_unique(one.offer.aux.bytes(), one.verdict, text),
-        LineKind::Tuple => push_verdict(one, text),
+        LineKind::Text => push_if_unique(one.aux, one.verdict, text),
+        LineKind::Tuple => push_verdict(one.key, one.verdict, one.aux, text),
     }
 }
 

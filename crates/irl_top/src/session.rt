@@ -12,10 +12,11 @@ ghost use Rattle.irl_top.specs.declared.ending.Ending.TheVariants.{NoMemory as N
 use crate::Ending;
 use crate::line::LineKind;
 use crate::printing::judged_text;
+use irl_bay::JudgedPart;
 use irl_disk::Store;
 use irl_intake::Intake;
 use irl_io::Sink;
-use irl_offer::{Judged, Offer, bucket_of};
+use irl_offer::{Offer, bucket_of};
 use std::alloc::Global;
 
 /// How many judged offers are printed at once.
@@ -122,7 +123,7 @@ fn print_new<O: Sink, S: Store>(
 fn print_piece<O: Sink>(
     alloc: Global,
     kind: LineKind,
-    judged: &[Judged],
+    judged: &JudgedPart,
     output: &mut O,
 ) -> Result<(), Ending>
     ensures ok { OnOk result (Appends (O.written output.old) (O.written output.new) (judged_lines kind judged.now)) }

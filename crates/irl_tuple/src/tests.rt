@@ -1,9 +1,5 @@
-ghost use Rattle.std.specs.Prelude.{◌≤◌, length};
-ghost use Rattle.irl_offer.specs.Limits.{max_text};
-
 use super::*;
-use irl_offer::{Judged, MAX_TEXT, Offer, Op, Text, Verdict};
-use std::alloc::{AllocError, Global};
+use irl_offer::{MAX_TEXT, Op, Verdict};
 use std::test::Fail;
 
 // A line with its operation, key, value and text.
@@ -169,35 +165,12 @@ const VERDICTS: [(u64, Option<Verdict>, &[u8], &[u8]); 9] = [
     (5, None, b"x", b""),
 ];
 
-fn judged(
-    alloc: Global,
-    key: u64,
-    verdict: Option<Verdict>,
-    aux: &[u8],
-) -> Result<Judged, AllocError>
-    requires { length aux.now ≤ max_text }
-{
-    let aux = Text::from_bytes(alloc, aux)?;
-    Ok(Judged {
-        bucket: 0,
-        offer: Offer {
-            op: Op::Both,
-            key,
-            value: 9,
-            from: 0,
-            aux,
-        },
-        verdict,
-    })
-}
-
 #[test]
 fn a_verdict_has_its_line(rt: HostRuntime) -> Result<(), Fail> {
     let mut out = Vec::from_slice(rt.alloc(), b"before\n")?;
     for (key, verdict, aux, line) in VERDICTS {
-        assert!(rt; aux.len() <= MAX_TEXT);
         let start = out.len();
-        push_verdict(&judged(rt.alloc(), key, verdict, aux)?, &mut out)?;
+        push_verdict(key, verdict, aux, &mut out)?;
         assert!(rt; start <= out.len());
         assert_eq!(rt; &out[start..], line);
     }
@@ -210,10 +183,7 @@ fn ten_thousand_keys_are_read_again(rt: HostRuntime) -> Result<(), Fail> {
     for i in 0..10_000u64 {
         let key = i * 1_844_674_407_370_955;
         let mut line = Vec::new(rt.alloc());
-        push_verdict(
-            &judged(rt.alloc(), key, Some(Verdict::Known(i)), b"a b")?,
-            &mut line,
-        )?;
+        push_verdict(key, Some(Verdict::Known(i)), b"a b", &mut line)?;
         // `known KEY VALUE AUX` and LF are `b KEY VALUE AUX` behind four bytes.
         assert!(rt; line.len() > 6 && line.len() < MAX_TEXT);
         let end = line.len() - 1;

@@ -1,9 +1,9 @@
 ghost use Rattle.std.specs.Prelude.{◌≡◌, ◌<◌, ◌++◌, ◌∷◌, [], take, vec_len, OnOk, OnErr};
 ghost use Rattle.std.specs.Char.{digit_char};
 ghost use Rattle.irl_tuple.specs.Forms.{spaced};
-ghost use Rattle.irl_tuple.specs.Verdicts.{hex_digits, verdict_words, told_line, verdict_line};
+ghost use Rattle.irl_tuple.specs.Verdicts.{hex_digits, verdict_words, told_line};
 
-use irl_offer::{Judged, Verdict};
+use irl_offer::Verdict;
 use itoa::Buffer;
 use std::alloc::AllocError;
 
@@ -13,19 +13,7 @@ const KEY_DIGITS: u32 = 16;
 /// Puts the line of a verdict behind the others: `unique KEY`, `absent KEY` or `known KEY VALUE`, KEY in 16 lower-case
 /// hexadecimal digits, then a space and the offer's text where it isn't empty, and a line feed. An offer that only updates has
 /// no verdict, and nothing is put. After want of memory all is as before.
-pub fn push_verdict(judged: &Judged, out: &mut Vec<u8>) -> Result<(), AllocError>
-    ensures ok { OnOk result (out.new.items ≡ out.old.items ++ verdict_line judged.now) }
-    ensures err { OnErr result (out.new.items ≡ out.old.items) }
-{
-    push_told(
-        judged.offer.key,
-        judged.verdict,
-        judged.offer.aux.bytes(),
-        out,
-    )
-}
-
-fn push_told(
+pub fn push_verdict(
     key: u64,
     verdict: Option<Verdict>,
     aux: &[u8],

@@ -25,6 +25,7 @@ ghost use Rattle.irl_yard.specs.Holding.{IsSound, HoldsState, HasOneOf, HasJourn
 
 use crate::parts::Parts;
 use irl_array::Array;
+use irl_bay::JudgedPart;
 use irl_disk::Store;
 use irl_offer::{Fault, Judged, Settings};
 use std::alloc::Global;
@@ -265,15 +266,15 @@ impl<S: Store> Yard<S> {
 
     /// So many judged offers of the URLs, or as many as there are, from the one with this place in the judged order on.
     /// It changes nothing; `Failed` ends the soundness.
-    pub fn judged_from(&mut self, i: u64, most: u32) -> Result<Vec<Judged>, Fault>
+    pub fn judged_from(&mut self, i: u64, most: u32) -> Result<JudgedPart, Fault>
         requires sound { IsSound self.old.parts }
         requires place { i < self.old.parts.urls.last.judged }
         ensures count { IfOk result (λ found.
-            length found.items ≡ min most (self.old.parts.urls.last.judged - i)) }
+            length found ≡ min most (self.old.parts.urls.last.judged - i)) }
         // They are those of the state.
         ensures value { IfOk result (λ found. ForSome (S.snapshot self.old.store).files (λ _. (state : State) →
             HoldsState (S.snapshot self.old.store).images self.old.parts state →
-            found.items ≡ take most (drop (i - gone state.urls) (judged_of state.urls)))) }
+            found ≡ take most (drop (i - gone state.urls) (judged_of state.urls)))) }
         ensures holds { (state : State) → HoldsState (S.snapshot self.old.store).images self.old.parts state →
             HoldsState (S.snapshot self.new.store).images self.new.parts state }
         ensures kept { self.new.parts.urls ≡ self.old.parts.urls }

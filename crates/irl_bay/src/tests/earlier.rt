@@ -244,7 +244,7 @@ fn are_judged(store: &mut Quiet, bay: &Bay, rows: &[Row]) -> Result<bool, Fault>
     if !bay.is_sound() || bay.judged_len() == 0 {
         return Ok(false);
     }
-    let found = bay.judged_from(store, 0, 100)?;
+    let found = bay.judged_from(store, 0, 100)?.to_vec(bay.alloc)?;
     Ok(found.len() <= rows.len() && found.iter().zip(rows).all(|(one, row)| is_row(one, row)))
 }
 

@@ -5,7 +5,7 @@ ghost use Rattle.irl_bay.specs.Drum.{SomePending};
 ghost use Rattle.irl_bay.specs.Holding.{Holds};
 
 use super::{Waiting, flush, made, settings_of};
-use crate::Bay;
+use crate::{Bay, JudgedRef};
 use irl_disk::MemStore;
 use irl_model::judged;
 use irl_offer::{Fault, Judged, Offer, Op, Rule, Settings, Text};
@@ -151,14 +151,14 @@ fn take_turns(alloc: Global, kept: &mut Waiting, given: &mut Given, turns: u32) 
     Ok(())
 }
 
-fn is_same(one: &Judged, other: &Judged) -> bool {
+fn is_same(one: &JudgedRef<'_>, other: &Judged) -> bool {
     one.bucket == other.bucket
         && one.verdict == other.verdict
-        && one.offer.op == other.offer.op
-        && one.offer.key == other.offer.key
-        && one.offer.value == other.offer.value
-        && one.offer.from == other.offer.from
-        && one.offer.aux.bytes() == other.offer.aux.bytes()
+        && one.op == other.offer.op
+        && one.key == other.offer.key
+        && one.value == other.offer.value
+        && one.from == other.offer.from
+        && one.aux == other.offer.aux.bytes()
 }
 
 // How many judged offers a bay has that is opened anew, and how many of them are those of the plain program.
@@ -178,9 +178,9 @@ fn compared(
     let found = bay.judged_from(store, 0, 20_000)?;
     let expected = judged(alloc, 4, settings.rule, &given.lists, &given.cuts)?;
     let mut same = 0_usize;
-    for (i, one) in found.iter().enumerate() {
+    for i in 0..found.len() {
         if let Some(other) = expected.get(i) {
-            same = same.saturating_add(usize::from(is_same(one, other)));
+            same = same.saturating_add(usize::from(is_same(&found.get(i), other)));
         }
     }
     Ok((found.len(), same))

@@ -165,6 +165,7 @@ fn judged_at(
 
 // How many judged offers come in one piece from this one on, and the last of them.
 fn last_from(
+    alloc: Global,
     yard: &mut Yard<MemStore>,
     i: u64,
     most: u32,
@@ -172,7 +173,7 @@ fn last_from(
     if !yard.is_sound() || i >= yard.judged_len() {
         return Err(Fault::Memory);
     }
-    let found = yard.judged_from(i, most)?;
+    let found = yard.judged_from(i, most)?.to_vec(alloc)?;
     Ok((found.len(), found.last().map(seen_of)))
 }
 
@@ -233,10 +234,14 @@ fn what_was_judged_is_told_again(rt: HostRuntime) -> Result<(), Fail> {
     for (i, bucket, verdict, text) in told {
         let one = (bucket, Some(verdict), Some(text));
         assert_eq!(rt; judged_at(&mut yard, i), Ok(one), "{i}");
-        assert_eq!(rt; last_from(&mut yard, i, 1), Ok((1, Some(one))), "{i}");
+        assert_eq!(rt;
+            last_from(alloc, &mut yard, i, 1),
+            Ok((1, Some(one))),
+            "{i}"
+        );
     }
     let last = Some((1, Some(Verdict::Known(0)), Some(b'z')));
-    assert_eq!(rt; last_from(&mut yard, 1, 9), Ok((2, last)));
+    assert_eq!(rt; last_from(alloc, &mut yard, 1, 9), Ok((2, last)));
     assert!(rt; yard.is_sound());
     Ok(())
 }
@@ -271,7 +276,7 @@ fn a_failed_read_ends_the_store(rt: HostRuntime) -> Result<(), Fail> {
         let found = if is_one {
             judged_at(&mut yard, 0).err()
         } else {
-            last_from(&mut yard, 0, 9).err()
+            last_from(alloc, &mut yard, 0, 9).err()
         };
         assert_eq!(rt; found, Some(Fault::Failed));
         assert!(rt; !yard.is_sound());

@@ -1,7 +1,6 @@
 use Rattle.std.proofs.Common.{◌∙◌, ℕ, ◌+◌, List, [], inl, inr, refl, sym, subst, arith}
 use Rattle.std.specs.Io.KnownBytes.{Appends}
 use Rattle.irl_array.specs.Waiting.{Waiting}
-use Rattle.irl_offer.specs.declared.receipt.Judged.{Judged}
 use Rattle.irl_io.specs.Written.{AppendsPrefix}
 use Rattle.irl_bay.specs.Drum.{IsDrum}
 use Rattle.irl_yard.specs.declared.parts.Parts.{Parts}
@@ -57,11 +56,11 @@ returns-in_err-print_piece-clause-ends g c =
     let i = c.loop-printed.invariant in
     let h = c.in_ok-judged.ensures in
     let ending = c.in_err-print_piece.field-0.0 in
-    let found = c.in_ok-judged.judged.items in
+    let found = c.in_ok-judged.judged in
     let before = at g c.args.intake.now.yard.store c.args.intake.now.yard.parts c.args.intake.now.arrays.items c.args.output.now c.args.printed.now in
     let now = at g c.loop-printed.intake.yard.store c.loop-printed.intake.yard.parts c.loop-printed.intake.arrays.items c.loop-printed.output c.loop-printed.printed in
     let new = at g c.judged_from.new.self.yard.store c.judged_from.new.self.yard.parts c.judged_from.new.self.arrays.items c.print_piece.new.output c.loop-printed.printed in
-    let part : AppendsPrefix now.output.bytes new.output.bytes (judged_lines c.args.kind found) = subst (λ (l : List Judged). AppendsPrefix now.output.bytes new.output.bytes (judged_lines c.args.kind l)) c.deref.ensures.value c.in_err-print_piece.ensures.err in
+    let part : AppendsPrefix now.output.bytes new.output.bytes (judged_lines c.args.kind found) = c.in_err-print_piece.ensures.err in
     rw (err_is c.from_residual-in_err-print_piece.result ending c.from_residual-in_err-print_piece.ensures.1)
     (goes_on_ends c.args.kind 0 0 none_more none_more [] [] before now new ending i.reason.stays i.goes
     (ends_piece c.args.kind now new 2048 found ending (g.met.S.Store.is_consistent c.judged_from.new.self.yard.store) (subst IsDrum (sym (h.kept ∙ i.urls)) c.is_sound-is_sound.ensures.drum) h.stays c.judged_from.new.self.arrays_are (piece_plain ending c.in_err-print_piece.ensures.kinds) h.fed h.value part))
@@ -84,11 +83,11 @@ loop-printed-preserved g c =
     let i = c.loop-printed.invariant in
     let h = c.in_ok-judged.ensures in
     let k = c.in_ok-print_piece.ensures in
-    let found = c.in_ok-judged.judged.items in
+    let found = c.in_ok-judged.judged in
     let before = at g c.args.intake.now.yard.store c.args.intake.now.yard.parts c.args.intake.now.arrays.items c.args.output.now c.args.printed.now in
     let now = at g c.loop-printed.intake.yard.store c.loop-printed.intake.yard.parts c.loop-printed.intake.arrays.items c.loop-printed.output c.loop-printed.printed in
     let new = at g c.judged_from.new.self.yard.store c.judged_from.new.self.yard.parts c.judged_from.new.self.arrays.items c.print_piece.new.output (c.loop-printed.printed + c.len.result) in
-    let written : Appends now.output.bytes new.output.bytes (judged_lines c.args.kind found) = subst (λ (l : List Judged). Appends now.output.bytes new.output.bytes (judged_lines c.args.kind l)) c.deref.ensures.value k.ok in
+    let written : Appends now.output.bytes new.output.bytes (judged_lines c.args.kind found) = k.ok in
     record {
       goes = goes_on_both c.args.kind 0 0 none_more none_more [] [] before now new i.reason.stays i.goes (goes_on_piece c.args.kind now new 2048 found h.fed h.value (omega (arith, c.len.ensures)) written);
       sound = h.sound (λ e. cc);

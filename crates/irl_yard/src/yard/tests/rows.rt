@@ -152,7 +152,7 @@ fn all_judged(alloc: Global, yard: &mut Yard<MemStore>) -> Result<Vec<Judged>, F
     if !yard.is_sound() || yard.judged_len() == 0 {
         return Ok(Vec::new(alloc));
     }
-    yard.judged_from(0, 1_000)
+    Ok(yard.judged_from(0, 1_000)?.to_vec(alloc)?)
 }
 
 // Whether as many offers stand in each bucket, and all that is judged of them is what the plain program judges.

@@ -1,11 +1,13 @@
-use Rattle.std.proofs.Common.{◌≡◌, ◌∙◌, ℕ, ◌-◌, min, List, length, take, drop, Err, None, sym, ap, subst, rules}
+use Rattle.std.proofs.Common.{◌≡◌, ◌∙◌, ℕ, ◌-◌, min, List, length, take, drop, Err, None, sym, ap, subst, rules, arith}
 use Rattle.std.specs.Result.{IsErrOf}
 use Rattle.irl_offer.specs.declared.receipt.Fault.TheVariants.{Damaged}
+use Rattle.irl_bay.specs.declared.bay.Bay.TheInside.{Inside}
 use Rattle.irl_bay.specs.declared.layout.judged_entry.JudgedEntry.{JudgedEntry}
-use Rattle.irl_bay.specs.Drum.{IsDrum, texts_front}
-use Rattle.irl_bay.specs.JudgedEntries.{with_texts, texts_length, first_place}
-use Rattle.irl_bay.specs.JudgedSpoilt.{FitEach, IsSpoiltEntry}
+use Rattle.irl_bay.specs.Drum.{Drum, IsDrum, texts_front}
+use Rattle.irl_bay.specs.JudgedEntries.{texts_length, first_place}
+use Rattle.irl_bay.specs.JudgedSpoilt.{IsSpoiltEntry}
 use Rattle.irl_bay.proofs.JudgedReading.{fit_texts}
+use Rattle.irl_bay.proofs.JudgedParts.{fit_joined}
 use Rattle.irl_bay.proofs.JudgedHeld.{none_spoilt, found_held, length-with_texts}
 use Rattle.irl_bay.proofs.bay.Bay.judged_from.Given.{Over}
 use Rattle.irl_bay.proofs.bay.Bay.judged_from.Goals as goal
@@ -33,18 +35,28 @@ returns-in_err-texts-clause-damaged g c = λ f at is files told.
     let e : IsErrOf (Err c.in_err-texts.field-0.0) (Damaged f at) = search rules in
     absurd (c.in_err-texts.ensures.damaged f at e files (c.in_ok-entries.ensures.same ∙ told))
 
-pub with_texts-requires-clause-each : goal.with_texts-requires-clause-each
-with_texts-requires-clause-each g c = fit_texts c.args.self.now None c.deref-2.result.now (subst (FitEach c.args.self.now None) (sym c.deref-2.ensures.value) c.in_ok-entries.ensures.fit)
+pub new-requires : goal.new-requires
+new-requires g c =
+    let drum = c.args.self.now in
+    let fit = c.in_ok-entries.ensures.fit in
+    record {
+      long = c.in_ok-texts.ensures.length ∙ ap texts_length c.deref.ensures.value;
+      each = fit_texts drum None c.in_ok-entries.entries.items fit;
+      joined = fit_joined drum None c.in_ok-entries.entries.items fit;
+    }
+
+abbrev drum_of : Inside → Drum
+drum_of b = record { base = b.base; settings = b.settings; is_sound = b.is_sound; manifest = b.manifest; last = b.last; cuts = b.cuts; buckets = b.buckets.items }
 
 -- how many are read
-so_many : (g : Over) (c : goal.After-drop-entries-2 g) → c.min-count.result ≡ min c.args.most (c.args.self.now.last.judged - c.args.i)
+so_many : (g : Over) (c : goal.After-new g) → c.min-count.result ≡ min c.args.most (c.args.self.now.last.judged - c.args.i)
 so_many g c =
-    c.min-count.ensures ∙ ap (λ (most : ℕ). min most (c.judged_len.result - c.args.i)) c.from.ensures
-    ∙ ap (λ (judged : ℕ). min c.args.most (judged - c.args.i)) c.judged_len.ensures.value
+    let judged = ap (λ (d : Drum). d.last.judged) (ap drum_of c.self-inside.view_is ∙ c.self.view_is) in
+    omega (arith, c.min-count.ensures, c.from.ensures, judged)
 
 pub returns-clause-count : goal.returns-clause-count
 returns-clause-count g c =
-    ap length c.in_ok-with_texts.ensures ∙ length-with_texts c.deref-2.result.now c.deref-3.result.now ∙ ap length c.deref-2.ensures.value ∙ c.in_ok-entries.ensures.count ∙ so_many g c
+    ap length c.new.ensures ∙ length-with_texts c.in_ok-entries.entries.items c.in_ok-texts.texts.items ∙ c.in_ok-entries.ensures.count ∙ so_many g c
 
 pub returns-clause-value : goal.returns-clause-value
 returns-clause-value g c = λ files told book holds.
@@ -55,4 +67,4 @@ returns-clause-value g c = λ files told book holds.
     let told_later = c.in_ok-entries.ensures.same ∙ told in
     let texts = subst (λ (es : List JudgedEntry). c.in_ok-texts.texts.items ≡ take (texts_length es) (drop (first_place es) (files (texts_front drum).file))) c.deref.ensures.value (c.in_ok-texts.ensures.bytes files told_later) in
     let found = found_held now.images drum book is holds files left c.in_ok-entries.entries.items c.in_ok-texts.texts.items c.args.i c.args.most c.min-count.result c.requires.place (so_many g c) c.in_ok-entries.ensures.fit (c.in_ok-entries.ensures.bytes files told) texts in
-    c.in_ok-with_texts.ensures ∙ ap (λ (es : List JudgedEntry). with_texts es c.deref-3.result.now) c.deref-2.ensures.value ∙ ap (with_texts c.in_ok-entries.entries.items) c.deref-3.ensures.value ∙ found
+    c.new.ensures ∙ found
