@@ -1,7 +1,6 @@
 -- A bay that is opened, part by part: what changes, what is damaged, and what it is as a drum.
 use Rattle.std.proofs.Common.{◌≡◌, ◌∙◌, inl, inr, ℕ, suc, zero, ◌+◌, ◌*◌, ◌-◌, ◌^◌, ◌<◌, ◌≤◌, min, List, [], ◌∷◌, ◌++◌, length, map, get_or, replicate, Option, Some, None, true, refl, sym, ap, subst, arith}
 use Rattle.std.proofs.lemmas.List.{length-map, length-replicate, get_or-replicate}
-use Rattle.std.specs.Prelude.{sum, IfSome, IsSome}
 use Rattle.std.specs.List.{AllByRecursion}
 use Rattle.irl_offer.specs.declared.entry.Entry.{Entry}
 use Rattle.irl_offer.specs.declared.settings.Settings.{Settings}
@@ -19,7 +18,7 @@ use Rattle.irl_offer.specs.Settings.{AreValid}
 use Rattle.irl_journal.specs.Appending.{Tail}
 use Rattle.irl_bay.specs.Drum.{Drum, IsDrum, no_bucket}
 use Rattle.irl_bay.specs.Holding.{TellsBy, IsLong}
-use Rattle.irl_bay.specs.Opening.{HasWhole, IsOpenBucket, IsLongBucket, OpensBelow, IsWithin, IsFirstAbove, most_by, most_of}
+use Rattle.irl_bay.specs.Opening.{HasWhole, IsOpenBucket, IsLongBucket, OpensBelow, IsWithin, IsFirstAbove}
 use Rattle.irl_bay.specs.Damage.{IsShort}
 use Rattle.irl_disk.specs.Taken.{TakesAmong}
 use Rattle.irl_bay.specs.declared.history.History.{History}
@@ -97,26 +96,17 @@ pub record AreWhole (base : ℕ) (settings : Settings) (files : Files) (last : C
   pub starts : (b : ℕ) → b < settings.buckets → (get_or buckets b d).start ≡ get_or (starts_of settings.buckets last) b 0
   pub whole : (b : ℕ) → b < settings.buckets → HasWhole base (live_side last) settings b files (get_or buckets b d)
 
--- how many offers a cut may count
-within_said : (count n : ℕ) (live : Option ℕ) → IfSome (most_by count live) (λ most. n ≤ most) → IsSome live → n ≤ count
-within_said count n None few named = absurd (cc)
-within_said count n (Some side) few named = few
-
-said_within : (count n : ℕ) (live : Option ℕ) → (IsSome live → n ≤ count) → IfSome (most_by count live) (λ most. n ≤ most)
-said_within count n None few = tt
-said_within count n (Some side) few = few refl
-
 -- a cut that is within the bounds is reached
-pub within_reached : (base : ℕ) (settings : Settings) (files : Files) (last : Commit) (buckets : List Bucket) (d : Bucket) (commit : Commit) → AreWhole base settings files last buckets d → IsWithin (map (λ bucket. bucket.durable) buckets) (most_of last) commit.cut → IsReached base settings files last commit
+pub within_reached : (base : ℕ) (settings : Settings) (files : Files) (last : Commit) (buckets : List Bucket) (d : Bucket) (commit : Commit) → AreWhole base settings files last buckets d → IsWithin (map (λ bucket. bucket.durable) buckets) last.judged commit.cut → IsReached base settings files last commit
 within_reached base settings files last buckets d commit are within = record {
   lists = λ b inside.
       let has = are.whole b inside in
       (has.runs, has.has, omega (arith, each_below commit.cut (map (λ bucket. bucket.durable) buckets) within.lists b, durable-at buckets d b (omega (arith, inside, are.count)), has.durable, are.starts b inside));
-  judged = within_said last.judged (sum commit.cut) last.live within.all;
+  judged = within.all;
 }
 
 -- and one that is reached is within them
-pub reached_within : (base : ℕ) (settings : Settings) (files : Files) (last : Commit) (buckets : List Bucket) (d : Bucket) (commit : Commit) → AreWhole base settings files last buckets d → IsCommit settings.buckets commit → IsReached base settings files last commit → IsWithin (map (λ bucket. bucket.durable) buckets) (most_of last) commit.cut
+pub reached_within : (base : ℕ) (settings : Settings) (files : Files) (last : Commit) (buckets : List Bucket) (d : Bucket) (commit : Commit) → AreWhole base settings files last buckets d → IsCommit settings.buckets commit → IsReached base settings files last commit → IsWithin (map (λ bucket. bucket.durable) buckets) last.judged commit.cut
 reached_within base settings files last buckets d commit are is reached = record {
   lists = below_each commit.cut (map (λ bucket. bucket.durable) buckets) (omega (arith, is.count, are.count, length-map buckets (λ (bucket : Bucket). bucket.durable)))
       (λ b within.
@@ -125,15 +115,15 @@ reached_within base settings files last buckets d commit are is reached = record
       let other = reached.lists b inside in
       let same : has.runs ≡ other.0 = same_runs settings b has.runs other.0 has.has.each other.1.each (one_list (files (file_of base 0 (Journal (live_side last) b))) (map entries_bytes has.runs) (map entries_bytes other.0) has.has.records other.1.records) in
       omega (arith, other.2, number_fits commit.cut b is.cut, durable-at buckets d b (omega (arith, inside, are.count)), has.durable, are.starts b inside, ap (λ (runs : List (List Entry)). length (entries_in runs)) same));
-  all = said_within last.judged (sum commit.cut) last.live reached.judged;
+  all = reached.judged;
 }
 
 -- the same of the lengths and of the last commit as they are found
-pub within_end : (lengths ls : List ℕ) (last x : Commit) → lengths ≡ ls → last ≡ x → IsWithin lengths (most_of last) last.cut → IsWithin ls (most_of x) x.cut
-within_end lengths ls last x same_l same within = subst (λ (l : List ℕ). IsWithin l (most_of x) x.cut) same_l (subst (λ (y : Commit). IsWithin lengths (most_of y) y.cut) same within)
+pub within_end : (lengths ls : List ℕ) (last x : Commit) → lengths ≡ ls → last ≡ x → IsWithin lengths last.judged last.cut → IsWithin ls x.judged x.cut
+within_end lengths ls last x same_l same within = subst (λ (l : List ℕ). IsWithin l x.judged x.cut) same_l (subst (λ (y : Commit). IsWithin lengths y.judged y.cut) same within)
 
-pub first_end : (lengths ls : List ℕ) (last x : Commit) (commits : List Commit) (at : ℕ) → lengths ≡ ls → last ≡ x → IsFirstAbove lengths (most_of last) commits at → IsFirstAbove ls (most_of x) commits at
-first_end lengths ls last x commits at same_l same first = subst (λ (l : List ℕ). IsFirstAbove l (most_of x) commits at) same_l (subst (λ (y : Commit). IsFirstAbove lengths (most_of y) commits at) same first)
+pub first_end : (lengths ls : List ℕ) (last x : Commit) (commits : List Commit) (at : ℕ) → lengths ≡ ls → last ≡ x → IsFirstAbove lengths last.judged commits at → IsFirstAbove ls x.judged commits at
+first_end lengths ls last x commits at same_l same first = subst (λ (l : List ℕ). IsFirstAbove l x.judged commits at) same_l (subst (λ (y : Commit). IsFirstAbove lengths y.judged commits at) same first)
 
 all-map : (P Q : Commit → Type 0) (xs : List Commit) → ((x : Commit) → P x → Q x) → AllByRecursion P xs → AllByRecursion Q xs
 all-map P Q [] wide each = tt
@@ -144,7 +134,7 @@ each_split P [] ys each = each
 each_split P (x ∷ xs) ys each = each_split P xs ys each.1
 
 pub cut_above : (base : ℕ) (settings : Settings) (files : Files) (buckets : List Bucket) (d : Bucket) (commits : List Commit) (at : ℕ) → AreWhole base settings files (last_commit (first_commit settings.buckets) commits) buckets d
-    → AllByRecursion (IsCommit settings.buckets) commits → IsFirstAbove (map (λ bucket. bucket.durable) buckets) (most_of (last_commit (first_commit settings.buckets) commits)) commits at → IsCutAbove base settings files commits at
+    → AllByRecursion (IsCommit settings.buckets) commits → IsFirstAbove (map (λ bucket. bucket.durable) buckets) (last_commit (first_commit settings.buckets) commits).judged commits at → IsCutAbove base settings files commits at
 cut_above base settings files buckets d commits at are each first =
     let last = last_commit (first_commit settings.buckets) commits in
     record {
@@ -153,7 +143,7 @@ cut_above base settings files buckets d commits at are each first =
       more = first.more;
       among = first.among;
       place = first.place;
-      reached = all-map (λ old. IsWithin (map (λ bucket. bucket.durable) buckets) (most_of last) old.cut) (IsReached base settings files last) first.before (λ commit. within_reached base settings files last buckets d commit are) first.within;
+      reached = all-map (λ old. IsWithin (map (λ bucket. bucket.durable) buckets) last.judged old.cut) (IsReached base settings files last) first.before (λ commit. within_reached base settings files last buckets d commit are) first.within;
       above = λ reached. first.above (reached_within base settings files last buckets d first.commit are (each_split (IsCommit settings.buckets) first.before (first.commit ∷ first.more) (subst (AllByRecursion (IsCommit settings.buckets)) first.among each)).0 reached);
     }
 

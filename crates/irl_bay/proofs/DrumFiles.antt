@@ -2,7 +2,6 @@
 use Rattle.std.proofs.Common.{ℕ, ◌≡◌, ◌+◌, ◌<◌, ◌≤◌, inl, inr, refl, subst, arith, Option, None, Some}
 use Rattle.std.specs.Prelude.{IfSome}
 use Rattle.irl_cache.specs.Reading.{TakesExactly}
-use Rattle.irl_disk.specs.Taken.{TakesAmong}
 use Rattle.irl_bay.specs.BayFiles.{IsFileOf}
 use Rattle.irl_bay.specs.declared.layout.files.BayFile.TheVariants.{Cache, Journal, Aux}
 use Rattle.irl_bay.specs.Commits.{live_side, side_of}
@@ -24,11 +23,6 @@ pub bucket_is_file : (drum : Drum) (b f : ℕ) → IsDrum drum → b < drum.sett
 bucket_is_file drum b f is lt (inl journal) = (Journal (live_side drum.last) b, (live_low drum.last.live is.last.live, lt), let at = (is.buckets b lt).journal in cc)
 bucket_is_file drum b f is lt (inr aux) = (Aux (live_side drum.last) b, (live_low drum.last.live is.last.live, lt), let at = (is.buckets b lt).aux in cc)
 
--- what was read of some files was read of more
-pub takes_wider : (some more : ℕ → Type 0) (old new : Option (ℕ → ℕ)) → ((f : ℕ) → some f → more f) → TakesAmong some old new → TakesAmong more old new
-takes_wider some more None new wide takes = takes
-takes_wider some more (Some old) new wide takes = (takes.0, takes.1, λ f out. takes.2 f (λ is. out (wide f is)))
-
 -- ---- how much of one file was read
 pub takes_of_none : (f : ℕ) (old new : Option (ℕ → ℕ)) → new ≡ old → TakesOf f 0 old new
 takes_of_none f None new same = same
@@ -43,8 +37,3 @@ takes_of_both f m n (Some old) mid new one two =
 pub takes_of_exactly : (f n : ℕ) (old new : Option (ℕ → ℕ)) → TakesExactly f n old new → TakesOf f n old new
 takes_of_exactly f n None new takes = takes
 takes_of_exactly f n (Some old) new takes = (takes.0, takes.1, takes.2)
-
--- none of a file that isn't among those that were read
-pub takes_of_others : (among : ℕ → Type 0) (f : ℕ) (old new : Option (ℕ → ℕ)) → (among f → ⊥) → TakesAmong among old new → TakesOf f 0 old new
-takes_of_others among f None new out takes = takes
-takes_of_others among f (Some old) new out takes = (takes.0, takes.1, omega (arith, takes.2 f out))

@@ -1,6 +1,6 @@
 -- The commits of a manifest: what a visitor took of them, and the first whose cut is above the lists.
-use Rattle.std.proofs.Common.{◌≡◌, ◌∙◌, ℕ, suc, zero, ◌+◌, ◌-◌, ◌^◌, ◌<◌, ◌≤◌, min, List, [], ◌∷◌, ◌++◌, length, map, refl, sym, ap, subst, arith, append_assoc, ◌⊎◌, inl, inr, Option, None, Some}
-use Rattle.std.specs.Prelude.{replicate, sum, IfSome}
+use Rattle.std.proofs.Common.{◌≡◌, ◌∙◌, ℕ, suc, zero, ◌+◌, ◌-◌, ◌^◌, ◌<◌, ◌≤◌, min, List, [], ◌∷◌, ◌++◌, length, map, refl, sym, ap, subst, arith, append_assoc, ◌⊎◌, inl, inr}
+use Rattle.std.specs.Prelude.{replicate, sum}
 use Rattle.std.proofs.lemmas.List.Folds.{sum_by-replicate}
 use Rattle.std.specs.List.{AllByRecursion}
 use Rattle.irl_model.specs.Book.{IsBelow}
@@ -77,13 +77,13 @@ first_refused buckets at old reached commits first payload rest same rise is pla
     }
 
 -- the same of what is known of the visitor
-pub first_as : (buckets n : ℕ) (lengths ls : List ℕ) (most m : Option ℕ) (commits : List Commit) (at : ℕ) → buckets ≡ n → lengths ≡ ls → most ≡ m → (RiseFrom buckets (first_commit buckets) commits → IsFirstAbove lengths most commits at) → RiseFrom n (first_commit n) commits → IsFirstAbove ls m commits at
+pub first_as : (buckets n : ℕ) (lengths ls : List ℕ) (most m : ℕ) (commits : List Commit) (at : ℕ) → buckets ≡ n → lengths ≡ ls → most ≡ m → (RiseFrom buckets (first_commit buckets) commits → IsFirstAbove lengths most commits at) → RiseFrom n (first_commit n) commits → IsFirstAbove ls m commits at
 first_as buckets n lengths ls most m commits at same_n same_l same_m first rise =
     subst (λ (l : List ℕ). IsFirstAbove l m commits at) same_l
-    (subst (λ (k : Option ℕ). IsFirstAbove lengths k commits at) same_m (first (subst (λ (k : ℕ). RiseFrom k (first_commit k) commits) (sym same_n) rise)))
+    (subst (λ (k : ℕ). IsFirstAbove lengths k commits at) same_m (first (subst (λ (k : ℕ). RiseFrom k (first_commit k) commits) (sym same_n) rise)))
 
 -- where all were taken, the last is within them too
-last_within : (lengths : List ℕ) (most : Option ℕ) (first : Commit) (commits : List Commit) → IsWithin lengths most first.cut → AllByRecursion (λ (commit : Commit). IsWithin lengths most commit.cut) commits → IsWithin lengths most (last_commit first commits).cut
+last_within : (lengths : List ℕ) (most : ℕ) (first : Commit) (commits : List Commit) → IsWithin lengths most first.cut → AllByRecursion (λ (commit : Commit). IsWithin lengths most commit.cut) commits → IsWithin lengths most (last_commit first commits).cut
 last_within lengths most first [] here each = here
 last_within lengths most first (commit ∷ commits) here each = last_within lengths most commit commits each.0 each.1
 
@@ -97,9 +97,8 @@ zeros_below zero (x ∷ xs) same = absurd (omega (arith, same))
 zeros_below (suc n) [] same = absurd (omega (arith, same))
 zeros_below (suc n) (x ∷ xs) same = (omega arith, zeros_below n xs (omega (arith, same)))
 
-zeros_few : (n : ℕ) (most : Option ℕ) → IfSome most (λ k. sum (replicate n 0) ≤ k)
-zeros_few n None = tt
-zeros_few n (Some k) = omega (arith, sum_by-replicate (λ (m : ℕ). m) n 0)
+zeros_few : (n most : ℕ) → sum (replicate n 0) ≤ most
+zeros_few n most = omega (arith, sum_by-replicate (λ (m : ℕ). m) n 0)
 
 pub all_within : (buckets : ℕ) (old new : Reaching) (commits : List Commit) → old.buckets ≡ buckets → length old.lengths.items ≡ buckets → RiseFrom buckets (first_commit buckets) commits → TakesAll TakesBelow old (placed_from 0 (map commit_bytes commits)) new
     → IsWithin old.lengths.items old.most (last_commit (first_commit buckets) commits).cut

@@ -188,7 +188,7 @@ reached_too base settings files last commit other reached below = record {
       let has = reached.lists b within in
       let under = each_below commit.cut other.cut below b in
       (has.0, has.1, omega (arith, under, has.2));
-  judged = λ named. omega (arith, sum_below commit.cut other.cut below, reached.judged named);
+  judged = omega (arith, sum_below commit.cut other.cut below, reached.judged);
 }
 
 -- the parts of a bay that are as the layout asks, behind the last of its commits
@@ -237,7 +237,7 @@ stands_sane base settings book files last stands here =
             let so = runs b within in
             let cut = cut_in settings book last b ends within in
             (so.runs, so.has, omega (arith, cut.within, cut.live, so.count));
-        judged = λ named. omega (arith, cut_sum settings book last is commit);
+        judged = omega (arith, cut_sum settings book last is commit);
       };
     }
 

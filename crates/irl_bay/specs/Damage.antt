@@ -1,5 +1,6 @@
 -- What opening a bay names as damage: the first place at which its files break the layout. They are read in this order: the
--- manifest, the parts that its last commit names, each bucket's two files on the side that it leaves live; and then each commit's cut is held against the lists.
+-- manifest, the parts that its last commit names, each bucket's two files on the side that it leaves live; and then each
+-- commit's cut is held against the lists, and its sum against how many offers are judged.
 use Rattle.std.specs.Prelude.{◌≡◌, ◌⊎◌, ℕ, ◌+◌, ◌*◌, ◌^◌, ◌<◌, ◌≤◌, List, [], ◌∷◌, ◌++◌, map, length, sum, replicate, slice_index, IsSome}
 use Rattle.std.specs.List.{flat_map, sum_by, AllByRecursion}
 use Rattle.irl_offer.specs.Buckets.{bucket_of}
@@ -132,11 +133,11 @@ abbrev pub starts_of : ℕ → Commit → List ℕ
 starts_of buckets last = starts_by (replicate buckets 0) last.cut last.live
 
 -- Behind this last commit, the lists have the offers that a commit says are judged. Where the last names a side, the live
--- files begin at its own cut, and the offers before it stand in the judged file alone, which opening doesn't read. But each
--- judged offer is one bucket's, so that a cut which counts more offers in all than are judged is above some bucket's list.
+-- files begin at its own cut, and the offers before it stand in the judged file alone, which opening doesn't read. But
+-- each judged offer is one bucket's, so that no cut of a bay counts more offers in all than are judged.
 pub record IsReached (base : ℕ) (settings : Settings) (files : Files) (last commit : Commit) : Type 0 where
   pub lists : (b : ℕ) → b < settings.buckets → (runs : List (List Entry)) × HasRuns base (live_side last) settings b files runs × (slice_index commit.cut b ≤ slice_index (starts_of settings.buckets last) b + length (entries_in runs))
-  pub judged : IsSome last.live → sum commit.cut ≤ last.judged
+  pub judged : sum commit.cut ≤ last.judged
 
 -- the first of the commits whose cut is above a list has its gate at this place of the manifest
 pub record IsCutAbove (base : ℕ) (settings : Settings) (files : Files) (commits : List Commit) (at : ℕ) : Type 0 where
@@ -165,7 +166,7 @@ IsDamagedAt base settings files f at =
     ⊎ ((commits : List Commit) × HasManifest base settings.buckets files commits × IsDamagedBehind base settings files commits (last_commit (first_commit settings.buckets) commits) f at)
 
 -- ---- what opening does to the files
--- the manifest, and each bucket's journal on the side that its last commit leaves live; without a manifest no bucket's
+-- the manifest, and each bucket's journal on the side that its last commit leaves live; where the manifest is damaged no bucket's
 abbrev pub IsLiveJournal : ℕ → ℕ → Files → ℕ → Type 0
 IsLiveJournal base buckets files f =
     (f ≡ file_of base 0 Manifest)

@@ -13,7 +13,7 @@ AreJoined [] = Unit {0}
 AreJoined (entry ∷ []) = Unit {0}
 AreJoined (entry ∷ next ∷ entries) = (next.place ≡ entry.place + entry.aux_len) × AreJoined (next ∷ entries)
 
--- entries with the texts that they have in the file
+-- entries with texts as long as theirs, which stand one behind the other
 pub record IsPart (entries : List JudgedEntry) (texts : List ℕ) : Type 0 where
   pub long : length texts ≡ texts_length entries
   pub each : AllByRecursion (λ entry. entry.aux_len ≤ max_text) entries

@@ -1,5 +1,5 @@
 -- What opening the parts of a bay gives.
-use Rattle.std.specs.Prelude.{◌≡◌, ℕ, ◌+◌, ◌-◌, ◌*◌, ◌^◌, ◌<◌, ◌≤◌, min, true, List, ◌∷◌, ◌++◌, map, length, sum, take, Option, None, Some, IfSome}
+use Rattle.std.specs.Prelude.{◌≡◌, ℕ, ◌+◌, ◌-◌, ◌*◌, ◌^◌, ◌<◌, ◌≤◌, min, true, List, ◌∷◌, ◌++◌, map, length, sum, take, Option}
 use Rattle.std.specs.List.{AllByRecursion}
 use Rattle.std.specs.Option.{ForSome}
 use Rattle.irl_offer.specs.Buckets.{bucket_of}
@@ -63,21 +63,13 @@ IsJournalBelow base side n f = (c : ℕ) × (c < n) × (f ≡ file_of base 0 (Jo
 abbrev pub OpensBelow : ℕ → ℕ → ℕ → Files → Files → Type 0
 OpensBelow base side n old new = ChangesAmong (IsJournalBelow base side n) (λ f. IsOpened) old new
 
--- how many offers a cut may count in all: as many as are judged, where the last commit names a side
-abbrev pub most_by : ℕ → Option ℕ → Option ℕ
-most_by judged None = None
-most_by judged (Some side) = Some judged
-
-abbrev pub most_of : Commit → Option ℕ
-most_of last = most_by last.judged last.live
-
--- a cut is below these lengths of the lists, and counts no more offers than that
-pub record IsWithin (lengths : List ℕ) (most : Option ℕ) (cut : List ℕ) : Type 0 where
+-- a cut is below these lengths of the lists, and counts no more offers in all than are judged
+pub record IsWithin (lengths : List ℕ) (most : ℕ) (cut : List ℕ) : Type 0 where
   pub lists : IsBelow cut lengths
-  pub all : IfSome most (λ n. sum cut ≤ n)
+  pub all : sum cut ≤ most
 
 -- the first of the commits whose cut isn't has its gate at this place of the manifest
-pub record IsFirstAbove (lengths : List ℕ) (most : Option ℕ) (commits : List Commit) (at : ℕ) : Type 0 where
+pub record IsFirstAbove (lengths : List ℕ) (most : ℕ) (commits : List Commit) (at : ℕ) : Type 0 where
   pub before : List Commit
   pub commit : Commit
   pub more : List Commit

@@ -21,7 +21,7 @@ ghost use Rattle.irl_bay.specs.Drum.{IsDrum, no_bucket};
 ghost use Rattle.irl_bay.specs.Holding.{Holds, HoldsBucket, IsLong, TellsBy};
 ghost use Rattle.irl_bay.specs.Making.{IsJournalOn};
 ghost use Rattle.irl_bay.specs.Opening.{AreFronts, IsOpenBucket, HasWhole, IsLongBucket, HasListOf, IsJournalBelow};
-ghost use Rattle.irl_bay.specs.Opening.{OpensBelow, IsWithin, most_of, IsFirstAbove, AdoptsTo, ReadsLive};
+ghost use Rattle.irl_bay.specs.Opening.{OpensBelow, IsWithin, IsFirstAbove, AdoptsTo, ReadsLive};
 ghost use Rattle.irl_bay.specs.Standing.{Stands};
 
 use crate::bay::Bay;
@@ -38,8 +38,9 @@ impl Bay {
     /// Opens a bay over files that are there. It reads the manifest and each bucket's journal on the side that this
     /// leaves live, and no byte of the cache, of the judged offers and of the texts, of which it asks only the lengths;
     /// and it syncs each of them. `Damaged` names the first place that breaks the layout, files in ascending number,
-    /// but that a commit's cut is held against the lists at the end. No file changes but a journal that is read, of at
-    /// most one byte, which becomes an empty one; so `Memory` may come after such a change.
+    /// but that a commit's cut is held against the lists, and against how many offers are judged, at the end. No file
+    /// changes but a journal that is read, of at most one byte, which becomes an empty one; so `Memory` may come after
+    /// such a change.
     pub fn adopt<S: Store>(
         alloc: Global,
         store: &mut S,
@@ -215,8 +216,8 @@ fn lengths(alloc: Global, buckets: &[Bucket]) -> Result<Vec<u64>, AllocError>
     buckets.iter().map(|bucket| bucket.durable).collect(alloc)
 }
 
-// Refuses a manifest with a commit whose cut is above these lengths of the lists, or counts more offers than are judged
-// where the lists' first ones stand in the judged file alone. No cut is above the last, so the last alone is looked at.
+// Refuses a manifest with a commit whose cut is above these lengths of the lists, or counts more offers in all than are
+// judged. No cut is above the last, so the last alone is looked at.
 fn check_cuts<S: Store>(
     alloc: Global,
     store: &mut S,
@@ -231,13 +232,13 @@ fn check_cuts<S: Store>(
         × Ends manifest.now.end (files manifest.now.file) (map commit_bytes commits)
         × RiseFrom history.now.buckets (first_commit history.now.buckets) commits
         × (history.now.last ≡ last_commit (first_commit history.now.buckets) commits)) }
-    ensures within { OnOk result (IsWithin lengths.items (most_of history.now.last) history.now.last.cut) }
+    ensures within { OnOk result (IsWithin lengths.items history.now.last.judged history.now.last.cut) }
     ensures idle { OnOk result (store.new ≡ store.old) }
     ensures damaged { (g at : ℕ) → IsErrOf result (Fault.Damaged g at) → (g ≡ f)
         × ForSome (S.snapshot store.old).files (λ files. (commits : List CommitValue) →
         Ends manifest.now.end (files manifest.now.file) (map commit_bytes commits) →
         RiseFrom history.now.buckets (first_commit history.now.buckets) commits →
-        IsFirstAbove lengths.items (most_of history.now.last) commits at) }
+        IsFirstAbove lengths.items history.now.last.judged commits at) }
     ensures full { (n : ℕ) → IsErrOf result (Fault.Full n) → ⊥ }
     ensures same { (S.snapshot store.new).files ≡ (S.snapshot store.old).files }
     ensures stops { LeavesSame (S.snapshot store.old) (S.snapshot store.new) }

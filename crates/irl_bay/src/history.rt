@@ -1,9 +1,9 @@
-ghost use Rattle.std.specs.Prelude.{◌≡◌, ◌+◌, ◌-◌, ◌^◌, ◌≤◌, ℕ, List, min, true, IfOk, IfSome, IsTrue, ◌↔◌, length};
+ghost use Rattle.std.specs.Prelude.{◌≡◌, ◌+◌, ◌-◌, ◌^◌, ◌≤◌, ℕ, List, min, true, IfOk, IsTrue, ◌↔◌, length};
 ghost use Rattle.std.specs.Prelude.{sum};
 ghost use Rattle.irl_model.specs.Book.{IsBelow};
 ghost use Rattle.irl_bay.specs.Commits.{Commit as CommitValue, IsCommit, commit_bytes, first_commit};
 ghost use Rattle.irl_bay.specs.Damage.{IsAtOrAbove};
-ghost use Rattle.irl_bay.specs.Opening.{IsWithin, most_of};
+ghost use Rattle.irl_bay.specs.Opening.{IsWithin};
 
 use crate::layout::Commit;
 use irl_journal::Visit;
@@ -37,13 +37,13 @@ impl History {
     pub fn reaching(&self, lengths: Vec<u64>) -> Reaching
         ensures buckets { result.buckets ≡ self.now.buckets }
         ensures lengths { result.lengths.items ≡ lengths.items }
-        ensures most { result.most ≡ most_of self.now.last }
+        ensures most { result.most ≡ self.now.last.judged }
     {
         Reaching {
             alloc: self.alloc,
             buckets: self.buckets,
             lengths,
-            most: self.last.live.map(|_| self.last.judged),
+            most: self.last.judged,
         }
     }
 }
@@ -96,14 +96,12 @@ pub fn is_below(xs: &[u64], ys: &[u64]) -> bool
     true
 }
 
-/// Whether the sum of these numbers is at most this bound, where there is one. What is left of the bound is counted,
-/// since the sum may pass 64 bits.
-pub fn is_sum_within(numbers: &[u64], most: Option<u64>) -> bool
-    ensures { IsTrue result ↔ IfSome most (λ n. sum numbers.now ≤ n) }
+/// Whether the sum of these numbers is at most this bound. What is left of the bound is counted, since the sum may pass 64
+/// bits.
+pub fn is_sum_within(numbers: &[u64], most: u64) -> bool
+    ensures { IsTrue result ↔ (sum numbers.now ≤ most) }
 {
-    let Some(mut left) = most else {
-        return true;
-    };
+    let mut left = most;
     for n in numbers {
         if *n > left {
             return false;
@@ -120,7 +118,7 @@ pub struct Reaching {
     buckets: u32,
     lengths: Vec<u64>,
     /// How many those are, where the lists' first offers stand in the judged file alone.
-    pub most: Option<u64>,
+    pub most: u64,
 }
 
 impl Visit for Reaching {

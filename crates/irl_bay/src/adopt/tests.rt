@@ -106,7 +106,8 @@ fn runs_are_adopted_up_to_any_cut(rt: HostRuntime) -> Result<(), Fail> {
     ];
     for (cut, gate, skip, text) in table {
         let mut store = MemStore::new(alloc, Vec::new(alloc));
-        put(&mut store, 100, &commit([0, 0, 0, 0, 0, cut]))?;
+        put(&mut store, 100, &commit([0, 0, cut, 0, 0, cut]))?;
+        put(&mut store, 103, &[0; 192])?;
         for aux in [[1, 2], [0, 1]] {
             put(&mut store, 110, b"\xA5\x36\0\0\0")?;
             put(&mut store, 110, &entry(aux[0]))?;

@@ -1,5 +1,5 @@
 use Rattle.std.proofs.Common.{◌≡◌, ◌∙◌, ℕ, ◌≤◌, List, IsTrue, sym, ap, subst}
-use Rattle.std.specs.Prelude.{sum, IfSome}
+use Rattle.std.specs.Prelude.{sum}
 use Rattle.irl_model.specs.Book.{IsBelow}
 use Rattle.irl_bay.specs.Commits.{Commit}
 use Rattle.irl_bay.proofs.CommitBytes.{one_commit}
@@ -16,7 +16,7 @@ returns-clause-refused c = λ no commit is bytes within.
     elim c.if-is_below.branch [
       | then-is_below w ↦
           (let same_cut : w.deref-then-is_below.result.now ≡ commit.cut = w.deref-then-is_below.ensures.value ∙ whole in
-          let few = w.is_sum_within.ensures.1 (subst (λ (x : List ℕ). IfSome c.args.self.now.most (λ n. sum x ≤ n)) (sym same_cut) within.all) in
+          let few = w.is_sum_within.ensures.1 (subst (λ (x : List ℕ). sum x ≤ c.args.self.now.most) (sym same_cut) within.all) in
           let never = subst IsTrue (sym w.result-is ∙ no) few in
           cc)
       | else-is_below w ↦
