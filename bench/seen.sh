@@ -1,6 +1,6 @@
 #!/usr/bin/env bash
 # How long `irl DIR seen` takes beside `sort -u` and beside the disk alone.
-#   bench/seen.sh LINES [FOLDER [OPTION VALUE]..]
+#   bench/seen.sh LINES [FOLDER [OPTION VALUE | OPTION=VALUE]..]
 # The lines are made by a seed: URLs of some hosts, of which about a fifth stand there before. In one run, on the disk of
 # FOLDER (that of /tmp), it measures `LC_ALL=C sort -u --parallel=1` of them; the writes, cuts and syncs of the store's layout
 # alone, by floor.c beside this script; and `seen` over them twice, with these options where any are named. Where LMDB is
@@ -8,19 +8,24 @@
 # launcher built. Prints a table with the seconds that went by, those of the processor and the peak memory, and what `seen` took
 # above the floor and of the processor, as multiples of sort's processor time. Fails only where the output is wrong.
 set -euo pipefail
-lines=${1:?usage: bench/seen.sh LINES [FOLDER [OPTION VALUE]..]}
+lines=${1:?usage: bench/seen.sh LINES [FOLDER [OPTION VALUE | OPTION=VALUE]..]}
 here=$(cd "$(dirname "$0")" && pwd)
 program=$here/../crates/irl/out/irl
 [ -x "$program" ] || { echo "build the program first: ./irl --help" >&2; exit 1; }
 work=$(mktemp -d -p "${2:-/tmp}")
 options=("${@:3}")
 buckets=16 array=1024 trigger=16384
-for ((i = 0; i + 1 < ${#options[@]}; i += 2)); do
-  case ${options[i]} in
-    --buckets) buckets=${options[i + 1]} ;;
-    --array) array=${options[i + 1]} ;;
-    --trigger) trigger=${options[i + 1]} ;;
+set -- "${options[@]}"
+while (($# > 0)); do
+  case $1 in
+    *=*) set -- "${1%%=*}" "${1#*=}" "${@:2}" ;;
   esac
+  case $1 in
+    --buckets) buckets=${2-} ;;
+    --array) array=${2-} ;;
+    --trigger) trigger=${2-} ;;
+  esac
+  shift $(($# > 1 ? 2 : 1))
 done
 trap 'rm -rf "$work"' EXIT
 cc -O2 -o "$work/floor" "$here/floor.c"

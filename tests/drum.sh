@@ -136,6 +136,25 @@ gives 0 'absent 0000000000000001|' ''
 gives 0 'absent 0000000000000001|' ''
 right
 
+# The one example of `drum` that a text has: an indented line behind `$`, which prints the lines below it up to an empty
+# one. It is run over a store of this name.
+shows() {
+    sed -n '/^    \$ .*irl [^ ]* drum/,/^$/s/^    //p' "$1" >example
+    call=$(sed -n '1s/^\$ \(.*\) | [^ ]*irl [^ ]* drum/\1 | "$program" '"$2"' drum/p' example)
+    [ -n "$call" ] || fail "$1 has no example"
+    told=$(sed 1d example | tr '\n' '|')
+    [ -n "$told" ] || fail "the example of $1 prints nothing"
+    eval "$call" >out 2>err
+    gives 0 "$told" ''
+}
+
+try 'the printed examples of drum' ''
+"$program" unmade drum --help >help 2>err
+shows help shown-by-help
+shows "$top/README.md" shown-by-readme
+is_absent unmade
+right
+
 try 'the help of drum' ''
 "$program" unmade drum --help >out 2>err
 grep -qF 'irl DIR drum [OPTIONS]' out || fail 'the help has no usage'

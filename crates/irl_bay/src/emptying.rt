@@ -15,8 +15,8 @@ use irl_disk::{Failed, Store};
 
 impl Bay {
     /// Empties the buckets' files on the side that isn't live: cuts each to nothing, and writes the closed gates of
-    /// their journals and syncs them. Gives the buckets over these files, all of whose offers are judged, in a list that
-    /// has room for them.
+    /// their journals and syncs them. Gives the buckets over these files, all of whose offers are judged, in a list
+    /// that has room for them.
     pub(crate) fn empty_side<S: Store>(
         &self,
         store: &mut S,

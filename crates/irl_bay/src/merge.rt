@@ -79,7 +79,7 @@ impl Bay {
             Leaves (S.snapshot store.old) (S.snapshot store.new) (λ image.
             HasLiveRecords self.old.base self.old.settings.buckets b payloads image
             ⊎ HasLiveRecords self.old.base self.old.settings.buckets b [] image) }
-        // The files that are live from then on were cut: what they had from two merges ago is given back to the disk.
+        // The files that are live from then on were cut: what is told of them has nothing of two merges ago.
         ensures cut { OnOk result (ForSome (S.snapshot store.new).files
             (AreEmpty self.old.base (1 - live_side self.old.last) self.old.settings.buckets)) }
         ensures others { TellsOnly (IsMergeFile self.old) (S.snapshot store.old).files (S.snapshot store.new).files }

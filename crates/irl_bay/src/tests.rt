@@ -150,7 +150,7 @@ fn flush_all(alloc: Global, kept: &mut Waiting) -> Result<(), Fault>
 }
 
 // How many offers a bucket has, and how many of them wait to be judged.
-fn counts(bay: &Bay, b: u32) -> Option<(u64, u64)> {
+pub(crate) fn counts(bay: &Bay, b: u32) -> Option<(u64, u64)> {
     if b >= bay.settings.buckets {
         return None;
     }

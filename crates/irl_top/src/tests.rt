@@ -11,6 +11,8 @@ use std::thread::Threads;
 
 const SEEN: &[&str] = &["seen"];
 
+const ONE_BUCKET: &[&str] = &["seen", "--buckets", "1"];
+
 const ROW: &[u8] = b"http://a.test/\nhttp://b.test/\nhttp://a.test/\n";
 
 const NEW_OF_ROW: &[u8] = b"http://a.test/\nhttp://b.test/\n";
@@ -130,13 +132,23 @@ fn check<R: Threads + Wait + Sync + Abort + AllocGlobal>(
     Ok(store)
 }
 
-// Each over what the one before it left. What is printed stands bucket by bucket, by the first four bits of SHA-1: of
-// `last` they are 2, and of the three names 5, 7 and 6. A run answers something else than want of memory where there is
-// enough of it.
+// Runs of which each is over what the one before it left, and the first over an empty store.
+fn check_runs<R: Threads + Wait + Sync + Abort + AllocGlobal>(
+    rt: &R,
+    cases: &[Case<'_>],
+) -> Result<(), AllocError> {
+    let mut store = new_store(rt.alloc(), NONE)?;
+    for case in cases {
+        store = check(rt, store, NONE, *case)?;
+    }
+    Ok(())
+}
+
+// What is printed stands bucket by bucket, by the first four bits of SHA-1: of `last` they are 2, and of the three
+// names 5, 7 and 6. A run answers something else than want of memory where there is enough of it.
 #[test]
 fn each_run_goes_on_from_the_one_before(rt: HostRuntime) -> Result<(), Fail> {
-    let mut store = new_store(rt.alloc(), NONE)?;
-    for case in [
+    let cases = [
         refusal(
             &["seen", "--buckets", "3"],
             1,
@@ -156,17 +168,28 @@ fn each_run_goes_on_from_the_one_before(rt: HostRuntime) -> Result<(), Fail> {
             b"other setting 7: kept 1099511627776, asked 7\n",
         ),
         writes(&["seen", "--buckets=16"], b"\nnew\n", b"new\n"),
-    ] {
-        store = check(&rt, store, NONE, case)?;
-    }
+    ];
+    check_runs(&rt, &cases)?;
     Ok(())
 }
 
-// Each over what the one before it left. What doesn't fit is lost, and what was flushed is judged by the next run.
+// With one bucket what is printed stands in the order of the input.
+#[test]
+fn one_bucket_has_all_lines(rt: HostRuntime) -> Result<(), Fail> {
+    let cases = [
+        writes(ONE_BUCKET, ROW, NEW_OF_ROW),
+        writes(ONE_BUCKET, ROW, b""),
+        writes(SEEN, b"\nhttp://c.test/\n\nlast", b"http://c.test/\nlast\n"),
+        writes(ONE_BUCKET, b"last\nnew\n", b"new\n"),
+    ];
+    check_runs(&rt, &cases)?;
+    Ok(())
+}
+
+// What doesn't fit is lost, and what was flushed is judged by the next run.
 #[test]
 fn settings_are_kept(rt: HostRuntime) -> Result<(), Fail> {
-    let mut store = new_store(rt.alloc(), NONE)?;
-    for case in [
+    let cases = [
         Case {
             words: &["seen", "--buckets", "1", "--array", "1", "--cap", "2"],
             input: b"a\nb\nc\n",
@@ -180,9 +203,8 @@ fn settings_are_kept(rt: HostRuntime) -> Result<(), Fail> {
             b"other setting 3: kept 1, asked 2\n",
         ),
         writes(SEEN, b"", b"a\nb\n"),
-    ] {
-        store = check(&rt, store, NONE, case)?;
-    }
+    ];
+    check_runs(&rt, &cases)?;
     Ok(())
 }
 
@@ -276,43 +298,74 @@ fn a_line_that_is_no_tuple_is_refused(rt: HostRuntime) -> Result<(), Fail> {
     Ok(())
 }
 
-// A line for each of 10,000 keys, which lie in all buckets: its operation, the key, and what stands behind it.
-fn tuples(alloc: Global, letter: u8, rest: &[u8]) -> Result<Vec<u8>, AllocError> {
+// A line for each of 10,000 keys, which lie in all buckets: what stands before the key, the key, and the rest.
+fn tuples(alloc: Global, before: &[u8], behind: &[u8]) -> Result<Vec<u8>, AllocError> {
     const DIGITS: [u8; 16] = *b"0123456789abcdef";
     let mut text = Vec::new(alloc);
     for i in 0..10_000usize {
-        text.extend_from_slice(&[letter, b' '])?;
+        text.extend_from_slice(before)?;
         let digits = [i, i / 16, i / 256, i / 4_096].map(|digit| DIGITS[digit % 16]);
         text.extend_from_slice(&digits)?;
-        text.extend_from_slice(rest)?;
+        text.extend_from_slice(b"000000000000")?;
+        text.extend_from_slice(behind)?;
     }
     Ok(text)
+}
+
+// The lines of a text, sorted.
+fn sorted(alloc: Global, text: &[u8]) -> Result<Vec<&[u8]>, AllocError> {
+    let mut lines = Vec::new(alloc);
+    for line in text.split(|byte| *byte == b'\n') {
+        lines.push(line)?;
+    }
+    lines.sort()?;
+    Ok(lines)
+}
+
+// Whether two texts have the same lines, in any order.
+fn has_lines(alloc: Global, text: &[u8], wanted: &[u8]) -> Result<bool, AllocError> {
+    let lines = sorted(alloc, text)?;
+    let wanted = sorted(alloc, wanted)?;
+    Ok(lines == wanted)
+}
+
+// A run on a line for each key, which tells a line of each: what stands in them before and behind the key.
+fn check_tuples<R: Threads + Wait + Sync + Abort + AllocGlobal>(
+    rt: &R,
+    store: MemStore,
+    asked: (&[u8], &[u8]),
+    told: (&[u8], &[u8]),
+) -> Result<MemStore, AllocError> {
+    let alloc = rt.alloc();
+    let words = ["drum", "--array=64", "--trigger=256", "--rule=add"];
+    let input = tuples(alloc, asked.0, asked.1)?;
+    let wanted = tuples(alloc, told.0, told.1)?;
+    let Left {
+        status,
+        output,
+        errors,
+        store,
+    } = run_over(rt, &words, &input, NONE, store)?;
+    assert_eq!(rt; errors.as_slice(), b"".as_slice());
+    assert_eq!(rt; status, 0);
+    let is_told = has_lines(alloc, &output, &wanted)?;
+    assert!(rt; is_told);
+    Ok(store)
 }
 
 // Many flushes and merges, then one more run: each value was added to twice.
 #[test]
 fn many_tuples_are_judged(rt: HostRuntime) -> Result<(), Fail> {
-    let alloc = rt.alloc();
-    let words = ["drum", "--array=64", "--trigger=256", "--rule=add"];
-    let mut store = new_store(alloc, NONE)?;
-    for (letter, rest, verdict, last) in [
-        (b'b', b"000000000000 1\n".as_slice(), b'u', b'0'),
-        (b'b', b"000000000000 1 text\n", b'k', b't'),
-        (b'c', b"000000000000\n", b'k', b'2'),
+    let mut store = new_store(rt.alloc(), NONE)?;
+    for (asked, told) in [
+        (
+            (b"b ".as_slice(), b" 1\n".as_slice()),
+            (b"unique ".as_slice(), b"\n".as_slice()),
+        ),
+        ((b"b ", b" 1 text\n"), (b"known ", b" 1 text\n")),
+        ((b"c ", b"\n"), (b"known ", b" 2\n")),
     ] {
-        let left = run_over(&rt, &words, &tuples(alloc, letter, rest)?, NONE, store)?;
-        assert_eq!(&rt; left.status, 0);
-        let (mut count, mut as_wanted) = (0u32, 0u32);
-        for line in left.output.split(|byte| *byte == b'\n') {
-            if let [first, .., end] = line {
-                count = count.wrapping_add(1);
-                if *first == verdict && *end == last {
-                    as_wanted = as_wanted.wrapping_add(1);
-                }
-            }
-        }
-        assert_eq!(&rt; (count, as_wanted), (10_000, 10_000));
-        store = left.store;
+        store = check_tuples(&rt, store, asked, told)?;
     }
     Ok(())
 }
@@ -487,50 +540,65 @@ const TWO: &[u8] = b"a\nb\n";
 // One bucket, whose array the two lines fill.
 const SMALL: &[&str] = &["seen", "--buckets=1", "--array=2"];
 
-// What a stop in a call leaves of a store that two lines are kept in: 0 no line, 1 both, unjudged, 2 both, judged. What
-// was unjudged is judged and printed in the next run, and what was lost is new in the one after it.
+// What a stop in a call leaves of a store in which a run keeps its lines: 0 none of them, 1 all, unjudged, 2 all,
+// judged. What was unjudged is judged and printed in the next run, and what was lost is new in the one after it.
 fn stage<R: Threads + Wait + Sync + Abort + AllocGlobal>(
     rt: &R,
+    case: Case<'_>,
     store: &MemStore,
     call: u64,
     part: Part,
 ) -> Result<u8, AllocError> {
     assert!(rt; call < store.calls());
     let image = store.image(rt.alloc(), call, part)?;
-    let first = run_over(rt, SMALL, b"", NONE, image)?;
+    let first = run_over(rt, case.words, b"", NONE, image)?;
     assert_eq!(rt; first.status, 0);
-    let second = run_over(rt, SMALL, TWO, NONE, first.store)?;
+    let second = run_over(rt, case.words, case.input, NONE, first.store)?;
     assert_eq!(rt; second.status, 0);
-    match (first.output.as_slice(), second.output.as_slice()) {
-        (b"", TWO) => Ok(0),
-        (TWO, b"") => Ok(1),
-        (first, second) => {
-            assert!(rt; first.is_empty() && second.is_empty());
-            Ok(2)
-        }
+    let (first, second) = (first.output.as_slice(), second.output.as_slice());
+    if first.is_empty() && second == case.output {
+        return Ok(0);
     }
+    assert!(rt; second.is_empty());
+    if first == case.output {
+        return Ok(1);
+    }
+    assert!(rt; first.is_empty());
+    Ok(2)
 }
 
-// Of the six calls of the flush, behind those that open the store, the first four leave no line, and after the last both
-// stay. Of the calls of the merge behind it the last leaves both judged.
-#[test]
-fn a_stop_leaves_whole_arrays(rt: HostRuntime) -> Result<(), Fail> {
+// Stops in the calls of a run over a made store, behind those that open it. Of the six calls of its flush the first
+// four leave no line, and after the last all stay. Of the calls of the merge behind it the last leaves all judged.
+fn check_stops<R: Threads + Wait + Sync + Abort + AllocGlobal>(
+    rt: &R,
+    case: Case<'_>,
+) -> Result<(), AllocError> {
     let store = new_store(rt.alloc(), NONE)?;
-    let store = check(&rt, store, NONE, writes(SMALL, b"", b""))?;
+    let store = check(rt, store, NONE, writes(case.words, b"", b""))?;
     let made = store.calls();
-    let store = check(&rt, store, NONE, writes(SMALL, b"", b""))?;
+    let store = check(rt, store, NONE, writes(case.words, b"", b""))?;
     let opened = store.calls();
-    let first = opened + opened.saturating_sub(made);
-    let store = check(&rt, store, NONE, writes(SMALL, TWO, TWO))?;
+    let first = opened.saturating_mul(2).saturating_sub(made);
+    let store = check(rt, store, NONE, case)?;
     let end = store.calls();
     for call in first..end {
+        let behind = call - first;
         for part in [Part::Old, Part::New, Part::Torn] {
-            let stage = stage(&rt, &store, call, part)?;
-            assert!(rt; call >= first + 4 || stage == 0, "at {call}");
-            assert!(rt; call >= first + 6 || stage <= 1, "at {call}");
-            assert!(rt; call < first + 5 || stage >= 1, "at {call}");
-            assert!(rt; call + 1 < end || stage == 2, "at {call}");
+            let stage = stage(rt, case, &store, call, part)?;
+            assert!(rt; behind >= 4 || stage == 0, "at {call}");
+            assert!(rt; behind >= 6 || stage <= 1, "at {call}");
+            assert!(rt; behind < 5 || stage >= 1, "at {call}");
+            assert!(rt; end - 1 - call > 0 || stage == 2, "at {call}");
         }
+    }
+    Ok(())
+}
+
+// Two lines that fill their array, and three of which one stands there twice.
+#[test]
+fn a_stop_leaves_whole_arrays(rt: HostRuntime) -> Result<(), Fail> {
+    for case in [writes(SMALL, TWO, TWO), writes(ONE_BUCKET, ROW, NEW_OF_ROW)] {
+        check_stops(&rt, case)?;
     }
     Ok(())
 }

@@ -66,7 +66,7 @@ fn with_settings<'a>(alloc: Global, command: Command<'a>) -> Result<Command<'a>,
     let buckets = "Buckets that keys are spread over, a power of two from 1 to 64 (16)";
     let array = "Offers of a bucket that wait in memory, 1 to 8192 (1024)";
     let trigger = "Unjudged offers of a bucket at which all are judged, 1 to 1048576 (16384)";
-    let block = "Keys that are read at once, 1 to 65536 (4096)";
+    let block = "Keys that a merge goes through at a time, 1 to 65536 (4096)";
     let cap = "Offers that a bucket may be given in all, 1 to 1099511627776 (1099511627776)";
     command
         .arg(number_option(alloc, "buckets", 64, buckets))?

@@ -1,4 +1,5 @@
-ghost use Rattle.std.specs.Prelude.{◌≡◌, ◌≢◌, ◌⊎◌, ◌↔◌, ◌≤◌, ◌<◌, ◌+◌, ◌-◌, ◌++◌, ◌∷◌, ℕ, List, [], true, false, min, drop, take, length};
+ghost use Rattle.std.specs.Prelude.{◌≡◌, ◌≢◌, ◌⊎◌, ◌↔◌, ◌≤◌, ◌<◌, ◌+◌, ◌-◌, ◌*◌, ◌++◌, ◌∷◌, ℕ, List, [], true, false};
+ghost use Rattle.std.specs.Prelude.{min, drop, take, length};
 ghost use Rattle.std.specs.Prelude.{slice_get, slice_index, Some, IfOk, OnOk, OnErr, IsErrOf};
 ghost use Rattle.std.specs.List.{AllByRecursion};
 ghost use Rattle.std.specs.Option.{ForSome};
@@ -15,9 +16,9 @@ ghost use Rattle.irl_bay.specs.BayFiles.{IsBucketFile, IsFileOf};
 ghost use Rattle.irl_bay.specs.Commits.{HasLiveRecords, live_side};
 ghost use Rattle.irl_bay.specs.Runs.{run_bytes};
 ghost use Rattle.irl_bay.specs.Drum.{IsDrum, durable_at, pending_at, SomePending, KeepsCounts, CountsFlush, CountsMerge};
-ghost use Rattle.irl_bay.specs.Drum.{HasNumbers};
+ghost use Rattle.irl_bay.specs.Drum.{HasNumbers, cache_front};
 ghost use Rattle.irl_bay.specs.Holding.{IsLong, TellsBy, TellsOnly, ChangesOnly};
-ghost use Rattle.irl_bay.specs.Merging.{KeepsCommitted, IsMergeFile};
+ghost use Rattle.irl_bay.specs.Merging.{AreEmpty, KeepsCommitted, IsMergeFile, TakesOf};
 ghost use Rattle.irl_bay.specs.JudgedSpoilt.{IsJudgedSpoiltAt, IsJudgedFile};
 ghost use Rattle.irl_bay.specs.Spoilt.{IsSpoiltAt};
 ghost use Rattle.irl_yard.specs.Standing.{HasState};
@@ -217,6 +218,10 @@ impl<S: Store> Yard<S> {
             Leaves (S.snapshot self.old.store) (S.snapshot self.new.store) (λ image.
             HasLiveRecords self.old.parts.urls.base self.old.parts.urls.settings.buckets b payloads image
             ⊎ HasLiveRecords self.old.parts.urls.base self.old.parts.urls.settings.buckets b [] image) }
+        // The buckets' files that are live from then on were cut.
+        ensures cut { OnOk result (ForSome (S.snapshot self.new.store).files
+            (AreEmpty self.old.parts.urls.base (1 - live_side self.old.parts.urls.last)
+            self.old.parts.urls.settings.buckets)) }
         // Only the manifest, the cache side that isn't live, the judged offers, their texts, and the buckets' files on the
         // side that isn't live change.
         ensures others { TellsOnly (IsMergeFile self.old.parts.urls)
@@ -225,6 +230,9 @@ impl<S: Store> Yard<S> {
             (S.snapshot self.old.store) (S.snapshot self.new.store) }
         ensures taken { TakesAmong (IsFileOf self.old.parts.urls.base self.old.parts.urls.settings.buckets)
             (S.taken self.old.store) (S.taken self.new.store) }
+        // Each key of the live cache side is read once.
+        ensures read { OnOk result (TakesOf (cache_front self.old.parts.urls).file
+            (16 * self.old.parts.urls.last.entries) (S.taken self.old.store) (S.taken self.new.store)) }
         ensures cause { HasCause (IsErrOf result Fault.Failed) (S.faults self.old.store) (S.faults self.new.store) }
     {
         let _is_sound = self.parts.urls.is_sound();

@@ -5,7 +5,7 @@ ghost use Rattle.irl_bay.specs.Drum.{SomePending};
 ghost use Rattle.irl_bay.specs.Holding.{Holds};
 
 use super::*;
-use crate::tests::{Waiting, flush, made, put, settings_of};
+use crate::tests::{Waiting, counts, flush, made, put, settings_of};
 use irl_disk::{MemStore, Part};
 use irl_journal::{Blob, Journal, Visit};
 use std::alloc::{AllocError, Global};
@@ -110,14 +110,18 @@ fn cuts_left(behind: u64, is_failing: bool) -> [u64; 3] {
     }
 }
 
+// The number of a call, where it is to fail.
+fn failing_calls(alloc: Global, call: u64, is_failing: bool) -> Result<Vec<u64>, AllocError> {
+    let mut failing = Vec::new(alloc);
+    if is_failing {
+        failing.push(call)?;
+    }
+    Ok(failing)
+}
+
 // The offers, over which a merge was asked that stopped, or failed, in this call.
 fn stopped(alloc: Global, call: u64, is_failing: bool) -> Result<(MemStore, bool), Fail> {
-    let failing = if is_failing {
-        vec![in alloc; call]?
-    } else {
-        Vec::new(alloc)
-    };
-    let mut kept = flushed(alloc, failing)?;
+    let mut kept = flushed(alloc, failing_calls(alloc, call, is_failing)?)?;
     let is_err = merge(&mut kept).is_err();
     Ok((kept.store, is_err))
 }
@@ -200,5 +204,59 @@ fn the_sides_of_the_cache_take_turns(rt: HostRuntime) -> Result<(), Fail> {
         assert_eq!(rt; kept.store.length(f)?, length, "file {f}");
     }
     assert!(rt; has_batch(&mut kept.store)?);
+    Ok(())
+}
+
+// The two offers, judged, and one more behind them, over which a second merge was asked that stopped, or failed, in
+// this call; and how many calls there were before that merge.
+fn stopped_again(alloc: Global, call: u64, is_failing: bool) -> Result<(MemStore, u64), Fault> {
+    let mut kept = flushed(alloc, failing_calls(alloc, call, is_failing)?)?;
+    merge(&mut kept)?;
+    put(alloc, &mut kept, 2, b"r")?;
+    flush(&mut kept, 0)?;
+    let first = kept.store.calls();
+    let is_err = merge(&mut kept).is_err();
+    if is_err == is_failing {
+        Ok((kept.store, first))
+    } else {
+        Err(Fault::Memory)
+    }
+}
+
+// How many offers, how many that wait, how many judged and unique ones and how many cuts a stop in this call leaves.
+fn numbers_left(
+    alloc: Global,
+    store: &MemStore,
+    call: u64,
+    part: Part,
+) -> Result<Option<[u64; 5]>, Fault> {
+    let settings = settings_of(1, 2, 1_000);
+    if call >= store.calls() || !settings.is_valid() {
+        return Ok(None);
+    }
+    let mut image = store.image(alloc, call, part)?;
+    let bay = Bay::adopt(alloc, &mut image, 1_000, &settings)?;
+    let (durable, pending) = counts(&bay, 0).unwrap_or((0, 0));
+    let judged = [bay.judged_len(), bay.unique_len(), bay.cuts()];
+    Ok(Some([durable, pending, judged[0], judged[1], judged[2]]))
+}
+
+// The second merge empties files that had offers, and a stop leaves them with their bucket or finds them empty.
+#[test]
+fn a_stop_in_the_second_merge_leaves_the_cut_or_none(rt: HostRuntime) -> Result<(), Fail> {
+    let alloc = rt.alloc();
+    let (store, first) = stopped_again(alloc, 0, false)?;
+    let end = store.calls();
+    for call in first..end {
+        for is_failing in [false, true] {
+            let (store, _first) = stopped_again(alloc, call, is_failing)?;
+            let wanted = cuts_left(end - 1 - call, is_failing);
+            for (part, cuts) in [Part::Old, Part::New, Part::Torn].into_iter().zip(wanted) {
+                let numbers = [[3, 1, 2, 1, 1], [3, 0, 3, 2, 2]][usize::from(cuts == 1)];
+                let found = numbers_left(alloc, &store, call, part)?;
+                assert_eq!(rt; found, Some(numbers), "{part:?} at {call}, {is_failing}");
+            }
+        }
+    }
     Ok(())
 }

@@ -1,3 +1,5 @@
+mod stops;
+
 use super::counts;
 use super::quiet::{Quiet, Tuple, flush, lines_of, merge};
 use crate::Bay;
@@ -80,12 +82,13 @@ const TWICE: [Bytes; 8] = [
     (113, 0, b"rt"),
 ];
 
-// Puts bytes into the files of a store.
-fn put_files(store: &mut Quiet, files: &[Bytes]) -> Result<(), Failed> {
+// Puts bytes into the files of a store, each behind what stands there or over it.
+fn put_files<S: Store>(store: &mut S, files: &[Bytes]) -> Result<(), Failed> {
     for (f, at, bytes) in files {
-        if *f < 10_000 {
-            store.write(*f, *at, bytes)?;
+        if *f >= 10_000 || *at > store.length(*f)? {
+            return Err(Failed);
         }
+        store.write(*f, *at, bytes)?;
     }
     Ok(())
 }
@@ -228,6 +231,11 @@ fn lengths(store: &Quiet) -> [usize; 8] {
     [110, 111, 112, 113, 600, 601, 602, 603].map(|f| store.bytes(f).len())
 }
 
+// Whether judged offers are the first of these.
+fn are_rows(found: &[Judged], rows: &[Row]) -> bool {
+    found.len() <= rows.len() && found.iter().zip(rows).all(|(one, row)| is_row(one, row))
+}
+
 fn is_row(one: &Judged, row: &Row) -> bool {
     let (bucket, (op, key, value, text), verdict) = *row;
     one.bucket == bucket
@@ -245,7 +253,7 @@ fn are_judged(store: &mut Quiet, bay: &Bay, rows: &[Row]) -> Result<bool, Fault>
         return Ok(false);
     }
     let found = bay.judged_from(store, 0, 100)?.to_vec(bay.alloc)?;
-    Ok(found.len() <= rows.len() && found.iter().zip(rows).all(|(one, row)| is_row(one, row)))
+    Ok(found.len() as u64 == bay.judged_len() && are_rows(&found, rows))
 }
 
 // A step over an open bay, behind which the bay and one that is opened anew are so.

@@ -145,6 +145,18 @@ fn offer_of(alloc: Global, tuple: &Tuple<'_>) -> Result<Offer, AllocError> {
     })
 }
 
+// An array of two offers at most, those of these tuples for which there is room.
+pub(crate) fn array_of(alloc: Global, tuples: &[Tuple<'_>]) -> Result<Array, AllocError> {
+    let mut array = Array::with_room(alloc, 2)?;
+    for tuple in tuples {
+        let offer = offer_of(alloc, tuple)?;
+        if !array.is_full() {
+            array.push(offer);
+        }
+    }
+    Ok(array)
+}
+
 // Flushes offers to a bucket.
 pub(crate) fn flush(
     alloc: Global,
@@ -153,13 +165,7 @@ pub(crate) fn flush(
     b: u32,
     tuples: &[Tuple<'_>],
 ) -> Result<(), Fault> {
-    let mut array = Array::with_room(alloc, 2)?;
-    for tuple in tuples {
-        let offer = offer_of(alloc, tuple)?;
-        if !array.is_full() {
-            array.push(offer);
-        }
-    }
+    let mut array = array_of(alloc, tuples)?;
     if !can_flush(bay, b, &array) {
         return Err(Fault::Memory);
     }

@@ -2,7 +2,7 @@ ghost use Rattle.std.specs.Prelude.{Some};
 ghost use Rattle.irl_disk.specs.Memory.{counts_of, fault_count, snapshot_of};
 ghost use Rattle.irl_disk.specs.MemoryLaws.{consistent};
 
-use super::{NEW_OF_ROW, NONE, ROW, SEEN, check, new_store, refusal, writes};
+use super::{Case, NEW_OF_ROW, NONE, ONE_BUCKET, ROW, SEEN, check, new_store, refusal, writes};
 use crate::run;
 use irl_disk::{Failed, MemStore, Store};
 use irl_io::{MemSink, MemSource};
@@ -12,33 +12,55 @@ use std::sync::Wait;
 use std::test::Fail;
 use std::thread::Threads;
 
-// A store over which the lines of the row were judged.
+// A new store over which the lines of the row were judged in a first run of these words.
 fn judged_row<R: Threads + Wait + Sync + Abort + AllocGlobal>(
     rt: &R,
+    words: &[&str],
 ) -> Result<MemStore, AllocError> {
     let store = new_store(rt.alloc(), NONE)?;
-    check(rt, store, NONE, writes(SEEN, ROW, NEW_OF_ROW))
+    check(rt, store, NONE, writes(words, ROW, NEW_OF_ROW))
 }
 
 // The first merge names side 1 of the cache and of the bucket files, which it leaves empty.
 #[test]
 fn the_first_merge_names_an_empty_side(rt: HostRuntime) -> Result<(), Fail> {
-    let mut store = judged_row(&rt)?;
-    let mut manifest = [0; 6];
-    store.read(100, 0, &mut manifest)?;
-    assert_eq!(rt; manifest, *b"\xA5\xA1\0\0\0\x05");
-    for b in 0..16 {
-        let mut gate = [b'-'; 2];
-        assert_eq!(rt; store.read(600 + 2 * b, 0, &mut gate), Ok(1), "bucket {b}");
-        assert_eq!(rt; gate, *b"\0-", "bucket {b}");
-        assert_eq!(rt; store.length(601 + 2 * b), Ok(0), "bucket {b}");
+    for (words, buckets, record) in [
+        (SEEN, 16, b"\xA5\xA1\0\0\0\x05"),
+        (ONE_BUCKET, 1, b"\xA5\x29\0\0\0\x05"),
+    ] {
+        let mut store = judged_row(&rt, words)?;
+        let mut manifest = [0; 6];
+        store.read(100, 0, &mut manifest)?;
+        assert_eq!(rt; manifest, *record);
+        for b in 0..buckets {
+            let mut gate = [b'-'; 2];
+            assert_eq!(rt; store.read(600 + 2 * b, 0, &mut gate), Ok(1), "bucket {b}");
+            assert_eq!(rt; gate, *b"\0-", "bucket {b}");
+            assert_eq!(rt; store.length(601 + 2 * b), Ok(0), "bucket {b}");
+        }
     }
     Ok(())
 }
 
 const BROKEN: &[u8] = b"\xA5\xFF\0\0\0\0";
 
-// Over the judged lines, of which one file was put in place by other bytes. The journals of side 1 are live.
+// A run over the judged lines of a first run of these words, of which one file was put in place by other bytes.
+fn check_changed<R: Threads + Wait + Sync + Abort + AllocGlobal>(
+    rt: &R,
+    words: &[&str],
+    file: u16,
+    bytes: &[u8],
+    case: Case<'_>,
+) -> Result<(), AllocError> {
+    let mut store = judged_row(rt, words)?;
+    assert!(rt; file < 10_000);
+    assert_eq!(rt; store.cut(file, 0), Ok(()));
+    assert_eq!(rt; store.write(file, 0, bytes), Ok(()));
+    let _ = check(rt, store, NONE, case)?;
+    Ok(())
+}
+
+// The journals of side 1 are live.
 #[test]
 fn the_live_side_is_opened_or_refused(rt: HostRuntime) -> Result<(), Fail> {
     let kept: &[u8] = b"other setting 1: kept 1, asked 2\n";
@@ -52,10 +74,9 @@ fn the_live_side_is_opened_or_refused(rt: HostRuntime) -> Result<(), Fail> {
         (600, b"\xA5", writes(SEEN, ROW, b"")),
         (110, BROKEN, writes(SEEN, ROW, b"")),
     ] {
-        let mut store = judged_row(&rt)?;
-        assert_eq!(rt; store.cut(file, 0), Ok(()));
-        assert_eq!(rt; store.write(file, 0, bytes), Ok(()));
-        let _ = check(&rt, store, NONE, case)?;
+        for words in [SEEN, ONE_BUCKET] {
+            check_changed(&rt, words, file, bytes, case)?;
+        }
     }
     Ok(())
 }
@@ -123,14 +144,15 @@ fn seen_in_blocks<R: Threads + Wait + Sync + AllocGlobal>(
     ))
 }
 
-// The second run's merge reads the five keys of the live side once, for all buckets, and nothing else reads that file.
+// Opening reads no key. The last run's merge reads the five of the live side once, for all buckets, and nothing else
+// reads that file.
 #[test]
 fn a_merge_reads_each_key_once(rt: HostRuntime) -> Result<(), Fail> {
     let mut counting = Counting {
         store: new_store(rt.alloc(), NONE)?,
         taken: 0,
     };
-    for (input, taken) in [(b"a\nb\nc\nd\ne\n".as_slice(), 0), (b"f\n", 80)] {
+    for (input, taken) in [(b"a\nb\nc\nd\ne\n".as_slice(), 0), (b"", 0), (b"f\n", 80)] {
         let (status, left) = seen_in_blocks(&rt, counting, input)?;
         assert_eq!(rt; (status, left.taken), (0, taken));
         counting = left;

@@ -3,7 +3,7 @@ ghost use Rattle.irl_offer.specs.declared.settings.Kind.TheVariants.{Crawl};
 
 use super::{array_of, can_merge, flush, merge, offer_of};
 use crate::Yard;
-use irl_disk::{MemStore, Part};
+use irl_disk::{MemStore, Part, Store};
 use irl_model::judged;
 use irl_offer::{Asked, Fault, Judged, Kind, Offer, Verdict};
 use std::alloc::{AllocError, Global};
@@ -249,6 +249,16 @@ fn steps_left(step: usize, calls_behind: u64, part: Part) -> (usize, usize) {
     }
 }
 
+// The row, flushed and judged, and the same once more.
+const ROW_TWICE: [Step<'static>; 4] = [
+    Step::Flush(0, &ROW),
+    Step::Merge,
+    Step::Flush(0, &ROW),
+    Step::Merge,
+];
+
+const COUNTS_OF_ROW_TWICE: [[u64; 3]; 5] = [[0, 0, 0], [3, 0, 0], [3, 3, 2], [6, 3, 2], [6, 6, 2]];
+
 const CASES: [Case<'static>; 3] = [
     Case {
         buckets: 1,
@@ -259,8 +269,8 @@ const CASES: [Case<'static>; 3] = [
     Case {
         buckets: 1,
         array: None,
-        steps: &[Step::Flush(0, &ROW), Step::Merge],
-        counts: &[[0, 0, 0], [3, 0, 0], [3, 3, 2]],
+        steps: &ROW_TWICE,
+        counts: &COUNTS_OF_ROW_TWICE,
     },
     Case {
         buckets: 2,
@@ -339,5 +349,48 @@ fn a_full_bucket_takes_no_more(rt: HostRuntime) -> Result<(), Fail> {
     assert_eq!(rt; counts(alloc, &mut yard), Ok([2, 0, 0]));
     assert_eq!(rt; merge(&mut yard), Ok(1));
     assert_eq!(rt; counts(alloc, &mut yard), Ok([2, 2, 2]));
+    Ok(())
+}
+
+// A store over which the row was judged, as a program left it that had one side of the bucket files: its merge named
+// none, and the other side wasn't there.
+fn of_one_side(alloc: Global, asked: &Asked) -> Result<MemStore, Fault>
+    requires { asked.now.kind ≢ Crawl }
+{
+    let (mut store, _made, _ends) = built(alloc, asked, &ROW_TWICE[..2])?;
+    if store.length(100)? < 6 {
+        return Err(Fault::Failed);
+    }
+    store.write(100, 5, b"\x01")?;
+    store.cut(600, 0)?;
+    Ok(store)
+}
+
+// The byte of a merge's record in a manifest of one bucket, which names its sides, and how long the journals of the
+// bucket are.
+fn sides_of(store: &mut MemStore, merge: u64) -> Result<(u8, [u64; 2]), Fault> {
+    let mut byte = [0];
+    let at = merge.saturating_mul(46).saturating_add(5);
+    if at > store.length(100)? {
+        return Err(Fault::Failed);
+    }
+    store.read(100, at, &mut byte)?;
+    Ok((byte[0], [store.length(110)?, store.length(600)?]))
+}
+
+// Opened, it has what was judged, and the same lines once more go on to the other side.
+#[test]
+fn a_store_of_one_side_goes_on_to_two(rt: HostRuntime) -> Result<(), Fail> {
+    let alloc = rt.alloc();
+    let asked = asked_of(Some(1), None, None);
+    let mut store = of_one_side(alloc, &asked)?;
+    assert_eq!(rt; sides_of(&mut store, 0), Ok((1, [87, 0])));
+    let mut yard = entered(alloc, store, &asked)?;
+    assert_eq!(rt; counts(alloc, &mut yard), Ok(COUNTS_OF_ROW_TWICE[2]));
+    for (step, wanted) in ROW_TWICE.iter().zip(&COUNTS_OF_ROW_TWICE[3..]) {
+        take_step(alloc, &mut yard, *step)?;
+        assert_eq!(rt; counts(alloc, &mut yard), Ok(*wanted));
+    }
+    assert_eq!(rt; sides_of(&mut yard.into_store(), 1), Ok((4, [173, 1])));
     Ok(())
 }
