@@ -16,7 +16,7 @@ cc -O2 -o "$work/measure" "$top/bench/measure.c"
 git clone -q "$top" "$work/now"
 mkdir -p "$work/now/crates/bench_fates/src"
 cp "$top/bench/fates.rt.txt" "$work/now/crates/bench_fates/src/main.rt"
-echo "bench_fates: irl_fate irl_model irl_offer" >>"$work/now/crates.txt"
+echo "bench_fates: irl_events irl_fate irl_model irl_offer" >>"$work/now/crates.txt"
 (cd "$work/now/crates/bench_fates" && rt run -- 30 applied >"$work/log" 2>&1) || { tail -20 "$work/log" >&2; exit 1; }
 
 for _ in $(seq "$runs"); do

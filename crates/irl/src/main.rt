@@ -1,25 +1,25 @@
 //! The program `irl`: a web crawler over a store in a folder.
 #![tactic(auto)]
 
-ghost use Rattle.std.specs.Prelude.{◌≡◌, ◌≢◌, map, drop, IfOk, OnOk, OnErr, IsErr};
+ghost use Rattle.std.specs.Prelude.{◌≡◌, ◌≢◌, map, drop, IfOk, OnOk, OnErr, IsErr, string_bytes};
 ghost use Rattle.std.specs.Io.KnownBytes.{Appends};
-ghost use Rattle.irl_offer.specs.Faults.{Rose, HasCause};
+ghost use Rattle.irl_base.specs.Faults.{Rose, HasCause};
 ghost use Rattle.irl_io.specs.Written.{AppendsPrefix};
 ghost use Rattle.irl_files.specs.FileStore.{fault_count, folder_path};
 ghost use Rattle.irl_files.specs.Folder.{named_folder};
 ghost use Rattle.irl_top.specs.Message.{Says, refusal};
 ghost use Rattle.irl.specs.Words.{asked, folder_in};
 ghost use Rattle.irl_words.specs.Help.{asks_help};
-ghost use Rattle.irl.specs.Obeying.{RunsOverFiles, Obeys, ObeysCommand, streams};
+ghost use Rattle.irl.specs.Obeying.{RunsOverFiles, RunsInFolder, Obeys, ObeysCommand, streams, TellsFault, IsFaultLine};
 
 mod words;
 
-use irl_files::FileStore;
+use irl_files::{Failure, FileStore, Lockable};
 use irl_io::{Failed, ReadSource, Sink, Source, WriteSink};
 use irl_top::run;
 use irl_words::help;
-use std::alloc::AllocError;
-use std::io::{self, ErrorKind};
+use std::alloc::{AllocError, Global};
+use std::io::{self, Error, ErrorKind};
 use std::process::ExitCode;
 use std::rt::{Env, Files};
 use std::sync::Wait;
@@ -31,7 +31,9 @@ const HELP: &str = "\
 Usage: irl DIR COMMAND [OPTIONS]
 
 Keeps what it is given in the folder DIR, which is made at the first write.
-A name that begins with - is written with its place, as ./-DIR.
+A name that begins with - is written with its place, as ./-DIR. One program at
+a time may use a folder: another ends with status 4. What a run judged and was
+stopped or failed before it printed is printed by no later run.
 
 Commands:
   seen  prints each line of standard input that was not given before
@@ -53,7 +55,7 @@ const NULL_DEVICE: &str = "/dev/null";
 /// The exit status where the words are refused.
 const WORDS_REFUSED: u8 = 1;
 
-/// The exit status where the system refused a file.
+/// The exit status where the system refused a file, or another program has the folder.
 const DISK_FAULT: u8 = 4;
 
 /// The exit status where the output failed.
@@ -61,6 +63,9 @@ const OUTPUT_FAULT: u8 = 6;
 
 /// The exit status where memory ran out.
 const NO_MEMORY: u8 = 7;
+
+/// The line of a fault of which no more can be told.
+const UNTOLD: &str = "irl: what failed could not be told\n";
 
 /// Writes a text, and gives the exit status.
 fn show<O: Sink, E: Sink>(output: &mut O, errors: &mut E, text: &[u8]) -> u8
@@ -101,6 +106,56 @@ fn write_refusal<E: Sink>(errors: &mut E, word: &str) -> Result<(), Failed>
     Ok(())
 }
 
+/// The line that tells of a failure in a store over this folder.
+fn fault_line(alloc: Global, folder: &str, failure: Failure) -> Result<String, AllocError>
+    ensures { IfOk result (λ line. IsFaultLine folder.now failure (string_bytes line)) }
+{
+    let text = failure.explain(alloc, folder)?;
+    ["irl: ", text.as_str(), "\n"].concat(alloc)
+}
+
+/// Writes a line of what failed first in a store over this folder.
+fn tell_fault<E: Sink>(alloc: Global, errors: &mut E, folder: &str, first: Option<Failure>)
+    ensures { TellsFault folder.now first
+        (record { bytes = E.written errors.old; faults = E.faults errors.old })
+        (record { bytes = E.written errors.new; faults = E.faults errors.new }) }
+{
+    let Some(failure) = first else {
+        return say(errors, UNTOLD.as_bytes());
+    };
+    match fault_line(alloc, folder, failure) {
+        Ok(line) => say(errors, line.as_bytes()),
+        Err(_) => say(errors, UNTOLD.as_bytes()),
+    }
+}
+
+/// Writes such a line at the status of a refused file, and nothing at any other.
+fn tell_status<E: Sink>(
+    alloc: Global,
+    errors: &mut E,
+    folder: &str,
+    status: u8,
+    first: Option<Failure>,
+)
+    ensures told { status ≡ 4 → TellsFault folder.now first
+        (record { bytes = E.written errors.old; faults = E.faults errors.old })
+        (record { bytes = E.written errors.new; faults = E.faults errors.new }) }
+    ensures quiet { status ≢ 4 → errors.new ≡ errors.old }
+{
+    if status == DISK_FAULT {
+        tell_fault(alloc, errors, folder, first);
+    }
+}
+
+/// Writes a line, where the stream takes it.
+fn say<E: Sink>(errors: &mut E, line: &[u8])
+    ensures { Says line.now
+        (record { bytes = E.written errors.old; faults = E.faults errors.old })
+        (record { bytes = E.written errors.new; faults = E.faults errors.new }) }
+{
+    let _ = errors.write(line);
+}
+
 /// The words of the command line behind the program's name. Where one of them is no text, there are none.
 fn arguments<R: Env + AllocGlobal>(rt: &R) -> Result<Vec<String>, AllocError> {
     match env::args(rt) {
@@ -115,6 +170,8 @@ fn store_in_folder<'a, R: Files + AllocGlobal>(
     rt: &'a R,
     words: &[&str],
 ) -> Result<FileStore<&'a R>, AllocError>
+where
+    R::File: Lockable,
     ensures folder { IfOk result (λ store.
         folder_path store ≡ named_folder (folder_in (map (λ word. word.now) words.now))) }
     ensures faults { IfOk result (λ store. fault_count store ≡ 0) }
@@ -123,7 +180,35 @@ fn store_in_folder<'a, R: Files + AllocGlobal>(
     FileStore::new(rt, rt.alloc(), folder)
 }
 
-/// Runs the command over the folder that the first word names, and gives the exit status.
+/// Runs the command over the folder that the first word names, and gives the exit status and what failed first.
+fn run_files<R, I, O, E>(
+    rt: &R,
+    words: &[&str],
+    input: &mut I,
+    output: &mut O,
+    errors: &mut E,
+) -> Result<(u8, Option<Failure>), AllocError>
+where
+    R: Files + AllocGlobal + Threads + Wait + Sync,
+    R::File: Lockable,
+    I: Source,
+    O: Sink,
+    E: Sink,
+    ensures { IfOk result (λ ended.
+        let tells = streams I.left I.faults O.written O.faults E.written E.faults in
+        RunsOverFiles (map (λ word. word.now) (drop 1 words.now))
+        (tells input.old output.old errors.old) (tells input.new output.new errors.new) ended.0) }
+{
+    let (_, command) = folder_and_command(words);
+    let store = store_in_folder(rt, words)?;
+    let (status, store) = run(rt, rt.alloc(), command, input, output, errors, store);
+    let first = store.first_failure();
+    drop(store);
+    Ok((status, first))
+}
+
+/// Runs the command over the folder that the first word names, and tells what failed first where a file was refused. Gives the
+/// exit status.
 fn run_in_folder<R, I, O, E>(
     rt: &R,
     words: &[&str],
@@ -133,18 +218,18 @@ fn run_in_folder<R, I, O, E>(
 ) -> Result<u8, AllocError>
 where
     R: Files + AllocGlobal + Threads + Wait + Sync,
+    R::File: Lockable,
     I: Source,
     O: Sink,
     E: Sink,
     ensures { IfOk result (λ status.
         let tells = streams I.left I.faults O.written O.faults E.written E.faults in
-        RunsOverFiles (map (λ word. word.now) (drop 1 words.now))
+        RunsInFolder (folder_in (map (λ word. word.now) words.now)) (map (λ word. word.now) (drop 1 words.now))
         (tells input.old output.old errors.old) (tells input.new output.new errors.new) status) }
 {
-    let (_, command) = folder_and_command(words);
-    let store = store_in_folder(rt, words)?;
-    let (status, store) = run(rt, rt.alloc(), command, input, output, errors, store);
-    drop(store);
+    let (status, first) = run_files(rt, words, input, output, errors)?;
+    let (folder, _) = folder_and_command(words);
+    tell_status(rt.alloc(), errors, folder, status, first);
     Ok(status)
 }
 
@@ -158,13 +243,14 @@ fn command<R, I, O, E>(
 ) -> Result<u8, AllocError>
 where
     R: Files + AllocGlobal + Threads + Wait + Sync,
+    R::File: Lockable,
     I: Source,
     O: Sink,
     E: Sink,
     ensures { IfOk result (λ status.
         let tells = streams I.left I.faults O.written O.faults E.written E.faults in
         let command = map (λ word. word.now) (drop 1 words.now) in
-        ObeysCommand (asks_help command) command
+        ObeysCommand (asks_help command) (folder_in (map (λ word. word.now) words.now)) command
         (tells input.old output.old errors.old) (tells input.new output.new errors.new) status) }
 {
     let (_, command) = folder_and_command(words);
@@ -184,6 +270,7 @@ fn obey<R, I, O, E>(
 ) -> Result<u8, AllocError>
 where
     R: Files + AllocGlobal + Threads + Wait + Sync,
+    R::File: Lockable,
     I: Source,
     O: Sink,
     E: Sink,
@@ -210,6 +297,7 @@ fn answer<R, I, O, E>(
 ) -> Result<u8, AllocError>
 where
     R: Env + Files + AllocGlobal + Threads + Wait + Sync,
+    R::File: Lockable,
     I: Source,
     O: Sink,
     E: Sink,
@@ -232,13 +320,23 @@ fn fill_closed_streams<R: Files>(rt: &R) -> io::Result<[R::File; 3]> {
     ])
 }
 
+/// Writes the lines of a null device that could not be opened.
+fn refuse_device<R: AllocGlobal, E: Sink>(rt: &R, errors: &mut E, error: &Error) {
+    let _ = errors.write(b"disk fault\n");
+    let line = format!(in rt.alloc(); "irl: open of {NULL_DEVICE}: {error}\n");
+    match line {
+        Ok(line) => say(errors, line.as_bytes()),
+        Err(_) => say(errors, UNTOLD.as_bytes()),
+    }
+}
+
 fn main(rt: HostRuntime) -> ExitCode {
     let filled = fill_closed_streams(&rt);
     let mut input = ReadSource::new(rt.stdin());
     let mut output = WriteSink::new(rt.stdout());
     let mut errors = WriteSink::new(rt.stderr());
-    if filled.is_err() {
-        let _ = errors.write(b"disk fault\n");
+    if let Err(error) = &filled {
+        refuse_device(&rt, &mut errors, error);
         return ExitCode::from(DISK_FAULT);
     }
     match answer(&rt, &mut input, &mut output, &mut errors) {

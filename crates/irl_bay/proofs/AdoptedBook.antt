@@ -59,7 +59,8 @@ length-at [] b = refl
 length-at (list ∷ lists) zero = refl
 length-at (list ∷ lists) (suc b) = length-at lists b
 
-same_durables : (buckets : List Bucket) (lists : List (List Tuple)) (d : Bucket) → length buckets ≡ length lists → ((b : ℕ) → b < length lists → (get_or buckets b d).durable ≡ length (get_or lists b [])) → map (λ bucket. bucket.durable) buckets ≡ map (λ list. length list) lists
+same_durables : (buckets : List Bucket) (lists : List (List Tuple)) (d : Bucket) → length buckets ≡ length lists
+    → ((b : ℕ) → b < length lists → (get_or buckets b d).durable ≡ length (get_or lists b [])) → map (λ bucket. bucket.durable) buckets ≡ map (λ list. length list) lists
 same_durables [] [] d same each = refl
 same_durables [] (list ∷ lists) d same each = absurd (omega (arith, same))
 same_durables (bucket ∷ buckets) [] d same each = absurd (omega (arith, same))
@@ -72,7 +73,8 @@ same_durables (bucket ∷ buckets) (list ∷ lists) d same each =
 pub of_bucket : (buckets c b : ℕ) (lists : List (List Tuple)) → AreOfBuckets buckets c lists → AllByRecursion (λ (offer : Tuple). bucket_of buckets offer.key ≡ c + b) (get_or lists b [])
 of_bucket buckets c b [] are = tt
 of_bucket buckets c zero (list ∷ lists) are = let same : c ≡ c + 0 = omega arith in subst (λ (n : ℕ). AllByRecursion (λ (offer : Tuple). bucket_of buckets offer.key ≡ n) list) same are.0
-of_bucket buckets c (suc b) (list ∷ lists) are = let same : c + 1 + b ≡ c + suc b = omega arith in subst (λ (n : ℕ). AllByRecursion (λ (offer : Tuple). bucket_of buckets offer.key ≡ n) (get_or lists b [])) same (of_bucket buckets (c + 1) b lists are.1)
+of_bucket buckets c (suc b) (list ∷ lists) are = let same : c + 1 + b ≡ c + suc b = omega arith in
+    subst (λ (n : ℕ). AllByRecursion (λ (offer : Tuple). bucket_of buckets offer.key ≡ n) (get_or lists b [])) same (of_bucket buckets (c + 1) b lists are.1)
 
 -- ---- lengths of what is committed
 pub length-pairs : (pairs : List (ℕ × ℕ)) → length (pairs_bytes pairs) ≡ 16 * length pairs
@@ -84,7 +86,9 @@ length-judged place [] = refl
 length-judged place (one ∷ more) = length-append (judged_bytes place one) (judged_entries (place + length one.offer.aux) more) ∙ omega (arith, length-judged (place + length one.offer.aux) more)
 
 -- bytes that were committed when the three files were opened are so at the end
-front_held : (base side buckets f n : ℕ) (before images : Files → Type 0) (file held : List ℕ) → f < base + 10 → ((image : Files) → images image → (was : Files) × before was × OpensBelow base side buckets was image) → IsCommitted before (record { file = f; length = n }) (take n file) → BeginsWith file held → length held ≡ n
+front_held : (base side buckets f n : ℕ) (before images : Files → Type 0) (file held : List ℕ) → f < base + 10
+    → ((image : Files) → images image → (was : Files) × before was × OpensBelow base side buckets was image) → IsCommitted before (record { file = f; length = n }) (take n file) → BeginsWith file held
+    → length held ≡ n
     → IsCommitted images (record { file = f; length = n }) held
 front_held base side buckets f n before images file held low kept committed begins size =
     let same : take n file ≡ held = ap (λ (m : ℕ). take m file) (sym size) ∙ begins_take file held begins in
@@ -120,7 +124,8 @@ cut_sum settings book last is commit =
     omega (arith, ap sum commit.cut, judged_count book is.is_book, zeros, commit.judged)
 
 -- and a bucket's cut those of the bucket
-cut_counts : (settings : Settings) (book : Book) (last : Commit) (b : ℕ) → IsBookOf settings book → IsCommitOf book last → IsCommit settings.buckets last → b < settings.buckets → get_or last.cut b 0 ≤ last.judged
+cut_counts : (settings : Settings) (book : Book) (last : Commit) (b : ℕ) → IsBookOf settings book → IsCommitOf book last → IsCommit settings.buckets last → b < settings.buckets
+    → get_or last.cut b 0 ≤ last.judged
 cut_counts settings book last b is commit form within = omega (arith, get_or-le-sum_by (λ (n : ℕ). n) last.cut b 0 (omega (arith, within, form.count)), cut_sum settings book last is commit)
 
 all_drop : (P : Tuple → Type 0) (n : ℕ) (xs : List Tuple) → AllByRecursion P xs → AllByRecursion P (drop n xs)
@@ -156,14 +161,16 @@ cut_in settings book last b is inside =
     }
 
 -- the live offers of a bucket are its own
-pub live_here : (settings : Settings) (book : Book) (last : Commit) (b : ℕ) → IsBookOf settings book → AllByRecursion (λ (offer : Tuple). bucket_of settings.buckets offer.key ≡ b) (live_offers book last b)
+pub live_here : (settings : Settings) (book : Book) (last : Commit) (b : ℕ) → IsBookOf settings book
+    → AllByRecursion (λ (offer : Tuple). bucket_of settings.buckets offer.key ≡ b) (live_offers book last b)
 live_here settings book last b is =
     let none_more : 0 + b ≡ b = omega arith in
     all_drop (λ (offer : Tuple). bucket_of settings.buckets offer.key ≡ b) (get_or (starts book last) b 0 - get_or book.firsts b 0) (get_or book.lists b [])
     (subst (λ (k : ℕ). AllByRecursion (λ (offer : Tuple). bucket_of k offer.key ≡ b) (get_or book.lists b [])) is.buckets
     (subst (λ (n : ℕ). AllByRecursion (λ (offer : Tuple). bucket_of book.buckets offer.key ≡ n) (get_or book.lists b [])) none_more (of_bucket book.buckets 0 b book.lists is.is_book.each)))
 
-pub list_of : (base : ℕ) (settings : Settings) (book : Book) (old new : Files) (last : Commit) (b : ℕ) → IsLastOf settings book last → HasBucketOf base settings.array last b (live_offers book last b) old → ChangesFile (file_of base 0 Manifest) IsOpened old new → 48 * last.judged < 2 ^ 64 → b < settings.buckets
+pub list_of : (base : ℕ) (settings : Settings) (book : Book) (old new : Files) (last : Commit) (b : ℕ) → IsLastOf settings book last
+    → HasBucketOf base settings.array last b (live_offers book last b) old → ChangesFile (file_of base 0 Manifest) IsOpened old new → 48 * last.judged < 2 ^ 64 → b < settings.buckets
     → HasListOf base (live_side last) settings b (get_or (starts_of settings.buckets last) b 0) (get_or last.cut b 0 - get_or (starts_of settings.buckets last) b 0) (live_offers book last b) new
 list_of base settings book old new last b is has step few within =
     let side : ℕ = live_side last in
@@ -177,24 +184,30 @@ list_of base settings book old new last b is has step few within =
       few = omega (arith, few, cut.below, cut_counts settings book last b is.book_is is.commit is.form within);
     }
 
-pub holds_is : (base : ℕ) (settings : Settings) (manifest : Tail) (last : Commit) (cuts : ℕ) (buckets : List Bucket) (before images : Files → Type 0) (old mid : Files) (book : Book) (stands : Stands base settings book old)
-    → ChangesFile (file_of base 0 Manifest) IsOpened old mid → ((image : Files) → images image → (was : Files) × before was × OpensBelow base (live_side last) settings.buckets was image) → manifest.file ≡ file_of base 0 Manifest → IsOpen before manifest (map commit_bytes stands.commits)
+pub holds_is : (base : ℕ) (settings : Settings) (manifest : Tail) (last : Commit) (cuts : ℕ) (buckets : List Bucket) (before images : Files
+    → Type 0) (old mid : Files) (book : Book) (stands : Stands base settings book old)
+    → ChangesFile (file_of base 0 Manifest) IsOpened old mid → ((image : Files) → images image → (was : Files) × before was × OpensBelow base (live_side last) settings.buckets was image)
+    → manifest.file ≡ file_of base 0 Manifest → IsOpen before manifest (map commit_bytes stands.commits)
     → last ≡ last_commit (first_commit settings.buckets) stands.commits → cuts ≡ length stands.commits → 48 * last.judged < 2 ^ 64 → AreFronts before base last mid → length buckets ≡ settings.buckets
     → ((b : ℕ) → b < settings.buckets → IsOpenBucket base (live_side last) b (get_or (starts_of settings.buckets last) b 0) (get_or buckets b no_bucket))
-    → ((b : ℕ) (list : List Tuple) → b < settings.buckets → HasListOf base (live_side last) settings b (get_or (starts_of settings.buckets last) b 0) (get_or last.cut b 0 - get_or (starts_of settings.buckets last) b 0) list mid
+    → ((b : ℕ) (list : List Tuple) → b < settings.buckets → HasListOf base (live_side last) settings b (get_or (starts_of settings.buckets last) b 0)
+    (get_or last.cut b 0 - get_or (starts_of settings.buckets last) b 0) list mid
     → HoldsBucket images settings.array (get_or last.cut b 0 - get_or (starts_of settings.buckets last) b 0) (get_or buckets b no_bucket) list)
     → Holds images (opened_drum base settings manifest last cuts buckets) book
 holds_is base settings manifest last cuts buckets before images old mid book stands step kept is_manifest is_open is_last count few fronts long opened each =
     let is = stands.book_is in
     let here : last ≡ last_commit (first_commit book.buckets) stands.commits = is_last ∙ ap (λ (k : ℕ). last_commit (first_commit k) stands.commits) (sym is.buckets) in
     let commit : IsCommitOf book last = subst (λ (x : Commit). IsCommitOf book x) (sym here) (last_of_book settings book stands.commits is stands.commits_are) in
-    let form : IsCommit settings.buckets last = subst (λ (k : ℕ). IsCommit k last) is.buckets (subst (λ (x : Commit). IsCommit book.buckets x) (sym here) (last_is book.buckets (first_commit book.buckets) stands.commits (first_is book.buckets) stands.commits_are.form)) in
+    let form : IsCommit settings.buckets last = subst (λ (k : ℕ). IsCommit k last) is.buckets
+    (subst (λ (x : Commit). IsCommit book.buckets x) (sym here) (last_is book.buckets (first_commit book.buckets) stands.commits (first_is book.buckets) stands.commits_are.form)) in
     let ends : IsLastOf settings book last = record { book_is = is; commit = commit; form = form } in
     let side : last.side ≤ 1 = form.side in
     let standing = λ (b : ℕ) (within : b < book.buckets). subst (λ (x : Commit). HasBucketOf base settings.array x b (live_offers book x b) old) (sym here) (stands.buckets b within) in
-    let held = λ (b : ℕ) (within : b < settings.buckets). each b (live_offers book last b) within (list_of base settings book old mid last b ends (standing b (omega (arith, within, is.buckets))) step few within) in
+    let held = λ (b : ℕ) (within : b < settings.buckets). each b (live_offers book last b) within
+    (list_of base settings book old mid last b ends (standing b (omega (arith, within, is.buckets))) step few within) in
     let keys : last.entries ≡ length (entries (after book.rule book.base (judged_offers book))) = ap (λ (x : Commit). x.entries) here ∙ stands.cache.count in
-    let cache_file : mid (file_of base 0 (Cache last.side)) ≡ old (file_of base 0 (Cache (last_commit (first_commit book.buckets) stands.commits).side)) = elsewhere base (file_of base 0 (Cache last.side)) old mid step (omega arith) ∙ ap (λ (x : Commit). old (file_of base 0 (Cache x.side))) here in
+    let cache_file : mid (file_of base 0 (Cache last.side)) ≡ old (file_of base 0 (Cache (last_commit (first_commit book.buckets) stands.commits).side)) =
+    elsewhere base (file_of base 0 (Cache last.side)) old mid step (omega arith) ∙ ap (λ (x : Commit). old (file_of base 0 (Cache x.side))) here in
     record {
       book_is = is;
       offers = stands.offers;
@@ -218,12 +231,18 @@ holds_is base settings manifest last cuts buckets before images old mid book sta
       };
       manifest = λ image left.
           let was = kept image left in
-          subst (λ (file : List ℕ). Ends manifest.end file (map commit_bytes stands.commits)) (sym (below_same base (live_side last) settings.buckets manifest.file was.0 image was.2 (omega (arith, is_manifest)))) (is_open was.0 was.1);
+          subst (λ (file : List ℕ). Ends manifest.end file (map commit_bytes stands.commits))
+          (sym (below_same base (live_side last) settings.buckets manifest.file was.0 image was.2 (omega (arith, is_manifest)))) (is_open was.0 was.1);
       keys = keys;
-      cache = front_held base (live_side last) settings.buckets (file_of base 0 (Cache last.side)) (16 * last.entries) before images (mid (file_of base 0 (Cache last.side))) (pairs_bytes (entries (after book.rule book.base (judged_offers book)))) (omega (arith, side)) kept fronts.cache
-          (subst (λ (file : List ℕ). BeginsWith file (pairs_bytes (entries (after book.rule book.base (judged_offers book))))) (sym cache_file) stands.cache.bytes) (omega (arith, keys, length-pairs (entries (after book.rule book.base (judged_offers book)))));
-      judged_are = front_held base (live_side last) settings.buckets (file_of base 0 Judged) (48 * last.judged) before images (mid (file_of base 0 Judged)) (judged_entries 0 (judged book)) (omega arith) kept fronts.judged
-          (subst (λ (file : List ℕ). BeginsWith file (judged_entries 0 (judged book))) (sym (elsewhere base (file_of base 0 Judged) old mid step (omega arith))) stands.judged_are) (omega (arith, commit.judged, length-judged 0 (judged book)));
-      texts = front_held base (live_side last) settings.buckets (file_of base 0 Texts) last.texts before images (mid (file_of base 0 Texts)) (texts_of (judged_offers book)) (omega arith) kept fronts.texts
+      cache = front_held base (live_side last) settings.buckets (file_of base 0 (Cache last.side)) (16 * last.entries) before images (mid (file_of base 0 (Cache last.side)))
+          (pairs_bytes (entries (after book.rule book.base (judged_offers book)))) (omega (arith, side)) kept fronts.cache
+          (subst (λ (file : List ℕ). BeginsWith file (pairs_bytes (entries (after book.rule book.base (judged_offers book))))) (sym cache_file) stands.cache.bytes)
+          (omega (arith, keys, length-pairs (entries (after book.rule book.base (judged_offers book)))));
+      judged_are = front_held base (live_side last) settings.buckets (file_of base 0 Judged) (48 * last.judged) before images (mid (file_of base 0 Judged)) (judged_entries 0 (judged book))
+          (omega arith) kept fronts.judged
+          (subst (λ (file : List ℕ). BeginsWith file (judged_entries 0 (judged book))) (sym (elsewhere base (file_of base 0 Judged) old mid step (omega arith))) stands.judged_are)
+          (omega (arith, commit.judged, length-judged 0 (judged book)));
+      texts = front_held base (live_side last) settings.buckets (file_of base 0 Texts) last.texts before images (mid (file_of base 0 Texts)) (texts_of (judged_offers book)) (omega arith) kept
+          fronts.texts
           (subst (λ (file : List ℕ). BeginsWith file (texts_of (judged_offers book))) (sym (elsewhere base (file_of base 0 Texts) old mid step (omega arith))) stands.texts) (sym commit.texts);
     }

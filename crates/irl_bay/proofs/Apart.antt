@@ -8,8 +8,8 @@ use Rattle.irl_offer.specs.declared.settings.Settings.{Settings}
 use Rattle.irl_offer.specs.Settings.{AreValid}
 use Rattle.irl_offer.specs.Tuple.{Tuple}
 use Rattle.irl_model.specs.Book.{Book, blank_book}
-use Rattle.irl_disk.specs.Disk.{Files, ChangesAmong}
-use Rattle.irl_disk.specs.Images.{Snapshot, IsConsistent, LeavesBy}
+use Rattle.irl_disk.specs.Disk.{Files, ChangesAmong, ChangesOnly, TellsOnly}
+use Rattle.irl_disk.specs.Images.{Told, IsConsistent, LeavesBy}
 use Rattle.irl_disk.proofs.Stretches.{left_now}
 use Rattle.irl_journal.specs.Format.{StandsFor}
 use Rattle.irl_journal.specs.Blob.{BeginsWith}
@@ -21,7 +21,7 @@ use Rattle.irl_bay.specs.Runs.{IsOffer, HasBucket}
 use Rattle.irl_bay.specs.Commits.{Commit, IsCommit, first_commit, last_commit, live_side}
 use Rattle.irl_bay.specs.Standing.{Stands}
 use Rattle.irl_bay.specs.Drum.{Drum, IsDrum, cache_front, judged_front, texts_front, bucket_at}
-use Rattle.irl_bay.specs.Holding.{Holds, IsLong, ChangesOnly, TellsOnly}
+use Rattle.irl_bay.specs.Holding.{Holds, IsLong}
 use Rattle.irl_bay.specs.Making.{IsUnmade, IsJournalOf}
 use Rattle.irl_bay.specs.Merging.{IsBatchFile, IsMergeFile}
 use Rattle.irl_bay.proofs.Blank.{blank_is_book, blank_lists, blank_live}
@@ -153,7 +153,14 @@ stands_kept base settings book old new keeps stands = record {
   commits = stands.commits;
   commits_are = stands.commits_are;
   manifest = keeps.journals _ (inl refl) _ stands.manifest;
-  cache = record { count = stands.cache.count; bytes = begins (file_of base 0 (Cache last.side)) _ (Cache last.side, side, refl) (low_no_journal base settings.buckets _ (omega arith) (omega (arith, side))) stands.cache.bytes };
+  cache = record {
+    count = stands.cache.count;
+    bytes = begins (file_of base 0 (Cache last.side)) _ (
+      Cache last.side,
+      side,
+      refl,
+    ) (low_no_journal base settings.buckets _ (omega arith) (omega (arith, side))) stands.cache.bytes;
+  };
   judged_are = begins (file_of base 0 Judged) _ (Judged, tt, refl) (low_no_journal base settings.buckets _ (omega arith) (omega arith)) stands.judged_are;
   texts = begins (file_of base 0 Texts) _ (Texts, tt, refl) (low_no_journal base settings.buckets _ (omega arith) (omega arith)) stands.texts;
 }
@@ -181,7 +188,8 @@ stands_apart base settings book old new same = stands_kept base settings book ol
 })
 
 -- or its journals were opened
-pub stands_opened : (base : ℕ) (settings : Settings) (book : Book) (old new : Files) → ChangesAmong (IsJournalOf base settings.buckets) (λ f. IsOpened) old new → Stands base settings book old → Stands base settings book new
+pub stands_opened : (base : ℕ) (settings : Settings) (book : Book) (old new : Files) → ChangesAmong (IsJournalOf base settings.buckets) (λ f. IsOpened) old new → Stands base settings book old
+    → Stands base settings book new
 stands_opened base settings book old new opened = stands_kept base settings book old new (record {
   journals = λ f is payloads. opened_stands (old f) (new f) payloads (opened.changed f is);
   others = λ f is out. opened.others f out;
@@ -199,7 +207,8 @@ stays_apart drum old new law same = record {
 }
 
 -- so it holds its book over other images in which these files are as they were
-pub holds_apart : (old new : Files → Type 0) (drum : Drum) (book : Book) → IsDrum drum → ((image : Files) → new image → (was : Files) × old was × HasSameFiles drum.base drum.settings.buckets was image) → Holds old drum book → Holds new drum book
+pub holds_apart : (old new : Files → Type 0) (drum : Drum) (book : Book) → IsDrum drum
+    → ((image : Files) → new image → (was : Files) × old was × HasSameFiles drum.base drum.settings.buckets was image) → Holds old drum book → Holds new drum book
 holds_apart old new drum book law from holds =
     holds_moved old new drum book (λ image left. let was = from image left in (was.0, was.1, stays_apart drum was.0 image law was.2)) holds
     (tail_moved drum.manifest _ old new (λ image left. let was = from image left in (was.0, was.1, was.2 _ (Manifest, tt, law.manifest))) holds.manifest)
@@ -218,18 +227,21 @@ long_apart drum old new law same long =
     }
 
 -- a call that changes none of its files
-pub holds_beside : (among : ℕ → Type 0) (old new : Snapshot) (drum : Drum) (book : Book) → IsDrum drum → IsConsistent new → LeavesBy (ChangesOnly among) old new → ((f : ℕ) → IsFileOf drum.base drum.settings.buckets f → among f → ⊥) → Holds old.images drum book → Holds new.images drum book
+pub holds_beside : (among : ℕ → Type 0) (old new : Told) (drum : Drum) (book : Book) → IsDrum drum → IsConsistent new → LeavesBy (ChangesOnly among) old new
+    → ((f : ℕ) → IsFileOf drum.base drum.settings.buckets f → among f → ⊥) → Holds old.images drum book → Holds new.images drum book
 holds_beside among old new drum book law consistent stops out holds =
     holds_apart old.images new.images drum book law (λ image left. let was = left_now old new _ consistent stops image left in (was.0, was.1, λ f is. was.2 f (out f is))) holds
 
-pub long_beside : (among : ℕ → Type 0) (old new : Option Files) (drum : Drum) → IsDrum drum → TellsOnly among old new → ((f : ℕ) → IsFileOf drum.base drum.settings.buckets f → among f → ⊥) → ForSome old (λ files. IsLong drum files) → ForSome new (λ files. IsLong drum files)
+pub long_beside : (among : ℕ → Type 0) (old new : Option Files) (drum : Drum) → IsDrum drum → TellsOnly among old new → ((f : ℕ) → IsFileOf drum.base drum.settings.buckets f → among f → ⊥)
+    → ForSome old (λ files. IsLong drum files) → ForSome new (λ files. IsLong drum files)
 long_beside among old new drum law tells out long = λ files told.
     let was = told_before among old new files tells told in
     long_apart drum was.0 files law (λ f is. was.2 f (out f is)) (long was.0 was.1)
 
 -- ---- a bay that wasn't made
 -- it isn't made where its files are as they were
-pub unmade_beside : (among : ℕ → Type 0) (base buckets : ℕ) (old new : Option Files) → TellsOnly among old new → ((f : ℕ) → IsFileOf base buckets f → among f → ⊥) → ForSome old (λ files. IsUnmade base buckets files) → ForSome new (λ files. IsUnmade base buckets files)
+pub unmade_beside : (among : ℕ → Type 0) (base buckets : ℕ) (old new : Option Files) → TellsOnly among old new → ((f : ℕ) → IsFileOf base buckets f → among f → ⊥)
+    → ForSome old (λ files. IsUnmade base buckets files) → ForSome new (λ files. IsUnmade base buckets files)
 unmade_beside among base buckets old new tells out unmade = λ files told f is.
     let was = told_before among old new files tells told in
     subst (λ (file : List ℕ). length file ≤ 1) (sym (was.2 f (out f is))) (unmade was.0 was.1 f is)
@@ -256,7 +268,8 @@ unmade_stands base settings files valid unmade = record {
   commits = [];
   commits_are = record { count = refl; each = λ i within. absurd (omega (arith, within)); form = tt; grow = tt; name = tt };
   offers = λ b within. subst (AllByRecursion IsOffer) (sym (blank_lists settings.buckets settings.rule b)) tt;
-  buckets = λ b within. no_bucket_has settings.array _ (files (file_of base 0 (Journal 0 b))) (files (file_of base 0 (Aux 0 b))) (blank_live settings.buckets settings.rule (first_commit settings.buckets) b) (unmade _ (Journal 0 b, (omega arith, within), refl));
+  buckets = λ b within. no_bucket_has settings.array _ (files (file_of base 0 (Journal 0 b))) (files (file_of base 0 (Aux 0 b)))
+      (blank_live settings.buckets settings.rule (first_commit settings.buckets) b) (unmade _ (Journal 0 b, (omega arith, within), refl));
   manifest = inl (unmade _ (Manifest, tt, refl), refl);
   cache = record { count = rw no_entries refl; bytes = rw no_entries (files (file_of base 0 (Cache 0)), refl) };
   judged_are = (files (file_of base 0 Judged), refl);

@@ -1,9 +1,9 @@
 -- A batch is written: three appends, each to a file of its own.
 use Rattle.std.proofs.Common.{◌≡◌, ◌≢◌, ◌∙◌, inl, inr, ℕ, ◌-◌, ◌≤◌, List, ◌++◌, length, take, Option, None, Some, refl, sym, ap, subst, arith, length-take-le}
 use Rattle.std.specs.Option.{ForSome}
-use Rattle.irl_disk.specs.Disk.{Files, Changes, ChangesFile}
+use Rattle.irl_disk.specs.Disk.{Files, Changes, ChangesFile, ChangesOnly, TellsOnly, TellsBy}
 use Rattle.irl_disk.proofs.Frames.{told_from}
-use Rattle.irl_disk.specs.Images.{Snapshot, IsConsistent, LeavesBy, LeavesSame}
+use Rattle.irl_disk.specs.Images.{Told, IsConsistent, LeavesBy, LeavesSame}
 use Rattle.irl_disk.proofs.Stretches.{widens_by, joins_by, left_now, same_by}
 use Rattle.irl_journal.specs.Blob.{Front, KeepsFront, IsCommitted}
 use Rattle.irl_journal.proofs.Fronts.{begins_long, take_begins}
@@ -11,12 +11,12 @@ use Rattle.irl_bay.specs.BayFiles.{file_of}
 use Rattle.irl_bay.specs.Merging.{Batch}
 use Rattle.irl_bay.specs.declared.layout.files.BayFile.TheVariants.{Cache}
 use Rattle.irl_bay.specs.Drum.{Drum, judged_front, texts_front}
-use Rattle.irl_bay.specs.Holding.{ChangesOnly, TellsOnly, TellsBy}
 use Rattle.irl_bay.specs.Merging.{IsBatchFile, KeepsCommitted, IsWritten, IsLongBatch, Writes, next_cache, next_judged, next_texts}
 use Rattle.irl_bay.proofs.MergeFrames.{blob_moved, same_front, keeps_all, keeps_then}
 
 -- ---- what is told changes by a step
-pub tells_by : (f : ℕ) (step : List ℕ → List ℕ → Type 0) (wide : Files → Files → Type 0) (old new : Option Files) → ((y z : Files) → ChangesFile f step y z → wide y z) → Changes f step old new → TellsBy wide old new
+pub tells_by : (f : ℕ) (step : List ℕ → List ℕ → Type 0) (wide : Files → Files → Type 0) (old new : Option Files) → ((y z : Files) → ChangesFile f step y z → wide y z) → Changes f step old new
+    → TellsBy wide old new
 tells_by f step wide None new allows changes = changes
 tells_by f step wide (Some old) new allows changes = (changes.0, changes.1, allows old changes.0 changes.2)
 
@@ -53,51 +53,58 @@ front f n = record { file = f; length = n }
 pub front_is : (blob : Front) (f n : ℕ) → blob.file ≡ f → blob.length ≡ n → blob ≡ front f n
 front_is blob f n file length_is = ap (λ (g : ℕ). front g blob.length) file ∙ ap (front f) length_is
 
-step_of : (drum : Drum) (blob : Front) (f n : ℕ) (old new : Snapshot) → blob ≡ front f n → ((y z : Files) → ChangesFile f (KeepsFront n) y z → KeepsCommitted drum y z) → Changes blob.file (KeepsFront blob.length) old.files new.files → LeavesBy (ChangesFile blob.file (KeepsFront blob.length)) old new
+step_of : (drum : Drum) (blob : Front) (f n : ℕ) (old new : Told) → blob ≡ front f n → ((y z : Files) → ChangesFile f (KeepsFront n) y z → KeepsCommitted drum y z)
+    → Changes blob.file (KeepsFront blob.length) old.files new.files → LeavesBy (ChangesFile blob.file (KeepsFront blob.length)) old new
     → Writes drum old new
 step_of drum blob f n old new is allows changes stops = record {
   told = tells_by f (KeepsFront n) (KeepsCommitted drum) old.files new.files allows (subst (λ (b : Front). Changes b.file (KeepsFront b.length) old.files new.files) is changes);
   stops = widens_by old new _ _ (subst (λ (b : Front). LeavesBy (ChangesFile b.file (KeepsFront b.length)) old new) is stops) allows;
 }
 
-pub cache_step : (drum : Drum) (blob : Front) (old new : Snapshot) → blob ≡ front (file_of drum.base 0 (Cache (1 - drum.last.side))) 0 → Changes blob.file (KeepsFront blob.length) old.files new.files → LeavesBy (ChangesFile blob.file (KeepsFront blob.length)) old new → Writes drum old new
+pub cache_step : (drum : Drum) (blob : Front) (old new : Told) → blob ≡ front (file_of drum.base 0 (Cache (1 - drum.last.side))) 0 → Changes blob.file (KeepsFront blob.length) old.files new.files
+    → LeavesBy (ChangesFile blob.file (KeepsFront blob.length)) old new → Writes drum old new
 cache_step drum blob old new is changes stops = step_of drum blob _ 0 old new is (λ y z change. record {
   others = λ f out. change.others f (λ e. out (inl e));
   judged = same_front _ _ _ (change.others _ (omega arith));
   texts = same_front _ _ _ (change.others _ (omega arith));
 }) changes stops
 
-pub judged_step : (drum : Drum) (blob : Front) (old new : Snapshot) → blob ≡ judged_front drum → Changes blob.file (KeepsFront blob.length) old.files new.files → LeavesBy (ChangesFile blob.file (KeepsFront blob.length)) old new → Writes drum old new
+pub judged_step : (drum : Drum) (blob : Front) (old new : Told) → blob ≡ judged_front drum → Changes blob.file (KeepsFront blob.length) old.files new.files
+    → LeavesBy (ChangesFile blob.file (KeepsFront blob.length)) old new → Writes drum old new
 judged_step drum blob old new is changes stops = step_of drum blob (judged_front drum).file (judged_front drum).length old new is (λ y z change. record {
   others = λ f out. change.others f (λ e. out (inr (inl e)));
   judged = change.changed;
   texts = same_front _ _ _ (change.others _ (omega arith));
 }) changes stops
 
-pub texts_step : (drum : Drum) (blob : Front) (old new : Snapshot) → blob ≡ texts_front drum → Changes blob.file (KeepsFront blob.length) old.files new.files → LeavesBy (ChangesFile blob.file (KeepsFront blob.length)) old new → Writes drum old new
+pub texts_step : (drum : Drum) (blob : Front) (old new : Told) → blob ≡ texts_front drum → Changes blob.file (KeepsFront blob.length) old.files new.files
+    → LeavesBy (ChangesFile blob.file (KeepsFront blob.length)) old new → Writes drum old new
 texts_step drum blob old new is changes stops = step_of drum blob (texts_front drum).file (texts_front drum).length old new is (λ y z change. record {
   others = λ f out. change.others f (λ e. out (inr (inr e)));
   judged = same_front _ _ _ (change.others _ (omega arith));
   texts = change.changed;
 }) changes stops
 
-pub step_then : (drum : Drum) (old mid new : Snapshot) → IsConsistent mid → Writes drum old mid → Writes drum mid new → Writes drum old new
+pub step_then : (drum : Drum) (old mid new : Told) → IsConsistent mid → Writes drum old mid → Writes drum mid new → Writes drum old new
 step_then drum old mid new law first second = record {
   told = tells_then (KeepsCommitted drum) old.files mid.files new.files (keeps_then drum) first.told second.told;
   stops = joins_by old mid new (KeepsCommitted drum) law (keeps_then drum) first.stops second.stops;
 }
 
-pub step_others : (drum : Drum) (old new : Snapshot) → Writes drum old new → TellsOnly (IsBatchFile drum) old.files new.files
+pub step_others : (drum : Drum) (old new : Told) → Writes drum old new → TellsOnly (IsBatchFile drum) old.files new.files
 step_others drum old new step = tells_only _ _ _ (tells_wide (KeepsCommitted drum) (ChangesOnly (IsBatchFile drum)) old.files new.files (λ y z keeps. keeps.others) step.told)
 
 -- one file is written, behind what of it stays
-pub cache_writes : (drum : Drum) (f : ℕ) (old new : Snapshot) → f ≡ file_of drum.base 0 (Cache (1 - drum.last.side)) → Changes f (KeepsFront 0) old.files new.files → LeavesBy (ChangesFile f (KeepsFront 0)) old new → Writes drum old new
+pub cache_writes : (drum : Drum) (f : ℕ) (old new : Told) → f ≡ file_of drum.base 0 (Cache (1 - drum.last.side)) → Changes f (KeepsFront 0) old.files new.files
+    → LeavesBy (ChangesFile f (KeepsFront 0)) old new → Writes drum old new
 cache_writes drum f old new file changes stops = cache_step drum (front f 0) old new (ap (λ (g : ℕ). front g 0) file) changes stops
 
-pub judged_writes : (drum : Drum) (f n : ℕ) (old new : Snapshot) → f ≡ (judged_front drum).file → n ≡ (judged_front drum).length → Changes f (KeepsFront n) old.files new.files → LeavesBy (ChangesFile f (KeepsFront n)) old new → Writes drum old new
+pub judged_writes : (drum : Drum) (f n : ℕ) (old new : Told) → f ≡ (judged_front drum).file → n ≡ (judged_front drum).length → Changes f (KeepsFront n) old.files new.files
+    → LeavesBy (ChangesFile f (KeepsFront n)) old new → Writes drum old new
 judged_writes drum f n old new file size changes stops = judged_step drum (front f n) old new (front_is (front f n) _ _ file size) changes stops
 
-pub texts_writes : (drum : Drum) (f n : ℕ) (old new : Snapshot) → f ≡ (texts_front drum).file → n ≡ (texts_front drum).length → Changes f (KeepsFront n) old.files new.files → LeavesBy (ChangesFile f (KeepsFront n)) old new → Writes drum old new
+pub texts_writes : (drum : Drum) (f n : ℕ) (old new : Told) → f ≡ (texts_front drum).file → n ≡ (texts_front drum).length → Changes f (KeepsFront n) old.files new.files
+    → LeavesBy (ChangesFile f (KeepsFront n)) old new → Writes drum old new
 texts_writes drum f n old new file size changes stops = texts_step drum (front f n) old new (front_is (front f n) _ _ file size) changes stops
 
 -- nothing is written
@@ -105,19 +112,22 @@ tells_none : (step : Files → Files → Type 0) (old new : Option Files) → ((
 tells_none step None new none same = same
 tells_none step (Some files) new none same = (files, same, none files)
 
-pub writes_none : (drum : Drum) (old new : Snapshot) → new.files ≡ old.files → LeavesSame old new → Writes drum old new
+pub writes_none : (drum : Drum) (old new : Told) → new.files ≡ old.files → LeavesSame old new → Writes drum old new
 writes_none drum old new same stops = record { told = tells_none (KeepsCommitted drum) old.files new.files (keeps_all drum) same; stops = same_by old new (KeepsCommitted drum) (keeps_all drum) stops }
 
 -- ---- once all are done
 -- what is committed of another file stays
-pub other_committed : (f : ℕ) (step : List ℕ → List ℕ → Type 0) (blob : Front) (held : List ℕ) (old new : Snapshot) → IsConsistent new → blob.file ≢ f → LeavesBy (ChangesFile f step) old new → IsCommitted old.images blob held → IsCommitted new.images blob held
+pub other_committed : (f : ℕ) (step : List ℕ → List ℕ → Type 0) (blob : Front) (held : List ℕ) (old new : Told) → IsConsistent new → blob.file ≢ f → LeavesBy (ChangesFile f step) old new
+    → IsCommitted old.images blob held → IsCommitted new.images blob held
 other_committed f step blob held old new law apart stops committed =
     blob_moved blob held old.images new.images (λ z left. let y = left_now old new _ law stops z left in (y.0, y.1, same_front _ _ _ (y.2.others blob.file apart))) committed
 
 -- the three files are synced one after the other
-pub is_written : (drum : Drum) (batch : Batch) (a b c d : Snapshot) → IsConsistent b → IsConsistent c → IsConsistent d → IsCommitted b.images (next_cache drum batch) batch.pairs
-    → LeavesBy (ChangesFile (next_cache drum batch).file (KeepsFront 0)) a b → LeavesBy (ChangesFile (judged_front drum).file (KeepsFront (judged_front drum).length)) b c → LeavesBy (ChangesFile (texts_front drum).file (KeepsFront (texts_front drum).length)) c d
-    → ((held : List ℕ) → IsCommitted b.images (judged_front drum) held → IsCommitted c.images (next_judged drum batch) (held ++ batch.judged)) → ((held : List ℕ) → IsCommitted c.images (texts_front drum) held → IsCommitted d.images (next_texts drum batch) (held ++ batch.texts)) → IsWritten drum batch a.images d.images
+pub is_written : (drum : Drum) (batch : Batch) (a b c d : Told) → IsConsistent b → IsConsistent c → IsConsistent d → IsCommitted b.images (next_cache drum batch) batch.pairs
+    → LeavesBy (ChangesFile (next_cache drum batch).file (KeepsFront 0)) a b → LeavesBy (ChangesFile (judged_front drum).file (KeepsFront (judged_front drum).length)) b c
+    → LeavesBy (ChangesFile (texts_front drum).file (KeepsFront (texts_front drum).length)) c d
+    → ((held : List ℕ) → IsCommitted b.images (judged_front drum) held → IsCommitted c.images (next_judged drum batch) (held ++ batch.judged))
+    → ((held : List ℕ) → IsCommitted c.images (texts_front drum) held → IsCommitted d.images (next_texts drum batch) (held ++ batch.texts)) → IsWritten drum batch a.images d.images
 is_written drum batch a b c d law_b law_c law_d cache first second third judged texts = record {
   cache = other_committed _ _ (next_cache drum batch) _ c d law_d (omega arith) third (other_committed _ _ (next_cache drum batch) _ b c law_c (omega arith) second cache);
   judged = λ held was. other_committed _ _ (next_judged drum batch) _ c d law_d (omega arith) third (judged held (other_committed _ _ (judged_front drum) held a b law_b (omega arith) first was));
@@ -125,8 +135,10 @@ is_written drum batch a b c d law_b law_c law_d cache first second third judged 
 }
 
 -- ---- how long the files are then
-pub is_long_batch : (drum : Drum) (batch : Batch) (b c d : Option Files) → ForSome b (λ files. (next_cache drum batch).length ≤ length (files (next_cache drum batch).file)) → Changes (judged_front drum).file (KeepsFront (judged_front drum).length) b c → ForSome c (λ files. (next_judged drum batch).length ≤ length (files (next_judged drum batch).file))
-    → Changes (texts_front drum).file (KeepsFront (texts_front drum).length) c d → ForSome d (λ files. (next_texts drum batch).length ≤ length (files (next_texts drum batch).file)) → ForSome d (IsLongBatch drum batch)
+pub is_long_batch : (drum : Drum) (batch : Batch) (b c d : Option Files) → ForSome b (λ files. (next_cache drum batch).length ≤ length (files (next_cache drum batch).file))
+    → Changes (judged_front drum).file (KeepsFront (judged_front drum).length) b c → ForSome c (λ files. (next_judged drum batch).length ≤ length (files (next_judged drum batch).file))
+    → Changes (texts_front drum).file (KeepsFront (texts_front drum).length) c d → ForSome d (λ files. (next_texts drum batch).length ≤ length (files (next_texts drum batch).file))
+    → ForSome d (IsLongBatch drum batch)
 is_long_batch drum batch b c d cache judged_changes judged texts_changes texts = λ files told.
     let third = told_from _ _ c d files texts_changes told in
     let second = told_from _ _ b c third.0 judged_changes third.1 in
@@ -140,7 +152,8 @@ is_long_batch drum batch b c d cache judged_changes judged texts_changes texts =
     }
 
 -- what was written behind what is committed later was written behind what was committed before
-pub written_first : (drum : Drum) (batch : Batch) (a b : Snapshot) (images : Files → Type 0) → IsConsistent b → Writes drum a b → IsWritten drum batch b.images images → IsWritten drum batch a.images images
+pub written_first : (drum : Drum) (batch : Batch) (a b : Told) (images : Files → Type 0) → IsConsistent b → Writes drum a b → IsWritten drum batch b.images images
+    → IsWritten drum batch a.images images
 written_first drum batch a b images law writes written = record {
   cache = written.cache;
   judged = λ held was. written.judged held (blob_moved (judged_front drum) held a.images b.images (λ z left. let y = left_now a b _ law writes.stops z left in (y.0, y.1, y.2.judged)) was);

@@ -12,8 +12,8 @@ use Rattle.irl_offer.specs.Buckets.{IsBucketCount}
 use Rattle.irl_offer.specs.Settings.{AreValid}
 use Rattle.irl_offer.specs.Tuple.{Tuple}
 use Rattle.irl_model.specs.Book.{IsBook, AreOfBuckets, IsBelow, blank_book, list_lengths}
-use Rattle.irl_disk.specs.Disk.{Files, Changes, ChangesFile, Scribbled}
-use Rattle.irl_disk.specs.Images.{Snapshot, IsConsistent, LeavesBy}
+use Rattle.irl_disk.specs.Disk.{Files, Changes, ChangesFile, Scribbled, ChangesOnly, TellsBy}
+use Rattle.irl_disk.specs.Images.{Told, IsConsistent, LeavesBy}
 use Rattle.irl_disk.proofs.Frames.{told_from}
 use Rattle.irl_disk.proofs.Stretches.{widens_by, joins_by}
 use Rattle.irl_journal.specs.Appending.{Tail, IsOpen}
@@ -24,7 +24,7 @@ use Rattle.irl_bay.specs.BayFiles.{file_of, max_base, IsFileOf}
 use Rattle.irl_bay.specs.Runs.{IsOffer}
 use Rattle.irl_bay.specs.Commits.{Commit, IsCommit, IsCommitOf, first_commit, starts, live_offers}
 use Rattle.irl_bay.specs.Drum.{Drum, IsDrum, no_bucket}
-use Rattle.irl_bay.specs.Holding.{Holds, HoldsBucket, ChangesOnly, TellsBy}
+use Rattle.irl_bay.specs.Holding.{Holds, HoldsBucket}
 use Rattle.irl_bay.specs.Making.{IsUnmade, IsJournalOn, Makes}
 use Rattle.irl_bay.specs.Merging.{emptied}
 use Rattle.irl_bay.proofs.Staying.{only_one, only_both, leaves_one, open_stays}
@@ -56,7 +56,8 @@ makes_both base buckets old mid new first second = record {
 }
 
 -- what is told changes so
-told_made : (base buckets f : ℕ) (step : List ℕ → List ℕ → Type 0) (old new : Option Files) → StaysShort step → IsJournalOn base 0 buckets f → Changes f step old new → TellsBy (Makes base buckets) old new
+told_made : (base buckets f : ℕ) (step : List ℕ → List ℕ → Type 0) (old new : Option Files) → StaysShort step → IsJournalOn base 0 buckets f → Changes f step old new
+    → TellsBy (Makes base buckets) old new
 told_made base buckets f step None new short is changes = changes
 told_made base buckets f step (Some old) new short is changes = (changes.0, changes.1, makes_one base buckets f step old changes.0 short is changes.2)
 
@@ -74,14 +75,16 @@ told_same base buckets None = refl
 told_same base buckets (Some files) = (files, refl, record { others = λ f out. refl; unmade = λ was. was })
 
 -- and so does what a stop leaves
-pub leaves_made : (base buckets f : ℕ) (old new : Snapshot) → IsJournalOn base 0 buckets f → LeavesBy (ChangesFile f (Scribbled 0 1)) old new → LeavesBy (Makes base buckets) old new
+pub leaves_made : (base buckets f : ℕ) (old new : Told) → IsJournalOn base 0 buckets f → LeavesBy (ChangesFile f (Scribbled 0 1)) old new → LeavesBy (Makes base buckets) old new
 leaves_made base buckets f old new is stops = widens_by old new _ _ stops (λ x y changes. makes_one base buckets f (Scribbled 0 1) x y scribbled_short is changes)
 
-pub leaves_more : (base buckets f : ℕ) (old mid new : Snapshot) → IsConsistent mid → IsJournalOn base 0 buckets f → LeavesBy (Makes base buckets) old mid → LeavesBy (ChangesFile f (Scribbled 0 1)) mid new → LeavesBy (Makes base buckets) old new
+pub leaves_more : (base buckets f : ℕ) (old mid new : Told) → IsConsistent mid → IsJournalOn base 0 buckets f → LeavesBy (Makes base buckets) old mid → LeavesBy (ChangesFile f (Scribbled 0 1)) mid new
+    → LeavesBy (Makes base buckets) old new
 leaves_more base buckets f old mid new law is first second = joins_by old mid new _ law (λ x y z. makes_both base buckets x y z) first (leaves_made base buckets f mid new is second)
 
 -- what is told has at most one byte in each file of the bay
-still_unmade : (base buckets f : ℕ) (step : List ℕ → List ℕ → Type 0) (old new : Option Files) → ((x y : List ℕ) → step x y → length y ≤ 1) → Changes f step old new → ForSome old (λ files. IsUnmade base buckets files) → ForSome new (λ files. IsUnmade base buckets files)
+still_unmade : (base buckets f : ℕ) (step : List ℕ → List ℕ → Type 0) (old new : Option Files) → ((x y : List ℕ) → step x y → length y ≤ 1) → Changes f step old new
+    → ForSome old (λ files. IsUnmade base buckets files) → ForSome new (λ files. IsUnmade base buckets files)
 still_unmade base buckets f step old new few changes was = λ files told g at.
     let from = told_from f step old new files changes told in
     ⊎_elim
@@ -94,7 +97,7 @@ abbrev pub made_bucket : ℕ → ℕ → Bucket
 made_bucket base b = emptied base 0 b 0
 
 -- the manifest and the first buckets are made
-pub record MadeSoFar (old now : Snapshot) (base buckets : ℕ) (manifest : Tail) (made : List Bucket) (b : ℕ) : Type 0 where
+pub record MadeSoFar (old now : Told) (base buckets : ℕ) (manifest : Tail) (made : List Bucket) (b : ℕ) : Type 0 where
   pub count : length made ≡ b
   pub each : (k : ℕ) → k < b → get_or made k no_bucket ≡ made_bucket base k
   pub holds : (k : ℕ) → k < b → (array : ℕ) → HoldsBucket now.images array 0 (made_bucket base k) []
@@ -103,7 +106,8 @@ pub record MadeSoFar (old now : Snapshot) (base buckets : ℕ) (manifest : Tail)
   pub files : TellsBy (Makes base buckets) old.files now.files
   pub stops : LeavesBy (Makes base buckets) old now
 
-pub made_none : (old now : Snapshot) (base buckets f : ℕ) (manifest : Tail) → f ≡ file_of base 0 Manifest → IsOpen now.images manifest [] → ForSome old.files (λ files. IsUnmade base buckets files) → Changes f (λ x y. y ≡ 0 ∷ []) old.files now.files → LeavesBy (ChangesFile f (Scribbled 0 1)) old now
+pub made_none : (old now : Told) (base buckets f : ℕ) (manifest : Tail) → f ≡ file_of base 0 Manifest → IsOpen now.images manifest [] → ForSome old.files (λ files. IsUnmade base buckets files)
+    → Changes f (λ x y. y ≡ 0 ∷ []) old.files now.files → LeavesBy (ChangesFile f (Scribbled 0 1)) old now
     → MadeSoFar old now base buckets manifest [] 0
 made_none old now base buckets f manifest is is_open was changes stops = record {
   count = refl;
@@ -115,21 +119,26 @@ made_none old now base buckets f manifest is is_open was changes stops = record 
   stops = leaves_made base buckets f old now (inl is) stops;
 }
 
-pub made_more : (old mid new : Snapshot) (base buckets : ℕ) (manifest : Tail) (made : List Bucket) (b : ℕ) (bucket : Bucket) → IsConsistent mid → IsConsistent new → b < buckets → manifest.file ≡ file_of base 0 Manifest → MadeSoFar old mid base buckets manifest made b → bucket ≡ made_bucket base b
-    → ((array : ℕ) → HoldsBucket new.images array 0 bucket []) → Changes (file_of base 0 (Journal 0 b)) (λ x y. length y ≡ 1) mid.files new.files → LeavesBy (ChangesFile (file_of base 0 (Journal 0 b)) (Scribbled 0 1)) mid new → MadeSoFar old new base buckets manifest (made ++ bucket ∷ []) (b + 1)
+pub made_more : (old mid new : Told) (base buckets : ℕ) (manifest : Tail) (made : List Bucket) (b : ℕ) (bucket : Bucket) → IsConsistent mid → IsConsistent new → b < buckets
+    → manifest.file ≡ file_of base 0 Manifest → MadeSoFar old mid base buckets manifest made b → bucket ≡ made_bucket base b
+    → ((array : ℕ) → HoldsBucket new.images array 0 bucket []) → Changes (file_of base 0 (Journal 0 b)) (λ x y. length y ≡ 1) mid.files new.files
+    → LeavesBy (ChangesFile (file_of base 0 (Journal 0 b)) (Scribbled 0 1)) mid new → MadeSoFar old new base buckets manifest (made ++ bucket ∷ []) (b + 1)
 made_more old mid new base buckets manifest made b bucket law_mid law within file so_far is holds changes stops = record {
   count = omega (arith, so_far.count, length-append made (bucket ∷ []));
   each = λ k inside. ⊎_elim
-      (λ (e : k ≡ b). subst (λ (n : ℕ). get_or (made ++ bucket ∷ []) n no_bucket ≡ made_bucket base n) (so_far.count ∙ sym e) (get_or-append_seam made bucket [] no_bucket ∙ is ∙ ap (made_bucket base) (sym so_far.count)))
+      (λ (e : k ≡ b). subst (λ (n : ℕ). get_or (made ++ bucket ∷ []) n no_bucket ≡ made_bucket base n) (so_far.count ∙ sym e) (get_or-append_seam made bucket [] no_bucket ∙ is
+      ∙ ap (made_bucket base) (sym so_far.count)))
       (λ (other : k ≢ b). get_or_append_left made (bucket ∷ []) no_bucket k (omega (arith, inside, other, so_far.count)) ∙ so_far.each k (omega (arith, inside, other)))
       (same_or_other k b);
   holds = λ k inside array. ⊎_elim
       (λ (e : k ≡ b). subst (λ (one : Bucket). HoldsBucket new.images array 0 one []) (is ∙ ap (made_bucket base) (sym e)) (holds array))
-      (λ (other : k ≢ b). bucket_stays (λ f. f ≡ file_of base 0 (Journal 0 b)) array 0 (made_bucket base k) [] mid new law others (λ e. omega (arith, e, other)) (λ e. omega (arith, e)) (so_far.holds k (omega (arith, inside, other)) array))
+      (λ (other : k ≢ b). bucket_stays (λ f. f ≡ file_of base 0 (Journal 0 b)) array 0 (made_bucket base k) [] mid new law others (λ e. omega (arith, e, other)) (λ e. omega (arith, e))
+      (so_far.holds k (omega (arith, inside, other)) array))
       (same_or_other k b);
   manifest_open = open_stays (λ f. f ≡ file_of base 0 (Journal 0 b)) mid new manifest [] law others (λ e. omega (arith, e, file)) so_far.manifest_open;
   unmade = still_unmade base buckets (file_of base 0 (Journal 0 b)) _ mid.files new.files (λ x y one. omega (arith, one)) changes so_far.unmade;
-  files = told_more base buckets old.files mid.files new.files so_far.files (told_made base buckets (file_of base 0 (Journal 0 b)) _ mid.files new.files (λ x y short one. omega (arith, one)) (inr (b, within, refl)) changes);
+  files = told_more base buckets old.files mid.files new.files so_far.files (told_made base buckets (file_of base 0 (Journal 0 b)) _ mid.files new.files (λ x y short one. omega (arith, one))
+      (inr (b, within, refl)) changes);
   stops = leaves_more base buckets (file_of base 0 (Journal 0 b)) old mid new law_mid (inr (b, within, refl)) so_far.stops stops;
 }
   where
@@ -164,7 +173,16 @@ zeros_fit zero = tt
 zeros_fit (suc n) = (omega arith, zeros_fit n)
 
 pub first_is_commit : (buckets : ℕ) → IsCommit buckets (first_commit buckets)
-first_is_commit buckets = record { side = omega arith; live = tt; entries = omega arith; judged = omega arith; unique = omega arith; texts = omega arith; count = length-replicate buckets 0; cut = zeros_fit buckets }
+first_is_commit buckets = record {
+  side = omega arith;
+  live = tt;
+  entries = omega arith;
+  judged = omega arith;
+  unique = omega arith;
+  texts = omega arith;
+  count = length-replicate buckets 0;
+  cut = zeros_fit buckets;
+}
 
 pub first_is_blank : (buckets : ℕ) (rule : Rule) → IsCommitOf (blank_book buckets rule) (first_commit buckets)
 first_is_blank buckets rule = record { judged = refl; unique = refl; texts = refl; cut = refl }
@@ -199,7 +217,8 @@ no_durables (bucket ∷ made) each =
 abbrev pub made_drum : ℕ → Settings → Tail → Commit → List Bucket → Drum
 made_drum base settings manifest last made = record { base = base; settings = settings; is_sound = true; manifest = manifest; last = last; cuts = 0; buckets = made }
 
-pub made_is_drum : (old now : Snapshot) (base : ℕ) (settings : Settings) (manifest : Tail) (last : Commit) (made : List Bucket) → base ≤ max_base → AreValid settings → last ≡ first_commit settings.buckets → manifest ≡ record { file = file_of base 0 Manifest; end = 0; is_sound = true } → MadeSoFar old now base settings.buckets manifest made settings.buckets
+pub made_is_drum : (old now : Told) (base : ℕ) (settings : Settings) (manifest : Tail) (last : Commit) (made : List Bucket) → base ≤ max_base → AreValid settings → last ≡ first_commit settings.buckets
+    → manifest ≡ record { file = file_of base 0 Manifest; end = 0; is_sound = true } → MadeSoFar old now base settings.buckets manifest made settings.buckets
     → IsDrum (made_drum base settings manifest last made)
 made_is_drum old now base settings manifest last made low valid is tail so_far = subst (λ (commit : Commit). IsDrum (made_drum base settings manifest commit made)) (sym is) (record {
   base = low;
@@ -222,32 +241,34 @@ made_is_drum old now base settings manifest last made low valid is tail so_far =
   });
 })
 
-pub made_holds : (old now : Snapshot) (base : ℕ) (settings : Settings) (manifest : Tail) (last : Commit) (made : List Bucket) → AreValid settings → last ≡ first_commit settings.buckets → MadeSoFar old now base settings.buckets manifest made settings.buckets
+pub made_holds : (old now : Told) (base : ℕ) (settings : Settings) (manifest : Tail) (last : Commit) (made : List Bucket) → AreValid settings → last ≡ first_commit settings.buckets
+    → MadeSoFar old now base settings.buckets manifest made settings.buckets
     → Holds now.images (made_drum base settings manifest last made) (blank_book settings.buckets settings.rule)
-made_holds old now base settings manifest last made valid is so_far = subst (λ (commit : Commit). Holds now.images (made_drum base settings manifest commit made) (blank_book settings.buckets settings.rule)) (sym is) (record {
-  book_is = record { is_book = blank_is_book settings.buckets settings.rule valid.buckets; buckets = refl; rule = refl; dropped = refl };
-  offers = λ b within. subst (AllByRecursion IsOffer) (sym (blank_lists settings.buckets settings.rule b)) tt;
-  starts_are = λ b within. ap (λ (bucket : Bucket). bucket.start) (so_far.each b within) ∙ sym (get_or-replicate {A = ℕ} settings.buckets b 0 0 within);
-  buckets = λ b within.
-      let bucket = get_or made b no_bucket in
-      let cut : get_or (first_commit settings.buckets).cut b 0 - bucket.start ≡ 0 = omega (arith, get_or-replicate {A = ℕ} settings.buckets b 0 0 within) in
-      let here = subst (λ (one : Bucket). HoldsBucket now.images settings.array 0 one []) (sym (so_far.each b within)) (so_far.holds b within settings.array) in
-      let none = blank_live settings.buckets settings.rule (first_commit settings.buckets) b in
-      subst (λ (n : ℕ). HoldsBucket now.images settings.array n bucket (live_offers (blank_book settings.buckets settings.rule) (first_commit settings.buckets) b)) (sym cut)
-      (subst (λ (list : List Tuple). HoldsBucket now.images settings.array 0 bucket list) (sym none) here);
-  commits = [];
-  commits_are = record { count = refl; each = λ i within. absurd (omega (arith, within)); form = tt; grow = tt; name = tt };
-  last = refl;
-  numbers = record {
-    offers =
-        no_durables made (λ k within. ap (λ (bucket : Bucket). bucket.durable) (so_far.each k (omega (arith, within, so_far.count))))
-        ∙ ap (λ (n : ℕ). replicate n 0) so_far.count ∙ sym (no_lengths settings.buckets);
-    commit = first_is_blank settings.buckets settings.rule;
-    cuts = refl;
-  };
-  manifest = so_far.manifest_open;
-  keys = rw no_entries refl;
-  cache = rw no_entries (none_committed now.images (file_of base 0 (Cache 0)));
-  judged_are = none_committed now.images (file_of base 0 Judged);
-  texts = none_committed now.images (file_of base 0 Texts);
-})
+made_holds old now base settings manifest last made valid is so_far = subst (λ (commit : Commit).
+    Holds now.images (made_drum base settings manifest commit made) (blank_book settings.buckets settings.rule)) (sym is) (record {
+      book_is = record { is_book = blank_is_book settings.buckets settings.rule valid.buckets; buckets = refl; rule = refl; dropped = refl };
+      offers = λ b within. subst (AllByRecursion IsOffer) (sym (blank_lists settings.buckets settings.rule b)) tt;
+      starts_are = λ b within. ap (λ (bucket : Bucket). bucket.start) (so_far.each b within) ∙ sym (get_or-replicate {A = ℕ} settings.buckets b 0 0 within);
+      buckets = λ b within.
+          let bucket = get_or made b no_bucket in
+          let cut : get_or (first_commit settings.buckets).cut b 0 - bucket.start ≡ 0 = omega (arith, get_or-replicate {A = ℕ} settings.buckets b 0 0 within) in
+          let here = subst (λ (one : Bucket). HoldsBucket now.images settings.array 0 one []) (sym (so_far.each b within)) (so_far.holds b within settings.array) in
+          let none = blank_live settings.buckets settings.rule (first_commit settings.buckets) b in
+          subst (λ (n : ℕ). HoldsBucket now.images settings.array n bucket (live_offers (blank_book settings.buckets settings.rule) (first_commit settings.buckets) b)) (sym cut)
+          (subst (λ (list : List Tuple). HoldsBucket now.images settings.array 0 bucket list) (sym none) here);
+      commits = [];
+      commits_are = record { count = refl; each = λ i within. absurd (omega (arith, within)); form = tt; grow = tt; name = tt };
+      last = refl;
+      numbers = record {
+        offers =
+            no_durables made (λ k within. ap (λ (bucket : Bucket). bucket.durable) (so_far.each k (omega (arith, within, so_far.count))))
+            ∙ ap (λ (n : ℕ). replicate n 0) so_far.count ∙ sym (no_lengths settings.buckets);
+        commit = first_is_blank settings.buckets settings.rule;
+        cuts = refl;
+      };
+      manifest = so_far.manifest_open;
+      keys = rw no_entries refl;
+      cache = rw no_entries (none_committed now.images (file_of base 0 (Cache 0)));
+      judged_are = none_committed now.images (file_of base 0 Judged);
+      texts = none_committed now.images (file_of base 0 Texts);
+    })

@@ -10,7 +10,7 @@ use Rattle.irl_offer.specs.Entries.{entry_bytes, entry_of}
 use Rattle.irl_offer.specs.Tuple.{Tuple}
 use Rattle.irl_offer.specs.declared.entry.Entry.{Entry}
 use Rattle.irl_offer.specs.declared.settings.Settings.{Settings}
-use Rattle.irl_offer.specs.declared.receipt.Fault.TheVariants.{Damaged as StoreDamaged}
+use Rattle.irl_base.specs.declared.fault.Fault.TheVariants.{Damaged as StoreDamaged}
 use Rattle.irl_disk.specs.Disk.{Files}
 use Rattle.irl_journal.specs.Format.{records_text, body_text, record_text, placed_from, open_gate}
 use Rattle.irl_journal.specs.Visiting.{TakesAll, IsBrokenFor, IsRefusedAt}
@@ -48,20 +48,30 @@ cons-cons x y xs ys p q = cc
 run_moved : (s t : Settings) (m n : ℕ) (run : List Entry) → s ≡ t → m ≡ n → IsEntryRun s m run → IsEntryRun t n run
 run_moved s t m n run same_settings same_bucket is = subst (λ (k : Settings). IsEntryRun k n run) same_settings (subst (λ (k : ℕ). IsEntryRun s k run) same_bucket is)
 
-pub took_each : (settings : Settings) (b at : ℕ) (old new : Tally) (payloads : List (List ℕ)) → old.settings ≡ settings → old.bucket ≡ b → TakesAll TakesRun old (placed_from at payloads) new → TookEach settings b payloads new
-took_each settings b at old new [] is_settings is_bucket took = record { are = ([], tt, refl); settings_are = ap (λ (t : Tally). t.settings) took ∙ is_settings; bucket = ap (λ (t : Tally). t.bucket) took ∙ is_bucket }
+pub took_each : (settings : Settings) (b at : ℕ) (old new : Tally) (payloads : List (List ℕ)) → old.settings ≡ settings → old.bucket ≡ b → TakesAll TakesRun old (placed_from at payloads) new
+    → TookEach settings b payloads new
+took_each settings b at old new [] is_settings is_bucket took = record {
+  are = ([], tt, refl);
+  settings_are = ap (λ (t : Tally). t.settings) took ∙ is_settings;
+  bucket = ap (λ (t : Tally). t.bucket) took ∙ is_bucket;
+}
 took_each settings b at old new (payload ∷ payloads) is_settings is_bucket took =
     let step = took.1 in
     let run = step.3.0 in
     let rest = took_each settings b (at + length (record_text payload)) took.0 new payloads (step.0 ∙ is_settings) (step.1 ∙ is_bucket) took.2 in
     record {
-      are = (run ∷ rest.are.0, (run_moved old.settings settings old.bucket b run is_settings is_bucket step.3.1, rest.are.1), cons-cons payload (entries_bytes run) payloads (map entries_bytes rest.are.0) step.3.2 rest.are.2);
+      are = (
+        run ∷ rest.are.0,
+        (run_moved old.settings settings old.bucket b run is_settings is_bucket step.3.1, rest.are.1),
+        cons-cons payload (entries_bytes run) payloads (map entries_bytes rest.are.0) step.3.2 rest.are.2,
+      );
       settings_are = rest.settings_are;
       bucket = rest.bucket;
     }
 
 -- the last of the payloads of runs is one of a run
-last_run : (settings : Settings) (b : ℕ) (payloads : List (List ℕ)) (payload : List ℕ) (runs : List (List Entry)) → AllByRecursion (IsEntryRun settings b) runs → payloads ++ payload ∷ [] ≡ map entries_bytes runs → (run : List Entry) × IsEntryRun settings b run × (payload ≡ entries_bytes run)
+last_run : (settings : Settings) (b : ℕ) (payloads : List (List ℕ)) (payload : List ℕ) (runs : List (List Entry)) → AllByRecursion (IsEntryRun settings b) runs
+    → payloads ++ payload ∷ [] ≡ map entries_bytes runs → (run : List Entry) × IsEntryRun settings b run × (payload ≡ entries_bytes run)
 last_run settings b [] payload [] each is = cc
 last_run settings b [] payload (run ∷ runs) each is = (run, each.0, cc)
 last_run settings b (p ∷ payloads) payload [] each is = cc
@@ -73,8 +83,10 @@ last_run settings b (p ∷ payloads) payload (run ∷ runs) each is =
 abbrev pub RefusesRun : Tally → ℕ → List ℕ → Tally → Type 0
 RefusesRun old at payload new = (run : List Entry) → IsEntryRun old.settings old.bucket run → payload ≡ entries_bytes run → ⊥
 
-pub damaged_runs : (settings : Settings) (b : ℕ) (old after : Tally) (file : List ℕ) (at : ℕ) → old.settings ≡ settings → old.bucket ≡ b → IsBrokenFor TakesRun old after file at ⊎ IsRefusedAt TakesRun RefusesRun old after file at → IsDamagedJournal (AreRunPayloads settings b) file at
-damaged_runs settings b old after file at is_settings is_bucket (inl broken) = inl (record { broken = broken.broken; before = (took_each settings b 0 old after broken.broken.payloads is_settings is_bucket broken.took).are })
+pub damaged_runs : (settings : Settings) (b : ℕ) (old after : Tally) (file : List ℕ) (at : ℕ) → old.settings ≡ settings → old.bucket ≡ b → IsBrokenFor TakesRun old after file at
+    ⊎ IsRefusedAt TakesRun RefusesRun old after file at → IsDamagedJournal (AreRunPayloads settings b) file at
+damaged_runs settings b old after file at is_settings is_bucket (inl broken) = inl
+    (record { broken = broken.broken; before = (took_each settings b 0 old after broken.broken.payloads is_settings is_bucket broken.took).are })
 damaged_runs settings b old after file at is_settings is_bucket (inr refused) =
     let took = took_each settings b 0 old refused.reached refused.payloads is_settings is_bucket refused.took in
     inr (record {
@@ -120,7 +132,8 @@ entries_in-runs (run ∷ runs) =
 pub text_length-offers : (offers : List Tuple) → text_length (map entry_of_offer offers) ≡ length (texts_of offers)
 text_length-offers [] = refl
 text_length-offers (offer ∷ offers) =
-    let whole : length (texts_of (offer ∷ offers)) ≡ length offer.aux + length (texts_of offers) = ap length (flat_map-cons (λ (o : Tuple). o.aux) offer offers) ∙ length-append offer.aux (texts_of offers) in
+    let whole : length (texts_of (offer ∷ offers)) ≡ length offer.aux + length (texts_of offers) = ap length (flat_map-cons (λ (o : Tuple). o.aux) offer offers)
+    ∙ length-append offer.aux (texts_of offers) in
     omega (arith, whole, text_length-cons (entry_of_offer offer) (map entry_of_offer offers), text_length-offers offers)
 
 -- offers of a bucket have entries of the bucket
@@ -135,13 +148,18 @@ all-apart : (P : Tuple → Type 0) (xs ys : List Tuple) → AllByRecursion P (xs
 all-apart P [] ys each = (tt, each)
 all-apart P (x ∷ xs) ys each = let rest = all-apart P xs ys each.1 in ((each.0, rest.0), rest.1)
 
-pub runs_of : (settings : Settings) (b : ℕ) (runs : List (List Tuple)) → AllByRecursion (IsRun settings.array) runs → AllByRecursion IsOffer (flat_map (λ run. run) runs) → AllByRecursion (IsOfferOf settings.buckets b) (flat_map (λ run. run) runs) → AllByRecursion (IsEntryRun settings b) (entry_runs runs)
+pub runs_of : (settings : Settings) (b : ℕ) (runs : List (List Tuple)) → AllByRecursion (IsRun settings.array) runs → AllByRecursion IsOffer (flat_map (λ run. run) runs)
+    → AllByRecursion (IsOfferOf settings.buckets b) (flat_map (λ run. run) runs) → AllByRecursion (IsEntryRun settings b) (entry_runs runs)
 runs_of settings b [] sizes each here = tt
 runs_of settings b (run ∷ runs) sizes each here =
     let apart = flat_map-cons (λ (r : List Tuple). r) run runs in
     let offers = all-apart IsOffer run (flat_map (λ r. r) runs) (subst (AllByRecursion IsOffer) apart each) in
     let of_bucket = all-apart (IsOfferOf settings.buckets b) run (flat_map (λ r. r) runs) (subst (AllByRecursion (IsOfferOf settings.buckets b)) apart here) in (
-      record { some = omega (arith, sizes.0.0, length-map run entry_of_offer); few = omega (arith, sizes.0.1, length-map run entry_of_offer); each = entries_of settings.buckets b run offers.0 of_bucket.0 },
+      record {
+        some = omega (arith, sizes.0.0, length-map run entry_of_offer);
+        few = omega (arith, sizes.0.1, length-map run entry_of_offer);
+        each = entries_of settings.buckets b run offers.0 of_bucket.0;
+      },
       runs_of settings b runs sizes.1 offers.1 of_bucket.1,
     )
 
@@ -162,7 +180,8 @@ same_run buckets b (x ∷ xs) (y ∷ ys) each_x each_y same =
     let first : x ≡ y = parts.0 in
     cc
 
-pub same_runs : (settings : Settings) (b : ℕ) (xs ys : List (List Entry)) → AllByRecursion (IsEntryRun settings b) xs → AllByRecursion (IsEntryRun settings b) ys → map entries_bytes xs ≡ map entries_bytes ys → xs ≡ ys
+pub same_runs : (settings : Settings) (b : ℕ) (xs ys : List (List Entry)) → AllByRecursion (IsEntryRun settings b) xs → AllByRecursion (IsEntryRun settings b) ys
+    → map entries_bytes xs ≡ map entries_bytes ys → xs ≡ ys
 same_runs settings b [] [] each_x each_y same = refl
 same_runs settings b [] (y ∷ ys) each_x each_y same = cc
 same_runs settings b (x ∷ xs) [] each_x each_y same = cc
@@ -185,7 +204,8 @@ pub record IsFoundBucket (images : Files → Type 0) (cut : ℕ) (payloads : Lis
   pub none : found.count ≤ cut → (bucket.gate ≡ bucket.journal.end) × (bucket.skip ≡ 0) × (bucket.text ≡ bucket.aux.length)
 
 -- where its files have a list, it holds the list
-pub holds_found : (images : Files → Type 0) (settings : Settings) (b cut : ℕ) (list : List Tuple) (journal aux : List ℕ) (bucket : Bucket) (found : Found) (runs : List (List Entry)) (has : HasBucket settings.array list journal aux)
+pub holds_found : (images : Files → Type 0) (settings : Settings) (b cut : ℕ) (list : List Tuple) (journal aux : List ℕ) (bucket : Bucket) (found : Found) (runs : List (List Entry))
+    (has : HasBucket settings.array list journal aux)
     → AllByRecursion (IsOfferOf settings.buckets b) list → cut ≤ length list → AllByRecursion (IsEntryRun settings b) runs → map run_bytes has.runs ≡ map entries_bytes runs → HasFound cut runs found
     → IsFoundBucket images cut (map run_bytes has.runs) (take found.texts aux) found bucket → HoldsBucket images settings.array cut bucket list
 holds_found images settings b cut list journal aux bucket found runs has here within each payloads_are so is =
@@ -204,7 +224,8 @@ holds_found images settings b cut list journal aux bucket found runs has here wi
     let first = so.first (omega (arith, below, count)) in
     let kept = is.pending (omega (arith, below, count, so.count)) in
     let n : ℕ = length first.before in
-    let moved : entry_runs (take n rs) ≡ first.before = sym (take-map (λ (run : List Tuple). map entry_of_offer run) n rs) ∙ ap (take n) (sym same ∙ first.runs_are) ∙ take-append_seam first.before first.behind in
+    let moved : entry_runs (take n rs) ≡ first.before = sym (take-map (λ (run : List Tuple). map entry_of_offer run) n rs) ∙ ap (take n) (sym same ∙ first.runs_are)
+    ∙ take-append_seam first.before first.behind in
     let whole : rs ≡ take n rs ++ drop n rs = sym (take-append-drop n rs) in
     let before : length (entries_in first.before) ≡ length (flat_map (λ run. run) (take n rs)) =
     ap (λ (l : List (List Entry)). length (entries_in l)) (sym moved) ∙ ap length (entries_in-runs (take n rs)) ∙ length-map (flat_map (λ run. run) (take n rs)) entry_of_offer in

@@ -84,7 +84,8 @@ rises (p ∷ ps) d zero h lt = above_all p.0 ps d 0 (first _ _ h) (omega arith)
 rises (p ∷ ps) d (suc i) h lt = rises ps d i (second _ _ h) (omega arith)
 
 -- so none of them falls
-none_falls : (keys : KeyMap) (i at : ℕ) → AreWords keys → i + 1 < length (entries keys) → at ≡ 16 * (i + 1) → little_number 8 (drop at (pairs_bytes (entries keys))) ≤ little_number 8 (drop (16 * i) (pairs_bytes (entries keys))) → ⊥
+none_falls : (keys : KeyMap) (i at : ℕ) → AreWords keys → i + 1 < length (entries keys) → at ≡ 16 * (i + 1)
+    → little_number 8 (drop at (pairs_bytes (entries keys))) ≤ little_number 8 (drop (16 * i) (pairs_bytes (entries keys))) → ⊥
 none_falls keys i at fits within place falls =
     let es = entries keys in
     let d : ℕ × ℕ = (0, 0) in
@@ -115,7 +116,8 @@ none_falls_there keys count at file fits size begins falls =
     none_falls keys falls.i at fits (omega (arith, within, size)) falls.place (rw (high, low) at falls.falls)
 
 -- pairs whose numbers have their room are told by their bytes
-first_is : (p : ℕ × ℕ) (ps : List (ℕ × ℕ)) → (p.0 < 2 ^ 64) × (p.1 < 2 ^ 64) → (little_number 8 (pairs_bytes (p ∷ ps)) ≡ p.0) × (little_number 8 (drop 8 (pairs_bytes (p ∷ ps))) ≡ p.1) × (drop 16 (pairs_bytes (p ∷ ps)) ≡ pairs_bytes ps)
+first_is : (p : ℕ × ℕ) (ps : List (ℕ × ℕ)) → (p.0 < 2 ^ 64) × (p.1 < 2 ^ 64) → (little_number 8 (pairs_bytes (p ∷ ps)) ≡ p.0) × (little_number 8 (drop 8 (pairs_bytes (p ∷ ps))) ≡ p.1)
+    × (drop 16 (pairs_bytes (p ∷ ps)) ≡ pairs_bytes ps)
 first_is p ps fits = (key_first p ps fits, value_first p ps fits, refl)
 
 pub same_pairs : (xs ys : List (ℕ × ℕ)) → AreWordPairs xs → AreWordPairs ys → length xs ≡ length ys → pairs_bytes xs ≡ pairs_bytes ys → xs ≡ ys

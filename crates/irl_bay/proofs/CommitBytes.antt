@@ -73,7 +73,15 @@ byte_is_low side (Some n) low is = omega (arith, low, is)
 -- ---- a commit
 -- the commit with these sides whose other numbers are read from bytes
 abbrev pub commit_of : ℕ → Option ℕ → ℕ → List ℕ → Commit
-commit_of side live buckets bs = record { side = side; live = live; entries = little_number 8 (drop 1 bs); judged = little_number 8 (drop 9 bs); unique = little_number 8 (drop 17 bs); texts = little_number 8 (drop 25 bs); cut = numbers_in buckets (drop 33 bs) }
+commit_of side live buckets bs = record {
+  side = side;
+  live = live;
+  entries = little_number 8 (drop 1 bs);
+  judged = little_number 8 (drop 9 bs);
+  unique = little_number 8 (drop 17 bs);
+  texts = little_number 8 (drop 25 bs);
+  cut = numbers_in buckets (drop 33 bs);
+}
 
 pub length-commit : (commit : Commit) → length (commit_bytes commit) ≡ 33 + 8 * length commit.cut
 length-commit commit = omega (arith, length-numbers commit.cut)
@@ -82,7 +90,8 @@ six_parts : (m n : ℕ) (a b c d e f g h i j : List ℕ) → m ≡ n → a ≡ f
 six_parts m n a b c d e f g h i j p q r s t u = cc
 
 -- bytes that are a commit are its bytes
-pub commit_written : (buckets : ℕ) (bs : List ℕ) (side : ℕ) (live : Option ℕ) → length bs ≡ 33 + 8 * buckets → AreBytes bs → sides_byte side live ≡ get_or bs 0 0 → side ≤ 1 → IsSide live → (bs ≡ commit_bytes (commit_of side live buckets bs)) × IsCommit buckets (commit_of side live buckets bs)
+pub commit_written : (buckets : ℕ) (bs : List ℕ) (side : ℕ) (live : Option ℕ) → length bs ≡ 33 + 8 * buckets → AreBytes bs → sides_byte side live ≡ get_or bs 0 0 → side ≤ 1 → IsSide live
+    → (bs ≡ commit_bytes (commit_of side live buckets bs)) × IsCommit buckets (commit_of side live buckets bs)
 commit_written buckets bs side live long small byte low is =
     let front : bs ≡ get_or bs 0 0 ∷ (take 8 (drop 1 bs) ++ (take 8 (drop 9 bs) ++ (take 8 (drop 17 bs) ++ (take 8 (drop 25 bs) ++ drop 33 bs)))) =
     first_byte bs (omega (arith, long))
@@ -92,7 +101,8 @@ commit_written buckets bs side live long small byte low is =
     ∙ ap (λ (l : List ℕ). take 8 (drop 17 bs) ++ l) (next_part 8 25 bs)))) in
     let bytes : get_or bs 0 0 ∷ (take 8 (drop 1 bs) ++ (take 8 (drop 9 bs) ++ (take 8 (drop 17 bs) ++ (take 8 (drop 25 bs) ++ drop 33 bs)))) ≡ commit_bytes (commit_of side live buckets bs) =
     six_parts (get_or bs 0 0) (sides_byte side live) (take 8 (drop 1 bs)) (take 8 (drop 9 bs)) (take 8 (drop 17 bs)) (take 8 (drop 25 bs)) (drop 33 bs)
-    (little_bytes 8 (little_number 8 (drop 1 bs))) (little_bytes 8 (little_number 8 (drop 9 bs))) (little_bytes 8 (little_number 8 (drop 17 bs))) (little_bytes 8 (little_number 8 (drop 25 bs))) (flat_map (little_bytes 8) (numbers_in buckets (drop 33 bs)))
+    (little_bytes 8 (little_number 8 (drop 1 bs))) (little_bytes 8 (little_number 8 (drop 9 bs))) (little_bytes 8 (little_number 8 (drop 17 bs))) (little_bytes 8 (little_number 8 (drop 25 bs)))
+    (flat_map (little_bytes 8) (numbers_in buckets (drop 33 bs)))
     (sym byte)
     (sym (eight_bytes (drop 1 bs) (omega (arith, long, length-drop 1 bs)) (bytes-drop 1 bs small)))
     (sym (eight_bytes (drop 9 bs) (omega (arith, long, length-drop 9 bs)) (bytes-drop 9 bs small)))
@@ -112,7 +122,8 @@ commit_written buckets bs side live long small byte low is =
       },
     )
 
-pub same_commit : (side : ℕ) (live : Option ℕ) (entries judged unique texts : ℕ) (cut : List ℕ) (commit : Commit) → side ≡ commit.side → live ≡ commit.live → entries ≡ commit.entries → judged ≡ commit.judged → unique ≡ commit.unique → texts ≡ commit.texts → cut ≡ commit.cut
+pub same_commit : (side : ℕ) (live : Option ℕ) (entries judged unique texts : ℕ) (cut : List ℕ) (commit : Commit) → side ≡ commit.side → live ≡ commit.live → entries ≡ commit.entries
+    → judged ≡ commit.judged → unique ≡ commit.unique → texts ≡ commit.texts → cut ≡ commit.cut
     → record { side = side; live = live; entries = entries; judged = judged; unique = unique; texts = texts; cut = cut } ≡ commit
 same_commit side live entries judged unique texts cut commit p l q r s t u = rw (p, l, q, r, s, t, u) refl
 
@@ -121,7 +132,8 @@ pub commit_read : (buckets : ℕ) (commit : Commit) → IsCommit buckets commit 
 commit_read buckets commit is =
     let bs = commit_bytes commit in
     let cut = flat_map (little_bytes 8) commit.cut in
-    same_commit commit.side commit.live (little_number 8 (drop 1 bs)) (little_number 8 (drop 9 bs)) (little_number 8 (drop 17 bs)) (little_number 8 (drop 25 bs)) (numbers_in buckets (drop 33 bs)) commit refl refl
+    same_commit commit.side commit.live (little_number 8 (drop 1 bs)) (little_number 8 (drop 9 bs)) (little_number 8 (drop 17 bs)) (little_number 8 (drop 25 bs)) (numbers_in buckets (drop 33 bs))
+    commit refl refl
     (little_number-reads_back 8 commit.entries (little_bytes 8 commit.judged ++ (little_bytes 8 commit.unique ++ (little_bytes 8 commit.texts ++ cut))) is.entries)
     (little_number-reads_back 8 commit.judged (little_bytes 8 commit.unique ++ (little_bytes 8 commit.texts ++ cut)) is.judged)
     (little_number-reads_back 8 commit.unique (little_bytes 8 commit.texts ++ cut) is.unique)

@@ -2,12 +2,12 @@
 use Rattle.std.proofs.Common.{ℕ, ◌≡◌, ◌+◌, ◌<◌, ◌≤◌, inl, inr, refl, subst, arith, Option, None, Some}
 use Rattle.std.specs.Prelude.{IfSome}
 use Rattle.irl_cache.specs.Reading.{TakesExactly}
+use Rattle.irl_disk.specs.Taken.{TakesOf}
 use Rattle.irl_bay.specs.BayFiles.{IsFileOf}
 use Rattle.irl_bay.specs.declared.layout.files.BayFile.TheVariants.{Cache, Journal, Aux}
 use Rattle.irl_bay.specs.Commits.{live_side, side_of}
 use Rattle.irl_bay.specs.Drum.{Drum, IsDrum, bucket_at, cache_front}
 use Rattle.irl_bay.specs.Holding.{IsFileOfBucket}
-use Rattle.irl_bay.specs.Merging.{TakesOf}
 
 -- the live cache side is one of them
 pub side_is_file : (drum : Drum) → IsDrum drum → IsFileOf drum.base drum.settings.buckets (cache_front drum).file

@@ -2,15 +2,15 @@
 use Rattle.std.proofs.Common.{◌≡◌, ◌≢◌, ◌⊎◌, ◌∙◌, inl, inr, ⊎_elim, ℕ, ◌+◌, ◌<◌, ◌≤◌, List, [], ◌∷◌, ◌++◌, length, length-append, take, take_all, get_or, Option, refl, sym, ap, subst, arith}
 use Rattle.std.proofs.lemmas.List.{take_more}
 use Rattle.std.specs.Option.{ForSome}
-use Rattle.irl_disk.specs.Disk.{Files, Changes, ChangesFile, IsPrefix, PartlyCut, Scribbled}
-use Rattle.irl_disk.specs.Images.{Snapshot, IsConsistent, LeavesBy}
+use Rattle.irl_disk.specs.Disk.{Files, Changes, ChangesFile, IsPrefix, PartlyCut, Scribbled, ChangesOnly, TellsOnly}
+use Rattle.irl_disk.specs.Images.{Told, IsConsistent, LeavesBy}
 use Rattle.irl_disk.proofs.Frames.{told_from}
 use Rattle.irl_disk.proofs.Stretches.{stays}
 use Rattle.irl_bay.specs.BayFiles.{file_of, IsBucketFile, IsSideFile}
 use Rattle.irl_bay.specs.declared.bucket.Bucket.{Bucket}
 use Rattle.irl_bay.specs.declared.layout.files.BayFile.TheVariants.{Journal, Aux}
 use Rattle.irl_bay.specs.Drum.{Drum, no_bucket, durable_at}
-use Rattle.irl_bay.specs.Holding.{HoldsBucket, ChangesOnly, TellsOnly}
+use Rattle.irl_bay.specs.Holding.{HoldsBucket}
 use Rattle.irl_bay.specs.Merging.{emptied, emptied_from}
 use Rattle.irl_bay.proofs.Bucketing.{bucket_stays}
 use Rattle.irl_bay.proofs.Merged.{bucket_emptied, length-emptied}
@@ -21,28 +21,32 @@ same_or_other k b = grind arith
 
 -- ---- a file of the side changes
 module _ (base side buckets f b : ℕ) (within : b < buckets) (is : IsBucketFile base side b f) where
-  pub side_tells : (step : List ℕ → List ℕ → Type 0) (old mid new : Option Files) → TellsOnly (IsSideFile base side buckets) old mid → Changes f step mid new → TellsOnly (IsSideFile base side buckets) old new
+  pub side_tells : (step : List ℕ → List ℕ → Type 0) (old mid new : Option Files) → TellsOnly (IsSideFile base side buckets) old mid → Changes f step mid new
+      → TellsOnly (IsSideFile base side buckets) old new
   side_tells step old mid new first second = tells_both (IsSideFile base side buckets) old mid new first (tells_one (IsSideFile base side buckets) f step mid new (b, within, is) second)
 
-  pub side_leaves : (step : List ℕ → List ℕ → Type 0) (old mid new : Snapshot) → IsConsistent mid → LeavesBy (ChangesOnly (IsSideFile base side buckets)) old mid → LeavesBy (ChangesFile f step) mid new → LeavesBy (ChangesOnly (IsSideFile base side buckets)) old new
+  pub side_leaves : (step : List ℕ → List ℕ → Type 0) (old mid new : Told) → IsConsistent mid → LeavesBy (ChangesOnly (IsSideFile base side buckets)) old mid → LeavesBy (ChangesFile f step) mid new
+      → LeavesBy (ChangesOnly (IsSideFile base side buckets)) old new
   side_leaves step old mid new law first second = leaves_both (IsSideFile base side buckets) old mid new law first (leaves_one (IsSideFile base side buckets) f step mid new (b, within, is) second)
 
 -- ---- the cuts
 -- the files of the first buckets are cut
-pub record CutSoFar (base side buckets : ℕ) (old now : Snapshot) (b : ℕ) : Type 0 where
+pub record CutSoFar (base side buckets : ℕ) (old now : Told) (b : ℕ) : Type 0 where
   pub cut : ForSome now.files (λ files. (f : ℕ) → IsSideFile base side b f → files f ≡ [])
   pub others : TellsOnly (IsSideFile base side buckets) old.files now.files
   pub stops : LeavesBy (ChangesOnly (IsSideFile base side buckets)) old now
 
-pub cut_none : (base side buckets : ℕ) (now : Snapshot) → IsConsistent now → CutSoFar base side buckets now now 0
+pub cut_none : (base side buckets : ℕ) (now : Told) → IsConsistent now → CutSoFar base side buckets now now 0
 cut_none base side buckets now law = record {
   cut = λ files told f is. absurd (omega (arith, is.1));
   others = tells_same (IsSideFile base side buckets) now.files now.files refl;
   stops = leaves_same (IsSideFile base side buckets) now now (stays now now.images law (λ image was. was));
 }
 
-pub cut_more : (base side buckets f g b : ℕ) (old mid between new : Snapshot) → IsConsistent mid → IsConsistent between → b < buckets → f ≡ file_of base 0 (Journal side b) → g ≡ file_of base 0 (Aux side b) → CutSoFar base side buckets old mid b
-    → Changes f (IsPrefix 0) mid.files between.files → LeavesBy (ChangesFile f (PartlyCut 0)) mid between → Changes g (IsPrefix 0) between.files new.files → LeavesBy (ChangesFile g (PartlyCut 0)) between new → CutSoFar base side buckets old new (b + 1)
+pub cut_more : (base side buckets f g b : ℕ) (old mid between new : Told) → IsConsistent mid → IsConsistent between → b < buckets → f ≡ file_of base 0 (Journal side b)
+    → g ≡ file_of base 0 (Aux side b) → CutSoFar base side buckets old mid b
+    → Changes f (IsPrefix 0) mid.files between.files → LeavesBy (ChangesFile f (PartlyCut 0)) mid between → Changes g (IsPrefix 0) between.files new.files
+    → LeavesBy (ChangesFile g (PartlyCut 0)) between new → CutSoFar base side buckets old new (b + 1)
 cut_more base side buckets f g b old mid between new law_mid law_between within journal aux so_far first first_stops second second_stops = record {
   cut = λ files told h is.
       let later = told_from g (IsPrefix 0) between.files new.files files second told in
@@ -53,17 +57,20 @@ cut_more base side buckets f g b old mid between new law_mid law_between within 
       ∙ ⊎_elim
       (λ (e : h ≡ f). subst (λ (n : ℕ). later.0 n ≡ []) (sym e) before.2.changed)
       (λ (not_journal : h ≢ f).
-      let earlier : is.0 < b = ⊎_elim (λ (e : h ≡ file_of base 0 (Journal side is.0)). omega (arith, e, journal, not_journal, is.1)) (λ (e : h ≡ file_of base 0 (Aux side is.0)). omega (arith, e, aux, not_aux, is.1)) is.2 in
+      let earlier : is.0 < b = ⊎_elim (λ (e : h ≡ file_of base 0 (Journal side is.0)). omega (arith, e, journal, not_journal, is.1)) (λ (e : h ≡ file_of base 0 (Aux side is.0)).
+      omega (arith, e, aux, not_aux, is.1)) is.2 in
       before.2.others h not_journal ∙ so_far.cut before.0 before.1 h (is.0, earlier, is.2))
       (same_or_other h f))
       (same_or_other h g);
-  others = side_tells base side buckets g b within (inr aux) _ old.files between.files new.files (side_tells base side buckets f b within (inl journal) _ old.files mid.files between.files so_far.others first) second;
-  stops = side_leaves base side buckets g b within (inr aux) _ old between new law_between (side_leaves base side buckets f b within (inl journal) _ old mid between law_mid so_far.stops first_stops) second_stops;
+  others = side_tells base side buckets g b within (inr aux) _ old.files between.files new.files
+      (side_tells base side buckets f b within (inl journal) _ old.files mid.files between.files so_far.others first) second;
+  stops = side_leaves base side buckets g b within (inr aux) _ old between new law_between (side_leaves base side buckets f b within (inl journal) _ old mid between law_mid so_far.stops first_stops)
+      second_stops;
 }
 
 -- ---- and the journals
 -- those of the first buckets are made
-pub record EmptiedSoFar (drum : Drum) (side buckets : ℕ) (old now : Snapshot) (made : List Bucket) (b : ℕ) : Type 0 where
+pub record EmptiedSoFar (drum : Drum) (side buckets : ℕ) (old now : Told) (made : List Bucket) (b : ℕ) : Type 0 where
   pub made_are : made ≡ take b (emptied_from drum.base side 0 drum.buckets)
   pub count : length made ≡ b
   pub holds : (k : ℕ) → k < b → (array : ℕ) → HoldsBucket now.images array 0 (emptied drum.base side k (durable_at drum k)) []
@@ -73,7 +80,8 @@ pub record EmptiedSoFar (drum : Drum) (side buckets : ℕ) (old now : Snapshot) 
   pub others : TellsOnly (IsSideFile drum.base side buckets) old.files now.files
   pub stops : LeavesBy (ChangesOnly (IsSideFile drum.base side buckets)) old now
 
-pub emptied_none : (drum : Drum) (side buckets : ℕ) (old now : Snapshot) (made : List Bucket) → made ≡ [] → ForSome now.files (λ files. (f : ℕ) → IsSideFile drum.base side buckets f → files f ≡ []) → TellsOnly (IsSideFile drum.base side buckets) old.files now.files
+pub emptied_none : (drum : Drum) (side buckets : ℕ) (old now : Told) (made : List Bucket) → made ≡ [] → ForSome now.files (λ files. (f : ℕ) → IsSideFile drum.base side buckets f → files f ≡ [])
+    → TellsOnly (IsSideFile drum.base side buckets) old.files now.files
     → LeavesBy (ChangesOnly (IsSideFile drum.base side buckets)) old now → EmptiedSoFar drum side buckets old now made 0
 emptied_none drum side buckets old now made none cut others stops = record {
   made_are = none;
@@ -86,17 +94,21 @@ emptied_none drum side buckets old now made none cut others stops = record {
   stops = stops;
 }
 
-pub emptied_more : (drum : Drum) (side buckets f : ℕ) (old mid new : Snapshot) (made : List Bucket) (b : ℕ) (bucket : Bucket) → IsConsistent mid → IsConsistent new → b < buckets → length drum.buckets ≡ buckets → EmptiedSoFar drum side buckets old mid made b → f ≡ file_of drum.base 0 (Journal side b)
-    → bucket ≡ emptied drum.base side b (durable_at drum b) → ((array : ℕ) → HoldsBucket new.images array 0 bucket []) → Changes f (λ x y. length y ≡ 1) mid.files new.files → LeavesBy (ChangesFile f (Scribbled 0 1)) mid new → EmptiedSoFar drum side buckets old new (made ++ bucket ∷ []) (b + 1)
+pub emptied_more : (drum : Drum) (side buckets f : ℕ) (old mid new : Told) (made : List Bucket) (b : ℕ) (bucket : Bucket) → IsConsistent mid → IsConsistent new → b < buckets
+    → length drum.buckets ≡ buckets → EmptiedSoFar drum side buckets old mid made b → f ≡ file_of drum.base 0 (Journal side b)
+    → bucket ≡ emptied drum.base side b (durable_at drum b) → ((array : ℕ) → HoldsBucket new.images array 0 bucket []) → Changes f (λ x y. length y ≡ 1) mid.files new.files
+    → LeavesBy (ChangesFile f (Scribbled 0 1)) mid new → EmptiedSoFar drum side buckets old new (made ++ bucket ∷ []) (b + 1)
 emptied_more drum side buckets f old mid new made b bucket law_mid law within all so_far file is holds changes stops =
     let many : b < length (emptied_from drum.base side 0 drum.buckets) = omega (arith, within, all, length-emptied drum.base side 0 drum.buckets) in
     let last : get_or (emptied_from drum.base side 0 drum.buckets) b no_bucket ≡ bucket = bucket_emptied drum side b (omega (arith, within, all)) ∙ sym is in
     record {
-      made_are = sym (take_more (emptied_from drum.base side 0 drum.buckets) b no_bucket many ∙ ap (λ (one : Bucket). take b (emptied_from drum.base side 0 drum.buckets) ++ one ∷ []) last ∙ ap (λ (l : List Bucket). l ++ bucket ∷ []) (sym so_far.made_are));
+      made_are = sym (take_more (emptied_from drum.base side 0 drum.buckets) b no_bucket many ∙ ap (λ (one : Bucket). take b (emptied_from drum.base side 0 drum.buckets) ++ one ∷ []) last
+          ∙ ap (λ (l : List Bucket). l ++ bucket ∷ []) (sym so_far.made_are));
       count = omega (arith, so_far.count, length-append made (bucket ∷ []));
       holds = λ k inside array. ⊎_elim
           (λ (e : k ≡ b). subst (λ (one : Bucket). HoldsBucket new.images array 0 one []) (is ∙ ap (λ (n : ℕ). emptied drum.base side n (durable_at drum n)) (sym e)) (holds array))
-          (λ (other : k ≢ b). bucket_stays (λ g. g ≡ f) array 0 (emptied drum.base side k (durable_at drum k)) [] mid new law only (λ e. omega (arith, e, file, other)) (λ e. omega (arith, e, file)) (so_far.holds k (omega (arith, inside, other)) array))
+          (λ (other : k ≢ b). bucket_stays (λ g. g ≡ f) array 0 (emptied drum.base side k (durable_at drum k)) [] mid new law only (λ e. omega (arith, e, file, other)) (λ e. omega (arith, e, file))
+          (so_far.holds k (omega (arith, inside, other)) array))
           (same_or_other k b);
       journals = λ files told k inside.
           let from = told_from f (λ x y. length y ≡ 1) mid.files new.files files changes told in
@@ -120,5 +132,6 @@ emptied_more drum side buckets f old mid new made b bucket law_mid law within al
     only = leaves_one (λ g. g ≡ f) f (Scribbled 0 1) mid new refl stops
 
 -- all are made
-pub emptied_all : (drum : Drum) (side buckets : ℕ) (old now : Snapshot) (made : List Bucket) (b : ℕ) → b ≡ length drum.buckets → EmptiedSoFar drum side buckets old now made b → made ≡ emptied_from drum.base side 0 drum.buckets
+pub emptied_all : (drum : Drum) (side buckets : ℕ) (old now : Told) (made : List Bucket) (b : ℕ) → b ≡ length drum.buckets → EmptiedSoFar drum side buckets old now made b
+    → made ≡ emptied_from drum.base side 0 drum.buckets
 emptied_all drum side buckets old now made b all so_far = so_far.made_are ∙ take_all b (emptied_from drum.base side 0 drum.buckets) (omega (arith, all, length-emptied drum.base side 0 drum.buckets))

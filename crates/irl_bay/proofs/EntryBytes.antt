@@ -12,7 +12,7 @@ use Rattle.std.specs.Option.{option_map}
 use Rattle.byteorder.specs.Endian.{little_bytes, little_number}
 use Rattle.byteorder.specs.Numbers.{little_from-take, little_from-lt, little_number-reads_back}
 use Rattle.irl_offer.specs.Entries.{entry_bytes, entry_of, op_number, op_of}
-use Rattle.irl_offer.specs.Limits.{max_text}
+use Rattle.irl_base.specs.Limits.{max_text}
 use Rattle.irl_offer.specs.declared.entry.Entry.{Entry}
 use Rattle.irl_offer.specs.declared.offer.Op.{Op}
 use Rattle.irl_offer.specs.declared.offer.Op.TheVariants.{Check, Update, Both}
@@ -78,7 +78,8 @@ op_read Check = refl
 op_read Update = refl
 op_read Both = refl
 
-op_case : (a b c : Bool) (n : ℕ) (op : Op) → (a ≡ true → n ≡ 0) → (b ≡ true → n ≡ 1) → (c ≡ true → n ≡ 2) → (if a then Some Check else (if b then Some Update else (if c then Some Both else None))) ≡ Some op → op_number op ≡ n
+op_case : (a b c : Bool) (n : ℕ) (op : Op) → (a ≡ true → n ≡ 0) → (b ≡ true → n ≡ 1) → (c ≡ true → n ≡ 2)
+    → (if a then Some Check else (if b then Some Update else (if c then Some Both else None))) ≡ Some op → op_number op ≡ n
 op_case true b c n op for_a for_b for_c is = let e : op ≡ Check = cc in ap op_number e ∙ sym (for_a refl)
 op_case false true c n op for_a for_b for_c is = let e : op ≡ Update = cc in ap op_number e ∙ sym (for_b refl)
 op_case false false true n op for_a for_b for_c is = let e : op ≡ Both = cc in ap op_number e ∙ sym (for_c refl)
@@ -124,7 +125,8 @@ entry_written bs entry long small is =
     ∙ ap (λ (l : List ℕ). take 8 (drop 3 bs) ++ l) (next_part 8 11 bs
     ∙ ap (λ (l : List ℕ). take 8 (drop 11 bs) ++ l) last))) in
     let bytes : entry_bytes (made op) ≡ get_or bs 0 0 ∷ (take 2 (drop 1 bs) ++ (take 8 (drop 3 bs) ++ (take 8 (drop 11 bs) ++ take 8 (drop 19 bs)))) =
-    five_parts (op_number op) (get_or bs 0 0) (little_bytes 2 (little_number 2 (drop 1 bs))) (little_bytes 8 (little_number 8 (drop 3 bs))) (little_bytes 8 (little_number 8 (drop 11 bs))) (little_bytes 8 (little_number 8 (drop 19 bs)))
+    five_parts (op_number op) (get_or bs 0 0) (little_bytes 2 (little_number 2 (drop 1 bs))) (little_bytes 8 (little_number 8 (drop 3 bs))) (little_bytes 8 (little_number 8 (drop 11 bs)))
+    (little_bytes 8 (little_number 8 (drop 19 bs)))
     (take 2 (drop 1 bs)) (take 8 (drop 3 bs)) (take 8 (drop 11 bs)) (take 8 (drop 19 bs))
     (op_written (get_or bs 0 0) op given.1.1)
     (two_bytes (drop 1 bs) (omega (arith, long, length-drop 1 bs)) (bytes-drop 1 bs small))
@@ -145,7 +147,8 @@ entry_written bs entry long small is =
 made_of : (t : Bool) (o : Option Op) (op : Op) (f : Op → Entry) → t ≡ false → o ≡ Some op → (if t then None else option_map f o) ≡ Some (f op)
 made_of t o op f fails some = rw (fails, some) refl
 
-same_entry : (op : Op) (a k v r : ℕ) (entry : Entry) → op ≡ entry.op → a ≡ entry.aux_len → k ≡ entry.key → v ≡ entry.value → r ≡ entry.from → record { op = op; aux_len = a; key = k; value = v; from = r } ≡ entry
+same_entry : (op : Op) (a k v r : ℕ) (entry : Entry) → op ≡ entry.op → a ≡ entry.aux_len → k ≡ entry.key → v ≡ entry.value → r ≡ entry.from
+    → record { op = op; aux_len = a; key = k; value = v; from = r } ≡ entry
 same_entry op a k v r entry p q s t u = rw (p, q, s, t, u) refl
 
 -- an entry is read back
@@ -159,7 +162,8 @@ entry_read entry room =
     let from : little_number 8 (drop 19 bs) ≡ entry.from = little_number-reads_back 8 entry.from [] room.from in
     let made : Op → Entry = read_as bs in
     made_of (nat_lt max_text (little_number 2 (drop 1 bs))) (op_of (op_number entry.op)) entry.op made (le-ltb max_text (little_number 2 (drop 1 bs)) (omega (arith, aux, room.aux))) (op_read entry.op)
-    ∙ ap (λ (e : Entry). Some e) (same_entry entry.op (little_number 2 (drop 1 bs)) (little_number 8 (drop 3 bs)) (little_number 8 (drop 11 bs)) (little_number 8 (drop 19 bs)) entry refl aux key value from)
+    ∙ ap (λ (e : Entry). Some e) (same_entry entry.op (little_number 2 (drop 1 bs)) (little_number 8 (drop 3 bs)) (little_number 8 (drop 11 bs)) (little_number 8 (drop 19 bs)) entry refl aux key value
+    from)
 
 -- ---- entries, one behind the other
 pub entries-cons : (entry : Entry) (run : List Entry) → entries_bytes (entry ∷ run) ≡ entry_bytes entry ++ entries_bytes run
@@ -222,14 +226,17 @@ all-take P (suc n) [] each = tt
 all-take P (suc n) (x ∷ xs) each = (each.0, all-take P n xs each.1)
 
 -- one entry more
-pub read_more : (buckets b : ℕ) (bytes rest first behind : List ℕ) (entry : Entry) → AreRead buckets b bytes rest → IsEntryOf buckets b entry → first ≡ entry_bytes entry → first ≡ take 27 rest → behind ≡ drop 27 rest → AreRead buckets b bytes behind
+pub read_more : (buckets b : ℕ) (bytes rest first behind : List ℕ) (entry : Entry) → AreRead buckets b bytes rest → IsEntryOf buckets b entry → first ≡ entry_bytes entry → first ≡ take 27 rest
+    → behind ≡ drop 27 rest → AreRead buckets b bytes behind
 read_more buckets b bytes rest first behind entry so_far is bytes_are front back = record {
   taken = so_far.taken ++ entry ∷ [];
   each = all-more (IsEntryOf buckets b) so_far.taken entry so_far.each is;
   are = so_far.are
-      ∙ ap (λ (l : List ℕ). entries_bytes so_far.taken ++ l) (sym (take-append-drop 27 rest) ∙ ap (λ (l : List ℕ). l ++ drop 27 rest) (sym front ∙ bytes_are) ∙ ap (λ (l : List ℕ). entry_bytes entry ++ l) (sym back))
+      ∙ ap (λ (l : List ℕ). entries_bytes so_far.taken ++ l) (sym (take-append-drop 27 rest) ∙ ap (λ (l : List ℕ). l ++ drop 27 rest) (sym front ∙ bytes_are)
+      ∙ ap (λ (l : List ℕ). entry_bytes entry ++ l) (sym back))
       ∙ sym (append_assoc (entries_bytes so_far.taken) (entry_bytes entry) behind)
-      ∙ ap (λ (l : List ℕ). l ++ behind) (ap (λ (l : List ℕ). entries_bytes so_far.taken ++ l) (sym (append-nil (entry_bytes entry)) ∙ sym (entries-cons entry [])) ∙ sym (entries-append so_far.taken (entry ∷ [])));
+      ∙ ap (λ (l : List ℕ). l ++ behind) (ap (λ (l : List ℕ). entries_bytes so_far.taken ++ l) (sym (append-nil (entry_bytes entry)) ∙ sym (entries-cons entry []))
+      ∙ sym (entries-append so_far.taken (entry ∷ [])));
 }
 
 -- where the first bytes are no entry, the whole is no run
@@ -240,10 +247,12 @@ none_first buckets b rest first long front none (entry ∷ run) each is =
     none entry each.0 (front ∙ ap (take 27) (is ∙ entries-cons entry run) ∙ take-append_seam (entry_bytes entry) (entries_bytes run))
 
 -- where bytes behind are no entry of the bucket, the whole is no run
-pub none_there : (buckets b : ℕ) (bytes rest first : List ℕ) → AreRead buckets b bytes rest → 27 ≤ length rest → first ≡ take 27 rest → ((entry : Entry) → IsEntryOf buckets b entry → first ≡ entry_bytes entry → ⊥)
+pub none_there : (buckets b : ℕ) (bytes rest first : List ℕ) → AreRead buckets b bytes rest → 27 ≤ length rest → first ≡ take 27 rest
+    → ((entry : Entry) → IsEntryOf buckets b entry → first ≡ entry_bytes entry → ⊥)
     → (run : List Entry) → AllByRecursion (IsEntryOf buckets b) run → bytes ≡ entries_bytes run → ⊥
 none_there buckets b bytes rest first so_far long front none run each is =
-    none_first buckets b rest first long front none (drop (length so_far.taken) run) (all-drop (IsEntryOf buckets b) (length so_far.taken) run each) (behind_entries so_far.taken run rest (sym so_far.are ∙ is))
+    none_first buckets b rest first long front none (drop (length so_far.taken) run) (all-drop (IsEntryOf buckets b) (length so_far.taken) run each)
+    (behind_entries so_far.taken run rest (sym so_far.are ∙ is))
 
 -- and where some bytes are left that are too few
 pub too_few : (buckets b : ℕ) (bytes rest : List ℕ) → AreRead buckets b bytes rest → 1 ≤ length rest → length rest < 27 → (run : List Entry) → bytes ≡ entries_bytes run → ⊥
@@ -264,7 +273,8 @@ pub record IsNext (buckets b : ℕ) (left : List Entry) (first behind : List ℕ
   pub each : AllByRecursion (IsEntryOf buckets b) more
   pub behind_are : behind ≡ entries_bytes more
 
-pub next_entry : (buckets b : ℕ) (left : List Entry) (rest first behind : List ℕ) → AllByRecursion (IsEntryOf buckets b) left → rest ≡ entries_bytes left → 27 ≤ length rest → first ≡ take 27 rest → behind ≡ drop 27 rest → IsNext buckets b left first behind
+pub next_entry : (buckets b : ℕ) (left : List Entry) (rest first behind : List ℕ) → AllByRecursion (IsEntryOf buckets b) left → rest ≡ entries_bytes left → 27 ≤ length rest → first ≡ take 27 rest
+    → behind ≡ drop 27 rest → IsNext buckets b left first behind
 next_entry buckets b [] rest first behind each is long front back = absurd (omega (arith, long, ap length is))
 next_entry buckets b (entry ∷ more) rest first behind each is long front back =
     let apart = is ∙ entries-cons entry more in

@@ -52,7 +52,8 @@ few_texts settings b [] each = omega arith
 few_texts settings b (entry ∷ run) each = omega (arith, each.0.aux, few_texts settings b run each.1, text_length-cons entry run)
 
 -- ---- one run more
-pub found_more : (cut at : ℕ) (runs : List (List Entry)) (run : List Entry) (old new : Found) → HasFound cut runs old → Advances cut at run old new → at ≡ length (records_text (map entries_bytes runs)) → length (entries_in runs) + length run < 2 ^ 64 → text_length (entries_in runs) + text_length run < 2 ^ 128
+pub found_more : (cut at : ℕ) (runs : List (List Entry)) (run : List Entry) (old new : Found) → HasFound cut runs old → Advances cut at run old new
+    → at ≡ length (records_text (map entries_bytes runs)) → length (entries_in runs) + length run < 2 ^ 64 → text_length (entries_in runs) + text_length run < 2 ^ 128
     → HasFound cut (runs ++ run ∷ []) new
 found_more cut at runs run old new so_far step here few few_bytes =
     let all : entries_in (runs ++ run ∷ []) ≡ entries_in runs ++ run = entries_in-more runs run in
@@ -78,7 +79,8 @@ found_more cut at runs run old new so_far step here few few_bytes =
           let split : cut ≡ length (entries_in runs) + new.skip = omega (arith, found.1, so_far.count) in
           let front : take cut (entries_in (runs ++ run ∷ [])) ≡ entries_in runs ++ take new.skip run =
           ap (take cut) all ∙ ap (λ (k : ℕ). take k (entries_in runs ++ run)) split ∙ take-append-add (entries_in runs) run new.skip in
-          let part : text_length (take cut (entries_in (runs ++ run ∷ []))) ≡ text_length (entries_in runs) + text_length (take new.skip run) = ap text_length front ∙ text_length-append (entries_in runs) (take new.skip run) in
+          let part : text_length (take cut (entries_in (runs ++ run ∷ []))) ≡ text_length (entries_in runs) + text_length (take new.skip run) = ap text_length front
+          ∙ text_length-append (entries_in runs) (take new.skip run) in
           record {
             before = runs;
             behind = run ∷ [];
@@ -118,7 +120,15 @@ pub few_texts_in : (settings : Settings) (b : ℕ) (runs : List (List Entry)) �
 few_texts_in settings b [] each = omega arith
 few_texts_in settings b (run ∷ runs) each =
     let all : entries_in (run ∷ runs) ≡ run ++ entries_in runs = flat_map-cons (λ (r : List Entry). r) run runs in
-    omega (arith, ap length all, ap text_length all, length-append run (entries_in runs), text_length-append run (entries_in runs), few_texts settings b run each.0.each, few_texts_in settings b runs each.1)
+    omega (
+      arith,
+      ap length all,
+      ap text_length all,
+      length-append run (entries_in runs),
+      text_length-append run (entries_in runs),
+      few_texts settings b run each.0.each,
+      few_texts_in settings b runs each.1,
+    )
 
 each-more : (P : List Entry → Type 0) (runs : List (List Entry)) (run : List Entry) → AllByRecursion P runs → P run → AllByRecursion P (runs ++ run ∷ [])
 each-more P [] run each here = (here, tt)
@@ -137,8 +147,10 @@ record TookMore (settings : Settings) (b cut : ℕ) (runs : List (List Entry)) (
 both_cons : (x y : List ℕ) (xs ys : List (List ℕ)) → x ≡ y → xs ≡ ys → x ∷ xs ≡ y ∷ ys
 both_cons x y xs ys p q = cc
 
-took_more : (settings : Settings) (b cut at : ℕ) (runs : List (List Entry)) (old new : Tally) (payloads : List (List ℕ)) → AllByRecursion (IsEntryRun settings b) runs → HasFound cut runs old.found → old.settings ≡ settings → old.bucket ≡ b → old.cut ≡ cut
-    → at ≡ length (records_text (map entries_bytes runs)) → at + length (records_text payloads) < 2 ^ 64 → TakesAll TakesRun old (placed_from at payloads) new → TookMore settings b cut runs payloads new
+took_more : (settings : Settings) (b cut at : ℕ) (runs : List (List Entry)) (old new : Tally) (payloads : List (List ℕ)) → AllByRecursion (IsEntryRun settings b) runs → HasFound cut runs old.found
+    → old.settings ≡ settings → old.bucket ≡ b → old.cut ≡ cut
+    → at ≡ length (records_text (map entries_bytes runs)) → at + length (records_text payloads) < 2 ^ 64 → TakesAll TakesRun old (placed_from at payloads) new
+    → TookMore settings b cut runs payloads new
 took_more settings b cut at runs old new [] each so_far is_settings is_bucket is_cut here fits took = record {
   more = [];
   each = subst (λ (rs : List (List Entry)). AllByRecursion (IsEntryRun settings b) rs) (sym (append-nil runs)) each;
@@ -161,8 +173,10 @@ took_more settings b cut at runs old new (payload ∷ payloads) each so_far is_s
     ∙ ap length (records-append (map entries_bytes runs) (entries_bytes run ∷ []))
     ∙ omega (arith, length-append (records_text (map entries_bytes runs)) (records_text (entries_bytes run ∷ [])), length-cons (entries_bytes run) [], ap length step.3.2) in
     let next : at + length (record_text payload) ≡ at + (5 + length payload) = omega (arith, length-body payload) in
-    let found = found_more cut at runs run old.found mid.found so_far advances here (omega (arith, here, fits, long, size, long_runs runs)) (omega (arith, here, fits, long, size, long_runs runs, few_texts_in settings b runs each, few_texts settings b run is_run.each)) in
-    let rest = took_more settings b cut (at + length (record_text payload)) (runs ++ run ∷ []) mid new payloads (each-more (IsEntryRun settings b) runs run each is_run) found (step.0 ∙ is_settings) (step.1 ∙ is_bucket) (step.2 ∙ is_cut)
+    let found = found_more cut at runs run old.found mid.found so_far advances here (omega (arith, here, fits, long, size, long_runs runs))
+    (omega (arith, here, fits, long, size, long_runs runs, few_texts_in settings b runs each, few_texts settings b run is_run.each)) in
+    let rest = took_more settings b cut (at + length (record_text payload)) (runs ++ run ∷ []) mid new payloads (each-more (IsEntryRun settings b) runs run each is_run) found (step.0
+    ∙ is_settings) (step.1 ∙ is_bucket) (step.2 ∙ is_cut)
     (omega (arith, next, further, here)) (omega (arith, next, fits, long)) took.2 in
     let apart : (runs ++ run ∷ []) ++ rest.more ≡ runs ++ run ∷ rest.more = append_assoc runs (run ∷ []) rest.more in
     record {
@@ -176,18 +190,22 @@ took_more settings b cut at runs old new (payload ∷ payloads) each so_far is_s
     }
 
 -- what was taken of a journal from its beginning
-pub took_runs : (settings : Settings) (b cut : ℕ) (old new : Tally) (payloads : List (List ℕ)) → old.found ≡ nothing_found → old.settings ≡ settings → old.bucket ≡ b → old.cut ≡ cut → length (records_text payloads) < 2 ^ 64
+pub took_runs : (settings : Settings) (b cut : ℕ) (old new : Tally) (payloads : List (List ℕ)) → old.found ≡ nothing_found → old.settings ≡ settings → old.bucket ≡ b → old.cut ≡ cut
+    → length (records_text payloads) < 2 ^ 64
     → TakesAll TakesRun old (placed_from 0 payloads) new → TookRuns settings b cut payloads new
 took_runs settings b cut old new payloads none is_settings is_bucket is_cut fits took =
-    let all = took_more settings b cut 0 [] old new payloads tt (subst (λ (f : Found). HasFound cut [] f) (sym none) (found_nothing cut)) is_settings is_bucket is_cut refl (omega (arith, fits)) took in
+    let all = took_more settings b cut 0 [] old new payloads tt (subst (λ (f : Found). HasFound cut [] f) (sym none) (found_nothing cut)) is_settings is_bucket is_cut refl (omega (arith, fits))
+    took in
     record { runs = all.more; each = all.each; payloads_are = all.payloads_are; found = all.found; settings_are = all.settings_are; bucket = all.bucket; cut_is = all.cut_is }
 
 -- where the first offer stands that isn't judged lies within what was read
-pub first_within : (settings : Settings) (b cut : ℕ) (payloads : List (List ℕ)) (new : Tally) → TookRuns settings b cut payloads new → cut < new.found.count → (new.found.gate ≤ length (records_text payloads)) × (new.found.text ≤ new.found.texts)
+pub first_within : (settings : Settings) (b cut : ℕ) (payloads : List (List ℕ)) (new : Tally) → TookRuns settings b cut payloads new → cut < new.found.count
+    → (new.found.gate ≤ length (records_text payloads)) × (new.found.text ≤ new.found.texts)
 first_within settings b cut payloads new took below =
     let first = took.found.first (omega (arith, below, took.found.count)) in
     let parts : records_text payloads ≡ records_text (map entries_bytes first.before) ++ records_text (map entries_bytes first.behind) =
-    ap records_text (took.payloads_are ∙ ap (map entries_bytes) first.runs_are ∙ map-append entries_bytes first.before first.behind) ∙ records-append (map entries_bytes first.before) (map entries_bytes first.behind) in (
+    ap records_text (took.payloads_are ∙ ap (map entries_bytes) first.runs_are ∙ map-append entries_bytes first.before first.behind)
+    ∙ records-append (map entries_bytes first.before) (map entries_bytes first.behind) in (
       omega (arith, first.gate, ap length parts, length-append (records_text (map entries_bytes first.before)) (records_text (map entries_bytes first.behind))),
       omega (arith, first.text, took.found.texts, sum_by-take-le (λ (entry : Entry). entry.aux_len) (entries_in took.runs) cut),
     )

@@ -13,8 +13,8 @@ use Rattle.irl_model.specs.Book.{Book, IsBook, judged_offers, flushed, flushed_l
 use Rattle.irl_model.proofs.FrontLaws.{stretches_same, flushed_prefixes, flushed_judged}
 use Rattle.irl_model.proofs.Flushes.{flushed_book, flushed_here, flushed_elsewhere, flushed_lengths-set, flushed_uniques}
 use Rattle.irl_model.proofs.Merges.{earlier_book}
-use Rattle.irl_disk.specs.Disk.{Files}
-use Rattle.irl_disk.specs.Images.{Snapshot, IsConsistent, Leaves, LeavesBy}
+use Rattle.irl_disk.specs.Disk.{Files, ChangesOnly, TellsOnly}
+use Rattle.irl_disk.specs.Images.{Told, IsConsistent, Leaves, LeavesBy}
 use Rattle.irl_disk.proofs.Stretches.{stays, widens, widens_by}
 use Rattle.irl_journal.specs.Format.{StandsFor, HasRecords}
 use Rattle.irl_journal.specs.Appending.{IsOpen}
@@ -29,7 +29,7 @@ use Rattle.irl_cache.specs.SortedRun.{pairs_bytes}
 use Rattle.irl_bay.specs.JudgedEntries.{judged_entries}
 use Rattle.irl_bay.specs.Standing.{IsBookOf, HasBucketOf, Stands}
 use Rattle.irl_bay.specs.Drum.{Drum, IsDrum, IsBucket, bucket_at, judged_at, durables, no_bucket, cache_front, judged_front, texts_front}
-use Rattle.irl_bay.specs.Holding.{Holds, HoldsBucket, BucketBecomes, Becomes, IsLong, ChangesOnly, TellsOnly, IsFileOfBucket}
+use Rattle.irl_bay.specs.Holding.{Holds, HoldsBucket, BucketBecomes, Becomes, IsLong, IsFileOfBucket}
 use Rattle.irl_bay.proofs.HeldBuckets.{start_within}
 use Rattle.irl_bay.proofs.JudgedBooks.{each_append}
 use Rattle.irl_bay.proofs.Live.{live_flushed, live_beside}
@@ -93,7 +93,8 @@ pub record Grows (old new : Bucket) : Type 0 where
   pub text : new.text ≡ old.text
 
 -- so the bay is one
-pub grown_drum : (drum : Drum) (sound : Bool) (b : ℕ) (bucket : Bucket) → IsDrum drum → b < drum.settings.buckets → (sound ≡ true → drum.is_sound ≡ true) → (sound ≡ true → bucket.journal.is_sound ≡ true) → Grows (bucket_at drum b) bucket → IsDrum (with_bucket drum sound b bucket)
+pub grown_drum : (drum : Drum) (sound : Bool) (b : ℕ) (bucket : Bucket) → IsDrum drum → b < drum.settings.buckets → (sound ≡ true → drum.is_sound ≡ true)
+    → (sound ≡ true → bucket.journal.is_sound ≡ true) → Grows (bucket_at drum b) bucket → IsDrum (with_bucket drum sound b bucket)
 grown_drum drum sound b bucket law within was is grows = record {
   base = law.base;
   settings = law.settings;
@@ -105,7 +106,8 @@ grown_drum drum sound b bucket law within was is grows = record {
   cuts = law.cuts;
   count = length-set drum.buckets b bucket ∙ law.count;
   buckets = λ c inside. ⊎_elim
-      (λ (e : c ≡ b). subst (IsBucket drum.base (live_side drum.last) c (judged_at drum c) sound) (sym (ap (bucket_at (with_bucket drum sound b bucket)) e ∙ bucket_here drum sound b bucket (omega (arith, law.count))))
+      (λ (e : c ≡ b). subst (IsBucket drum.base (live_side drum.last) c (judged_at drum c) sound)
+      (sym (ap (bucket_at (with_bucket drum sound b bucket)) e ∙ bucket_here drum sound b bucket (omega (arith, law.count))))
       (subst (λ (n : ℕ). IsBucket drum.base (live_side drum.last) n (judged_at drum n) sound bucket) (sym e) here))
       (λ (other : c ≢ b). subst (IsBucket drum.base (live_side drum.last) c (judged_at drum c) sound) (sym (bucket_elsewhere drum sound b c bucket other)) (elsewhere (law.buckets c inside)))
       (same_or_other c b);
@@ -181,7 +183,8 @@ flushed_fit b news book is within fit each c inside = ⊎_elim
 abbrev HoldsAt : (Files → Type 0) → Drum → Book → ℕ → Type 0
 HoldsAt images drum book c = HoldsBucket images drum.settings.array (judged_at drum c - (bucket_at drum c).start) (bucket_at drum c) (live_offers book drum.last c)
 
-pub flush_holds : (drum : Drum) (sound : Bool) (b : ℕ) (bucket : Bucket) (news : List Tuple) (book : Book) (old new : Snapshot) → IsDrum drum → b < drum.settings.buckets → AreFor drum.settings b news → AllByRecursion IsOffer news → IsConsistent new
+pub flush_holds : (drum : Drum) (sound : Bool) (b : ℕ) (bucket : Bucket) (news : List Tuple) (book : Book) (old new : Told) → IsDrum drum → b < drum.settings.buckets → AreFor drum.settings b news
+    → AllByRecursion IsOffer news → IsConsistent new
     → LeavesBy (ChangesOnly (IsBucketFile drum.base (live_side drum.last) b)) old new → bucket.durable ≡ (bucket_at drum b).durable + length news → bucket.start ≡ (bucket_at drum b).start
     → ((cut : ℕ) (list : List Tuple) → HoldsBucket old.images drum.settings.array cut (bucket_at drum b) list → HoldsBucket new.images drum.settings.array cut bucket (list ++ news))
     → Holds old.images drum book → Holds new.images (with_bucket drum sound b bucket) (flushed b news book)
@@ -193,7 +196,8 @@ flush_holds drum sound b bucket news book old new law within news_are fit now st
       (ap (λ (one : Bucket). one.start) (bucket_here drum sound b bucket (omega (arith, law.count))) ∙ start ∙ holds.starts_are b inside_book))
       (λ (other : c ≢ b). ap (λ (one : Bucket). one.start) (bucket_elsewhere drum sound b c bucket other) ∙ holds.starts_are c inside)
       (same_or_other c b);
-  buckets = λ c inside. ⊎_elim (λ (e : c ≡ b). subst (HoldsAt new.images (with_bucket drum sound b bucket) (flushed b news book)) (sym e) here) (λ (other : c ≢ b). elsewhere c inside other) (same_or_other c b);
+  buckets = λ c inside. ⊎_elim (λ (e : c ≡ b). subst (HoldsAt new.images (with_bucket drum sound b bucket) (flushed b news book)) (sym e) here) (λ (other : c ≢ b). elsewhere c inside other)
+      (same_or_other c b);
   commits = holds.commits;
   commits_are = flushed_commits b news book holds.commits is_book holds.commits_are;
   last = holds.last;
@@ -232,7 +236,8 @@ flush_holds drum sound b bucket news book old new law within news_are fit now st
     here =
         let cut = judged_at drum b - (bucket_at drum b).start in
         let live = live_flushed drum.settings book drum.last b news holds.book_is inside_book (start_within old.images drum book holds law b inside_book) in
-        subst (λ (one : Bucket). HoldsBucket new.images drum.settings.array (judged_at drum b - one.start) one (live_offers (flushed b news book) drum.last b)) (sym (bucket_here drum sound b bucket (omega (arith, law.count))))
+        subst (λ (one : Bucket). HoldsBucket new.images drum.settings.array (judged_at drum b - one.start) one (live_offers (flushed b news book) drum.last b))
+        (sym (bucket_here drum sound b bucket (omega (arith, law.count))))
         (subst (λ (n : ℕ). HoldsBucket new.images drum.settings.array (judged_at drum b - n) bucket (live_offers (flushed b news book) drum.last b)) (sym start)
         (subst (HoldsBucket new.images drum.settings.array cut bucket) (sym live) (appended cut (live_offers book drum.last b) (holds.buckets b inside_book))))
 
@@ -240,7 +245,8 @@ flush_holds drum sound b bucket news book old new law within news_are fit now st
     elsewhere c inside other =
         let it = law.buckets c (omega (arith, holds.book_is.buckets)) in
         let out = other_out drum.base (live_side drum.last) b c in
-        subst (λ (one : Bucket). HoldsBucket new.images drum.settings.array (judged_at drum c - one.start) one (live_offers (flushed b news book) drum.last c)) (sym (bucket_elsewhere drum sound b c bucket other))
+        subst (λ (one : Bucket). HoldsBucket new.images drum.settings.array (judged_at drum c - one.start) one (live_offers (flushed b news book) drum.last c))
+        (sym (bucket_elsewhere drum sound b c bucket other))
         (subst (HoldsBucket new.images drum.settings.array (judged_at drum c - (bucket_at drum c).start) (bucket_at drum c)) (sym (live_beside book drum.last b c news other))
         (bucket_stays (IsBucketFile drum.base (live_side drum.last) b) drum.settings.array (judged_at drum c - (bucket_at drum c).start) (bucket_at drum c) _ old new now stops
         (out (bucket_at drum c).journal.file other (inl it.journal)) (out (bucket_at drum c).aux.file other (inr it.aux)) (holds.buckets c inside)))
@@ -250,25 +256,31 @@ flush_holds drum sound b bucket news book old new law within news_are fit now st
 abbrev StandsAt : Drum → Book → Files → ℕ → Type 0
 StandsAt drum book files c = HasBucketOf drum.base drum.settings.array drum.last c (live_offers book drum.last c) files
 
-stands_flushed : (drum : Drum) (b : ℕ) (news : List Tuple) (book : Book) (images : Files → Type 0) (before image : Files) → IsDrum drum → b < drum.settings.buckets → AreFor drum.settings b news → AllByRecursion IsOffer news → Holds images drum book → images before
-    → ChangesOnly (IsBucketFile drum.base (live_side drum.last) b) before image → HasBucketOf drum.base drum.settings.array drum.last b (live_offers book drum.last b ++ news) image → Stands drum.base drum.settings (flushed b news book) image
+stands_flushed : (drum : Drum) (b : ℕ) (news : List Tuple) (book : Book) (images : Files → Type 0) (before image : Files) → IsDrum drum → b < drum.settings.buckets → AreFor drum.settings b news
+    → AllByRecursion IsOffer news → Holds images drum book → images before
+    → ChangesOnly (IsBucketFile drum.base (live_side drum.last) b) before image → HasBucketOf drum.base drum.settings.array drum.last b (live_offers book drum.last b ++ news) image
+    → Stands drum.base drum.settings (flushed b news book) image
 stands_flushed drum b news book images before image law within news_are fit holds left others has = record {
   book_is = flushed_is drum.settings b news book holds.book_is news_are;
   commits = holds.commits;
   commits_are = flushed_commits b news book holds.commits is_book holds.commits_are;
   manifest = subst (λ (f : ℕ). StandsFor (image f) (map commit_bytes holds.commits)) law.manifest
-      (subst (λ (file : List ℕ). StandsFor file (map commit_bytes holds.commits)) (sym (others drum.manifest.file (low drum.manifest.file (omega (arith, law.manifest))))) (inr (holds.manifest before left).records));
+      (subst (λ (file : List ℕ). StandsFor file (map commit_bytes holds.commits)) (sym (others drum.manifest.file (low drum.manifest.file (omega (arith, law.manifest)))))
+      (inr (holds.manifest before left).records));
   offers = flushed_fit b news book is_book inside_book fit holds.offers;
   buckets = λ c inside. subst (λ (last : Commit). HasBucketOf drum.base drum.settings.array last c (live_offers (flushed b news book) last c) image) holds.last
       (⊎_elim (λ (e : c ≡ b). subst (StandsAt drum (flushed b news book) image) (sym e) here) (λ (other : c ≢ b). elsewhere c inside other) (same_or_other c b));
-  cache = subst (λ (offers : List Tuple). HasCache drum.base (last_commit (first_commit book.buckets) holds.commits) (after book.rule book.base offers) image) (sym (flushed_offers b news book is_book))
+  cache = subst (λ (offers : List Tuple). HasCache drum.base (last_commit (first_commit book.buckets) holds.commits) (after book.rule book.base offers) image)
+      (sym (flushed_offers b news book is_book))
       (subst (λ (last : Commit). HasCache drum.base last (after book.rule book.base (judged_offers book)) image) holds.last
       (record {
         count = holds.keys;
         bytes = stays (cache_front drum).file _ (omega (arith, law.last.side)) (holds.cache.each before left);
       }));
-  judged_are = subst (λ js. BeginsWith (image (judged_front drum).file) (judged_entries 0 js)) (sym (flushed_judged b news book is_book)) (stays (judged_front drum).file _ (omega arith) (holds.judged_are.each before left));
-  texts = subst (λ (offers : List Tuple). BeginsWith (image (texts_front drum).file) (texts_of offers)) (sym (flushed_offers b news book is_book)) (stays (texts_front drum).file _ (omega arith) (holds.texts.each before left));
+  judged_are = subst (λ js. BeginsWith (image (judged_front drum).file) (judged_entries 0 js)) (sym (flushed_judged b news book is_book))
+      (stays (judged_front drum).file _ (omega arith) (holds.judged_are.each before left));
+  texts = subst (λ (offers : List Tuple). BeginsWith (image (texts_front drum).file) (texts_of offers)) (sym (flushed_offers b news book is_book))
+      (stays (texts_front drum).file _ (omega arith) (holds.texts.each before left));
 }
   where
     is_book : IsBook book
@@ -284,7 +296,8 @@ stands_flushed drum b news book images before image law within news_are fit hold
     stays f bytes below begins = subst (λ (file : List ℕ). BeginsWith file bytes) (sym (others f (low f below))) begins
 
     here : StandsAt drum (flushed b news book) image b
-    here = subst (λ (list : List Tuple). HasBucketOf drum.base drum.settings.array drum.last b list image) (sym (live_flushed drum.settings book drum.last b news holds.book_is inside_book (start_within images drum book holds law b inside_book))) has
+    here = subst (λ (list : List Tuple). HasBucketOf drum.base drum.settings.array drum.last b list image)
+        (sym (live_flushed drum.settings book drum.last b news holds.book_is inside_book (start_within images drum book holds law b inside_book))) has
 
     elsewhere : (c : ℕ) → c < book.buckets → c ≢ b → StandsAt drum (flushed b news book) image c
     elsewhere c inside other =
@@ -295,16 +308,22 @@ stands_flushed drum b news book images before image law within news_are fit hold
         subst (λ (l : List Tuple). HasBucketOf drum.base drum.settings.array drum.last c l image) (sym (live_beside book drum.last b c news other))
         (subst (λ (f : ℕ). HasBucket drum.settings.array list (image f) (image (file_of drum.base 0 (Aux (live_side drum.last) c)))) it.journal
         (subst (λ (f : ℕ). HasBucket drum.settings.array list (image (bucket_at drum c).journal.file) (image f)) it.aux
-        (subst (λ (file : List ℕ). HasBucket drum.settings.array list file (image (bucket_at drum c).aux.file)) (sym (others (bucket_at drum c).journal.file (out (bucket_at drum c).journal.file other (inl it.journal))))
-        (subst (λ (file : List ℕ). HasBucket drum.settings.array list (before (bucket_at drum c).journal.file) file) (sym (others (bucket_at drum c).aux.file (out (bucket_at drum c).aux.file other (inr it.aux)))) was))))
+        (subst (λ (file : List ℕ). HasBucket drum.settings.array list file (image (bucket_at drum c).aux.file))
+        (sym (others (bucket_at drum c).journal.file (out (bucket_at drum c).journal.file other (inl it.journal))))
+        (subst (λ (file : List ℕ). HasBucket drum.settings.array list (before (bucket_at drum c).journal.file) file)
+        (sym (others (bucket_at drum c).aux.file (out (bucket_at drum c).aux.file other (inr it.aux)))) was))))
 
 -- a stop before anything is done
-pub stops_none : (drum : Drum) (among : ℕ → Type 0) (book next : Book) (now : Snapshot) → IsDrum drum → IsConsistent now → Holds now.images drum book → LeavesBy (Becomes among drum.base drum.settings book next) now now
-stops_none drum among book next now law consistent holds = stays now _ consistent (λ image left. (image, left, record { others = λ f out. refl; stands = inl (holds_stands now.images drum book image law holds left) }))
+pub stops_none : (drum : Drum) (among : ℕ → Type 0) (book next : Book) (now : Told) → IsDrum drum → IsConsistent now → Holds now.images drum book
+    → LeavesBy (Becomes among drum.base drum.settings book next) now now
+stops_none drum among book next now law consistent holds = stays now _ consistent (λ image left.
+    (image, left, record { others = λ f out. refl; stands = inl (holds_stands now.images drum book image law holds left) }))
 
 -- and a stop in an append
-becomes : (drum : Drum) (b : ℕ) (news : List Tuple) (book : Book) (images : Files → Type 0) (before image : Files) → IsDrum drum → b < drum.settings.buckets → AreFor drum.settings b news → AllByRecursion IsOffer news → Holds images drum book → images before
-    → BucketBecomes (bucket_at drum b) drum.settings.array (live_offers book drum.last b) news before image → Becomes (IsBucketFile drum.base (live_side drum.last) b) drum.base drum.settings book (flushed b news book) before image
+becomes : (drum : Drum) (b : ℕ) (news : List Tuple) (book : Book) (images : Files → Type 0) (before image : Files) → IsDrum drum → b < drum.settings.buckets → AreFor drum.settings b news
+    → AllByRecursion IsOffer news → Holds images drum book → images before
+    → BucketBecomes (bucket_at drum b) drum.settings.array (live_offers book drum.last b) news before image
+    → Becomes (IsBucketFile drum.base (live_side drum.last) b) drum.base drum.settings book (flushed b news book) before image
 becomes drum b news book images before image law within news_are fit holds left step = record {
   others = others;
   stands = ⊎_elim
@@ -319,14 +338,17 @@ becomes drum b news book images before image law within news_are fit holds left 
     list = live_offers book drum.last b
 
     others : ChangesOnly (IsBucketFile drum.base (live_side drum.last) b) before image
-    others = only_wider (IsFileOfBucket (bucket_at drum b)) (IsBucketFile drum.base (live_side drum.last) b) before image (λ f is. as_file drum.base (live_side drum.last) b _ _ (bucket_at drum b) f (law.buckets b within) is) step.others
+    others = only_wider (IsFileOfBucket (bucket_at drum b)) (IsBucketFile drum.base (live_side drum.last) b) before image (λ f is.
+        as_file drum.base (live_side drum.last) b _ _ (bucket_at drum b) f (law.buckets b within) is) step.others
 
-    named : (l : List Tuple) → HasBucket drum.settings.array l (image (bucket_at drum b).journal.file) (image (bucket_at drum b).aux.file) → HasBucketOf drum.base drum.settings.array drum.last b l image
+    named : (l : List Tuple) → HasBucket drum.settings.array l (image (bucket_at drum b).journal.file) (image (bucket_at drum b).aux.file)
+        → HasBucketOf drum.base drum.settings.array drum.last b l image
     named l has =
         subst (λ (f : ℕ). HasBucket drum.settings.array l (image f) (image (file_of drum.base 0 (Aux (live_side drum.last) b)))) (law.buckets b within).journal
         (subst (λ (f : ℕ). HasBucket drum.settings.array l (image (bucket_at drum b).journal.file) (image f)) (law.buckets b within).aux has)
 
-pub stops_flush : (drum : Drum) (b : ℕ) (news : List Tuple) (book : Book) (old new : Snapshot) → IsDrum drum → b < drum.settings.buckets → AreFor drum.settings b news → AllByRecursion IsOffer news → Holds old.images drum book
+pub stops_flush : (drum : Drum) (b : ℕ) (news : List Tuple) (book : Book) (old new : Told) → IsDrum drum → b < drum.settings.buckets → AreFor drum.settings b news → AllByRecursion IsOffer news
+    → Holds old.images drum book
     → ((cut : ℕ) (list : List Tuple) → HoldsBucket old.images drum.settings.array cut (bucket_at drum b) list → LeavesBy (BucketBecomes (bucket_at drum b) drum.settings.array list news) old new)
     → LeavesBy (Becomes (IsBucketFile drum.base (live_side drum.last) b) drum.base drum.settings book (flushed b news book)) old new
 stops_flush drum b news book old new law within news_are fit holds stops =
@@ -344,45 +366,65 @@ is_bucket drum view b was same law within is =
 files_named : (drum : Drum) (b : ℕ) (was : Bucket) (f : ℕ) → IsDrum drum → b < drum.settings.buckets → was ≡ bucket_at drum b → IsFileOfBucket was f → IsBucketFile drum.base (live_side drum.last) b f
 files_named drum b was f law within is at = as_file drum.base (live_side drum.last) b _ _ (bucket_at drum b) f (law.buckets b within) (subst (λ (one : Bucket). IsFileOfBucket one f) is at)
 
-pub leaves_named : (drum : Drum) (b : ℕ) (was : Bucket) (old new : Snapshot) → IsDrum drum → b < drum.settings.buckets → was ≡ bucket_at drum b → LeavesBy (ChangesOnly (IsFileOfBucket was)) old new → LeavesBy (ChangesOnly (IsBucketFile drum.base (live_side drum.last) b)) old new
-leaves_named drum b was old new law within is stops = widens_by old new _ _ stops (λ x y changes. only_wider (IsFileOfBucket was) (IsBucketFile drum.base (live_side drum.last) b) x y (λ f at. files_named drum b was f law within is at) changes)
+pub leaves_named : (drum : Drum) (b : ℕ) (was : Bucket) (old new : Told) → IsDrum drum → b < drum.settings.buckets → was ≡ bucket_at drum b → LeavesBy (ChangesOnly (IsFileOfBucket was)) old new
+    → LeavesBy (ChangesOnly (IsBucketFile drum.base (live_side drum.last) b)) old new
+leaves_named drum b was old new law within is stops = widens_by old new _ _ stops (λ x y changes.
+    only_wider (IsFileOfBucket was) (IsBucketFile drum.base (live_side drum.last) b) x y (λ f at. files_named drum b was f law within is at) changes)
 
-pub tells_named : (drum : Drum) (b : ℕ) (was : Bucket) (old new : Option Files) → IsDrum drum → b < drum.settings.buckets → was ≡ bucket_at drum b → TellsOnly (IsFileOfBucket was) old new → TellsOnly (IsBucketFile drum.base (live_side drum.last) b) old new
+pub tells_named : (drum : Drum) (b : ℕ) (was : Bucket) (old new : Option Files) → IsDrum drum → b < drum.settings.buckets → was ≡ bucket_at drum b → TellsOnly (IsFileOfBucket was) old new
+    → TellsOnly (IsBucketFile drum.base (live_side drum.last) b) old new
 tells_named drum b was None new law within is tells = tells
-tells_named drum b was (Some old) new law within is tells = (tells.0, tells.1, only_wider (IsFileOfBucket was) (IsBucketFile drum.base (live_side drum.last) b) old tells.0 (λ f at. files_named drum b was f law within is at) tells.2)
+tells_named drum b was (Some old) new law within is tells = (
+  tells.0,
+  tells.1,
+  only_wider (IsFileOfBucket was) (IsBucketFile drum.base (live_side drum.last) b) old tells.0 (λ f at.
+      files_named drum b was f law within is at) tells.2,
+)
 
 pub on_err : {T E : Type 0} (result : Result T E) (P : Type 0) → P → OnErr result P
 on_err (Ok value) P p = tt
 on_err (Err error) P p = p
 
 -- what is told is as long as what is then committed
-pub flush_long : (drum : Drum) (sound : Bool) (b : ℕ) (bucket : Bucket) (old new : Option Files) → IsDrum drum → b < drum.settings.buckets → TellsOnly (IsBucketFile drum.base (live_side drum.last) b) old new → ForSome old (λ files. IsLong drum files)
-    → ForSome new (λ files. bucket.journal.end < length (files bucket.journal.file)) → ForSome new (λ files. bucket.aux.length ≤ length (files bucket.aux.file)) → ForSome new (λ files. IsLong (with_bucket drum sound b bucket) files)
+pub flush_long : (drum : Drum) (sound : Bool) (b : ℕ) (bucket : Bucket) (old new : Option Files) → IsDrum drum → b < drum.settings.buckets
+    → TellsOnly (IsBucketFile drum.base (live_side drum.last) b) old new → ForSome old (λ files. IsLong drum files)
+    → ForSome new (λ files. bucket.journal.end < length (files bucket.journal.file)) → ForSome new (λ files. bucket.aux.length ≤ length (files bucket.aux.file))
+    → ForSome new (λ files. IsLong (with_bucket drum sound b bucket) files)
 flush_long drum sound b bucket old new law within tells before journal aux = λ files told.
     let was = told_before (IsBucketFile drum.base (live_side drum.last) b) old new files tells told in
     let long = before was.0 was.1 in
     record {
-      manifest = subst (λ (file : List ℕ). drum.manifest.end < length file) (sym (was.2 drum.manifest.file (low_out drum.base (live_side drum.last) b drum.manifest.file (omega (arith, law.manifest))))) long.manifest;
-      cache = subst (λ (file : List ℕ). (cache_front drum).length ≤ length file) (sym (was.2 (cache_front drum).file (low_out drum.base (live_side drum.last) b (cache_front drum).file (omega (arith, law.last.side))))) long.cache;
-      judged = subst (λ (file : List ℕ). (judged_front drum).length ≤ length file) (sym (was.2 (judged_front drum).file (low_out drum.base (live_side drum.last) b (judged_front drum).file (omega arith)))) long.judged;
-      texts = subst (λ (file : List ℕ). (texts_front drum).length ≤ length file) (sym (was.2 (texts_front drum).file (low_out drum.base (live_side drum.last) b (texts_front drum).file (omega arith)))) long.texts;
+      manifest = subst (λ (file : List ℕ). drum.manifest.end < length file) (sym
+          (was.2 drum.manifest.file (low_out drum.base (live_side drum.last) b drum.manifest.file (omega (arith, law.manifest))))) long.manifest;
+      cache = subst (λ (file : List ℕ). (cache_front drum).length ≤ length file)
+          (sym (was.2 (cache_front drum).file (low_out drum.base (live_side drum.last) b (cache_front drum).file (omega (arith, law.last.side))))) long.cache;
+      judged = subst (λ (file : List ℕ). (judged_front drum).length ≤ length file)
+          (sym (was.2 (judged_front drum).file (low_out drum.base (live_side drum.last) b (judged_front drum).file (omega arith)))) long.judged;
+      texts = subst (λ (file : List ℕ). (texts_front drum).length ≤ length file) (sym (was.2 (texts_front drum).file (low_out drum.base (live_side drum.last) b (texts_front drum).file (omega arith))))
+          long.texts;
       journals = λ c inside. ⊎_elim
-          (λ (e : c ≡ b). subst (λ (one : Bucket). one.journal.end < length (files one.journal.file)) (sym (ap (bucket_at (with_bucket drum sound b bucket)) e ∙ bucket_here drum sound b bucket (omega (arith, law.count)))) (journal files told))
+          (λ (e : c ≡ b). subst (λ (one : Bucket). one.journal.end < length (files one.journal.file))
+          (sym (ap (bucket_at (with_bucket drum sound b bucket)) e ∙ bucket_here drum sound b bucket (omega (arith, law.count)))) (journal files told))
           (λ (other : c ≢ b). subst (λ (one : Bucket). one.journal.end < length (files one.journal.file)) (sym (bucket_elsewhere drum sound b c bucket other))
-          (subst (λ (file : List ℕ). (bucket_at drum c).journal.end < length file) (sym (was.2 (bucket_at drum c).journal.file (other_out drum.base (live_side drum.last) b c _ other (inl (law.buckets c inside).journal)))) (long.journals c inside)))
+          (subst (λ (file : List ℕ). (bucket_at drum c).journal.end < length file)
+          (sym (was.2 (bucket_at drum c).journal.file (other_out drum.base (live_side drum.last) b c _ other (inl (law.buckets c inside).journal)))) (long.journals c inside)))
           (same_or_other c b);
       auxes = λ c inside. ⊎_elim
-          (λ (e : c ≡ b). subst (λ (one : Bucket). one.aux.length ≤ length (files one.aux.file)) (sym (ap (bucket_at (with_bucket drum sound b bucket)) e ∙ bucket_here drum sound b bucket (omega (arith, law.count)))) (aux files told))
+          (λ (e : c ≡ b). subst (λ (one : Bucket). one.aux.length ≤ length (files one.aux.file))
+          (sym (ap (bucket_at (with_bucket drum sound b bucket)) e ∙ bucket_here drum sound b bucket (omega (arith, law.count)))) (aux files told))
           (λ (other : c ≢ b). subst (λ (one : Bucket). one.aux.length ≤ length (files one.aux.file)) (sym (bucket_elsewhere drum sound b c bucket other))
-          (subst (λ (file : List ℕ). (bucket_at drum c).aux.length ≤ length file) (sym (was.2 (bucket_at drum c).aux.file (other_out drum.base (live_side drum.last) b c _ other (inr (law.buckets c inside).aux)))) (long.auxes c inside)))
+          (subst (λ (file : List ℕ). (bucket_at drum c).aux.length ≤ length file)
+          (sym (was.2 (bucket_at drum c).aux.file (other_out drum.base (live_side drum.last) b c _ other (inr (law.buckets c inside).aux)))) (long.auxes c inside)))
           (same_or_other c b);
     }
 
 -- of the records of a bucket's journal, by the number of its file
-abbrev pub LeavesGained : ℕ → List (List ℕ) → List ℕ → Snapshot → Snapshot → Type 0
+abbrev pub LeavesGained : ℕ → List (List ℕ) → List ℕ → Told → Told → Type 0
 LeavesGained f payloads payload old new = Leaves old new (λ (image : Files). HasRecords (image f) payloads ⊎ HasRecords (image f) (payloads ++ payload ∷ []))
 
-pub gained_none : (drum : Drum) (b : ℕ) (payloads : List (List ℕ)) (payload : List ℕ) (now : Snapshot) → IsDrum drum → b < drum.settings.buckets → IsConsistent now → IsOpen now.images (bucket_at drum b).journal payloads → LeavesGained (file_of drum.base 0 (Journal (live_side drum.last) b)) payloads payload now now
+pub gained_none : (drum : Drum) (b : ℕ) (payloads : List (List ℕ)) (payload : List ℕ) (now : Told) → IsDrum drum → b < drum.settings.buckets → IsConsistent now
+    → IsOpen now.images (bucket_at drum b).journal payloads → LeavesGained (file_of drum.base 0 (Journal (live_side drum.last) b)) payloads payload now now
 gained_none drum b payloads payload now law within consistent is_open =
     subst (λ (f : ℕ). LeavesGained f payloads payload now now) (law.buckets b within).journal
-    (stays now (λ (image : Files). HasRecords (image (bucket_at drum b).journal.file) payloads ⊎ HasRecords (image (bucket_at drum b).journal.file) (payloads ++ payload ∷ [])) consistent (λ image left. inl (is_open image left).records))
+    (stays now (λ (image : Files). HasRecords (image (bucket_at drum b).journal.file) payloads
+    ⊎ HasRecords (image (bucket_at drum b).journal.file) (payloads ++ payload ∷ [])) consistent (λ image left. inl (is_open image left).records))

@@ -39,7 +39,8 @@ pub record Gathered (settings : Settings) (b : ℕ) (old new : Gathering) (paylo
   pub payloads_are : payloads ≡ map entries_bytes runs
   pub joined : new.entries.items ≡ old.entries.items ++ entries_in runs
 
-pub gathered : (settings : Settings) (b : ℕ) (old new : Gathering) (at : ℕ) (payloads : List (List ℕ)) → old.settings ≡ settings → old.bucket ≡ b → TakesAll Gathers old (placed_from at payloads) new → Gathered settings b old new payloads
+pub gathered : (settings : Settings) (b : ℕ) (old new : Gathering) (at : ℕ) (payloads : List (List ℕ)) → old.settings ≡ settings → old.bucket ≡ b → TakesAll Gathers old (placed_from at payloads) new
+    → Gathered settings b old new payloads
 gathered settings b old new at [] s k is = record {
   settings_is = ap (λ (g : Gathering). g.settings) is ∙ s;
   bucket_is = ap (λ (g : Gathering). g.bucket) is ∙ k;
@@ -76,7 +77,8 @@ split_at n bytes front within is = (
   sym (length-take-le n bytes within) ∙ ap length is,
 )
 
-reached_by : (settings : Settings) (b from at n : ℕ) (file : List ℕ) (old new : Gathering) (closed : Bool) → old.settings ≡ settings → old.bucket ≡ b → at ≡ from + n → HandsOver Gathers old new from n closed (drop from file) → Reached settings b from file old new at
+reached_by : (settings : Settings) (b from at n : ℕ) (file : List ℕ) (old new : Gathering) (closed : Bool) → old.settings ≡ settings → old.bucket ≡ b → at ≡ from + n
+    → HandsOver Gathers old new from n closed (drop from file) → Reached settings b from file old new at
 reached_by settings b from at n file old new closed s k place handed =
     let g = gathered settings b old new from handed.payloads s k handed.took in
     let texts = ap records_text g.payloads_are in
@@ -92,7 +94,8 @@ reached_by settings b from at n file old new closed s k place handed =
       joined = g.joined;
     }
 
-pub stopped : (settings : Settings) (b from at : ℕ) (file : List ℕ) (old new : Gathering) (closed : Bool) → old.settings ≡ settings → old.bucket ≡ b → StopsAt Gathers old new from closed (drop from file) at → Reached settings b from file old new at
+pub stopped : (settings : Settings) (b from at : ℕ) (file : List ℕ) (old new : Gathering) (closed : Bool) → old.settings ≡ settings → old.bucket ≡ b
+    → StopsAt Gathers old new from closed (drop from file) at → Reached settings b from file old new at
 stopped settings b from at file old new closed s k stops = reached_by settings b from at stops.count file old new closed s k stops.place stops.handed
 
 -- no call was made
@@ -105,16 +108,19 @@ reached_none settings b from at file old new place same = record {
 }
 
 -- ---- where they end too early
-pub cut_short_there : (settings : Settings) (b from at : ℕ) (file : List ℕ) (old new : Gathering) (s : old.settings ≡ settings) (k : old.bucket ≡ b) (stops : StopsAt Gathers old new from false (drop from file) at) → IsCutShort (stopped settings b from at file old new false s k stops).behind
+pub cut_short_there : (settings : Settings) (b from at : ℕ) (file : List ℕ) (old new : Gathering) (s : old.settings ≡ settings) (k : old.bucket ≡ b)
+    (stops : StopsAt Gathers old new from false (drop from file) at) → IsCutShort (stopped settings b from at file old new false s k stops).behind
 unfolding stopped reached_by
 cut_short_there settings b from at file old new s k stops = stops.handed.cut_short refl
 
-pub closed_there : (settings : Settings) (b from at : ℕ) (file : List ℕ) (old new : Gathering) (s : old.settings ≡ settings) (k : old.bucket ≡ b) (stops : StopsAt Gathers old new from true (drop from file) at) → IsClosed (stopped settings b from at file old new true s k stops).behind
+pub closed_there : (settings : Settings) (b from at : ℕ) (file : List ℕ) (old new : Gathering) (s : old.settings ≡ settings) (k : old.bucket ≡ b)
+    (stops : StopsAt Gathers old new from true (drop from file) at) → IsClosed (stopped settings b from at file old new true s k stops).behind
 unfolding stopped reached_by
 closed_there settings b from at file old new s k stops = stops.handed.ended refl
 
 -- a record that was refused is no run
-pub refused_there : (settings : Settings) (b from at : ℕ) (file : List ℕ) (old new : Gathering) → old.settings ≡ settings → old.bucket ≡ b → RefusesAt Gathers Refuses old new from (drop from file) at → (runs : List (List Entry)) × ((behind : List ℕ) × (HasRunsTo settings b from file runs at behind × IsNoRun settings b behind))
+pub refused_there : (settings : Settings) (b from at : ℕ) (file : List ℕ) (old new : Gathering) → old.settings ≡ settings → old.bucket ≡ b → RefusesAt Gathers Refuses old new from (drop from file) at
+    → (runs : List (List Entry)) × ((behind : List ℕ) × (HasRunsTo settings b from file runs at behind × IsNoRun settings b behind))
 refused_there settings b from at file old new s k refuses =
     let g = gathered settings b old refuses.reached from refuses.payloads s k refuses.took in
     let texts = ap records_text g.payloads_are in
@@ -152,7 +158,8 @@ runs_room settings b [] h = tt
 runs_room settings b (e ∷ es) h = (room_of settings.buckets b e h.0, runs_room settings b es h.1)
 
 -- the runs of a list, of which the journal has the records
-pub same_runs : (settings : Settings) (b : ℕ) (lists : List (List Tuple)) (runs : List (List Entry)) → AllByRecursion (AllByRecursion IsOffer) lists → AllByRecursion (IsEntryRun settings b) runs → map run_bytes lists ≡ map entries_bytes runs → entries_in runs ≡ map entry_of_offer (flat_map (λ run. run) lists)
+pub same_runs : (settings : Settings) (b : ℕ) (lists : List (List Tuple)) (runs : List (List Entry)) → AllByRecursion (AllByRecursion IsOffer) lists → AllByRecursion (IsEntryRun settings b) runs
+    → map run_bytes lists ≡ map entries_bytes runs → entries_in runs ≡ map entry_of_offer (flat_map (λ run. run) lists)
 same_runs settings b [] [] l r e = refl
 same_runs settings b [] (run ∷ runs) l r e = cc
 same_runs settings b (list ∷ lists) [] l r e = cc
@@ -160,7 +167,8 @@ same_runs settings b (list ∷ lists) (run ∷ runs) l r e =
     let first : run_bytes list ≡ entries_bytes run = cc in
     let others : map run_bytes lists ≡ map entries_bytes runs = cc in
     let same : run ≡ map entry_of_offer list = same_entries run (map entry_of_offer list) (runs_room settings b run r.0.each) (offers_room list l.0) (sym first ∙ run_entries list) in
-    ap (λ (x : List Entry). x ++ entries_in runs) same ∙ ap (λ (x : List Entry). map entry_of_offer list ++ x) (same_runs settings b lists runs l.1 r.1 others) ∙ sym (map-append entry_of_offer list (flat_map (λ run. run) lists))
+    ap (λ (x : List Entry). x ++ entries_in runs) same ∙ ap (λ (x : List Entry). map entry_of_offer list ++ x) (same_runs settings b lists runs l.1 r.1 others)
+    ∙ sym (map-append entry_of_offer list (flat_map (λ run. run) lists))
 
 all_behind : {X : Type 0} (P : X → Type 0) (xs ys : List X) → AllByRecursion P (xs ++ ys) → AllByRecursion P ys
 all_behind P [] ys h = h
@@ -185,38 +193,45 @@ module _ (images : Files → Type 0) (settings : Settings) (b cut : ℕ) (bucket
   joined_list = holds.are.joined ∙ flat_map-append (λ (run : List Tuple). run) holds.before holds.behind
 
   pub pending_offers : AllByRecursion (AllByRecursion IsOffer) holds.behind
-  pending_offers = all_runs IsOffer holds.behind (all_behind IsOffer (flat_map (λ run. run) holds.before) (flat_map (λ run. run) holds.behind) (subst (AllByRecursion IsOffer) joined_list holds.are.offers))
+  pending_offers = all_runs IsOffer holds.behind (all_behind IsOffer (flat_map (λ run. run) holds.before) (flat_map (λ run. run) holds.behind)
+      (subst (AllByRecursion IsOffer) joined_list holds.are.offers))
 
   -- the records of its journal
   pub ends_there : (image : Files) → images image → Ends bucket.journal.end (image bucket.journal.file) (map run_bytes holds.before ++ map run_bytes holds.behind)
   ends_there image now = subst (Ends bucket.journal.end (image bucket.journal.file)) (map-append run_bytes holds.before holds.behind) (holds.journal image now)
 
-  pub gathered_list : (old new : Gathering) → old.settings ≡ settings → old.bucket ≡ b → old.entries.items ≡ [] → TakesAll Gathers old (placed_from bucket.gate (map run_bytes holds.behind)) new → AreEntriesFrom bucket.skip cut list new.entries.items
+  pub gathered_list : (old new : Gathering) → old.settings ≡ settings → old.bucket ≡ b → old.entries.items ≡ [] → TakesAll Gathers old (placed_from bucket.gate (map run_bytes holds.behind)) new
+      → AreEntriesFrom bucket.skip cut list new.entries.items
   gathered_list old new s k none took =
       let g = gathered settings b old new bucket.gate (map run_bytes holds.behind) s k took in
       let behind = flat_map (λ (run : List Tuple). run) holds.behind in
       let before = flat_map (λ (run : List Tuple). run) holds.before in
-      let all : new.entries.items ≡ map entry_of_offer behind = g.joined ∙ ap (λ (l : List Entry). l ++ entries_in g.runs) none ∙ same_runs settings b holds.behind g.runs pending_offers g.each g.payloads_are in
+      let all : new.entries.items ≡ map entry_of_offer behind = g.joined ∙ ap (λ (l : List Entry). l ++ entries_in g.runs) none
+      ∙ same_runs settings b holds.behind g.runs pending_offers g.each g.payloads_are in
       let size = ap length all ∙ length-map behind entry_of_offer in
       let long = ap length joined_list ∙ length-append before behind in
       record {
-        entries_are = ap (drop bucket.skip) all ∙ drop-map entry_of_offer bucket.skip behind ∙ ap (map entry_of_offer) (sym (ap (drop cut) joined_list ∙ ap (λ n. drop n (before ++ behind)) (sym holds.skip) ∙ drop-append-add before behind bucket.skip));
+        entries_are = ap (drop bucket.skip) all ∙ drop-map entry_of_offer bucket.skip behind
+            ∙ ap (map entry_of_offer) (sym (ap (drop cut) joined_list ∙ ap (λ n. drop n (before ++ behind)) (sym holds.skip) ∙ drop-append-add before behind bucket.skip));
         count = omega (arith, size, long, holds.skip);
       }
 
 -- no record of a list's pending runs is refused
-all_entries : (buckets b : ℕ) (run : List Tuple) → AllByRecursion IsOffer run → AllByRecursion (λ offer. bucket_of buckets offer.key ≡ b) run → AllByRecursion (IsEntryOf buckets b) (map entry_of_offer run)
+all_entries : (buckets b : ℕ) (run : List Tuple) → AllByRecursion IsOffer run → AllByRecursion (λ offer. bucket_of buckets offer.key ≡ b) run
+    → AllByRecursion (IsEntryOf buckets b) (map entry_of_offer run)
 all_entries buckets b [] h k = tt
 all_entries buckets b (o ∷ run) h k = (record { key = h.0.key; value = h.0.value; from = h.0.from; aux = h.0.aux; bucket = k.0 }, all_entries buckets b run h.1 k.1)
 
-pub refuses_none : (settings : Settings) (b : ℕ) (lists : List (List Tuple)) (first : List (List ℕ)) (payload : List ℕ) (more : List (List ℕ)) → AllByRecursion (IsRun settings.array) lists → AllByRecursion (AllByRecursion IsOffer) lists → AllByRecursion (AllByRecursion (λ offer. bucket_of settings.buckets offer.key ≡ b)) lists
+pub refuses_none : (settings : Settings) (b : ℕ) (lists : List (List Tuple)) (first : List (List ℕ)) (payload : List ℕ) (more : List (List ℕ)) → AllByRecursion (IsRun settings.array) lists
+    → AllByRecursion (AllByRecursion IsOffer) lists → AllByRecursion (AllByRecursion (λ offer. bucket_of settings.buckets offer.key ≡ b)) lists
     → map run_bytes lists ≡ first ++ payload ∷ more → ((run : List Entry) → IsEntryRun settings b run → payload ≡ entries_bytes run → ⊥) → ⊥
 refuses_none settings b [] [] payload more sizes offers buckets is none = cc
 refuses_none settings b [] (p ∷ first) payload more sizes offers buckets is none = cc
 refuses_none settings b (list ∷ lists) [] payload more sizes offers buckets is none =
     let same : run_bytes list ≡ payload = cc in
     let long = length-map list entry_of_offer in
-    none (map entry_of_offer list) (record { some = omega (arith, long, sizes.0.0); few = omega (arith, long, sizes.0.1); each = all_entries settings.buckets b list offers.0 buckets.0 }) (sym same ∙ run_entries list)
+    none (map entry_of_offer list) (record { some = omega (arith, long, sizes.0.0); few = omega (arith, long, sizes.0.1); each = all_entries settings.buckets b list offers.0 buckets.0 }) (sym same
+    ∙ run_entries list)
 refuses_none settings b (list ∷ lists) (p ∷ first) payload more sizes offers buckets is none =
     let others : map run_bytes lists ≡ first ++ payload ∷ more = cc in
     refuses_none settings b lists first payload more sizes.1 offers.1 buckets.1 others none
@@ -234,7 +249,8 @@ module _ (settings : Settings) (b : ℕ) (bucket : Bucket) (files : Files) (old 
   above_or_at : (x y : ℕ) → x ≤ y → (x < y) ⊎ (x ≡ y)
   above_or_at x y h = grind arith
 
-  pub gate_found : bucket.gate ≤ bucket.journal.end → (bucket.gate < bucket.journal.end → StopsAt Gathers old new bucket.gate true (drop bucket.gate (files bucket.journal.file)) bucket.journal.end) → (bucket.gate ≡ bucket.journal.end → new ≡ old) → HasEntries settings b bucket files new.entries.items
+  pub gate_found : bucket.gate ≤ bucket.journal.end → (bucket.gate < bucket.journal.end → StopsAt Gathers old new bucket.gate true (drop bucket.gate (files bucket.journal.file)) bucket.journal.end)
+      → (bucket.gate ≡ bucket.journal.end → new ≡ old) → HasEntries settings b bucket files new.entries.items
   gate_found within stops idle = ⊎_elim
       (λ (lt : bucket.gate < bucket.journal.end). reaches (stopped settings b bucket.gate bucket.journal.end (files bucket.journal.file) old new true s k (stops lt)))
       (λ (same : bucket.gate ≡ bucket.journal.end). reaches (reached_none settings b bucket.gate bucket.journal.end (files bucket.journal.file) old new same (idle same)))
@@ -254,7 +270,8 @@ module _ (settings : Settings) (b : ℕ) (bucket : Bucket) (files : Files) (old 
       record { runs = there.0; behind = there.1.0; has = there.1.1.0; why = inr (inl there.1.1.1) }
 
   -- where the bucket has a list, only a record that is a run could be refused
-  pub none_refused : (images : Files → Type 0) (cut at : ℕ) (list : List Tuple) (holds : HoldsBucket images settings.array cut bucket list) → AllByRecursion (λ offer. bucket_of settings.buckets offer.key ≡ b) list → RefusesOneFrom Gathers Refuses old new bucket.gate (map run_bytes holds.behind) at → ⊥
+  pub none_refused : (images : Files → Type 0) (cut at : ℕ) (list : List Tuple) (holds : HoldsBucket images settings.array cut bucket list)
+      → AllByRecursion (λ offer. bucket_of settings.buckets offer.key ≡ b) list → RefusesOneFrom Gathers Refuses old new bucket.gate (map run_bytes holds.behind) at → ⊥
   none_refused images cut at list holds buckets refuses =
       let g = gathered settings b old refuses.reached bucket.gate refuses.first s k refuses.took in
       let before = flat_map (λ (run : List Tuple). run) holds.before in
@@ -263,6 +280,7 @@ module _ (settings : Settings) (b : ℕ) (bucket : Bucket) (files : Files) (old 
       refuses_none settings b holds.behind refuses.first refuses.payload refuses.more
       (all_behind (IsRun settings.array) holds.before holds.behind holds.are.sizes)
       (pending_offers images settings b cut bucket list holds)
-      (all_runs (λ (o : Tuple). bucket_of settings.buckets o.key ≡ b) holds.behind (all_behind (λ (o : Tuple). bucket_of settings.buckets o.key ≡ b) before behind (subst (AllByRecursion (λ (o : Tuple). bucket_of settings.buckets o.key ≡ b)) joined buckets)))
+      (all_runs (λ (o : Tuple). bucket_of settings.buckets o.key ≡ b) holds.behind
+      (all_behind (λ (o : Tuple). bucket_of settings.buckets o.key ≡ b) before behind (subst (AllByRecursion (λ (o : Tuple). bucket_of settings.buckets o.key ≡ b)) joined buckets)))
       refuses.among
       (rw (g.settings_is, g.bucket_is) at refuses.refused)

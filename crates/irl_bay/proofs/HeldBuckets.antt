@@ -21,10 +21,12 @@ use Rattle.irl_bay.proofs.Live.{live_is, length_is}
 use Rattle.irl_bay.proofs.Words.{words_seen}
 
 -- a list's offers are of its bucket
-pub of_bucket : (buckets first b : ℕ) (lists : List (List Tuple)) → AreOfBuckets buckets first lists → b < length lists → AllByRecursion (λ offer. bucket_of buckets offer.key ≡ first + b) (get_or lists b [])
+pub of_bucket : (buckets first b : ℕ) (lists : List (List Tuple)) → AreOfBuckets buckets first lists → b < length lists
+    → AllByRecursion (λ offer. bucket_of buckets offer.key ≡ first + b) (get_or lists b [])
 of_bucket buckets first b [] each lt = absurd (omega arith)
 of_bucket buckets first zero (list ∷ lists) each lt = let e : first ≡ first + 0 = omega arith in subst (λ n. AllByRecursion (λ offer. bucket_of buckets offer.key ≡ n) list) e each.0
-of_bucket buckets first (suc b) (list ∷ lists) each lt = let e : (first + 1) + b ≡ first + suc b = omega arith in subst (λ n. AllByRecursion (λ offer. bucket_of buckets offer.key ≡ n) (get_or lists b [])) e (of_bucket buckets (first + 1) b lists each.1 (omega arith))
+of_bucket buckets first (suc b) (list ∷ lists) each lt = let e : (first + 1) + b ≡ first + suc b = omega arith in
+    subst (λ n. AllByRecursion (λ offer. bucket_of buckets offer.key ≡ n) (get_or lists b [])) e (of_bucket buckets (first + 1) b lists each.1 (omega arith))
 
 -- ---- a book that an open bay holds
 module _ (images : Files → Type 0) (drum : Drum) (book : Book) (holds : Holds images drum book) where
@@ -43,7 +45,8 @@ module _ (images : Files → Type 0) (drum : Drum) (book : Book) (holds : Holds 
   list_of b lt =
       let here = of_bucket book.buckets 0 b book.lists holds.book_is.is_book.each (omega (arith, lt, lists_long, holds.book_is.buckets)) in
       let e : 0 + b ≡ b = omega arith in
-      subst (λ n. AllByRecursion (λ offer. bucket_of n offer.key ≡ b) (get_or book.lists b [])) holds.book_is.buckets (subst (λ n. AllByRecursion (λ offer. bucket_of book.buckets offer.key ≡ n) (get_or book.lists b [])) e here)
+      subst (λ n. AllByRecursion (λ offer. bucket_of n offer.key ≡ b) (get_or book.lists b [])) holds.book_is.buckets
+      (subst (λ n. AllByRecursion (λ offer. bucket_of book.buckets offer.key ≡ n) (get_or book.lists b [])) e here)
 
   -- the cut is as long as there are buckets
   pub cut_held : judged_cut book ≡ drum.last.cut
@@ -79,14 +82,17 @@ module _ (images : Files → Type 0) (drum : Drum) (book : Book) (holds : Holds 
 
     -- and they are of the bucket
     pub live_of : AllByRecursion (λ offer. bucket_of drum.settings.buckets offer.key ≡ b) (live_offers book drum.last b)
-    live_of = subst (AllByRecursion (λ offer. bucket_of drum.settings.buckets offer.key ≡ b)) (sym live_held) (each_drop (λ (offer : Tuple). bucket_of drum.settings.buckets offer.key ≡ b) (bucket_at drum b).start (get_or book.lists b []) (list_of b (omega (arith, within, holds.book_is.buckets))))
+    live_of = subst (AllByRecursion (λ offer. bucket_of drum.settings.buckets offer.key ≡ b)) (sym live_held)
+        (each_drop (λ (offer : Tuple). bucket_of drum.settings.buckets offer.key ≡ b) (bucket_at drum b).start (get_or book.lists b []) (list_of b (omega (arith, within, holds.book_is.buckets))))
 
 -- a sum with one number more
 pub sum_more : (xs : List ℕ) (b : ℕ) → b < length xs → sum (take (b + 1) xs) ≡ sum (take b xs) + get_or xs b 0
-sum_more xs b lt = ap sum (take_more xs b 0 lt) ∙ sum_by-append (λ n. n) (take b xs) (get_or xs b 0 ∷ []) ∙ (let e : sum (take b xs) + (0 + get_or xs b 0) ≡ sum (take b xs) + get_or xs b 0 = omega arith in e)
+sum_more xs b lt = ap sum (take_more xs b 0 lt) ∙ sum_by-append (λ n. n) (take b xs) (get_or xs b 0 ∷ [])
+    ∙ (let e : sum (take b xs) + (0 + get_or xs b 0) ≡ sum (take b xs) + get_or xs b 0 = omega arith in e)
 
 -- one bucket's pending offers more
-pub count_more : (drum : Drum) (b old new : ℕ) → IsDrum drum → b < drum.settings.buckets → old + sum (take b drum.last.cut) ≡ sum (take b (durables drum)) → new ≡ old + pending_at drum b → new + sum (take (b + 1) drum.last.cut) ≡ sum (take (b + 1) (durables drum))
+pub count_more : (drum : Drum) (b old new : ℕ) → IsDrum drum → b < drum.settings.buckets → old + sum (take b drum.last.cut) ≡ sum (take b (durables drum)) → new ≡ old + pending_at drum b
+    → new + sum (take (b + 1) drum.last.cut) ≡ sum (take (b + 1) (durables drum))
 count_more drum b old new is lt before more =
     let long : length (durables drum) ≡ drum.settings.buckets = length-map drum.buckets (λ (bucket : Bucket). bucket.durable) ∙ is.count in
     let cut = sum_more drum.last.cut b (omega (arith, is.last.count, lt)) in
@@ -96,7 +102,8 @@ count_more drum b old new is lt before more =
     omega (arith, cut, all, here, few, before, more)
 
 -- all of them
-pub count_all : (drum : Drum) (n count : ℕ) → IsDrum drum → drum.settings.buckets ≤ n → count + sum (take n drum.last.cut) ≡ sum (take n (durables drum)) → count + sum drum.last.cut ≡ sum (durables drum)
+pub count_all : (drum : Drum) (n count : ℕ) → IsDrum drum → drum.settings.buckets ≤ n → count + sum (take n drum.last.cut) ≡ sum (take n (durables drum))
+    → count + sum drum.last.cut ≡ sum (durables drum)
 count_all drum n count is le e =
     let long : length (durables drum) ≡ drum.settings.buckets = length-map drum.buckets (λ (bucket : Bucket). bucket.durable) ∙ is.count in
     let cut : take n drum.last.cut ≡ drum.last.cut = take_all n drum.last.cut (omega (arith, is.last.count, le)) in

@@ -89,13 +89,15 @@ module _ (buckets b : ℕ) where
   below_joined x [] fs one two = two
   below_joined x (e ∷ es) fs one two = both _ _ (first _ _ one) (below_joined x es fs (second _ _ one) two)
 
-  sorted_both : (xs ys : List Pair) → T (is_sorted nat_cmp (map pair_of xs)) → T (is_sorted nat_cmp (map pair_of ys)) → AllByRecursion (λ (p : Pair). bucket_of buckets p.key < b) xs → AllByRecursion (λ (p : Pair). bucket_of buckets p.key ≡ b) ys
+  sorted_both : (xs ys : List Pair) → T (is_sorted nat_cmp (map pair_of xs)) → T (is_sorted nat_cmp (map pair_of ys)) → AllByRecursion (λ (p : Pair). bucket_of buckets p.key < b) xs
+      → AllByRecursion (λ (p : Pair). bucket_of buckets p.key ≡ b) ys
       → T (is_sorted nat_cmp (map pair_of xs ++ map pair_of ys))
   sorted_both [] ys one two below here = two
   sorted_both (x ∷ xs) ys one two below here =
       both _ _ (below_joined x.key (map pair_of xs) (map pair_of ys) (first _ _ one) (below_each x.key ys below.0 here)) (sorted_both xs ys (second _ _ one) two below.1 here)
 
-  pub rising_both : (xs ys : List Pair) → IsRising xs → IsRising ys → AllByRecursion (λ (p : Pair). bucket_of buckets p.key < b) xs → AllByRecursion (λ (p : Pair). bucket_of buckets p.key ≡ b) ys → IsRising (xs ++ ys)
+  pub rising_both : (xs ys : List Pair) → IsRising xs → IsRising ys → AllByRecursion (λ (p : Pair). bucket_of buckets p.key < b) xs → AllByRecursion (λ (p : Pair). bucket_of buckets p.key ≡ b) ys
+      → IsRising (xs ++ ys)
   rising_both xs ys one two below here = from_T _ (subst (λ (es : List (ℕ × ℕ)). T (is_sorted nat_cmp es)) (sym (map-append pair_of xs ys)) (sorted_both xs ys (to_T _ one) (to_T _ two) below here))
 
 -- ---- the border of a bucket
@@ -138,7 +140,8 @@ from_here buckets b key e = test (bucket_of buckets key) b e
     test m n e = grind (arith, nat_tests)
 
 -- where those that were fed and offered are below a bucket, so are those that are put
-pub put_below : (buckets b : ℕ) (rule : Rule) (fed put : List Pair) (offers : List Tuple) → IsRising fed → ArePairsOf (after rule (keys_of fed) offers) put → AllByRecursion (λ (p : Pair). bucket_of buckets p.key < b) fed → AllByRecursion (λ (o : Tuple). bucket_of buckets o.key < b) offers
+pub put_below : (buckets b : ℕ) (rule : Rule) (fed put : List Pair) (offers : List Tuple) → IsRising fed → ArePairsOf (after rule (keys_of fed) offers) put
+    → AllByRecursion (λ (p : Pair). bucket_of buckets p.key < b) fed → AllByRecursion (λ (o : Tuple). bucket_of buckets o.key < b) offers
     → AllByRecursion (λ (p : Pair). bucket_of buckets p.key < b) put
 put_below buckets b rule fed put offers rises are fed_below offers_below =
     let test = is_under buckets b in
@@ -169,7 +172,8 @@ lie_on buckets b n fed piece rest lie = λ more few rises.
     (lie more (subst (λ (l : List Pair). length l ≤ n) same few) (subst (λ (l : List Pair). IsRising l) same rises))
 
 -- what wasn't fed of a block lies from the bucket on
-pub lie_now : (buckets b n : ℕ) (fed rest : List Pair) → LieFrom buckets b n fed rest → length (fed ++ rest) ≤ n → IsRising (fed ++ rest) → AllByRecursion (λ (p : Pair). b ≤ bucket_of buckets p.key) rest
+pub lie_now : (buckets b n : ℕ) (fed rest : List Pair) → LieFrom buckets b n fed rest → length (fed ++ rest) ≤ n → IsRising (fed ++ rest)
+    → AllByRecursion (λ (p : Pair). b ≤ bucket_of buckets p.key) rest
 lie_now buckets b n fed rest lie few rises =
     let same : fed ++ rest ≡ fed ++ (rest ++ []) = ap (λ (l : List Pair). fed ++ l) (sym (nothing_behind rest)) in
     subst (AllByRecursion (λ (p : Pair). b ≤ bucket_of buckets p.key)) (nothing_behind rest)

@@ -53,7 +53,8 @@ module _ (P : Tuple → Type 0) where
   each_stretch (first ∷ firsts) (from ∷ froms) [] lists each = tt
   each_stretch (first ∷ firsts) (from ∷ froms) (to ∷ tos) [] each = tt
   each_stretch (first ∷ firsts) (from ∷ froms) (to ∷ tos) (list ∷ lists) each =
-      each_append P (drop (from - first) (take (to - first) list)) (stretch firsts froms tos lists) (each_drop P (from - first) (take (to - first) list) (each_take P (to - first) list each.0)) (each_stretch firsts froms tos lists each.1)
+      each_append P (drop (from - first) (take (to - first) list)) (stretch firsts froms tos lists) (each_drop P (from - first) (take (to - first) list) (each_take P (to - first) list each.0))
+      (each_stretch firsts froms tos lists each.1)
 
   each_stretches : (firsts from : List ℕ) (cuts : List (List ℕ)) (lists : List (List Tuple)) → AllByRecursion (AllByRecursion P) lists → AllByRecursion P (stretches firsts from cuts lists)
   each_stretches firsts from [] lists each = tt
@@ -111,7 +112,8 @@ pub record IsOffered (buckets : ℕ) (one : Judged) : Type 0 where
   pub bucket : one.bucket ≡ bucket_of buckets one.offer.key
   pub known : known_value one.verdict < 2 ^ 64
 
-each_offered : (buckets : ℕ) (rule : Rule) (seen : KeyMap) (offers : List Tuple) → HasWords seen → AllByRecursion IsOffer offers → AllByRecursion (IsOffered buckets) (map (judged_as buckets) (judged_on rule seen offers))
+each_offered : (buckets : ℕ) (rule : Rule) (seen : KeyMap) (offers : List Tuple) → HasWords seen → AllByRecursion IsOffer offers
+    → AllByRecursion (IsOffered buckets) (map (judged_as buckets) (judged_on rule seen offers))
 each_offered buckets rule seen [] words each = tt
 each_offered buckets rule seen (offer ∷ offers) words each = (
   record { offer = each.0; bucket = refl; known = word_answered offer.op (get seen offer.key) (words offer.key) },
@@ -154,7 +156,8 @@ pub few_buckets : (buckets : ℕ) → IsBucketCount buckets → buckets ≤ 64
 few_buckets buckets is = grind (arith, nat_tests)
 
 module _ (drum : Drum) (count : IsBucketCount drum.settings.buckets) (fits : drum.last.texts < 2 ^ 64) where
-  entry_fits : (before : Option JudgedEntry) (place : ℕ) (one : Judged) → IsOffered drum.settings.buckets one → place + length one.offer.aux ≤ drum.last.texts → IfSome before (λ b. place ≡ b.place + b.aux_len) → FitsBehind drum before (entry_at place one)
+  entry_fits : (before : Option JudgedEntry) (place : ℕ) (one : Judged) → IsOffered drum.settings.buckets one → place + length one.offer.aux ≤ drum.last.texts
+      → IfSome before (λ b. place ≡ b.place + b.aux_len) → FitsBehind drum before (entry_at place one)
   entry_fits before place one is within behind =
       let few = few_buckets drum.settings.buckets count in
       let scaled : one.offer.key * drum.settings.buckets ≤ one.offer.key * 64 = mul-le-mul_left one.offer.key few in
@@ -174,7 +177,8 @@ module _ (drum : Drum) (count : IsBucketCount drum.settings.buckets) (fits : dru
       }
 
   -- each fits behind the one before it
-  pub entries_fit : (before : Option JudgedEntry) (place : ℕ) (list : List Judged) → AllByRecursion (IsOffered drum.settings.buckets) list → place + length (texts_behind list) ≤ drum.last.texts → IfSome before (λ b. place ≡ b.place + b.aux_len) → FitEach drum before (entries_at place list)
+  pub entries_fit : (before : Option JudgedEntry) (place : ℕ) (list : List Judged) → AllByRecursion (IsOffered drum.settings.buckets) list → place + length (texts_behind list) ≤ drum.last.texts
+      → IfSome before (λ b. place ≡ b.place + b.aux_len) → FitEach drum before (entries_at place list)
   entries_fit before place [] each within behind = tt
   entries_fit before place (one ∷ more) each within behind =
       let sum = length-append one.offer.aux (texts_behind more) in (
@@ -200,7 +204,8 @@ pub drop-entries : (i place : ℕ) (list : List Judged) → drop i (entries_at p
 drop-entries zero place list = ap (λ (n : ℕ). entries_at n list) (let e : place ≡ place + 0 = omega arith in e)
 drop-entries (suc i) place [] = refl
 drop-entries (suc i) place (one ∷ more) =
-    let sum : (place + length one.offer.aux) + length (texts_behind (take i more)) ≡ place + length (texts_behind (take (suc i) (one ∷ more))) = omega (arith, length-append one.offer.aux (texts_behind (take i more))) in
+    let sum : (place + length one.offer.aux) + length (texts_behind (take i more)) ≡ place + length (texts_behind (take (suc i) (one ∷ more))) =
+    omega (arith, length-append one.offer.aux (texts_behind (take i more))) in
     drop-entries i (place + length one.offer.aux) more ∙ ap (λ (n : ℕ). entries_at n (drop i more)) sum
 
 pub take-spellings : (n : ℕ) (entries : List JudgedEntry) → take (48 * n) (flat_map entry_spelling entries) ≡ flat_map entry_spelling (take n entries)
@@ -224,8 +229,10 @@ same_entries [] [] each_x each_y same = refl
 same_entries [] (y ∷ ys) each_x each_y same = absurd (let long = ap length same in omega (arith, long, length-spellings (y ∷ ys)))
 same_entries (x ∷ xs) [] each_x each_y same = absurd (let long = ap length same in omega (arith, long, length-spellings (x ∷ xs)))
 same_entries (x ∷ xs) (y ∷ ys) each_x each_y same =
-    let first : entry_spelling x ≡ entry_spelling y = sym (take_at (entry_spelling x) (flat_map entry_spelling xs) 48 refl) ∙ ap (take 48) same ∙ take_at (entry_spelling y) (flat_map entry_spelling ys) 48 refl in
-    let rest : flat_map entry_spelling xs ≡ flat_map entry_spelling ys = sym (drop_at (entry_spelling x) (flat_map entry_spelling xs) 48 refl) ∙ ap (drop 48) same ∙ drop_at (entry_spelling y) (flat_map entry_spelling ys) 48 refl in
+    let first : entry_spelling x ≡ entry_spelling y = sym (take_at (entry_spelling x) (flat_map entry_spelling xs) 48 refl) ∙ ap (take 48) same
+    ∙ take_at (entry_spelling y) (flat_map entry_spelling ys) 48 refl in
+    let rest : flat_map entry_spelling xs ≡ flat_map entry_spelling ys = sym (drop_at (entry_spelling x) (flat_map entry_spelling xs) 48 refl) ∙ ap (drop 48) same
+    ∙ drop_at (entry_spelling y) (flat_map entry_spelling ys) 48 refl in
     ap (λ (e : JudgedEntry). e ∷ xs) (spelling_injective x y each_x.0 each_y.0 first) ∙ ap (λ (es : List JudgedEntry). y ∷ es) (same_entries xs ys each_x.1 each_y.1 rest)
 
 pub fit_entries : (drum : Drum) (before : Option JudgedEntry) (entries : List JudgedEntry) → FitEach drum before entries → AllByRecursion IsJudgedEntry entries
@@ -246,7 +253,12 @@ texts_back place (one ∷ more) =
 pub length-texts : (place : ℕ) (list : List Judged) → texts_length (entries_at place list) ≡ length (texts_behind list)
 length-texts place [] = refl
 length-texts place (one ∷ more) =
-    omega (arith, texts_length-cons (entry_at place one) (entries_at (place + length one.offer.aux) more), length-texts (place + length one.offer.aux) more, length-append one.offer.aux (texts_behind more))
+    omega (
+      arith,
+      texts_length-cons (entry_at place one) (entries_at (place + length one.offer.aux) more),
+      length-texts (place + length one.offer.aux) more,
+      length-append one.offer.aux (texts_behind more),
+    )
 
 -- a stretch of the texts
 module _ (list : List Judged) (i n : ℕ) where
@@ -258,7 +270,13 @@ module _ (list : List Judged) (i n : ℕ) where
 
   pub texts_room : length (texts_behind (take i list)) + length (texts_behind (take n (drop i list))) ≤ length (texts_behind list)
   texts_room =
-      omega (arith, ap length part_split, length-append (texts_behind (take i list)) (texts_behind (drop i list)), ap length rest_split, length-append (texts_behind (take n (drop i list))) (texts_behind (drop n (drop i list))))
+      omega (
+        arith,
+        ap length part_split,
+        length-append (texts_behind (take i list)) (texts_behind (drop i list)),
+        ap length rest_split,
+        length-append (texts_behind (take n (drop i list))) (texts_behind (drop n (drop i list))),
+      )
 
   pub texts_stretch : take (length (texts_behind (take n (drop i list)))) (drop (length (texts_behind (take i list))) (texts_behind list)) ≡ texts_behind (take n (drop i list))
   texts_stretch =
@@ -269,7 +287,8 @@ module _ (list : List Judged) (i n : ℕ) where
       ∙ take_at (texts_behind (take n (drop i list))) (texts_behind (drop n (drop i list))) k refl
 
 -- the piece of a file that has the texts of a stretch gives it back
-pub pieces_back : (file texts : List ℕ) (place : ℕ) (list : List Judged) → take (length (texts_behind list)) (drop place file) ≡ texts_behind list → texts ≡ take (texts_length (entries_at place list)) (drop (first_place (entries_at place list)) file) → with_texts (entries_at place list) texts ≡ list
+pub pieces_back : (file texts : List ℕ) (place : ℕ) (list : List Judged) → take (length (texts_behind list)) (drop place file) ≡ texts_behind list
+    → texts ≡ take (texts_length (entries_at place list)) (drop (first_place (entries_at place list)) file) → with_texts (entries_at place list) texts ≡ list
 pieces_back file texts place [] front are = refl
 pieces_back file texts place (one ∷ more) front are =
     let same : texts ≡ texts_behind (one ∷ more) = are ∙ ap (λ (k : ℕ). take k (drop place file)) (length-texts place (one ∷ more)) ∙ front in

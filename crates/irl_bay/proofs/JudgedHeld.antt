@@ -30,7 +30,8 @@ fits_alone drum before [] j fit lt = absurd (omega arith)
 fits_alone drum before (entry ∷ entries) zero fit lt = record { is = fit.0.is; bucket = fit.0.bucket; text = fit.0.text; behind = tt }
 fits_alone drum before (entry ∷ entries) (suc j) fit lt = fits_alone drum (Some entry) entries j fit.1 (omega arith)
 
-stands_behind : (drum : Drum) (before : Option JudgedEntry) (entries : List JudgedEntry) (j : ℕ) → FitEach drum before entries → suc j < length entries → (get_or entries (suc j) no_entry).place ≡ (get_or entries j no_entry).place + (get_or entries j no_entry).aux_len
+stands_behind : (drum : Drum) (before : Option JudgedEntry) (entries : List JudgedEntry) (j : ℕ) → FitEach drum before entries → suc j < length entries
+    → (get_or entries (suc j) no_entry).place ≡ (get_or entries j no_entry).place + (get_or entries j no_entry).aux_len
 stands_behind drum before [] j fit lt = absurd (omega arith)
 stands_behind drum before (entry ∷ []) j fit lt = absurd (omega arith)
 stands_behind drum before (entry ∷ next ∷ entries) zero fit lt = fit.1.0.behind
@@ -83,7 +84,8 @@ module _ (images : Files → Type 0) (drum : Drum) (book : Book) (is : IsDrum dr
         ∙ entry_bytes_at book_entries j (omega (arith, lt, count))
 
     -- no entry fails to fit
-    fits_before : (j : ℕ) (before : Option JudgedEntry) → j < drum.last.judged → IfSome before (StandsBefore (files (judged_front drum).file) j) → FitsBehind drum before (get_or book_entries j no_entry)
+    fits_before : (j : ℕ) (before : Option JudgedEntry) → j < drum.last.judged → IfSome before (StandsBefore (files (judged_front drum).file) j)
+        → FitsBehind drum before (get_or book_entries j no_entry)
     fits_before j None lt stands = fits_alone drum None book_entries j all_fit (let count = as_many in omega (arith, lt, count))
     fits_before zero (Some one) lt stands = absurd (let later = stands.later in omega (arith, later))
     fits_before (suc i) (Some one) lt stands =
@@ -92,7 +94,8 @@ module _ (images : Files → Type 0) (drum : Drum) (book : Book) (is : IsDrum dr
         let other = get_or book_entries i no_entry in
         let is_other = (fits_alone drum None book_entries i all_fit (omega (arith, lt, count))).is in
         let place : suc i - 1 ≡ i = omega arith in
-        let same : one ≡ other = spelling_injective one other stands.is is_other (stands.bytes_are ∙ ap (λ (k : ℕ). take 48 (drop (48 * k) (files (judged_front drum).file))) place ∙ read_one i (omega arith)) in
+        let same : one ≡ other = spelling_injective one other stands.is is_other (stands.bytes_are ∙ ap (λ (k : ℕ). take 48 (drop (48 * k) (files (judged_front drum).file))) place
+        ∙ read_one i (omega arith)) in
         let behind = stands_behind drum None book_entries i all_fit (omega (arith, lt, count)) in
         record { is = alone.is; bucket = alone.bucket; text = alone.text; behind = behind ∙ sym (ap (λ (e : JudgedEntry). e.place + e.aux_len) same) }
 
@@ -105,18 +108,23 @@ module _ (images : Files → Type 0) (drum : Drum) (book : Book) (is : IsDrum dr
       stretch_entries : flat_map entry_spelling entries ≡ take (48 * n) (drop (48 * i) (files (judged_front drum).file)) → entries ≡ take n (drop i book_entries)
       stretch_entries are =
           let count = as_many in
-          let bytes = begins_part (files (judged_front drum).file) (flat_map entry_spelling book_entries) (48 * i) (48 * n) (omega (arith, within, count, length-spellings book_entries)) judged_begins in
+          let bytes = begins_part (files (judged_front drum).file) (flat_map entry_spelling book_entries) (48 * i) (48 * n) (omega (arith, within, count, length-spellings book_entries))
+          judged_begins in
           let spelled = ap (take (48 * n)) (drop-spellings i book_entries) ∙ take-spellings n (drop i book_entries) in
-          same_entries entries (take n (drop i book_entries)) (fit_entries drum None entries fit) (each_take IsJudgedEntry n (drop i book_entries) (each_drop IsJudgedEntry i book_entries (fit_entries drum None book_entries all_fit))) (are ∙ bytes ∙ spelled)
+          same_entries entries (take n (drop i book_entries)) (fit_entries drum None entries fit)
+          (each_take IsJudgedEntry n (drop i book_entries) (each_drop IsJudgedEntry i book_entries (fit_entries drum None book_entries all_fit))) (are ∙ bytes ∙ spelled)
 
-      pub stretch_held : flat_map entry_spelling entries ≡ take (48 * n) (drop (48 * i) (files (judged_front drum).file)) → texts ≡ take (texts_length entries) (drop (first_place entries) (files (texts_front drum).file)) → with_texts entries texts ≡ take n (drop i (judged book))
+      pub stretch_held : flat_map entry_spelling entries ≡ take (48 * n) (drop (48 * i) (files (judged_front drum).file))
+          → texts ≡ take (texts_length entries) (drop (first_place entries) (files (texts_front drum).file)) → with_texts entries texts ≡ take n (drop i (judged book))
       unfolding book_entries
       stretch_held are texts_are =
           let list = take n (drop i (judged book)) in
           let place = length (texts_behind (take i (judged book))) in
           let start : 0 + place ≡ place = omega arith in
-          let same : entries ≡ entries_at place list = stretch_entries are ∙ ap (take n) (drop-entries i 0 (judged book)) ∙ take-entries n (0 + place) (drop i (judged book)) ∙ ap (λ (k : ℕ). entries_at k list) start in
-          let front = begins_part (files (texts_front drum).file) (texts_behind (judged book)) place (length (texts_behind list)) (texts_room (judged book) i n) texts_begin ∙ texts_stretch (judged book) i n in
+          let same : entries ≡ entries_at place list = stretch_entries are ∙ ap (take n) (drop-entries i 0 (judged book)) ∙ take-entries n (0 + place) (drop i (judged book))
+          ∙ ap (λ (k : ℕ). entries_at k list) start in
+          let front = begins_part (files (texts_front drum).file) (texts_behind (judged book)) place (length (texts_behind list)) (texts_room (judged book) i n) texts_begin
+          ∙ texts_stretch (judged book) i n in
           let piece = subst (λ (es : List JudgedEntry). texts ≡ take (texts_length es) (drop (first_place es) (files (texts_front drum).file))) same texts_are in
           ap (λ (es : List JudgedEntry). with_texts es texts) same ∙ pieces_back (files (texts_front drum).file) texts place list front piece
 
@@ -126,8 +134,10 @@ from_none drum book is i =
     let zeros : gone book ≡ book.buckets * 0 = ap sum (is.is_book.none is.dropped).1 ∙ sum_by-replicate (λ (m : ℕ). m) book.buckets 0 in
     omega (arith, zeros)
 
-pub found_held : (images : Files → Type 0) (drum : Drum) (book : Book) → IsDrum drum → Holds images drum book → (files : Files) → images files → (entries : List JudgedEntry) (texts : List ℕ) (i most n : ℕ) → i < drum.last.judged → n ≡ min most (drum.last.judged - i) → FitEach drum None entries
-    → flat_map entry_spelling entries ≡ take (48 * n) (drop (48 * i) (files (judged_front drum).file)) → texts ≡ take (texts_length entries) (drop (first_place entries) (files (texts_front drum).file)) → with_texts entries texts ≡ take most (drop (i - gone book) (judged book))
+pub found_held : (images : Files → Type 0) (drum : Drum) (book : Book) → IsDrum drum → Holds images drum book → (files : Files) → images files
+    → (entries : List JudgedEntry) (texts : List ℕ) (i most n : ℕ) → i < drum.last.judged → n ≡ min most (drum.last.judged - i) → FitEach drum None entries
+    → flat_map entry_spelling entries ≡ take (48 * n) (drop (48 * i) (files (judged_front drum).file))
+    → texts ≡ take (texts_length entries) (drop (first_place entries) (files (texts_front drum).file)) → with_texts entries texts ≡ take most (drop (i - gone book) (judged book))
 found_held images drum book is holds files left entries texts i most n place count fit are texts_are =
     let within : i + n ≤ drum.last.judged = omega (arith, place, count) in
     let long : drum.last.judged - i ≡ length (drop i (judged book)) = omega (arith, holds.numbers.commit.judged, length-drop i (judged book)) in

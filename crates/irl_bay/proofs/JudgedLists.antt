@@ -34,7 +34,8 @@ same_fronts file s t long for_s for_t = (same_parts s t for_s.0 for_t.0 long (sy
 
 -- ---- the entries of judged offers
 -- each has its form
-entries_form : (buckets place : ℕ) (list : List Judged) → IsBucketCount buckets → AllByRecursion (IsOffered buckets) list → place + length (texts_behind list) < 2 ^ 64 → AllByRecursion IsJudgedEntry (entries_at place list)
+entries_form : (buckets place : ℕ) (list : List Judged) → IsBucketCount buckets → AllByRecursion (IsOffered buckets) list → place + length (texts_behind list) < 2 ^ 64
+    → AllByRecursion IsJudgedEntry (entries_at place list)
 entries_form buckets place [] count each fits = tt
 entries_form buckets place (one ∷ more) count each fits =
     let few = few_buckets buckets count in
@@ -54,7 +55,8 @@ entries_form buckets place (one ∷ more) count each fits =
     )
 
 -- ---- a book
-module _ (settings : Settings) (book : Book) (commit : Commit) (is : IsBookOf settings book) (of : IsCommitOf book commit) (room : commit.texts < 2 ^ 64) (each : (b : ℕ) → b < book.buckets → AllByRecursion IsOffer (get_or book.lists b [])) where
+module _ (settings : Settings) (book : Book) (commit : Commit) (is : IsBookOf settings book) (of : IsCommitOf book commit) (room : commit.texts < 2 ^ 64) (each : (b : ℕ) → b < book.buckets
+    → AllByRecursion IsOffer (get_or book.lists b [])) where
   words : HasWords book.base
   words = subst HasWords (sym (is.is_book.none is.dropped).0) no_words
 
@@ -64,15 +66,19 @@ module _ (settings : Settings) (book : Book) (commit : Commit) (is : IsBookOf se
       entries_form book.buckets 0 (judged book) is.is_book.buckets (book_offered book words (each_judged IsOffer book is.is_book each)) (omega (arith, long, of.texts, room))
 
   pub its_length : length (judged_entries 0 (judged book)) ≡ 48 * commit.judged
-  its_length = let spelled = ap (λ (l : List ℕ). length l) (entries_spelled 0 (judged book)) in omega (arith, spelled, length-spellings (entries_at 0 (judged book)), length-entries 0 (judged book), of.judged)
+  its_length = let spelled = ap (λ (l : List ℕ). length l) (entries_spelled 0 (judged book)) in
+      omega (arith, spelled, length-spellings (entries_at 0 (judged book)), length-entries 0 (judged book), of.judged)
 
 -- ---- two books of one commit, of which the two files have the judged offers
-module _ (settings : Settings) (x y : Book) (commit : Commit) (is_x : IsBookOf settings x) (is_y : IsBookOf settings y) (of_x : IsCommitOf x commit) (of_y : IsCommitOf y commit) (room : commit.texts < 2 ^ 64)
+module _ (settings : Settings) (x y : Book) (commit : Commit) (is_x : IsBookOf settings x) (is_y : IsBookOf settings y) (of_x : IsCommitOf x commit) (of_y : IsCommitOf y commit)
+    (room : commit.texts < 2 ^ 64)
     (each_x : (b : ℕ) → b < x.buckets → AllByRecursion IsOffer (get_or x.lists b [])) (each_y : (b : ℕ) → b < y.buckets → AllByRecursion IsOffer (get_or y.lists b [])) where
-  same_judged : (file texts : List ℕ) → BeginsWith file (judged_entries 0 (judged x)) → BeginsWith file (judged_entries 0 (judged y)) → BeginsWith texts (texts_of (judged_offers x)) → BeginsWith texts (texts_of (judged_offers y)) → judged x ≡ judged y
+  same_judged : (file texts : List ℕ) → BeginsWith file (judged_entries 0 (judged x)) → BeginsWith file (judged_entries 0 (judged y)) → BeginsWith texts (texts_of (judged_offers x))
+      → BeginsWith texts (texts_of (judged_offers y)) → judged x ≡ judged y
   same_judged file texts for_x for_y texts_x texts_y =
       let bytes : judged_entries 0 (judged x) ≡ judged_entries 0 (judged y) =
-      same_fronts file (judged_entries 0 (judged x)) (judged_entries 0 (judged y)) (its_length settings x commit is_x of_x room each_x ∙ sym (its_length settings y commit is_y of_y room each_y)) for_x for_y in
+      same_fronts file (judged_entries 0 (judged x)) (judged_entries 0 (judged y)) (its_length settings x commit is_x of_x room each_x
+      ∙ sym (its_length settings y commit is_y of_y room each_y)) for_x for_y in
       let entries : entries_at 0 (judged x) ≡ entries_at 0 (judged y) =
       same_entries (entries_at 0 (judged x)) (entries_at 0 (judged y)) (its_entries settings x commit is_x of_x room each_x) (its_entries settings y commit is_y of_y room each_y)
       (sym (entries_spelled 0 (judged x)) ∙ bytes ∙ entries_spelled 0 (judged y)) in
@@ -103,16 +109,20 @@ module _ (settings : Settings) (x y : Book) (commit : Commit) (is_x : IsBookOf s
       by_side None none =
           let from_x : get_or (starts x commit) b 0 ≡ 0 = ap (λ (l : List ℕ). get_or l b 0) (starts_none x commit none) ∙ first_zero settings x b is_x in_x in
           let from_y : get_or (starts y commit) b 0 ≡ 0 = ap (λ (l : List ℕ). get_or l b 0) (starts_none y commit none) ∙ first_zero settings y b is_y in_y in
-          sym (live_is settings x commit b is_x in_x ∙ ap (λ (n : ℕ). drop n (get_or x.lists b [])) from_x) ∙ live ∙ live_is settings y commit b is_y in_y ∙ ap (λ (n : ℕ). drop n (get_or y.lists b [])) from_y
+          sym (live_is settings x commit b is_x in_x ∙ ap (λ (n : ℕ). drop n (get_or x.lists b [])) from_x) ∙ live ∙ live_is settings y commit b is_y in_y
+          ∙ ap (λ (n : ℕ). drop n (get_or y.lists b [])) from_y
       by_side (Some side) some =
           let n : ℕ = get_or commit.cut b 0 in
-          let from_x : live_offers x commit b ≡ drop n (get_or x.lists b []) = live_is settings x commit b is_x in_x ∙ ap (λ (l : List ℕ). drop (get_or l b 0) (get_or x.lists b [])) (starts_some x commit side some) in
-          let from_y : live_offers y commit b ≡ drop n (get_or y.lists b []) = live_is settings y commit b is_y in_y ∙ ap (λ (l : List ℕ). drop (get_or l b 0) (get_or y.lists b [])) (starts_some y commit side some) in
+          let from_x : live_offers x commit b ≡ drop n (get_or x.lists b []) = live_is settings x commit b is_x in_x
+          ∙ ap (λ (l : List ℕ). drop (get_or l b 0) (get_or x.lists b [])) (starts_some x commit side some) in
+          let from_y : live_offers y commit b ≡ drop n (get_or y.lists b []) = live_is settings y commit b is_y in_y
+          ∙ ap (λ (l : List ℕ). drop (get_or l b 0) (get_or y.lists b [])) (starts_some y commit side some) in
           sym (take-append-drop n (get_or x.lists b []))
           ∙ ap (λ (l : List Tuple). l ++ drop n (get_or x.lists b [])) (same_begin b in_x in_y same)
           ∙ ap (λ (l : List Tuple). take n (get_or y.lists b []) ++ l) (sym from_x ∙ live ∙ from_y)
           ∙ take-append-drop n (get_or y.lists b [])
 
-  pub same_lists_at : (file texts : List ℕ) (b : ℕ) → b < x.buckets → b < y.buckets → BeginsWith file (judged_entries 0 (judged x)) → BeginsWith file (judged_entries 0 (judged y)) → BeginsWith texts (texts_of (judged_offers x)) → BeginsWith texts (texts_of (judged_offers y))
+  pub same_lists_at : (file texts : List ℕ) (b : ℕ) → b < x.buckets → b < y.buckets → BeginsWith file (judged_entries 0 (judged x)) → BeginsWith file (judged_entries 0 (judged y))
+      → BeginsWith texts (texts_of (judged_offers x)) → BeginsWith texts (texts_of (judged_offers y))
       → live_offers x commit b ≡ live_offers y commit b → get_or x.lists b [] ≡ get_or y.lists b []
   same_lists_at file texts b in_x in_y for_x for_y texts_x texts_y live = same_list b in_x in_y (same_offers_judged (same_judged file texts for_x for_y texts_x texts_y)) live

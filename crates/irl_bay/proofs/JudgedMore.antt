@@ -78,13 +78,15 @@ rows_low place bucket (entry ∷ entries) (verdict ∷ verdicts) =
     ap (λ l. l ++ rows (place % 2 ^ 64 + entry.aux_len) bucket entries verdicts) (row_low place bucket entry verdict) ∙ ap (λ l. row place bucket entry verdict ++ l) rest
 
 -- they are those of the judged offers
-pub rows_are : (place bucket buckets : ℕ) (offers : List Tuple) (verdicts : List (Option Verdict)) → length verdicts ≡ length offers → AllByRecursion (λ (o : Tuple). bucket_of buckets o.key ≡ bucket) offers
+pub rows_are : (place bucket buckets : ℕ) (offers : List Tuple) (verdicts : List (Option Verdict)) → length verdicts ≡ length offers
+    → AllByRecursion (λ (o : Tuple). bucket_of buckets o.key ≡ bucket) offers
     → rows place bucket (map entry_of_offer offers) verdicts ≡ judged_entries place (judged_with buckets offers verdicts)
 rows_are place bucket buckets [] verdicts size here = refl
 rows_are place bucket buckets (o ∷ offers) [] size here = absurd (omega arith)
 rows_are place bucket buckets (o ∷ offers) (verdict ∷ verdicts) size here =
     let rest = rows_are (place + length o.aux) bucket buckets offers verdicts (omega (arith, size)) here.1 in
-    ap (λ l. row place bucket (entry_of_offer o) verdict ++ l) rest ∙ ap (λ n. judged_bytes place (record { bucket = n; offer = o; verdict = verdict }) ++ judged_entries (place + length o.aux) (judged_with buckets offers verdicts)) (sym here.0)
+    ap (λ l. row place bucket (entry_of_offer o) verdict ++ l) rest ∙ ap (λ n. judged_bytes place (record { bucket = n; offer = o; verdict = verdict })
+    ++ judged_entries (place + length o.aux) (judged_with buckets offers verdicts)) (sym here.0)
 
 -- ---- more offers
 zip_both : (xs ys : List Tuple) (vs ws : List (Option Verdict)) → length vs ≡ length xs → zip (xs ++ ys) (vs ++ ws) ≡ zip xs vs ++ zip ys ws
@@ -93,7 +95,8 @@ zip_both [] ys (v ∷ vs) ws size = absurd (omega arith)
 zip_both (x ∷ xs) ys [] ws size = absurd (omega arith)
 zip_both (x ∷ xs) ys (v ∷ vs) ws size = ap (λ l. (x, v) ∷ l) (zip_both xs ys vs ws (omega (arith, size)))
 
-pub with_both : (buckets : ℕ) (xs ys : List Tuple) (vs ws : List (Option Verdict)) → length vs ≡ length xs → judged_with buckets (xs ++ ys) (vs ++ ws) ≡ judged_with buckets xs vs ++ judged_with buckets ys ws
+pub with_both : (buckets : ℕ) (xs ys : List Tuple) (vs ws : List (Option Verdict)) → length vs ≡ length xs
+    → judged_with buckets (xs ++ ys) (vs ++ ws) ≡ judged_with buckets xs vs ++ judged_with buckets ys ws
 with_both buckets xs ys vs ws size = ap (map (judged_as buckets)) (zip_both xs ys vs ws size) ∙ map-append (judged_as buckets) (zip xs vs) (zip ys ws)
 
 with_offers : (buckets : ℕ) (xs : List Tuple) (vs : List (Option Verdict)) → length vs ≡ length xs → offers_of (judged_with buckets xs vs) ≡ xs
@@ -114,8 +117,10 @@ with_uniques n buckets (x ∷ xs) (v ∷ vs) size =
     uniques-cons n (judged_as buckets (x, v)) (judged_with buckets xs vs) ∙ ap (λ k. cond (is_unique v) 1 0 + k) (with_uniques (n + 1) buckets xs vs (omega (arith, size))) ∙ sym (count_cons v vs)
 
 -- their entries stand behind the others, and their texts
-pub more_entries : (place bucket buckets : ℕ) (offers news : List Tuple) (before verdicts : List (Option Verdict)) → length before ≡ length offers → length verdicts ≡ length news → AllByRecursion (λ (o : Tuple). bucket_of buckets o.key ≡ bucket) news
-    → judged_entries place (judged_with buckets (offers ++ news) (before ++ verdicts)) ≡ judged_entries place (judged_with buckets offers before) ++ rows ((place + length (texts_of offers)) % 2 ^ 64) bucket (map entry_of_offer news) verdicts
+pub more_entries : (place bucket buckets : ℕ) (offers news : List Tuple) (before verdicts : List (Option Verdict)) → length before ≡ length offers → length verdicts ≡ length news
+    → AllByRecursion (λ (o : Tuple). bucket_of buckets o.key ≡ bucket) news
+    → judged_entries place (judged_with buckets (offers ++ news) (before ++ verdicts)) ≡ judged_entries place (judged_with buckets offers before)
+    ++ rows ((place + length (texts_of offers)) % 2 ^ 64) bucket (map entry_of_offer news) verdicts
 more_entries place bucket buckets offers news before verdicts size more here =
     let at = place + length (texts_of offers) in
     let there : place + length (texts_of (offers_of (judged_with buckets offers before))) ≡ at = ap (λ (l : List Tuple). place + length (texts_of l)) (with_offers buckets offers before size) in
@@ -137,7 +142,8 @@ more_uniques buckets offers news before verdicts size more =
     ∙ ap (λ k. length (uniques_from 0 front) + k) (with_uniques (0 + length front) buckets news verdicts more)
 
 -- how long the entries are
-pub length-entries : (place buckets : ℕ) (offers : List Tuple) (verdicts : List (Option Verdict)) → length verdicts ≡ length offers → length (judged_entries place (judged_with buckets offers verdicts)) ≡ 48 * length offers
+pub length-entries : (place buckets : ℕ) (offers : List Tuple) (verdicts : List (Option Verdict)) → length verdicts ≡ length offers
+    → length (judged_entries place (judged_with buckets offers verdicts)) ≡ 48 * length offers
 length-entries place buckets [] verdicts size = refl
 length-entries place buckets (o ∷ offers) [] size = absurd (omega arith)
 length-entries place buckets (o ∷ offers) (v ∷ verdicts) size =

@@ -38,7 +38,8 @@ text_within (first ∷ entries) zero none lt = omega (arith, texts_length-cons f
 text_within (first ∷ entries) (suc i) none lt =
     omega (arith, text_within entries i none (omega arith), texts_length-cons first entries, texts_length-cons first (take i entries))
 
-one_of_part : (entries : List JudgedEntry) (texts : List ℕ) (i : ℕ) (none : JudgedEntry) → i < length entries → slice_get (with_texts entries texts) i ≡ Some (with_text (get_or entries i none) (take (get_or entries i none).aux_len (drop (texts_length (take i entries)) texts)))
+one_of_part : (entries : List JudgedEntry) (texts : List ℕ) (i : ℕ) (none : JudgedEntry) → i < length entries
+    → slice_get (with_texts entries texts) i ≡ Some (with_text (get_or entries i none) (take (get_or entries i none).aux_len (drop (texts_length (take i entries)) texts)))
 one_of_part [] texts i none lt = absurd (omega arith)
 one_of_part (first ∷ entries) texts zero none lt = refl
 one_of_part (first ∷ entries) texts (suc i) none lt =

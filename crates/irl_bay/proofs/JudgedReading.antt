@@ -6,7 +6,7 @@ use Rattle.std.proofs.lemmas.List.{drop-drop, drop-take, take-take}
 use Rattle.std.proofs.lemmas.Grind.{flat_map-append}
 use Rattle.std.proofs.lemmas.List.Sums.{sum_by-cons}
 use Rattle.std.specs.List.{flat_map, AllByRecursion}
-use Rattle.irl_offer.specs.Limits.{max_text}
+use Rattle.irl_base.specs.Limits.{max_text}
 use Rattle.irl_bay.specs.declared.layout.judged_entry.JudgedEntry.{JudgedEntry}
 use Rattle.irl_bay.specs.Drum.{Drum}
 use Rattle.irl_bay.specs.JudgedEntries.{entry_spelling, first_place, texts_length}
@@ -22,11 +22,13 @@ pub last_more : (before : Option JudgedEntry) (entries : List JudgedEntry) (entr
 last_more before [] entry = refl
 last_more before (one ∷ entries) entry = last_more (Some one) entries entry
 
-pub fit_more : (drum : Drum) (before : Option JudgedEntry) (entries : List JudgedEntry) (entry : JudgedEntry) → FitEach drum before entries → FitsBehind drum (last_of before entries) entry → FitEach drum before (entries ++ entry ∷ [])
+pub fit_more : (drum : Drum) (before : Option JudgedEntry) (entries : List JudgedEntry) (entry : JudgedEntry) → FitEach drum before entries → FitsBehind drum (last_of before entries) entry
+    → FitEach drum before (entries ++ entry ∷ [])
 fit_more drum before [] entry each fits = (fits, tt)
 fit_more drum before (one ∷ entries) entry each fits = (each.0, fit_more drum (Some one) entries entry each.1 fits)
 
-pub bytes_more : (entries : List JudgedEntry) (entry : JudgedEntry) (bytes : List ℕ) → flat_map entry_spelling entries ≡ take (48 * length entries) bytes → entry_spelling entry ≡ take 48 (drop (48 * length entries) bytes) → flat_map entry_spelling (entries ++ entry ∷ []) ≡ take (48 * length (entries ++ entry ∷ [])) bytes
+pub bytes_more : (entries : List JudgedEntry) (entry : JudgedEntry) (bytes : List ℕ) → flat_map entry_spelling entries ≡ take (48 * length entries) bytes
+    → entry_spelling entry ≡ take 48 (drop (48 * length entries) bytes) → flat_map entry_spelling (entries ++ entry ∷ []) ≡ take (48 * length (entries ++ entry ∷ [])) bytes
 bytes_more entries entry bytes so_far one =
     let n = 48 * length entries in
     let count : 48 * length (entries ++ entry ∷ []) ≡ n + 48 = omega (arith, length-append entries (entry ∷ [])) in

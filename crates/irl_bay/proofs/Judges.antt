@@ -21,17 +21,18 @@ use Rattle.irl_model.specs.Pairs.{IsRising, keys_of, pair_of}
 use Rattle.irl_model.proofs.Adding.{keys_grow}
 use Rattle.irl_model.proofs.BucketOrder.{border}
 use Rattle.irl_model.proofs.RisingKeys.{keys_are, pairs_are, rising_front}
-use Rattle.irl_disk.specs.Disk.{Files}
-use Rattle.irl_disk.specs.Images.{IsConsistent, LeavesBy, Snapshot}
+use Rattle.irl_disk.specs.Disk.{Files, TellsBy, TellsOnly}
+use Rattle.irl_disk.specs.Images.{IsConsistent, LeavesBy, Told}
 use Rattle.irl_disk.proofs.Stretches.{left_now}
 use Rattle.irl_journal.specs.Blob.{BeginsWith}
 use Rattle.irl_cache.specs.Reading.{HasRead, read_of}
 use Rattle.irl_cache.specs.SortedRun.{AreWordPairs, AreWords, EndsEarly, FallsAt, IsSpoiltRun, pairs_bytes}
-use Rattle.irl_cache.specs.Writing.{HasPut, HasWritten, RunWriter}
+use Rattle.irl_journal.specs.Growing.{HasPut}
+use Rattle.irl_cache.specs.Writing.{HasWritten, RunWriter}
 use Rattle.irl_merge.specs.Queries.{AreEntriesOf, bare, bare_entry}
 use Rattle.irl_bay.specs.Damage.{text_length}
 use Rattle.irl_bay.specs.Drum.{Drum, IsDrum, bucket_at, cache_front, pending_at}
-use Rattle.irl_bay.specs.Holding.{Holds, IsLong, TellsBy, TellsOnly}
+use Rattle.irl_bay.specs.Holding.{Holds, IsLong}
 use Rattle.irl_bay.specs.Merging.{KeepsCommitted, Writes}
 use Rattle.irl_bay.specs.Pending.{AreOffersOf, HasEntries, HasRunsTo, IsSpoiltBucket}
 use Rattle.irl_bay.specs.Sides.{HasMerged, IsSidesOf, rest_of}
@@ -55,7 +56,7 @@ told_after step (Some old) new files tells is =
     let same : old ≡ files = cc in
     (tells.0, tells.1, subst (λ (x : Files). step x tells.0) same tells.2)
 
-pub long_kept : (drum : Drum) (old new : Snapshot) → IsDrum drum → Writes drum old new → ForSome old.files (λ files. IsLong drum files) → ForSome new.files (λ files. IsLong drum files)
+pub long_kept : (drum : Drum) (old new : Told) → IsDrum drum → Writes drum old new → ForSome old.files (λ files. IsLong drum files) → ForSome new.files (λ files. IsLong drum files)
 long_kept drum old new law writes long = λ files told.
     let from = tells_from (KeepsCommitted drum) old.files new.files files writes.told told in
     let before = long from.0 from.1 in
@@ -71,12 +72,13 @@ long_kept drum old new law writes long = λ files told.
     }
 
 -- the bay goes on holding its book
-pub held_on : (drum : Drum) (old new : Snapshot) → IsDrum drum → LeavesBy (KeepsCommitted drum) old new → (book : Book) → IsConsistent new → Holds old.images drum book → Holds new.images drum book
+pub held_on : (drum : Drum) (old new : Told) → IsDrum drum → LeavesBy (KeepsCommitted drum) old new → (book : Book) → IsConsistent new → Holds old.images drum book → Holds new.images drum book
 held_on drum old new law stops book now holds = holds_written old.images new.images drum book law (λ z left. left_now old new _ now stops z left) holds
 
 -- ---- damage that stands after writes stood before them
 module _ (settings : Settings) (b : ℕ) (bucket : Bucket) (y z : Files) (journal : z bucket.journal.file ≡ y bucket.journal.file) where
-  runs_back : (from : ℕ) (runs : List (List Entry)) (at : ℕ) (behind : List ℕ) → HasRunsTo settings b from (z bucket.journal.file) runs at behind → HasRunsTo settings b from (y bucket.journal.file) runs at behind
+  runs_back : (from : ℕ) (runs : List (List Entry)) (at : ℕ) (behind : List ℕ) → HasRunsTo settings b from (z bucket.journal.file) runs at behind
+      → HasRunsTo settings b from (y bucket.journal.file) runs at behind
   runs_back from runs at behind has = subst (λ (file : List ℕ). HasRunsTo settings b from file runs at behind) journal has
 
   entries_back : (found : List Entry) → HasEntries settings b bucket z found → HasEntries settings b bucket y found
@@ -103,7 +105,8 @@ spoilt_back drum y z f at law keeps (inr spoilt) =
     let b = spoilt.0 in
     inr (b, spoilt.1, bucket_back drum.settings b (bucket_at drum b) y z (stays.journals b spoilt.1) (pending_at drum b) f at spoilt.2)
 
-pub spoilt_first : (drum : Drum) (old new : Snapshot) (f at : ℕ) → IsDrum drum → Writes drum old new → ForSome new.files (λ files. IsSpoiltAt drum files f at) → ForSome old.files (λ files. IsSpoiltAt drum files f at)
+pub spoilt_first : (drum : Drum) (old new : Told) (f at : ℕ) → IsDrum drum → Writes drum old new → ForSome new.files (λ files. IsSpoiltAt drum files f at)
+    → ForSome old.files (λ files. IsSpoiltAt drum files f at)
 spoilt_first drum old new f at law writes spoilt = λ files told.
     let to = told_after (KeepsCommitted drum) old.files new.files files writes.told told in
     spoilt_back drum files to.0 f at law to.2 (spoilt to.0 to.1)
@@ -115,7 +118,8 @@ run_spoilt drum files f at long spoilt = ⊎_elim
     (λ (falls : FallsAt drum.last.entries (files f) at). inl (spoilt.0, falls))
     spoilt.1
 
-pub run_whole : (images : Files → Type 0) (drum : Drum) (book : Book) (files : Files) (f at : ℕ) → Holds images drum book → images files → (f ≡ (cache_front drum).file) × IsSpoiltRun drum.last.entries (files f) at → ⊥
+pub run_whole : (images : Files → Type 0) (drum : Drum) (book : Book) (files : Files) (f at : ℕ) → Holds images drum book → images files → (f ≡ (cache_front drum).file)
+    × IsSpoiltRun drum.last.entries (files f) at → ⊥
 run_whole images drum book files f at holds now spoilt =
     let has = cache_held images drum book holds files now in
     let begins : BeginsWith (files f) (pairs_bytes (entries (seen book))) = subst (λ (n : ℕ). BeginsWith (files n) (pairs_bytes (entries (seen book)))) (sym spoilt.0) has.bytes in
@@ -145,7 +149,8 @@ all_back_pairs : (xs ys : List Pair) → AreWordPairs (map pair_of (xs ++ ys)) �
 all_back_pairs [] ys words = words
 all_back_pairs (x ∷ xs) ys words = all_back_pairs xs ys words.1
 
-module _ (b : ℕ) (offers : List Tuple) (verdicts : List (Option Verdict)) (told : Option Files) (sides : Sides) (has : HasMerged b offers verdicts told sides) (count : IsBucketCount sides.buckets) (all : b ≡ sides.buckets) where
+module _ (b : ℕ) (offers : List Tuple) (verdicts : List (Option Verdict)) (told : Option Files) (sides : Sides) (has : HasMerged b offers verdicts told sides) (count : IsBucketCount sides.buckets)
+    (all : b ≡ sides.buckets) where
   -- no pair is left
   none_left : (rest_of sides ≡ []) × (sides.reader.given ≡ sides.reader.entries)
   none_left =
@@ -191,12 +196,15 @@ module _ (b : ℕ) (offers : List Tuple) (verdicts : List (Option Verdict)) (tol
       omega (arith, fed_all, length-map has.fed pair_of, ap (λ (l : List (ℕ × ℕ)). length l) fed, length-map has.put pair_of, ap (λ (l : List (ℕ × ℕ)). length l) has.keys, grown)
 
   -- and those that were fed are the set of a side that has it
-  pub fed_are : (files : Files) (keys : KeyMap) → told ≡ Some files → AreWords keys → sides.reader.entries ≡ length (entries keys) → BeginsWith (files sides.reader.file) (pairs_bytes (entries keys)) → keys_of has.fed ≡ keys
+  pub fed_are : (files : Files) (keys : KeyMap) → told ≡ Some files → AreWords keys → sides.reader.entries ≡ length (entries keys) → BeginsWith (files sides.reader.file) (pairs_bytes (entries keys))
+      → keys_of has.fed ≡ keys
   fed_are files keys is words size begins =
-      let read : BeginsWith (files sides.reader.file) (pairs_bytes (map pair_of has.fed)) = subst (λ (l : List Pair). BeginsWith (files sides.reader.file) (pairs_bytes (map pair_of l))) all_read (has.read.bytes files is) in
+      let read : BeginsWith (files sides.reader.file) (pairs_bytes (map pair_of has.fed)) =
+      subst (λ (l : List Pair). BeginsWith (files sides.reader.file) (pairs_bytes (map pair_of l))) all_read (has.read.bytes files is) in
       let fed_words : AreWordPairs (map pair_of has.fed) = subst (λ (l : List Pair). AreWordPairs (map pair_of l)) all_read has.read.words in
       let many : length (map pair_of has.fed) ≡ length (entries keys) = length-map has.fed pair_of ∙ fed_all ∙ size in
-      let long : length (pairs_bytes (map pair_of has.fed)) ≡ length (pairs_bytes (entries keys)) = length-pairs (map pair_of has.fed) ∙ ap (λ (n : ℕ). 16 * n) many ∙ sym (length-pairs (entries keys)) in
+      let long : length (pairs_bytes (map pair_of has.fed)) ≡ length (pairs_bytes (entries keys)) = length-pairs (map pair_of has.fed) ∙ ap (λ (n : ℕ). 16 * n) many
+      ∙ sym (length-pairs (entries keys)) in
       let same : pairs_bytes (map pair_of has.fed) ≡ pairs_bytes (entries keys) = same_front _ _ read.0 begins.0 long (sym read.1 ∙ begins.1) in
       keys_are keys has.fed (same_pairs (map pair_of has.fed) (entries keys) fed_words words many same)
     where
@@ -250,7 +258,8 @@ ask_the_same news entries are = ap (map bare_entry) (sym are) ∙ same news
     same (o ∷ l) = ap (λ (t : List Tuple). bare o ∷ t) (same l)
 
 -- offers are of the bucket of their entries
-pub of_bucket_too : (buckets b : ℕ) (news : List Tuple) (entries : List Entry) → map entry_of_offer news ≡ entries → All (λ (e : Entry). bucket_of buckets e.key ≡ b) entries → AllByRecursion (λ (o : Tuple). bucket_of buckets o.key ≡ b) news
+pub of_bucket_too : (buckets b : ℕ) (news : List Tuple) (entries : List Entry) → map entry_of_offer news ≡ entries → All (λ (e : Entry). bucket_of buckets e.key ≡ b) entries
+    → AllByRecursion (λ (o : Tuple). bucket_of buckets o.key ≡ b) news
 of_bucket_too buckets b news entries are all = each news (subst (All (λ (e : Entry). bucket_of buckets e.key ≡ b)) (sym are) all)
   where
     none : Entry
@@ -272,7 +281,8 @@ only_same among g told new out changes = λ files is.
 written_on : (told new : Option Files) (pairs : List Pair) (writer : RunWriter) → IsSameFile writer.out.file told new → HasWritten told pairs writer → HasWritten new pairs writer
 written_on told new pairs writer same has = record { put = put_on told new _ writer.out same has.put; rising = has.rising; last = has.last }
 
-pub merged_on : (b : ℕ) (offers : List Tuple) (verdicts : List (Option Verdict)) (told new : Option Files) (sides : Sides) → IsSameFile sides.reader.file told new → IsSameFile sides.writer.out.file told new → HasMerged b offers verdicts told sides → HasMerged b offers verdicts new sides
+pub merged_on : (b : ℕ) (offers : List Tuple) (verdicts : List (Option Verdict)) (told new : Option Files) (sides : Sides) → IsSameFile sides.reader.file told new
+    → IsSameFile sides.writer.out.file told new → HasMerged b offers verdicts told sides → HasMerged b offers verdicts new sides
 merged_on b offers verdicts told new sides reads writes has = record {
   fed = has.fed;
   put = has.put;
@@ -286,7 +296,8 @@ merged_on b offers verdicts told new sides reads writes has = record {
   written = written_on told new has.put sides.writer writes has.written;
 }
 
-pub told_on : (drum : Drum) (offers : List Tuple) (verdicts : List (Option Verdict)) (told new : Option Files) (telling : Telling) → IsSameFile telling.judged.file told new → IsSameFile telling.texts.file told new → HasTold drum offers verdicts told telling → HasTold drum offers verdicts new telling
+pub told_on : (drum : Drum) (offers : List Tuple) (verdicts : List (Option Verdict)) (told new : Option Files) (telling : Telling) → IsSameFile telling.judged.file told new
+    → IsSameFile telling.texts.file told new → HasTold drum offers verdicts told telling → HasTold drum offers verdicts new telling
 told_on drum offers verdicts told new telling judged texts has = record {
   of = has.of;
   count = has.count;
@@ -332,7 +343,8 @@ nothing_merged told sides none read written = record {
     from_none [] = tt
     from_none (p ∷ l) = (omega arith, from_none l)
 
-pub nothing_told : (drum : Drum) (told : Option Files) (telling : Telling) → IsDrum drum → IsTellingOf drum telling → HasPut told [] telling.judged → HasPut told [] telling.texts → telling.place ≡ drum.last.texts → telling.unique ≡ drum.last.unique → HasTold drum [] [] told telling
+pub nothing_told : (drum : Drum) (told : Option Files) (telling : Telling) → IsDrum drum → IsTellingOf drum telling → HasPut told [] telling.judged → HasPut told [] telling.texts
+    → telling.place ≡ drum.last.texts → telling.unique ≡ drum.last.unique → HasTold drum [] [] told telling
 nothing_told drum told telling law of judged texts place unique = record {
   of = of;
   count = refl;

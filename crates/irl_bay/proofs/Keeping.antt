@@ -6,8 +6,8 @@ use Rattle.std.specs.List.{flat_map, AllByRecursion}
 use Rattle.std.specs.Option.{ForSome}
 use Rattle.irl_offer.specs.Tuple.{Tuple}
 use Rattle.irl_model.specs.Book.{Book, merged}
-use Rattle.irl_disk.specs.Disk.{Files, Changes, ChangesFile}
-use Rattle.irl_disk.specs.Images.{Snapshot, IsConsistent, Follows, Leaves, LeavesBy}
+use Rattle.irl_disk.specs.Disk.{Files, Changes, ChangesFile, ChangesOnly, TellsOnly, TellsBy}
+use Rattle.irl_disk.specs.Images.{Told, IsConsistent, Follows, Leaves, LeavesBy}
 use Rattle.irl_disk.proofs.Frames.{told_from}
 use Rattle.irl_disk.proofs.Stretches.{stays, widens, widens_by, joins, joins_by, same_by, left_now}
 use Rattle.irl_journal.specs.Appending.{Tail, IsOpen, HasOrGains}
@@ -19,7 +19,7 @@ use Rattle.irl_bay.specs.declared.layout.files.BayFile.TheVariants.{Journal, Aux
 use Rattle.irl_bay.specs.Runs.{run_bytes, IsRun}
 use Rattle.irl_bay.specs.Commits.{Commit, IsCommit, HasLiveRecords, commit_bytes, first_commit, last_commit, live_side, live_offers}
 use Rattle.irl_bay.specs.Drum.{bucket_at, durable_at, Drum, IsDrum, SomePending}
-use Rattle.irl_bay.specs.Holding.{Holds, HoldsBucket, Becomes, ChangesOnly, TellsOnly, IsLong, TellsBy}
+use Rattle.irl_bay.specs.Holding.{Holds, HoldsBucket, Becomes, IsLong}
 use Rattle.irl_bay.specs.Merging.{AreEmpty, Batch, KeepsCommitted, FitsBatch, IsBatchFile, IsMergeFile, IsJudged, IsLongBatch, emptied, next_commit, next_cache, next_judged, next_texts, with_commit, Writes}
 use Rattle.irl_bay.proofs.BatchWrites.{step_others}
 use Rattle.irl_bay.proofs.Live.{live_merged}
@@ -65,10 +65,10 @@ spares_then drum x y z first second = record {
   others = λ f out. second.others f out ∙ first.others f out;
 }
 
-pub written_spares : (drum : Drum) (a b : Snapshot) → IsDrum drum → LeavesBy (KeepsCommitted drum) a b → LeavesBy (Spares drum) a b
+pub written_spares : (drum : Drum) (a b : Told) → IsDrum drum → LeavesBy (KeepsCommitted drum) a b → LeavesBy (Spares drum) a b
 written_spares drum a b law first = widens_by a b _ _ first (λ y z. batch_spares drum y z law)
 
-spares_both : (drum : Drum) (a b d : Snapshot) → IsDrum drum → IsConsistent b → LeavesBy (KeepsCommitted drum) a b → LeavesBy (Empties drum) b d → LeavesBy (Spares drum) a d
+spares_both : (drum : Drum) (a b d : Told) → IsDrum drum → IsConsistent b → LeavesBy (KeepsCommitted drum) a b → LeavesBy (Empties drum) b d → LeavesBy (Spares drum) a d
 spares_both drum a b d law law_b first second =
     joins_by a b d (Spares drum) law_b (spares_then drum) (written_spares drum a b law first) (widens_by b d _ _ second (λ y z. side_spares drum y z law))
 
@@ -80,7 +80,8 @@ holds_spared old new drum book from holds =
 
 -- ---- the records of a bucket that is live
 -- where a bay holds a book, its live journals have the records with which they are open
-pub live_records : (images : Files → Type 0) (drum : Drum) (book : Book) (b : ℕ) (payloads : List (List ℕ)) (image : Files) → IsDrum drum → b < drum.settings.buckets → Holds images drum book → IsOpen images (bucket_at drum b).journal payloads → images image → HasLiveRecords drum.base drum.settings.buckets b payloads image
+pub live_records : (images : Files → Type 0) (drum : Drum) (book : Book) (b : ℕ) (payloads : List (List ℕ)) (image : Files) → IsDrum drum → b < drum.settings.buckets → Holds images drum book
+    → IsOpen images (bucket_at drum b).journal payloads → images image → HasLiveRecords drum.base drum.settings.buckets b payloads image
 live_records images drum book b payloads image law within holds is_open left =
     let same = holds.book_is.buckets in
     let last_is : drum.last ≡ last_commit (first_commit drum.settings.buckets) holds.commits = holds.last ∙ ap (λ (n : ℕ). last_commit (first_commit n) holds.commits) same in
@@ -88,7 +89,8 @@ live_records images drum book b payloads image law within holds is_open left =
       commits = holds.commits;
       form = subst (λ (n : ℕ). AllByRecursion (IsCommit n) holds.commits) same holds.commits_are.form;
       manifest = subst (λ (f : ℕ). StandsFor (image f) (map commit_bytes holds.commits)) law.manifest (inr (holds.manifest image left).records);
-      records = subst (λ (last : Commit). HasRecords (image (file_of drum.base 0 (Journal (live_side last) b))) payloads) last_is (subst (λ (f : ℕ). HasRecords (image f) payloads) (law.buckets b within).journal (is_open image left).records);
+      records = subst (λ (last : Commit). HasRecords (image (file_of drum.base 0 (Journal (live_side last) b))) payloads) last_is
+          (subst (λ (f : ℕ). HasRecords (image f) payloads) (law.buckets b within).journal (is_open image left).records);
     }
 
 -- a bucket without an offer has no record
@@ -124,13 +126,14 @@ HasOrEmpties drum n payloads image = HasLiveRecords drum.base drum.settings.buck
 
 -- From one snapshot to a later one only a merge's files change, and a stop leaves files that stand for the book, with the
 -- cut or without, and live journals with their records, or with none.
-pub record IsMerging (drum : Drum) (a b : Snapshot) : Type 0 where
+pub record IsMerging (drum : Drum) (a b : Told) : Type 0 where
   pub others : TellsOnly (IsMergeFile drum) a.files b.files
   pub others_stop : LeavesBy (ChangesOnly (IsMergeFile drum)) a b
   pub stops : (book : Book) → Holds a.images drum book → LeavesBy (Becomes (IsMergeFile drum) drum.base drum.settings book (merged book)) a b
-  pub records_stop : (book : Book) (n : ℕ) (payloads : List (List ℕ)) → Holds a.images drum book → n < drum.settings.buckets → IsOpen a.images (bucket_at drum n).journal payloads → Leaves a b (HasOrEmpties drum n payloads)
+  pub records_stop : (book : Book) (n : ℕ) (payloads : List (List ℕ)) → Holds a.images drum book → n < drum.settings.buckets → IsOpen a.images (bucket_at drum n).journal payloads
+      → Leaves a b (HasOrEmpties drum n payloads)
 
-module _ (drum : Drum) (a b : Snapshot) (law : IsDrum drum) (spares : LeavesBy (Spares drum) a b) where
+module _ (drum : Drum) (a b : Told) (law : IsDrum drum) (spares : LeavesBy (Spares drum) a b) where
   -- the bay goes on holding its book
   pub holds_on : (book : Book) → IsConsistent b → Holds a.images drum book → Holds b.images drum book
   holds_on book law_b holds = holds_spared a.images b.images drum book (λ z left. left_now a b _ law_b spares z left) holds
@@ -149,7 +152,8 @@ module _ (drum : Drum) (a b : Snapshot) (law : IsDrum drum) (spares : LeavesBy (
     ));
     records_stop = λ book n payloads holds within is_open. widens a b _ _ spares (λ image from.
         inl (live_records (Only image) drum book n payloads image law within (only_holds book image holds from)
-        (tail_moved (bucket_at drum n).journal payloads a.images (Only image) (λ z is. (from.0, from.1, ap (λ (z : Files). z (bucket_at drum n).journal.file) is ∙ from.2.stays.journals n within)) is_open) refl));
+        (tail_moved (bucket_at drum n).journal payloads a.images (Only image) (λ z is. (from.0, from.1, ap (λ (z : Files). z (bucket_at drum n).journal.file) is ∙ from.2.stays.journals n within))
+        is_open) refl));
   }
 
 -- before a call, and while the batch is written
@@ -157,25 +161,26 @@ tells_none : (step : Files → Files → Type 0) (told : Option Files) → ((x :
 tells_none step None none = refl
 tells_none step (Some files) none = (files, refl, none files)
 
-pub writes_none : (drum : Drum) (now : Snapshot) → IsConsistent now → Writes drum now now
+pub writes_none : (drum : Drum) (now : Told) → IsConsistent now → Writes drum now now
 writes_none drum now law = record {
   told = tells_none (KeepsCommitted drum) now.files (keeps_all drum);
   stops = same_by now now (KeepsCommitted drum) (keeps_all drum) (stays now now.images law (λ image was. was));
 }
 
-pub merging_written : (drum : Drum) (a b : Snapshot) → IsDrum drum → Writes drum a b → IsMerging drum a b
+pub merging_written : (drum : Drum) (a b : Told) → IsDrum drum → Writes drum a b → IsMerging drum a b
 merging_written drum a b law writes = merging_spared drum a b law (written_spares drum a b law writes.stops) (batch_others drum a.files b.files (step_others drum a b writes))
 
-pub merging_none : (drum : Drum) (now : Snapshot) → IsDrum drum → IsConsistent now → IsMerging drum now now
+pub merging_none : (drum : Drum) (now : Told) → IsDrum drum → IsConsistent now → IsMerging drum now now
 merging_none drum now law law_now = merging_written drum now now law (writes_none drum now law_now)
 
 -- while the other side is emptied
-pub merging_emptied : (drum : Drum) (a b d : Snapshot) → IsDrum drum → IsConsistent b → Writes drum a b → TellsOnly (IsOtherSide drum) b.files d.files → LeavesBy (Empties drum) b d → IsMerging drum a d
-merging_emptied drum a b d law law_b writes others emptying = merging_spared drum a d law (spares_both drum a b d law law_b writes.stops emptying) (side_others drum a.files b.files d.files (step_others drum a b writes) others)
+pub merging_emptied : (drum : Drum) (a b d : Told) → IsDrum drum → IsConsistent b → Writes drum a b → TellsOnly (IsOtherSide drum) b.files d.files → LeavesBy (Empties drum) b d → IsMerging drum a d
+merging_emptied drum a b d law law_b writes others emptying = merging_spared drum a d law (spares_both drum a b d law law_b writes.stops emptying)
+    (side_others drum a.files b.files d.files (step_others drum a b writes) others)
 
 -- ---- once the side is emptied
 -- From one snapshot to a later one a batch of which this is the commit was written, and the side that isn't live emptied.
-pub record IsPrepared (drum : Drum) (batch : Batch) (next : Commit) (a d : Snapshot) : Type 0 where
+pub record IsPrepared (drum : Drum) (batch : Batch) (next : Commit) (a d : Told) : Type 0 where
   pub law : IsDrum drum
   pub next_is : next ≡ next_commit drum batch
   pub fits : FitsBatch drum batch
@@ -183,7 +188,8 @@ pub record IsPrepared (drum : Drum) (batch : Batch) (next : Commit) (a d : Snaps
   pub merging : IsMerging drum a d
   pub ready_for : (files : Files) → a.files ≡ Some files → (book : Book) → Holds a.images drum book → IsReady d.images drum book batch
 
-pub prepared : (drum : Drum) (next : Commit) (a b d : Snapshot) → IsDrum drum → drum.is_sound ≡ true → SomePending drum → IsConsistent b → IsConsistent d → Writes drum a b → (j : IsJudged drum a b next) → TellsOnly (IsOtherSide drum) b.files d.files → LeavesBy (Empties drum) b d → AreEmptied d.images drum
+pub prepared : (drum : Drum) (next : Commit) (a b d : Told) → IsDrum drum → drum.is_sound ≡ true → SomePending drum → IsConsistent b → IsConsistent d → Writes drum a b → (j : IsJudged drum a b next)
+    → TellsOnly (IsOtherSide drum) b.files d.files → LeavesBy (Empties drum) b d → AreEmptied d.images drum
     → IsPrepared drum j.batch next a d
 prepared drum next a b d law sound some law_b law_d writes j others emptying emptied_are = record {
   law = law;
@@ -192,12 +198,14 @@ prepared drum next a b d law sound some law_b law_d writes j others emptying emp
   spares = spares_both drum a b d law law_b writes.stops emptying;
   merging = merging_emptied drum a b d law law_b writes others emptying;
   ready_for = λ files told book holds.
-      ready a.images b.images d.images drum book j.batch law sound some j.fits j.synced.room holds (holds_on drum a b law (written_spares drum a b law writes.stops) book law_b holds) (j.of_book files told book holds) j.synced.written
+      ready a.images b.images d.images drum book j.batch law sound some j.fits j.synced.room holds (holds_on drum a b law (written_spares drum a b law writes.stops) book law_b holds)
+      (j.of_book files told book holds) j.synced.written
       (λ z left. left_now b d _ law_d emptying z left) emptied_are;
 }
 
 -- the manifest is as long as before the side was emptied
-pub manifest_long : (drum : Drum) (b d : Option Files) → IsDrum drum → ForSome b (λ files. IsLong drum files) → TellsOnly (IsOtherSide drum) b d → ForSome d (λ files. drum.manifest.end < length (files drum.manifest.file))
+pub manifest_long : (drum : Drum) (b d : Option Files) → IsDrum drum → ForSome b (λ files. IsLong drum files) → TellsOnly (IsOtherSide drum) b d
+    → ForSome d (λ files. drum.manifest.end < length (files drum.manifest.file))
 manifest_long drum b d law long changes = λ files told.
     let from = told_before (IsOtherSide drum) b d files changes told in
     let stays = from.2 drum.manifest.file (low_apart drum.base (1 - live_side drum.last) drum.settings.buckets drum.manifest.file (omega (arith, law.manifest))) in
@@ -208,11 +216,13 @@ not_manifest : (drum : Drum) (f : ℕ) → IsDrum drum → (IsMergeFile drum f �
 not_manifest drum f law out e = out (inl (e ∙ law.manifest))
 
 -- what stops leave where a store tells, they leave where it doesn't: a store that tells nothing leaves no image
-pub told_leaves : (step : Files → Files → Type 0) (P : Files → Type 0) (told : Option Files) (b c : Snapshot) → b.files ≡ told → IsConsistent b → LeavesBy step b c → ((files : Files) → b.files ≡ Some files → Leaves b c P) → Leaves b c P
+pub told_leaves : (step : Files → Files → Type 0) (P : Files → Type 0) (told : Option Files) (b c : Told) → b.files ≡ told → IsConsistent b → LeavesBy step b c
+    → ((files : Files) → b.files ≡ Some files → Leaves b c P) → Leaves b c P
 told_leaves step P None b c is law_b stops where_told = widens b c _ _ stops (λ image from. let t = (law_b.tells from.0 from.1).1 in absurd (cc))
 told_leaves step P (Some files) b c is law_b stops where_told = where_told files is
 
-module _ (drum : Drum) (batch : Batch) (next : Commit) (a d e : Snapshot) (p : IsPrepared drum batch next a d) (law_a : IsConsistent a) (law_d : IsConsistent d) (appended : LeavesBy (ChangesFile drum.manifest.file (λ _ _. ⊤)) d e) where
+module _ (drum : Drum) (batch : Batch) (next : Commit) (a d e : Told) (p : IsPrepared drum batch next a d) (law_a : IsConsistent a) (law_d : IsConsistent d)
+    (appended : LeavesBy (ChangesFile drum.manifest.file (λ _ _. ⊤)) d e) where
   -- only the merge's files change
   others_stop : LeavesBy (ChangesOnly (IsMergeFile drum)) a e
   others_stop =
@@ -223,8 +233,10 @@ module _ (drum : Drum) (batch : Batch) (next : Commit) (a d e : Snapshot) (p : I
   abbrev pub Gains : Type 0
   Gains = (payloads : List (List ℕ)) → IsOpen d.images drum.manifest payloads → LeavesBy (ChangesFile drum.manifest.file (HasOrGains payloads (commit_bytes next))) d e
 
-  gained : Gains → (book : Book) → (r : IsReady d.images drum book batch) → LeavesBy (ChangesFile drum.manifest.file (HasOrGains (map commit_bytes r.holds.commits) (commit_bytes (next_commit drum batch)))) d e
-  gained gains book r = subst (λ (commit : Commit). LeavesBy (ChangesFile drum.manifest.file (HasOrGains (map commit_bytes r.holds.commits) (commit_bytes commit))) d e) p.next_is (gains (map commit_bytes r.holds.commits) r.holds.manifest)
+  gained : Gains → (book : Book) → (r : IsReady d.images drum book batch) → LeavesBy
+      (ChangesFile drum.manifest.file (HasOrGains (map commit_bytes r.holds.commits) (commit_bytes (next_commit drum batch)))) d e
+  gained gains book r = subst (λ (commit : Commit). LeavesBy (ChangesFile drum.manifest.file (HasOrGains (map commit_bytes r.holds.commits) (commit_bytes commit))) d e) p.next_is
+      (gains (map commit_bytes r.holds.commits) r.holds.manifest)
 
   -- a stop leaves files that stand for the book, with the cut or without
   stops : Gains → (book : Book) → Holds a.images drum book → LeavesBy (Becomes (IsMergeFile drum) drum.base drum.settings book (merged book)) a e
@@ -236,28 +248,35 @@ module _ (drum : Drum) (batch : Batch) (next : Commit) (a d e : Snapshot) (p : I
         before.1,
         record {
           others = λ f out. from.2.others f (not_manifest drum f p.law out) ∙ before.2.others f out;
-          stands = ⊎_elim (λ old. inl (holds_stands (Only image) drum book image p.law old refl)) (λ new. inr (holds_stands (Only image) (with_commit new.manifest (next_commit drum batch) drum) (merged book) image new.law new.holds refl)) (ready_leaves d.images drum book batch from.0 image r from.1 from.2);
+          stands = ⊎_elim (λ old. inl (holds_stands (Only image) drum book image p.law old refl)) (λ new.
+              inr (holds_stands (Only image) (with_commit new.manifest (next_commit drum batch) drum) (merged book) image new.law new.holds refl))
+              (ready_leaves d.images drum book batch from.0 image r from.1 from.2);
         },
       ))))
 
   -- and journals with their records, or with none
-  merged_records : (book : Book) (n : ℕ) (payloads : List (List ℕ)) (image : Files) → n < drum.settings.buckets → Holds a.images drum book → IsMerged drum book batch image → IsReady d.images drum book batch → HasOrEmpties drum n payloads image
+  merged_records : (book : Book) (n : ℕ) (payloads : List (List ℕ)) (image : Files) → n < drum.settings.buckets → Holds a.images drum book → IsMerged drum book batch image
+      → IsReady d.images drum book batch → HasOrEmpties drum n payloads image
   merged_records book n payloads image within holds m r =
       let there : n < book.buckets = omega (arith, within, holds.book_is.buckets) in
       let new = with_commit m.manifest (next_commit drum batch) drum in
       let none = live_merged drum.settings book (next_commit drum batch) (1 - live_side drum.last) n holds.book_is there refl (p.fits.cut ∙ holds.numbers.offers) in
-      inr (live_records (Only image) new (merged book) n [] image m.law within m.holds (open_empty (Only image) drum.settings.array _ (bucket_at new n) (live_offers (merged book) (next_commit drum batch) n) none (m.holds.buckets n there)) refl)
+      inr (live_records (Only image) new (merged book) n [] image m.law within m.holds
+      (open_empty (Only image) drum.settings.array _ (bucket_at new n) (live_offers (merged book) (next_commit drum batch) n) none (m.holds.buckets n there)) refl)
 
-  records_stop : Gains → (book : Book) (n : ℕ) (payloads : List (List ℕ)) → Holds a.images drum book → n < drum.settings.buckets → IsOpen a.images (bucket_at drum n).journal payloads → Leaves a e (HasOrEmpties drum n payloads)
+  records_stop : Gains → (book : Book) (n : ℕ) (payloads : List (List ℕ)) → Holds a.images drum book → n < drum.settings.buckets → IsOpen a.images (bucket_at drum n).journal payloads
+      → Leaves a e (HasOrEmpties drum n payloads)
   records_stop gains book n payloads holds within is_open = told_leaves _ _ a.files a e refl law_a others_stop (λ files told.
       let r = p.ready_for files told book holds in
       joins a d e _ (p.merging.records_stop book n payloads holds within is_open) (widens d e _ _ (gained gains book r) (λ image from.
       let before = left_now a d _ law_d p.spares from.0 from.1 in
       let journal = (p.law.buckets n within).journal in
       let manifest = p.law.manifest in
-      let same : image (bucket_at drum n).journal.file ≡ before.0 (bucket_at drum n).journal.file = from.2.others (bucket_at drum n).journal.file (λ e. omega (arith, e, journal, manifest)) ∙ before.2.stays.journals n within in
+      let same : image (bucket_at drum n).journal.file ≡ before.0 (bucket_at drum n).journal.file = from.2.others (bucket_at drum n).journal.file (λ e. omega (arith, e, journal, manifest))
+      ∙ before.2.stays.journals n within in
       ⊎_elim
-      (λ old. inl (live_records (Only image) drum book n payloads image p.law within old (tail_moved (bucket_at drum n).journal payloads a.images (Only image) (λ z is. (before.0, before.1, ap (λ (z : Files). z (bucket_at drum n).journal.file) is ∙ same)) is_open) refl))
+      (λ old. inl (live_records (Only image) drum book n payloads image p.law within old
+      (tail_moved (bucket_at drum n).journal payloads a.images (Only image) (λ z is. (before.0, before.1, ap (λ (z : Files). z (bucket_at drum n).journal.file) is ∙ same)) is_open) refl))
       (λ new. merged_records book n payloads image within holds new r)
       (ready_leaves d.images drum book batch from.0 image r from.1 from.2))))
 
@@ -271,7 +290,8 @@ module _ (drum : Drum) (batch : Batch) (next : Commit) (a d e : Snapshot) (p : I
 
 -- ---- the bay afterwards
 -- it has the book with one cut more
-pub merge_holds : (drum : Drum) (batch : Batch) (next : Commit) (manifest : Tail) (a d e : Snapshot) (p : IsPrepared drum batch next a d) → IsConsistent e → LeavesBy (ChangesFile drum.manifest.file (λ _ _. ⊤)) d e → ((payloads : List (List ℕ)) → IsOpen d.images drum.manifest payloads → IsOpen e.images manifest (payloads ++ commit_bytes next ∷ []))
+pub merge_holds : (drum : Drum) (batch : Batch) (next : Commit) (manifest : Tail) (a d e : Told) (p : IsPrepared drum batch next a d) → IsConsistent e
+    → LeavesBy (ChangesFile drum.manifest.file (λ _ _. ⊤)) d e → ((payloads : List (List ℕ)) → IsOpen d.images drum.manifest payloads → IsOpen e.images manifest (payloads ++ commit_bytes next ∷ []))
     → (files : Files) → a.files ≡ Some files → (book : Book) → Holds a.images drum book → Holds e.images (with_commit manifest (next_commit drum batch) drum) (merged book)
 merge_holds drum batch next manifest a d e p law_e appended gains files told book holds =
     let r = p.ready_for files told book holds in
@@ -289,12 +309,14 @@ merge_cuts drum d e law empty appended = λ files told.
     let was = empty from.0 from.1 in
     let manifest = law.manifest in
     record {
-      journals = λ n within. ap (λ (bytes : List ℕ). length bytes) (from.2.others (file_of drum.base 0 (Journal (1 - live_side drum.last) n)) (λ e. omega (arith, e, manifest))) ∙ was.journals n within;
+      journals = λ n within. ap (λ (bytes : List ℕ). length bytes) (from.2.others (file_of drum.base 0 (Journal (1 - live_side drum.last) n)) (λ e. omega (arith, e, manifest)))
+          ∙ was.journals n within;
       auxes = λ n within. from.2.others (file_of drum.base 0 (Aux (1 - live_side drum.last) n)) (λ e. omega (arith, e, manifest)) ∙ was.auxes n within;
     }
 
 -- its live journals have no record
-pub merge_empties : (drum : Drum) (next : Commit) (manifest : Tail) (d e : Snapshot) (n : ℕ) → IsDrum drum → n < drum.settings.buckets → IsConsistent e → AreEmptied d.images drum → LeavesBy (ChangesFile drum.manifest.file (λ _ _. ⊤)) d e → IsOpen e.images (bucket_at (with_commit manifest next drum) n).journal []
+pub merge_empties : (drum : Drum) (next : Commit) (manifest : Tail) (d e : Told) (n : ℕ) → IsDrum drum → n < drum.settings.buckets → IsConsistent e → AreEmptied d.images drum
+    → LeavesBy (ChangesFile drum.manifest.file (λ _ _. ⊤)) d e → IsOpen e.images (bucket_at (with_commit manifest next drum) n).journal []
 merge_empties drum next manifest d e n law within law_e emptied_are appended =
     let one = emptied drum.base (1 - live_side drum.last) n (durable_at drum n) in
     let file = law.manifest in
@@ -304,7 +326,15 @@ merge_empties drum next manifest d e n law within law_e emptied_are appended =
 
 -- ---- a bay that failed
 -- what a bay keeps and holds doesn't turn on whether it is said to be sound
-pub drum_failed : (drum : Drum) → IsDrum drum → IsDrum (record { base = drum.base; settings = drum.settings; is_sound = false; manifest = drum.manifest; last = drum.last; cuts = drum.cuts; buckets = drum.buckets })
+pub drum_failed : (drum : Drum) → IsDrum drum → IsDrum (record {
+  base = drum.base;
+  settings = drum.settings;
+  is_sound = false;
+  manifest = drum.manifest;
+  last = drum.last;
+  cuts = drum.cuts;
+  buckets = drum.buckets;
+})
 drum_failed drum law = record {
   base = law.base;
   settings = law.settings;
@@ -315,7 +345,15 @@ drum_failed drum law = record {
   sound = λ yes. absurd (cc);
   cuts = law.cuts;
   count = law.count;
-  buckets = λ b within. let is = law.buckets b within in record { journal = is.journal; aux = is.aux; sound = λ yes. absurd (cc); start = is.start; judged = is.judged; gate = is.gate; text = is.text };
+  buckets = λ b within. let is = law.buckets b within in record {
+    journal = is.journal;
+    aux = is.aux;
+    sound = λ yes. absurd (cc);
+    start = is.start;
+    judged = is.judged;
+    gate = is.gate;
+    text = is.text;
+  };
 }
 
 pub holds_said : (images : Files → Type 0) (drum : Drum) (is_sound : Bool) (book : Book) → Holds images drum book
@@ -345,13 +383,15 @@ error_of {T = T} {U = U} {E = E} found named is =
 
 -- ---- how long the files are afterwards
 pub long_said : (drum : Drum) (is_sound : Bool) (told : Option Files) → ForSome told (λ files. IsLong drum files)
-    → ForSome told (λ files. IsLong (record { base = drum.base; settings = drum.settings; is_sound = is_sound; manifest = drum.manifest; last = drum.last; cuts = drum.cuts; buckets = drum.buckets }) files)
+    → ForSome told (λ files. IsLong (record { base = drum.base; settings = drum.settings; is_sound = is_sound; manifest = drum.manifest; last = drum.last; cuts = drum.cuts; buckets = drum.buckets })
+    files)
 long_said drum is_sound told long = λ files is.
     let l = long files is in
     record { manifest = l.manifest; cache = l.cache; judged = l.judged; texts = l.texts; journals = l.journals; auxes = l.auxes }
 
 pub merge_long : (drum : Drum) (batch : Batch) (manifest : Tail) (payload : List ℕ) (b d e : Option Files) → IsDrum drum → ForSome b (IsLongBatch drum batch) → TellsOnly (IsOtherSide drum) b d
-    → ForSome d (IsOtherEmpty drum) → Changes drum.manifest.file (λ _ _. ⊤) d e → ForSome e (λ files. drum.manifest.end + length payload < length (files drum.manifest.file)) → manifest.file ≡ drum.manifest.file
+    → ForSome d (IsOtherEmpty drum) → Changes drum.manifest.file (λ _ _. ⊤) d e → ForSome e (λ files. drum.manifest.end + length payload < length (files drum.manifest.file))
+    → manifest.file ≡ drum.manifest.file
     → manifest.end ≡ drum.manifest.end + length payload → ForSome e (λ files. IsLong (with_commit manifest (next_commit drum batch) drum) files)
 merge_long drum batch manifest payload b d e law batch_long emptying empty appended longer file end = λ files told.
     let third = told_from drum.manifest.file (λ _ _. ⊤) d e files appended told in
@@ -359,9 +399,12 @@ merge_long drum batch manifest payload b d e law batch_long emptying empty appen
     let long = batch_long second.0 second.1 in
     let m = law.manifest in
     let manifest_is : manifest.end < length (files drum.manifest.file) = omega (arith, longer files told, end) in
-    let cache_same : files (next_cache drum batch).file ≡ second.0 (next_cache drum batch).file = stays files third.0 second.0 (next_cache drum batch).file (omega arith) (omega (arith, m)) third.2 second.2 in
-    let judged_same : files (next_judged drum batch).file ≡ second.0 (next_judged drum batch).file = stays files third.0 second.0 (next_judged drum batch).file (omega arith) (omega (arith, m)) third.2 second.2 in
-    let texts_same : files (next_texts drum batch).file ≡ second.0 (next_texts drum batch).file = stays files third.0 second.0 (next_texts drum batch).file (omega arith) (omega (arith, m)) third.2 second.2 in
+    let cache_same : files (next_cache drum batch).file ≡ second.0 (next_cache drum batch).file =
+    stays files third.0 second.0 (next_cache drum batch).file (omega arith) (omega (arith, m)) third.2 second.2 in
+    let judged_same : files (next_judged drum batch).file ≡ second.0 (next_judged drum batch).file =
+    stays files third.0 second.0 (next_judged drum batch).file (omega arith) (omega (arith, m)) third.2 second.2 in
+    let texts_same : files (next_texts drum batch).file ≡ second.0 (next_texts drum batch).file =
+    stays files third.0 second.0 (next_texts drum batch).file (omega arith) (omega (arith, m)) third.2 second.2 in
     record {
       manifest = subst (λ (f : ℕ). manifest.end < length (files f)) (sym file) manifest_is;
       cache = subst (λ (bytes : List ℕ). (next_cache drum batch).length ≤ length bytes) (sym cache_same) long.cache;

@@ -25,7 +25,8 @@ last_at first (commit ∷ other ∷ commits) (suc n) d long = last_at commit (ot
 nothing_judged : (book : Book) → book.cuts ≡ [] → judged book ≡ []
 nothing_judged book none =
     let offers : judged_offers book ≡ [] = ap (λ (cuts : List (List ℕ)). stretches book.firsts book.firsts cuts book.lists) none in
-    let few : length (judged book) ≡ 0 = length-map (judgements book.rule book.base (judged_offers book)) (judged_as book.buckets) ∙ length-judgements book.rule book.base (judged_offers book) ∙ ap (λ (l : List Tuple). length l) offers in
+    let few : length (judged book) ≡ 0 = length-map (judgements book.rule book.base (judged_offers book)) (judged_as book.buckets) ∙ length-judgements book.rule book.base (judged_offers book)
+    ∙ ap (λ (l : List Tuple). length l) offers in
     nil_from_length (judged book) few
 
 pub first_of : (settings : Settings) (book : Book) → IsBookOf settings book → book.cuts ≡ [] → IsCommitOf book (first_commit book.buckets)

@@ -13,7 +13,8 @@ pub first_zero : (settings : Settings) (book : Book) (b : ℕ) → IsBookOf sett
 first_zero settings book b is within = ap (λ (l : List ℕ). get_or l b 0) (is.is_book.none is.dropped).1 ∙ get_or-replicate book.buckets b 0 0 within
 
 -- so the live files of a bucket have its list from their start on
-pub live_is : (settings : Settings) (book : Book) (last : Commit) (b : ℕ) → IsBookOf settings book → b < book.buckets → live_offers book last b ≡ drop (get_or (starts book last) b 0) (get_or book.lists b [])
+pub live_is : (settings : Settings) (book : Book) (last : Commit) (b : ℕ) → IsBookOf settings book → b < book.buckets
+    → live_offers book last b ≡ drop (get_or (starts book last) b 0) (get_or book.lists b [])
 live_is settings book last b is within =
     let zero_is = first_zero settings book b is within in
     ap (λ (n : ℕ). drop n (get_or book.lists b [])) (omega (arith, zero_is))
@@ -56,7 +57,8 @@ flushed_there zero (suc c) news (list ∷ lists) other = refl
 flushed_there (suc b) zero news (list ∷ lists) other = refl
 flushed_there (suc b) (suc c) news (list ∷ lists) other = flushed_there b c news lists (λ same. other (ap suc same))
 
-pub live_flushed : (settings : Settings) (book : Book) (last : Commit) (b : ℕ) (news : List Tuple) → IsBookOf settings book → b < book.buckets → get_or (starts book last) b 0 ≤ length (get_or book.lists b [])
+pub live_flushed : (settings : Settings) (book : Book) (last : Commit) (b : ℕ) (news : List Tuple) → IsBookOf settings book → b < book.buckets
+    → get_or (starts book last) b 0 ≤ length (get_or book.lists b [])
     → live_offers (flushed b news book) last b ≡ live_offers book last b ++ news
 live_flushed settings book last b news is within le =
     let zero_is = first_zero settings book b is within in
@@ -86,8 +88,10 @@ pub length_is : (settings : Settings) (book : Book) (b : ℕ) → IsBookOf setti
 length_is settings book b is within =
     ap (λ (firsts : List ℕ). get_or (list_lengths firsts book.lists) b 0) (is.is_book.none is.dropped).1 ∙ lengths_at book.buckets b book.lists within is.is_book.lists
 
-pub live_merged : (settings : Settings) (book : Book) (next : Commit) (side b : ℕ) → IsBookOf settings book → b < book.buckets → next.live ≡ Some side → next.cut ≡ lengths_of book → live_offers (merged book) next b ≡ []
+pub live_merged : (settings : Settings) (book : Book) (next : Commit) (side b : ℕ) → IsBookOf settings book → b < book.buckets → next.live ≡ Some side → next.cut ≡ lengths_of book
+    → live_offers (merged book) next b ≡ []
 live_merged settings book next side b is within some cut =
     let zero_is = first_zero settings book b is within in
-    let from : get_or (starts (merged book) next) b 0 ≡ length (get_or book.lists b []) = ap (λ (l : List ℕ). get_or l b 0) (starts_some (merged book) next side some ∙ cut) ∙ length_is settings book b is within in
+    let from : get_or (starts (merged book) next) b 0 ≡ length (get_or book.lists b []) = ap (λ (l : List ℕ). get_or l b 0) (starts_some (merged book) next side some ∙ cut)
+    ∙ length_is settings book b is within in
     drop_all (get_or (starts (merged book) next) b 0 - get_or book.firsts b 0) (get_or book.lists b []) (omega (arith, zero_is, from))

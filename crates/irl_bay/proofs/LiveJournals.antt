@@ -3,8 +3,8 @@ use Rattle.std.proofs.Common.{◌≡◌, ◌≢◌, ◌∙◌, ◌⊎◌, inl, i
 use Rattle.std.specs.Option.{ForSome}
 use Rattle.irl_offer.specs.declared.settings.Settings.{Settings}
 use Rattle.irl_model.specs.Book.{Book}
-use Rattle.irl_disk.specs.Disk.{Files, Changes, ChangesFile, ChangesAmong}
-use Rattle.irl_disk.specs.Images.{Snapshot, IsConsistent, Follows, LeavesBy, LeavesSame}
+use Rattle.irl_disk.specs.Disk.{Files, Changes, ChangesFile, ChangesAmong, TellsBy}
+use Rattle.irl_disk.specs.Images.{Told, IsConsistent, Follows, LeavesBy, LeavesSame}
 use Rattle.irl_disk.specs.Taken.{TakesAmong, TakesOnly}
 use Rattle.irl_disk.proofs.Frames.{among_one, told_from, takes_both, takes_only}
 use Rattle.irl_disk.proofs.Stretches.{joins, left_now, reads_on, widens, widens_by}
@@ -17,7 +17,6 @@ use Rattle.irl_bay.specs.declared.layout.files.BayFile.TheVariants.{Manifest, Jo
 use Rattle.irl_bay.specs.declared.history.History.{History}
 use Rattle.irl_bay.specs.Commits.{Commit, commit_bytes, first_commit, last_commit, live_side}
 use Rattle.irl_bay.specs.Damage.{HasManifest, IsLiveJournal, IsAdopted}
-use Rattle.irl_bay.specs.Holding.{TellsBy}
 use Rattle.irl_bay.specs.Making.{IsJournalOn, IsJournalOf}
 use Rattle.irl_bay.specs.Opening.{IsJournalBelow, OpensBelow, AdoptsTo, ReadsLive}
 use Rattle.irl_bay.specs.Standing.{Stands}
@@ -59,7 +58,8 @@ live_back base buckets side old new opened is = record {
 live_below : (base buckets side : ℕ) (files : Files) → HasLive base buckets side files → (f : ℕ) → IsJournalBelow base side buckets f → IsLiveJournal base buckets files f
 live_below base buckets side files is f below = inr (is.commits, is.has, (below.0, below.1, below.2 ∙ ap (λ (s : ℕ). file_of base 0 (Journal s below.0)) (sym is.live)))
 
-below_live : (base buckets side : ℕ) (files : Files) → HasLive base buckets side files → (f : ℕ) → IsLiveJournal base buckets files f → (f ≡ file_of base 0 Manifest) ⊎ IsJournalBelow base side buckets f
+below_live : (base buckets side : ℕ) (files : Files) → HasLive base buckets side files → (f : ℕ) → IsLiveJournal base buckets files f → (f ≡ file_of base 0 Manifest)
+    ⊎ IsJournalBelow base side buckets f
 below_live base buckets side files is f (inl manifest) = inl manifest
 below_live base buckets side files is f (inr (commits, has, (b, within, e))) =
     let same : commits ≡ is.commits = one_manifest base buckets files commits is.commits has is.has in
@@ -68,7 +68,8 @@ below_live base buckets side files is f (inr (commits, has, (b, within, e))) =
 
 -- ---- what changes
 adopted_manifest : (base buckets : ℕ) (old new : Files) → ChangesFile (file_of base 0 Manifest) IsOpened old new → IsAdopted base buckets old new
-adopted_manifest base buckets old new step = among_one (IsLiveJournal base buckets old) (λ f. IsOpened) (file_of base 0 Manifest) IsOpened old new (inl refl) (λ x y is. is) (λ g x is. opened_none x) step
+adopted_manifest base buckets old new step = among_one (IsLiveJournal base buckets old) (λ f. IsOpened) (file_of base 0 Manifest) IsOpened old new (inl refl) (λ x y is. is) (λ g x is. opened_none x)
+    step
 
 -- the manifest, and then the buckets on the side that it leaves live
 adopted_then : (base side buckets : ℕ) (old mid new : Files) → IsAdopted base buckets old mid → HasLive base buckets side mid → OpensBelow base side buckets mid new → IsAdopted base buckets old new
@@ -86,23 +87,28 @@ tells_manifest : (base buckets : ℕ) (old new : Option Files) → Changes (file
 tells_manifest base buckets None new changes = changes
 tells_manifest base buckets (Some old) new changes = (changes.0, changes.1, adopted_manifest base buckets old changes.0 changes.2)
 
-tells_buckets : (base side buckets : ℕ) (old mid new : Option Files) → TellsBy (IsAdopted base buckets) old mid → ForSome mid (HasLive base buckets side) → TellsBy (OpensBelow base side buckets) mid new → TellsBy (IsAdopted base buckets) old new
+tells_buckets : (base side buckets : ℕ) (old mid new : Option Files) → TellsBy (IsAdopted base buckets) old mid → ForSome mid (HasLive base buckets side)
+    → TellsBy (OpensBelow base side buckets) mid new → TellsBy (IsAdopted base buckets) old new
 tells_buckets base side buckets None mid new first live second = subst (λ (files : Option Files). TellsBy (OpensBelow base side buckets) files new) first second
 tells_buckets base side buckets (Some old) mid new first live second =
     let next = subst (λ (files : Option Files). TellsBy (OpensBelow base side buckets) files new) first.1 second in
     (next.0, next.1, adopted_then base side buckets old first.0 next.0 first.2 (live first.0 first.1) next.2)
 
-pub adopts_first : (base buckets f : ℕ) (old new : Snapshot) → f ≡ file_of base 0 Manifest → Changes f IsOpened old.files new.files → LeavesBy (ChangesFile f IsOpened) old new → AdoptsTo base buckets old new
+pub adopts_first : (base buckets f : ℕ) (old new : Told) → f ≡ file_of base 0 Manifest → Changes f IsOpened old.files new.files → LeavesBy (ChangesFile f IsOpened) old new
+    → AdoptsTo base buckets old new
 adopts_first base buckets f old new is changes stops = record {
   files = tells_manifest base buckets old.files new.files (subst (λ (n : ℕ). Changes n IsOpened old.files new.files) is changes);
   stops = widens_by old new _ (IsAdopted base buckets) (subst (λ (n : ℕ). LeavesBy (ChangesFile n IsOpened) old new) is stops) (adopted_manifest base buckets);
 }
 
-pub adopts_same : (base buckets : ℕ) (old mid new : Snapshot) → IsConsistent mid → AdoptsTo base buckets old mid → new.files ≡ mid.files → LeavesSame mid new → AdoptsTo base buckets old new
-adopts_same base buckets old mid new law first same stops = record { files = subst (TellsBy (IsAdopted base buckets) old.files) (sym same) first.files; stops = reads_on old mid new _ law first.stops stops }
+pub adopts_same : (base buckets : ℕ) (old mid new : Told) → IsConsistent mid → AdoptsTo base buckets old mid → new.files ≡ mid.files → LeavesSame mid new → AdoptsTo base buckets old new
+adopts_same base buckets old mid new law first same stops = record {
+  files = subst (TellsBy (IsAdopted base buckets) old.files) (sym same) first.files;
+  stops = reads_on old mid new _ law first.stops stops;
+}
 
 -- ---- what opening the manifest gives
-pub record IsVisited (base buckets side : ℕ) (old mid : Snapshot) : Type 0 where
+pub record IsVisited (base buckets side : ℕ) (old mid : Told) : Type 0 where
   pub adopts : AdoptsTo base buckets old mid
   pub fits : side ≤ 1
   -- the side that it leaves live, in what was told, and in what each stop leaves from then on
@@ -110,15 +116,18 @@ pub record IsVisited (base buckets side : ℕ) (old mid : Snapshot) : Type 0 whe
   pub live : (image : Files) → mid.images image → HasLive base buckets side image
 
 -- a visitor that took its records has its last commit
-live_of : (base buckets f : ℕ) (files : Files) (blank new : History) (last : Commit) (payloads : List (List ℕ)) → f ≡ file_of base 0 Manifest → blank.buckets ≡ buckets → blank.last ≡ first_commit buckets → blank.count ≡ 0 → last ≡ new.last
+live_of : (base buckets f : ℕ) (files : Files) (blank new : History) (last : Commit) (payloads : List (List ℕ)) → f ≡ file_of base 0 Manifest → blank.buckets ≡ buckets
+    → blank.last ≡ first_commit buckets → blank.count ≡ 0 → last ≡ new.last
     → StandsFor (files f) payloads → TakesAll TakesCommit blank (placed_from 0 payloads) new → HasLive base buckets (live_side last) files
 live_of base buckets f files blank new last payloads is many first none same stands took =
     let told = manifest_of base buckets f files blank.last blank.count payloads new is first none stands (took_commits buckets 0 blank new payloads many (omega (arith, none)) took) in
     record { commits = told.commits; has = told.has; live = ap live_side (sym told.last_is ∙ sym same) }
 
-pub visited : (base buckets f : ℕ) (old mid : Snapshot) (journal : Tail) (blank new : History) (last : Commit) → IsConsistent mid → f ≡ file_of base 0 Manifest → journal.file ≡ f → blank.buckets ≡ buckets → blank.last ≡ first_commit buckets → blank.count ≡ 0 → last ≡ new.last
+pub visited : (base buckets f : ℕ) (old mid : Told) (journal : Tail) (blank new : History) (last : Commit) → IsConsistent mid → f ≡ file_of base 0 Manifest → journal.file ≡ f → blank.buckets ≡ buckets
+    → blank.last ≡ first_commit buckets → blank.count ≡ 0 → last ≡ new.last
     → Changes f IsOpened old.files mid.files → LeavesBy (ChangesFile f IsOpened) old mid → ForSome old.files (λ files. (payloads : List (List ℕ)) × StandsFor (files f) payloads)
-    → ForSome old.files (λ files. (payloads : List (List ℕ)) → StandsFor (files f) payloads → (journal.end ≡ length (records_text payloads)) × TakesAll TakesCommit blank (placed_from 0 payloads) new × IsOpen mid.images journal payloads)
+    → ForSome old.files (λ files. (payloads : List (List ℕ)) → StandsFor (files f) payloads → (journal.end ≡ length (records_text payloads)) × TakesAll TakesCommit blank (placed_from 0 payloads) new
+    × IsOpen mid.images journal payloads)
     → TookUpTo TakesCommit blank new 0 journal.end → IsVisited base buckets (live_side last) old mid
 visited base buckets f old mid journal blank new last law is_file is_journal many first none same changes stops found records took = record {
   adopts = adopts_first base buckets f old mid is_file changes stops;
@@ -135,14 +144,16 @@ visited base buckets f old mid journal blank new last law is_file is_journal man
 }
 
 -- and then the buckets are opened, after files were synced
-pub adopts_buckets : (base side buckets : ℕ) (old mid synced new : Snapshot) → IsVisited base buckets side old mid → IsConsistent mid → IsConsistent synced → synced.files ≡ mid.files → LeavesSame mid synced → TellsBy (OpensBelow base side buckets) synced.files new.files → LeavesBy (OpensBelow base side buckets) synced new
+pub adopts_buckets : (base side buckets : ℕ) (old mid synced new : Told) → IsVisited base buckets side old mid → IsConsistent mid → IsConsistent synced → synced.files ≡ mid.files
+    → LeavesSame mid synced → TellsBy (OpensBelow base side buckets) synced.files new.files → LeavesBy (OpensBelow base side buckets) synced new
     → AdoptsTo base buckets old new
 adopts_buckets base side buckets old mid synced new visit law law_synced same reads files stops =
     let first = adopts_same base buckets old mid synced law visit.adopts same reads in
     let live = λ (image : Files) (left : synced.images image). visit.live image (left_now mid synced mid.images law_synced reads image left) in
     record {
       files = tells_buckets base side buckets old.files synced.files new.files first.files (λ files told. live files (law_synced.told files told)) files;
-      stops = joins old synced new (Follows (IsAdopted base buckets) old.images) first.stops (widens synced new (Follows (OpensBelow base side buckets) synced.images) (Follows (IsAdopted base buckets) old.images) stops (λ image from.
+      stops = joins old synced new (Follows (IsAdopted base buckets) old.images) first.stops
+          (widens synced new (Follows (OpensBelow base side buckets) synced.images) (Follows (IsAdopted base buckets) old.images) stops (λ image from.
           let was = left_now old synced (Follows (IsAdopted base buckets) old.images) law_synced first.stops from.0 from.1 in
           (was.0, was.1, adopted_then base side buckets was.0 from.0 image was.2 (live from.0 from.1) from.2)));
     }
@@ -156,20 +167,29 @@ takes_first base buckets f files old new is takes = record {
 }
 
 -- and then nothing
-pub takes_first_alone : (base buckets f : ℕ) (files : Option Files) (old mid new : Option (ℕ → ℕ)) → f ≡ file_of base 0 Manifest → TakesOnly f old mid → new ≡ mid → ReadsLive base buckets files old new
+pub takes_first_alone : (base buckets f : ℕ) (files : Option Files) (old mid new : Option (ℕ → ℕ)) → f ≡ file_of base 0 Manifest → TakesOnly f old mid → new ≡ mid
+    → ReadsLive base buckets files old new
 takes_first_alone base buckets f files old mid new is takes same = subst (ReadsLive base buckets files old) (sym same) (takes_first base buckets f files old mid is takes)
 
 -- the manifest, and the buckets' journals
-pub takes_buckets : (base side buckets f : ℕ) (was now : Snapshot) (old mid synced new : Option (ℕ → ℕ)) → f ≡ file_of base 0 Manifest → IsVisited base buckets side was now → TakesOnly f old mid → synced ≡ mid → TakesAmong (IsJournalBelow base side buckets) synced new → ReadsLive base buckets was.files old new
+pub takes_buckets : (base side buckets f : ℕ) (was now : Told) (old mid synced new : Option (ℕ → ℕ)) → f ≡ file_of base 0 Manifest → IsVisited base buckets side was now → TakesOnly f old mid
+    → synced ≡ mid → TakesAmong (IsJournalBelow base side buckets) synced new → ReadsLive base buckets was.files old new
 takes_buckets base side buckets f was now old mid synced new is visit first same second =
     let read = subst (λ (from : Option (ℕ → ℕ)). TakesAmong (IsJournalBelow base side buckets) from new) same second in
     record {
-      side = (side, visit.fits, takes_both (IsJournalOn base side buckets) old mid new (takes_only (IsJournalOn base side buckets) f old mid (inl is) first) (takes_wider (IsJournalBelow base side buckets) (IsJournalOn base side buckets) mid new (λ g below. inr below) read));
-      live = λ files told. takes_both (IsLiveJournal base buckets files) old mid new (takes_only (IsLiveJournal base buckets files) f old mid (inl is) first) (takes_wider (IsJournalBelow base side buckets) (IsLiveJournal base buckets files) mid new (live_below base buckets side files (visit.told files told)) read);
+      side = (
+        side,
+        visit.fits,
+        takes_both (IsJournalOn base side buckets) old mid new (takes_only (IsJournalOn base side buckets) f old mid (inl is) first)
+            (takes_wider (IsJournalBelow base side buckets) (IsJournalOn base side buckets) mid new (λ g below. inr below) read),
+      );
+      live = λ files told. takes_both (IsLiveJournal base buckets files) old mid new (takes_only (IsLiveJournal base buckets files) f old mid (inl is) first)
+          (takes_wider (IsJournalBelow base side buckets) (IsLiveJournal base buckets files) mid new (live_below base buckets side files (visit.told files told)) read);
     }
 
 -- and the manifest once more
-pub takes_more : (base buckets f : ℕ) (files : Option Files) (old mid new : Option (ℕ → ℕ)) → f ≡ file_of base 0 Manifest → ReadsLive base buckets files old mid → TakesOnly f mid new → ReadsLive base buckets files old new
+pub takes_more : (base buckets f : ℕ) (files : Option Files) (old mid new : Option (ℕ → ℕ)) → f ≡ file_of base 0 Manifest → ReadsLive base buckets files old mid → TakesOnly f mid new
+    → ReadsLive base buckets files old new
 takes_more base buckets f files old mid new is first second = record {
   side = (first.side.0, first.side.1, takes_both (IsJournalOn base first.side.0 buckets) old mid new first.side.2 (takes_only (IsJournalOn base first.side.0 buckets) f mid new (inl is) second));
   live = λ told is_told. takes_both (IsLiveJournal base buckets told) old mid new (first.live told is_told) (takes_only (IsLiveJournal base buckets told) f mid new (inl is) second);

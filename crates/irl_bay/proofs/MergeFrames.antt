@@ -2,7 +2,7 @@
 use Rattle.std.proofs.Common.{◌≡◌, ◌≢◌, ◌∙◌, inl, inr, ⊎_elim, ℕ, ◌+◌, ◌-◌, ◌<◌, ◌≤◌, List, [], map, Option, None, Some, IfSome, refl, sym, subst, arith}
 use Rattle.irl_offer.specs.Tuple.{Tuple}
 use Rattle.irl_model.specs.Book.{Book}
-use Rattle.irl_disk.specs.Disk.{Files, ChangesFile}
+use Rattle.irl_disk.specs.Disk.{Files, ChangesFile, ChangesOnly}
 use Rattle.irl_disk.specs.Images.{Follows}
 use Rattle.irl_journal.specs.Appending.{Tail, Ends, IsOpen}
 use Rattle.irl_journal.specs.Blob.{Front, KeepsFront, IsCommitted}
@@ -12,13 +12,14 @@ use Rattle.irl_bay.specs.declared.bucket.Bucket.{Bucket}
 use Rattle.irl_bay.specs.declared.layout.files.BayFile.TheVariants.{Cache, Judged, Texts}
 use Rattle.irl_bay.specs.Commits.{commit_bytes, live_side, side_of}
 use Rattle.irl_bay.specs.Drum.{Drum, IsDrum, bucket_at, durable_at, cache_front, judged_front, texts_front}
-use Rattle.irl_bay.specs.Holding.{ChangesOnly, Holds, HoldsBucket}
+use Rattle.irl_bay.specs.Holding.{Holds, HoldsBucket}
 use Rattle.irl_bay.specs.Merging.{IsBatchFile, KeepsCommitted, emptied}
 use Rattle.irl_bay.proofs.JudgedBooks.{few_buckets}
 
 -- ---- from the images of one moment to those of a later one
 -- a blob whose front stays is committed as before
-pub blob_moved : (blob : Front) (held : List ℕ) (old new : Files → Type 0) → ((z : Files) → new z → (y : Files) × old y × KeepsFront blob.length (y blob.file) (z blob.file)) → IsCommitted old blob held → IsCommitted new blob held
+pub blob_moved : (blob : Front) (held : List ℕ) (old new : Files → Type 0) → ((z : Files) → new z → (y : Files) × old y × KeepsFront blob.length (y blob.file) (z blob.file))
+    → IsCommitted old blob held → IsCommitted new blob held
 blob_moved blob held old new from committed = record {
   size = committed.size;
   each = λ z left. let y = from z left in y.2 held committed.size (committed.each y.0 y.1);
@@ -28,13 +29,15 @@ pub same_front : (n : ℕ) (old new : List ℕ) → new ≡ old → KeepsFront n
 same_front n old new same = subst (λ (file : List ℕ). KeepsFront n old file) (sym same) (keeps_none n old)
 
 -- a journal whose file stays is open as before
-pub tail_moved : (tail : Tail) (payloads : List (List ℕ)) (old new : Files → Type 0) → ((z : Files) → new z → (y : Files) × old y × (z tail.file ≡ y tail.file)) → IsOpen old tail payloads → IsOpen new tail payloads
+pub tail_moved : (tail : Tail) (payloads : List (List ℕ)) (old new : Files → Type 0) → ((z : Files) → new z → (y : Files) × old y × (z tail.file ≡ y tail.file)) → IsOpen old tail payloads
+    → IsOpen new tail payloads
 tail_moved tail payloads old new from is_open = λ z left.
     let y = from z left in
     subst (λ (file : List ℕ). Ends tail.end file payloads) (sym y.2) (is_open y.0 y.1)
 
 -- a bucket whose files stay has its list
-pub bucket_moved : (array cut : ℕ) (bucket : Bucket) (list : List Tuple) (old new : Files → Type 0) → ((z : Files) → new z → (y : Files) × old y × (z bucket.journal.file ≡ y bucket.journal.file) × (z bucket.aux.file ≡ y bucket.aux.file))
+pub bucket_moved : (array cut : ℕ) (bucket : Bucket) (list : List Tuple) (old new : Files → Type 0)
+    → ((z : Files) → new z → (y : Files) × old y × (z bucket.journal.file ≡ y bucket.journal.file) × (z bucket.aux.file ≡ y bucket.aux.file))
     → HoldsBucket old array cut bucket list → HoldsBucket new array cut bucket list
 bucket_moved array cut bucket list old new from holds = record {
   before = holds.before;
@@ -59,7 +62,8 @@ pub record Stays (drum : Drum) (y z : Files) : Type 0 where
   pub texts : KeepsFront (texts_front drum).length (y (texts_front drum).file) (z (texts_front drum).file)
 
 -- it holds its book where its manifest has the same records
-pub holds_moved : (old new : Files → Type 0) (drum : Drum) (book : Book) → ((z : Files) → new z → Follows (Stays drum) old z) → (holds : Holds old drum book) → IsOpen new drum.manifest (map commit_bytes holds.commits) → Holds new drum book
+pub holds_moved : (old new : Files → Type 0) (drum : Drum) (book : Book) → ((z : Files) → new z → Follows (Stays drum) old z) → (holds : Holds old drum book)
+    → IsOpen new drum.manifest (map commit_bytes holds.commits) → Holds new drum book
 holds_moved old new drum book from holds manifest = record {
   book_is = holds.book_is;
   offers = holds.offers;
@@ -107,8 +111,10 @@ AreEmptied images drum = (array b : ℕ) → b < drum.settings.buckets → Holds
 pub low_apart : (base side buckets f : ℕ) → f < base + 10 → IsSideFile base side buckets f → ⊥
 low_apart base side buckets f low is = ⊎_elim (λ e. omega (arith, e, low)) (λ e. omega (arith, e, low)) is.2
 
-pub low_stays : (old new : Files → Type 0) (drum : Drum) (blob : Front) (held : List ℕ) → blob.file < drum.base + 10 → ((z : Files) → new z → Follows (Empties drum) old z) → IsCommitted old blob held → IsCommitted new blob held
-low_stays old new drum blob held low from = blob_moved blob held old new (λ z left. let y = from z left in (y.0, y.1, same_front _ _ _ (y.2 blob.file (low_apart drum.base (1 - live_side drum.last) drum.settings.buckets blob.file low))))
+pub low_stays : (old new : Files → Type 0) (drum : Drum) (blob : Front) (held : List ℕ) → blob.file < drum.base + 10 → ((z : Files) → new z → Follows (Empties drum) old z) → IsCommitted old blob held
+    → IsCommitted new blob held
+low_stays old new drum blob held low from = blob_moved blob held old new (λ z left. let y = from z left in
+    (y.0, y.1, same_front _ _ _ (y.2 blob.file (low_apart drum.base (1 - live_side drum.last) drum.settings.buckets blob.file low))))
 
 live_low : (drum : Drum) → IsDrum drum → live_side drum.last ≤ 1
 live_low drum law = side_low drum.last.live law.last.live
@@ -118,11 +124,13 @@ live_low drum law = side_low drum.last.live law.last.live
     side_low (Some side) is = is
 
 -- nor is one of the live side
-live_apart : (drum : Drum) (b f : ℕ) → IsDrum drum → b < drum.settings.buckets → IsBucketFile drum.base (live_side drum.last) b f → IsSideFile drum.base (1 - live_side drum.last) drum.settings.buckets f → ⊥
+live_apart : (drum : Drum) (b f : ℕ) → IsDrum drum → b < drum.settings.buckets → IsBucketFile drum.base (live_side drum.last) b f
+    → IsSideFile drum.base (1 - live_side drum.last) drum.settings.buckets f → ⊥
 live_apart drum b f law within of is =
     let few = few_buckets drum.settings.buckets law.settings.buckets in
     let low = live_low drum law in
-    ⊎_elim (λ e. ⊎_elim (λ d. omega (arith, e, d, low, few, within, is.1)) (λ d. omega (arith, e, d, low, few, within, is.1)) is.2) (λ e. ⊎_elim (λ d. omega (arith, e, d, low, few, within, is.1)) (λ d. omega (arith, e, d, low, few, within, is.1)) is.2) of
+    ⊎_elim (λ e. ⊎_elim (λ d. omega (arith, e, d, low, few, within, is.1)) (λ d. omega (arith, e, d, low, few, within, is.1)) is.2) (λ e.
+    ⊎_elim (λ d. omega (arith, e, d, low, few, within, is.1)) (λ d. omega (arith, e, d, low, few, within, is.1)) is.2) of
 
 pub empties_stays : (drum : Drum) (y z : Files) → IsDrum drum → Empties drum y z → Stays drum y z
 empties_stays drum y z law empties = record {

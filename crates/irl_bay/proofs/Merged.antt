@@ -21,10 +21,15 @@ use Rattle.irl_bay.specs.Merging.{FitsBatch, IsBatchOf, HasRoom, next_commit, em
 -- ---- how many
 pub length-judged_entries : (place : ℕ) (judged : List Judged) → length (judged_entries place judged) ≡ 48 * length judged
 length-judged_entries place [] = refl
-length-judged_entries place (one ∷ more) = omega (arith, length-append (judged_bytes place one) (judged_entries (place + length one.offer.aux) more), length-judged_entries (place + length one.offer.aux) more)
+length-judged_entries place (one ∷ more) = omega (
+  arith,
+  length-append (judged_bytes place one) (judged_entries (place + length one.offer.aux) more),
+  length-judged_entries (place + length one.offer.aux) more,
+)
 
 -- ---- a bay's buckets
-emptied_at : (base side first b : ℕ) (buckets : List Bucket) → b < length buckets → get_or (emptied_from base side first buckets) b no_bucket ≡ emptied base side (first + b) (get_or buckets b no_bucket).durable
+emptied_at : (base side first b : ℕ) (buckets : List Bucket) → b < length buckets
+    → get_or (emptied_from base side first buckets) b no_bucket ≡ emptied base side (first + b) (get_or buckets b no_bucket).durable
 emptied_at base side first b [] within = absurd (omega (arith, within))
 emptied_at base side first zero (bucket ∷ buckets) within = let e : first ≡ first + 0 = omega arith in ap (λ (n : ℕ). emptied base side n bucket.durable) e
 emptied_at base side first (suc b) (bucket ∷ buckets) within =
@@ -46,7 +51,8 @@ durables_same base side first [] = refl
 durables_same base side first (bucket ∷ more) = ap (λ (l : List ℕ). bucket.durable ∷ l) (durables_same base side (first + 1) more)
 
 -- what every open bay keeps, it keeps through a merge
-pub drum_committed : (drum : Drum) (next : Commit) (manifest : Tail) → IsDrum drum → HasRoom drum.settings.buckets next → next.cut ≡ durables drum → next.live ≡ Some (1 - live_side drum.last) → manifest.file ≡ file_of drum.base 0 Manifest → manifest.is_sound ≡ true
+pub drum_committed : (drum : Drum) (next : Commit) (manifest : Tail) → IsDrum drum → HasRoom drum.settings.buckets next → next.cut ≡ durables drum → next.live ≡ Some (1 - live_side drum.last)
+    → manifest.file ≡ file_of drum.base 0 Manifest → manifest.is_sound ≡ true
     → drum.cuts + 1 ≤ manifest.end → IsDrum (with_commit manifest next drum)
 drum_committed drum next manifest law room cut live file sound cuts = record {
   base = law.base;
@@ -62,7 +68,8 @@ drum_committed drum next manifest law room cut live file sound cuts = record {
       let e = ap (λ (l : List ℕ). get_or l b 0) cut ∙ durable_is drum b in
       let side : live_side next ≡ 1 - live_side drum.last = ap side_of live in
       subst (λ (n : ℕ). IsBucket drum.base n b (get_or next.cut b 0) true (get_or (emptied_from drum.base (1 - live_side drum.last) 0 drum.buckets) b no_bucket)) (sym side)
-      (subst (λ (bucket : Bucket). IsBucket drum.base (1 - live_side drum.last) b (get_or next.cut b 0) true bucket) (sym (bucket_emptied drum (1 - live_side drum.last) b (omega (arith, law.count, within)))) (record {
+      (subst (λ (bucket : Bucket). IsBucket drum.base (1 - live_side drum.last) b (get_or next.cut b 0) true bucket)
+      (sym (bucket_emptied drum (1 - live_side drum.last) b (omega (arith, law.count, within)))) (record {
         journal = refl;
         aux = refl;
         sound = λ sound_is. refl;
@@ -79,7 +86,8 @@ all_fit (n ∷ numbers) each = (each 0, all_fit numbers (λ i. each (suc i)))
 
 -- ---- a book's commits
 -- the counts of keys don't fall with one more
-grow_more : (first : Commit) (commits : List Commit) (next : Commit) → GrowFrom first.entries commits → (last_commit first commits).entries ≤ next.entries → GrowFrom first.entries (commits ++ next ∷ [])
+grow_more : (first : Commit) (commits : List Commit) (next : Commit) → GrowFrom first.entries commits → (last_commit first commits).entries ≤ next.entries
+    → GrowFrom first.entries (commits ++ next ∷ [])
 grow_more first [] next grow rises = (rises, tt)
 grow_more first (commit ∷ commits) next grow rises = (grow.0, grow_more commit commits next grow.1 rises)
 
@@ -111,12 +119,14 @@ each_more book commits next d are is default i within = ⊎_elim earlier last (e
     last : i ≡ length commits → IsCommitOf (with_cuts (i + 1) (merged book)) (get_or (commits ++ next ∷ []) i (first_commit book.buckets))
     last at =
         let all : length (merged book).cuts ≤ i + 1 = omega (arith, are.count, length-append book.cuts (lengths_of book ∷ [])) in
-        let here : get_or (commits ++ next ∷ []) i (first_commit book.buckets) ≡ next = ap (λ (n : ℕ). get_or (commits ++ next ∷ []) n (first_commit book.buckets)) at ∙ get_or-append_seam commits next [] (first_commit book.buckets) in
+        let here : get_or (commits ++ next ∷ []) i (first_commit book.buckets) ≡ next = ap (λ (n : ℕ). get_or (commits ++ next ∷ []) n (first_commit book.buckets)) at
+        ∙ get_or-append_seam commits next [] (first_commit book.buckets) in
         subst (λ (x : Book). IsCommitOf x (get_or (commits ++ next ∷ []) i (first_commit book.buckets))) (sym (earlier_all (i + 1) (merged book) all))
         (subst (λ (x : Commit). IsCommitOf (merged book) x) (sym here) is)
 
 -- a commit for each cut, and one for the new cut
-pub commits_more : (book : Book) (commits : List Commit) (next : Commit) → AreCommitsOf book commits → IsCommitOf (merged book) next → IsCommit book.buckets next → (last_commit (first_commit book.buckets) commits).entries ≤ next.entries → IsSome next.live → AreCommitsOf (merged book) (commits ++ next ∷ [])
+pub commits_more : (book : Book) (commits : List Commit) (next : Commit) → AreCommitsOf book commits → IsCommitOf (merged book) next → IsCommit book.buckets next
+    → (last_commit (first_commit book.buckets) commits).entries ≤ next.entries → IsSome next.live → AreCommitsOf (merged book) (commits ++ next ∷ [])
 commits_more book commits next are is form rises some = record {
   count = omega (arith, are.count, length-append commits (next ∷ []), length-append book.cuts (lengths_of book ∷ []));
   each = each_more book commits next _ are is refl;
@@ -135,10 +145,19 @@ few_uniques number (one ∷ more) = by_test (is_unique one.verdict) refl (few_un
     by_test false is le = rw is (omega arith)
 
 -- the commit of a batch is that of the merged book
-pub next_is : (drum : Drum) (book : Book) (batch : Batch) → HasNumbers drum book → FitsBatch drum batch → IsBatchOf book batch → HasRoom drum.settings.buckets (next_commit drum batch) → IsCommitOf (merged book) (next_commit drum batch)
+pub next_is : (drum : Drum) (book : Book) (batch : Batch) → HasNumbers drum book → FitsBatch drum batch → IsBatchOf book batch → HasRoom drum.settings.buckets (next_commit drum batch)
+    → IsCommitOf (merged book) (next_commit drum batch)
 next_is drum book batch numbers fits is room =
     let judged_is : drum.last.judged + batch.count ≡ length (judged (merged book)) =
-    omega (arith, numbers.commit.judged, fits.judged, ap (λ (l : List ℕ). length l) is.judged_are, length-append (judged_entries 0 (judged book)) batch.judged, length-judged_entries 0 (judged book), length-judged_entries 0 (judged (merged book))) in
+    omega (
+      arith,
+      numbers.commit.judged,
+      fits.judged,
+      ap (λ (l : List ℕ). length l) is.judged_are,
+      length-append (judged_entries 0 (judged book)) batch.judged,
+      length-judged_entries 0 (judged book),
+      length-judged_entries 0 (judged (merged book)),
+    ) in
     record {
       judged = judged_is;
       unique = omega (arith, numbers.commit.unique, is.unique, few_uniques (gone (merged book)) (judged (merged book)), judged_is, room.judged);
@@ -146,7 +165,8 @@ next_is drum book batch numbers fits is room =
       cut = fits.cut ∙ numbers.offers ∙ sym (merged_cut book);
     }
 
-pub numbers_merged : (drum : Drum) (book : Book) (batch : Batch) (manifest : Tail) → HasNumbers drum book → FitsBatch drum batch → IsBatchOf book batch → HasRoom drum.settings.buckets (next_commit drum batch) → HasNumbers (with_commit manifest (next_commit drum batch) drum) (merged book)
+pub numbers_merged : (drum : Drum) (book : Book) (batch : Batch) (manifest : Tail) → HasNumbers drum book → FitsBatch drum batch → IsBatchOf book batch
+    → HasRoom drum.settings.buckets (next_commit drum batch) → HasNumbers (with_commit manifest (next_commit drum batch) drum) (merged book)
 numbers_merged drum book batch manifest numbers fits is room = record {
   offers = durables_same drum.base (1 - live_side drum.last) 0 drum.buckets ∙ numbers.offers;
   commit = next_is drum book batch numbers fits is room;

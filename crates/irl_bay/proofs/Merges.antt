@@ -42,7 +42,8 @@ pub record IsReady (images : Files → Type 0) (drum : Drum) (book : Book) (batc
   pub emptied_are : AreEmptied images drum
 
 -- it is once the three files are synced and the side is emptied
-pub ready : (old mid new : Files → Type 0) (drum : Drum) (book : Book) (batch : Batch) → IsDrum drum → drum.is_sound ≡ true → SomePending drum → FitsBatch drum batch → HasRoom drum.settings.buckets (next_commit drum batch) → Holds old drum book → Holds mid drum book → IsBatchOf book batch → IsWritten drum batch old mid
+pub ready : (old mid new : Files → Type 0) (drum : Drum) (book : Book) (batch : Batch) → IsDrum drum → drum.is_sound ≡ true → SomePending drum → FitsBatch drum batch
+    → HasRoom drum.settings.buckets (next_commit drum batch) → Holds old drum book → Holds mid drum book → IsBatchOf book batch → IsWritten drum batch old mid
     → ((z : Files) → new z → Follows (Empties drum) mid z) → AreEmptied new drum → IsReady new drum book batch
 ready old mid new drum book batch law sound some fits room before holds is written from emptied_are = record {
   law = law;
@@ -53,39 +54,48 @@ ready old mid new drum book batch law sound some fits room before holds is writt
   holds = holds_emptied mid new drum book law from holds;
   is_batch = is;
   cache = low_stays mid new drum (next_cache drum batch) _ (omega arith) from (subst (λ (bytes : List ℕ). IsCommitted mid (next_cache drum batch) bytes) is.pairs written.cache);
-  judged_are = low_stays mid new drum (next_judged drum batch) _ (omega arith) from (subst (λ (bytes : List ℕ). IsCommitted mid (next_judged drum batch) bytes) is.judged_are (written.judged (judged_entries 0 (judged book)) before.judged_are));
-  texts = low_stays mid new drum (next_texts drum batch) _ (omega arith) from (subst (λ (bytes : List ℕ). IsCommitted mid (next_texts drum batch) bytes) is.texts (written.texts (texts_of (judged_offers book)) before.texts));
+  judged_are = low_stays mid new drum (next_judged drum batch) _ (omega arith) from
+      (subst (λ (bytes : List ℕ). IsCommitted mid (next_judged drum batch) bytes) is.judged_are (written.judged (judged_entries 0 (judged book)) before.judged_are));
+  texts = low_stays mid new drum (next_texts drum batch) _ (omega arith) from (subst (λ (bytes : List ℕ). IsCommitted mid (next_texts drum batch) bytes) is.texts
+      (written.texts (texts_of (judged_offers book)) before.texts));
   emptied_are = emptied_are;
 }
 
 -- ---- with the record
 -- a blob whose file isn't the manifest stays committed
-beside : (manifest : ℕ) (step : List ℕ → List ℕ → Type 0) (blob : Front) (held : List ℕ) (old new : Files → Type 0) → (blob.file ≡ manifest → ⊥) → ((z : Files) → new z → Follows (ChangesFile manifest step) old z) → IsCommitted old blob held → IsCommitted new blob held
+beside : (manifest : ℕ) (step : List ℕ → List ℕ → Type 0) (blob : Front) (held : List ℕ) (old new : Files → Type 0) → (blob.file ≡ manifest → ⊥)
+    → ((z : Files) → new z → Follows (ChangesFile manifest step) old z) → IsCommitted old blob held → IsCommitted new blob held
 beside manifest step blob held old new apart from committed = blob_moved blob held old new (λ z left. let y = from z left in (y.0, y.1, same_front _ _ _ (y.2.others blob.file apart))) committed
 
 module _ (step : List ℕ → List ℕ → Type 0) (old new : Files → Type 0) (drum : Drum) (book : Book) (batch : Batch) (manifest : Tail) where
   -- the buckets' live files are empty then
-  buckets_merged : (r : IsReady old drum book batch) → ((z : Files) → new z → Follows (ChangesFile drum.manifest.file step) old z) → IsCommitOf (merged book) (next_commit drum batch) → (b : ℕ) → b < book.buckets
-      → HoldsBucket new drum.settings.array (get_or batch.cut b 0 - (bucket_at (with_commit manifest (next_commit drum batch) drum) b).start) (bucket_at (with_commit manifest (next_commit drum batch) drum) b) (live_offers (merged book) (next_commit drum batch) b)
+  buckets_merged : (r : IsReady old drum book batch) → ((z : Files) → new z → Follows (ChangesFile drum.manifest.file step) old z) → IsCommitOf (merged book) (next_commit drum batch) → (b : ℕ)
+      → b < book.buckets
+      → HoldsBucket new drum.settings.array (get_or batch.cut b 0 - (bucket_at (with_commit manifest (next_commit drum batch) drum) b).start)
+      (bucket_at (with_commit manifest (next_commit drum batch) drum) b) (live_offers (merged book) (next_commit drum batch) b)
   buckets_merged r from is b within =
       let inside : b < drum.settings.buckets = omega (arith, within, r.holds.book_is.buckets) in
       let file = r.law.manifest in
       let one = emptied drum.base (1 - live_side drum.last) b (durable_at drum b) in
-      let moved = bucket_moved drum.settings.array 0 one [] old new (λ z left. let y = from z left in (y.0, y.1, y.2.others one.journal.file (λ e. omega (arith, e, file)), y.2.others one.aux.file (λ e. omega (arith, e, file)))) (r.emptied_are drum.settings.array b inside) in
+      let moved = bucket_moved drum.settings.array 0 one [] old new (λ z left. let y = from z left in
+      (y.0, y.1, y.2.others one.journal.file (λ e. omega (arith, e, file)), y.2.others one.aux.file (λ e. omega (arith, e, file)))) (r.emptied_are drum.settings.array b inside) in
       let cut : get_or batch.cut b 0 ≡ durable_at drum b = ap (λ (l : List ℕ). get_or l b 0) r.fits.cut ∙ durable_is drum b in
       let none : 0 ≡ get_or batch.cut b 0 - durable_at drum b = omega (arith, cut) in
       let live = live_merged drum.settings book (next_commit drum batch) (1 - live_side drum.last) b r.holds.book_is within refl (is.cut ∙ merged_cut book) in
-      subst (λ (bucket : Bucket). HoldsBucket new drum.settings.array (get_or batch.cut b 0 - bucket.start) bucket (live_offers (merged book) (next_commit drum batch) b)) (sym (bucket_emptied drum (1 - live_side drum.last) b (omega (arith, r.law.count, inside))))
+      subst (λ (bucket : Bucket). HoldsBucket new drum.settings.array (get_or batch.cut b 0 - bucket.start) bucket (live_offers (merged book) (next_commit drum batch) b))
+      (sym (bucket_emptied drum (1 - live_side drum.last) b (omega (arith, r.law.count, inside))))
       (subst (λ (l : List Tuple). HoldsBucket new drum.settings.array (get_or batch.cut b 0 - durable_at drum b) one l) (sym live)
       (subst (λ (n : ℕ). HoldsBucket new drum.settings.array n one []) none moved))
 
-  starts_merged : (r : IsReady old drum book batch) (b : ℕ) → b < book.buckets → (bucket_at (with_commit manifest (next_commit drum batch) drum) b).start ≡ get_or (starts (merged book) (next_commit drum batch)) b 0
+  starts_merged : (r : IsReady old drum book batch) (b : ℕ) → b < book.buckets → (bucket_at (with_commit manifest (next_commit drum batch) drum) b).start
+      ≡ get_or (starts (merged book) (next_commit drum batch)) b 0
   starts_merged r b within =
       let inside : b < length drum.buckets = omega (arith, within, r.holds.book_is.buckets, r.law.count) in
       ap (λ (bucket : Bucket). bucket.start) (bucket_emptied drum (1 - live_side drum.last) b inside) ∙ sym (durable_is drum b) ∙ sym (ap (λ (l : List ℕ). get_or l b 0) r.fits.cut)
 
   -- the bay has the book with one cut more
-  pub holds_merged : (r : IsReady old drum book batch) → ((z : Files) → new z → Follows (ChangesFile drum.manifest.file step) old z) → IsOpen new manifest (map commit_bytes r.holds.commits ++ commit_bytes (next_commit drum batch) ∷ [])
+  pub holds_merged : (r : IsReady old drum book batch) → ((z : Files) → new z → Follows (ChangesFile drum.manifest.file step) old z)
+      → IsOpen new manifest (map commit_bytes r.holds.commits ++ commit_bytes (next_commit drum batch) ∷ [])
       → Holds new (with_commit manifest (next_commit drum batch) drum) (merged book)
   holds_merged r from is_open =
       let next = next_commit drum batch in
@@ -93,7 +103,12 @@ module _ (step : List ℕ → List ℕ → Type 0) (old new : Files → Type 0) 
       let is = next_is drum book batch r.holds.numbers r.fits r.is_batch r.room in
       let file = r.law.manifest in
       record {
-        book_is = record { is_book = merged_book book r.holds.book_is.is_book (pending_differs drum book r.holds.numbers r.some); buckets = r.holds.book_is.buckets; rule = r.holds.book_is.rule; dropped = r.holds.book_is.dropped };
+        book_is = record {
+          is_book = merged_book book r.holds.book_is.is_book (pending_differs drum book r.holds.numbers r.some);
+          buckets = r.holds.book_is.buckets;
+          rule = r.holds.book_is.rule;
+          dropped = r.holds.book_is.dropped;
+        };
         offers = r.holds.offers;
         starts_are = λ b within. starts_merged r b within;
         buckets = λ b within. buckets_merged r from is b within;
@@ -125,7 +140,8 @@ pub record IsMerged (drum : Drum) (book : Book) (batch : Batch) (image : Files) 
   pub holds : Holds (Only image) (with_commit manifest (next_commit drum batch) drum) (merged book)
 
 -- it leaves an image that holds the book, with the cut or without
-pub ready_leaves : (images : Files → Type 0) (drum : Drum) (book : Book) (batch : Batch) (y z : Files) → (r : IsReady images drum book batch) → images y → ChangesFile drum.manifest.file (HasOrGains (map commit_bytes r.holds.commits) (commit_bytes (next_commit drum batch))) y z
+pub ready_leaves : (images : Files → Type 0) (drum : Drum) (book : Book) (batch : Batch) (y z : Files) → (r : IsReady images drum book batch) → images y
+    → ChangesFile drum.manifest.file (HasOrGains (map commit_bytes r.holds.commits) (commit_bytes (next_commit drum batch))) y z
     → Holds (Only z) drum book ⊎ IsMerged drum book batch z
 ready_leaves images drum book batch y z r left change = ⊎_elim without with change.changed
   where

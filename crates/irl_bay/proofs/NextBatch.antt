@@ -74,8 +74,10 @@ module _ (book : Book) (is_book : IsBook book) (dropped : book.dropped ≡ 0) (c
       nothing (first ∷ firsts) (from ∷ froms) (to ∷ tos) = refl
 
 -- ---- what is then written
-pub is_batch : (drum : Drum) (book : Book) (fed put : List Pair) (offers : List Tuple) (verdicts : List (Option Verdict)) → drum.settings.rule ≡ book.rule → drum.settings.buckets ≡ book.buckets → drum.last.texts ≡ length (texts_of (judged_offers book)) → offers ≡ pending book → keys_of fed ≡ seen book
-    → verdicts ≡ map (λ p. p.1) (judgements drum.settings.rule (keys_of fed) offers) → ArePairsOf (after drum.settings.rule (keys_of fed) offers) put → IsBatchOf book (batch_of drum put offers verdicts)
+pub is_batch : (drum : Drum) (book : Book) (fed put : List Pair) (offers : List Tuple) (verdicts : List (Option Verdict)) → drum.settings.rule ≡ book.rule → drum.settings.buckets ≡ book.buckets
+    → drum.last.texts ≡ length (texts_of (judged_offers book)) → offers ≡ pending book → keys_of fed ≡ seen book
+    → verdicts ≡ map (λ p. p.1) (judgements drum.settings.rule (keys_of fed) offers) → ArePairsOf (after drum.settings.rule (keys_of fed) offers) put
+    → IsBatchOf book (batch_of drum put offers verdicts)
 is_batch drum book fed put offers verdicts rule buckets at all keys told are =
     let next = judged_next book in
     let place = drum.last.texts in
@@ -84,23 +86,29 @@ is_batch drum book fed put offers verdicts rule buckets at all keys told are =
     let judged_now : judgements drum.settings.rule (keys_of fed) offers ≡ judgements book.rule (seen book) (pending book) =
     ap (λ r. judgements r (keys_of fed) offers) rule ∙ ap (λ m. judgements book.rule m offers) keys ∙ ap (judgements book.rule (seen book)) all in
     let ones : judged_with drum.settings.buckets offers verdicts ≡ next =
-    ap (λ n. judged_with n offers verdicts) buckets ∙ ap (λ (v : List (Option Verdict)). map (judged_as book.buckets) (zip offers v)) told ∙ ap (map (judged_as book.buckets)) (zip-judgements drum.settings.rule (keys_of fed) offers) ∙ ap (map (judged_as book.buckets)) judged_now in
+    ap (λ n. judged_with n offers verdicts) buckets ∙ ap (λ (v : List (Option Verdict)). map (judged_as book.buckets) (zip offers v)) told
+    ∙ ap (map (judged_as book.buckets)) (zip-judgements drum.settings.rule (keys_of fed) offers) ∙ ap (map (judged_as book.buckets)) judged_now in
     let pairs : map pair_of put ≡ entries (seen (merged book)) = are ∙ ap entries asked in
     let back : offers_of (judged book) ≡ judged_offers book = offers_back book.buckets book.rule book.base (judged_offers book) in
-    let there : place ≡ 0 + length (texts_of (offers_of (judged book))) = at ∙ (let e : length (texts_of (judged_offers book)) ≡ 0 + length (texts_of (judged_offers book)) = omega arith in e) ∙ ap (λ (l : List Tuple). 0 + length (texts_of l)) (sym back) in
-    let more : judged_entries place (judged_with drum.settings.buckets offers verdicts) ≡ judged_entries (0 + length (texts_of (offers_of (judged book)))) next = ap (judged_entries place) ones ∙ ap (λ n. judged_entries n next) there in
+    let there : place ≡ 0 + length (texts_of (offers_of (judged book))) = at ∙ (let e : length (texts_of (judged_offers book)) ≡ 0 + length (texts_of (judged_offers book)) = omega arith in e)
+    ∙ ap (λ (l : List Tuple). 0 + length (texts_of l)) (sym back) in
+    let more : judged_entries place (judged_with drum.settings.buckets offers verdicts) ≡ judged_entries (0 + length (texts_of (offers_of (judged book)))) next = ap (judged_entries place) ones
+    ∙ ap (λ n. judged_entries n next) there in
     let numbers = ap length (merged_uniques book) ∙ length-append (uniques book) (uniques_from (gone book + length (judged book)) next) in
-    let found : length (uniques_from 0 (judged_with drum.settings.buckets offers verdicts)) ≡ length (uniques_from (gone book + length (judged book)) next) = ap (λ l. length (uniques_from 0 l)) ones ∙ same_count 0 (gone book + length (judged book)) next in
+    let found : length (uniques_from 0 (judged_with drum.settings.buckets offers verdicts)) ≡ length (uniques_from (gone book + length (judged book)) next) = ap (λ l. length (uniques_from 0 l)) ones
+    ∙ same_count 0 (gone book + length (judged book)) next in
     record {
       pairs = ap pairs_bytes pairs;
       entries_are = sym (length-map put pair_of) ∙ ap length pairs;
       judged_are = ap (λ l. judged_entries 0 (judged book) ++ l) more ∙ sym (entries_both 0 (judged book) next) ∙ ap (judged_entries 0) (sym (merged_judged book));
       unique = omega (arith, numbers, found);
-      texts = ap (λ (l : List Tuple). texts_of (judged_offers book) ++ texts_of l) all ∙ sym (flat_map-append (λ (o : Tuple). o.aux) (judged_offers book) (pending book)) ∙ ap texts_of (sym (merged_offers book));
+      texts = ap (λ (l : List Tuple). texts_of (judged_offers book) ++ texts_of l) all ∙ sym (flat_map-append (λ (o : Tuple). o.aux) (judged_offers book) (pending book))
+          ∙ ap texts_of (sym (merged_offers book));
     }
 
 -- as long as it says
-pub fits_batch : (drum : Drum) (put : List Pair) (offers : List Tuple) (verdicts : List (Option Verdict)) → length verdicts ≡ length offers → drum.last.entries ≤ length put → length offers + sum drum.last.cut ≡ sum (durables drum) → FitsBatch drum (batch_of drum put offers verdicts)
+pub fits_batch : (drum : Drum) (put : List Pair) (offers : List Tuple) (verdicts : List (Option Verdict)) → length verdicts ≡ length offers → drum.last.entries ≤ length put
+    → length offers + sum drum.last.cut ≡ sum (durables drum) → FitsBatch drum (batch_of drum put offers verdicts)
 fits_batch drum put offers verdicts size grow count = record {
   pairs = length-pairs (map pair_of put) ∙ ap (λ n. 16 * n) (length-map put pair_of);
   entries = grow;
@@ -111,7 +119,8 @@ fits_batch drum put offers verdicts size grow count = record {
 }
 
 -- and its commit has its room
-pub has_room : (drum : Drum) (batch : Batch) → IsDrum drum → batch.cut ≡ durables drum → 16 * batch.entries < 2 ^ 64 → 48 * (drum.last.judged + batch.count) < 2 ^ 64 → drum.last.texts + length batch.texts < 2 ^ 64 → AllByRecursion (λ (n : ℕ). n < 2 ^ 64) batch.cut
+pub has_room : (drum : Drum) (batch : Batch) → IsDrum drum → batch.cut ≡ durables drum → 16 * batch.entries < 2 ^ 64 → 48 * (drum.last.judged + batch.count) < 2 ^ 64
+    → drum.last.texts + length batch.texts < 2 ^ 64 → AllByRecursion (λ (n : ℕ). n < 2 ^ 64) batch.cut
     → HasRoom drum.settings.buckets (next_commit drum batch)
 has_room drum batch law cut_is entries_fit judged_fit texts_fit cut = record {
   form = record {

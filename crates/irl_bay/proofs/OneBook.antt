@@ -48,7 +48,8 @@ own_numbers offer is = record {
   from = little_number-reads_back 8 offer.from [] is.from;
 }
 
-same_tuple : (op : Op) (key value from : ℕ) (aux : List ℕ) (offer : Tuple) → op ≡ offer.op → key ≡ offer.key → value ≡ offer.value → from ≡ offer.from → aux ≡ offer.aux → record { op = op; key = key; value = value; from = from; aux = aux } ≡ offer
+same_tuple : (op : Op) (key value from : ℕ) (aux : List ℕ) (offer : Tuple) → op ≡ offer.op → key ≡ offer.key → value ≡ offer.value → from ≡ offer.from → aux ≡ offer.aux
+    → record { op = op; key = key; value = value; from = from; aux = aux } ≡ offer
 same_tuple op key value from aux offer p q r s t = rw (p, q, r, s, t) refl
 
 same_op : (x y : Op) (o : ℕ) → op_of o ≡ Some x → op_of o ≡ Some y → x ≡ y
@@ -65,7 +66,8 @@ same_offers (x ∷ xs) (y ∷ ys) r s each_x each_y same texts =
     let of_y = own_numbers y each_y.0 in
     let apart : x.aux ++ (texts_of xs ++ r) ≡ y.aux ++ (texts_of ys ++ s) = sym (append_assoc x.aux (texts_of xs) r) ∙ texts ∙ append_assoc y.aux (texts_of ys) s in
     let parts = same_parts x.aux y.aux (texts_of xs ++ r) (texts_of ys ++ s) (sym of_x.aux ∙ of_y.aux) apart in
-    let here : x ≡ y = same_tuple x.op x.key x.value x.from x.aux y (same_op x.op y.op (get_or (entry_bytes (entry_of_offer y)) 0 0) of_x.op of_y.op) (sym of_x.key ∙ of_y.key) (sym of_x.value ∙ of_y.value) (sym of_x.from ∙ of_y.from) parts.0 in
+    let here : x ≡ y = same_tuple x.op x.key x.value x.from x.aux y (same_op x.op y.op (get_or (entry_bytes (entry_of_offer y)) 0 0) of_x.op of_y.op) (sym of_x.key ∙ of_y.key) (sym of_x.value
+    ∙ of_y.value) (sym of_x.from ∙ of_y.from) parts.0 in
     let behind : xs ≡ ys = same_offers xs ys r s each_x.1 each_y.1 entries.1 parts.1 in
     cc
 
@@ -116,7 +118,8 @@ same_cuts (x ∷ xs) (y ∷ ys) each_x each_y same =
     let behind : xs ≡ ys = same_cuts xs ys each_x.1 each_y.1 (ap (drop 8) same) in
     cc
 
-same_fields : (side : ℕ) (live : Option ℕ) (entries judged unique texts : ℕ) (cut : List ℕ) (commit : Commit) → side ≡ commit.side → live ≡ commit.live → entries ≡ commit.entries → judged ≡ commit.judged → unique ≡ commit.unique → texts ≡ commit.texts → cut ≡ commit.cut
+same_fields : (side : ℕ) (live : Option ℕ) (entries judged unique texts : ℕ) (cut : List ℕ) (commit : Commit) → side ≡ commit.side → live ≡ commit.live → entries ≡ commit.entries
+    → judged ≡ commit.judged → unique ≡ commit.unique → texts ≡ commit.texts → cut ≡ commit.cut
     → record { side = side; live = live; entries = entries; judged = judged; unique = unique; texts = texts; cut = cut } ≡ commit
 same_fields side live entries judged unique texts cut commit p l q r s t u = rw (p, l, q, r, s, t, u) refl
 
@@ -125,7 +128,8 @@ same_commit buckets x y is_x is_y same =
     let of_x : HasCommit x (commit_bytes y) = subst (HasCommit x) same (own_commit buckets x is_x) in
     let of_y = own_commit buckets y is_y in
     let sides = same_sides x.side y.side x.live y.live is_x.side is_y.side is_x.live is_y.live (sym of_x.sides ∙ of_y.sides) in
-    same_fields x.side x.live x.entries x.judged x.unique x.texts x.cut y sides.0 sides.1 (sym of_x.entries ∙ of_y.entries) (sym of_x.judged ∙ of_y.judged) (sym of_x.unique ∙ of_y.unique) (sym of_x.texts ∙ of_y.texts)
+    same_fields x.side x.live x.entries x.judged x.unique x.texts x.cut y sides.0 sides.1 (sym of_x.entries ∙ of_y.entries) (sym of_x.judged ∙ of_y.judged) (sym of_x.unique
+    ∙ of_y.unique) (sym of_x.texts ∙ of_y.texts)
     (same_cuts x.cut y.cut is_x.cut is_y.cut (sym of_x.cut ∙ of_y.cut))
 
 pub same_commits : (buckets : ℕ) (xs ys : List Commit) → AllByRecursion (IsCommit buckets) xs → AllByRecursion (IsCommit buckets) ys → map commit_bytes xs ≡ map commit_bytes ys → xs ≡ ys
@@ -184,7 +188,8 @@ one_book base settings x y files for_x for_y =
     let commits : for_x.commits ≡ for_y.commits =
     same_commits x.buckets for_x.commits for_y.commits for_x.commits_are.form (subst (λ (n : ℕ). AllByRecursion (IsCommit n) for_y.commits) (sym buckets) for_y.commits_are.form) records in
     let last = last_commit (first_commit x.buckets) for_x.commits in
-    let same_last : last_commit (first_commit y.buckets) for_y.commits ≡ last = sym (ap (λ (n : ℕ). last_commit (first_commit n) for_x.commits) buckets ∙ ap (last_commit (first_commit y.buckets)) commits) in
+    let same_last : last_commit (first_commit y.buckets) for_y.commits ≡ last =
+    sym (ap (λ (n : ℕ). last_commit (first_commit n) for_x.commits) buckets ∙ ap (last_commit (first_commit y.buckets)) commits) in
     let of_x = last_of_book settings x for_x.commits is_x for_x.commits_are in
     let of_y = subst (IsCommitOf y) same_last (last_of_book settings y for_y.commits is_y for_y.commits_are) in
     let room = (last_form x.buckets (first_commit x.buckets) for_x.commits (first_form x.buckets) for_x.commits_are.form) in
@@ -192,8 +197,10 @@ one_book base settings x y files for_x for_y =
     let in_x : b < x.buckets = omega (arith, within, is_x.is_book.lists) in
     let in_y : b < y.buckets = omega (arith, in_x, buckets) in
     let has_y = subst (λ (c : Commit). HasBucketOf base settings.array c b (live_offers y c b) files) same_last (for_y.buckets b in_y) in
-    same_lists_at settings x y last is_x is_y of_x of_y room for_x.offers for_y.offers (files (file_of base 0 Judged)) (files (file_of base 0 Texts)) b in_x in_y for_x.judged_are for_y.judged_are for_x.texts for_y.texts
-    (one_bucket settings.array (live_offers x last b) (live_offers y last b) (files (file_of base 0 (Journal (live_side last) b))) (files (file_of base 0 (Aux (live_side last) b))) (for_x.buckets b in_x) has_y)) in
+    same_lists_at settings x y last is_x is_y of_x of_y room for_x.offers for_y.offers (files (file_of base 0 Judged)) (files (file_of base 0 Texts)) b in_x in_y for_x.judged_are for_y.judged_are
+    for_x.texts for_y.texts
+    (one_bucket settings.array (live_offers x last b) (live_offers y last b) (files (file_of base 0 (Journal (live_side last) b))) (files (file_of base 0 (Aux (live_side last) b)))
+    (for_x.buckets b in_x) has_y)) in
     same_parts_of x.buckets x.rule x.base x.dropped x.firsts x.lists x.cuts y buckets (is_x.rule ∙ sym is_y.rule) (none_x.0 ∙ sym none_y.0) (is_x.dropped ∙ sym is_y.dropped)
     (none_x.1 ∙ ap (λ (n : ℕ). replicate n 0) buckets ∙ sym none_y.1) lists
     (same_book_cuts x y for_x.commits for_y.commits buckets for_x.commits_are for_y.commits_are commits)

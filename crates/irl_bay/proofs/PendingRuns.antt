@@ -26,7 +26,8 @@ each_room buckets b [] h = h
 each_room buckets b (e ∷ es) h = (room_of buckets b e h.0, each_room buckets b es h.1)
 
 -- where entries stand in front of the bytes of others, they are the first of those
-first_entries : (front run : List Entry) (rest : List ℕ) → AllByRecursion HasRoom front → AllByRecursion HasRoom run → entries_bytes run ≡ entries_bytes front ++ rest → (more : List Entry) × (run ≡ front ++ more) × (rest ≡ entries_bytes more)
+first_entries : (front run : List Entry) (rest : List ℕ) → AllByRecursion HasRoom front → AllByRecursion HasRoom run → entries_bytes run ≡ entries_bytes front ++ rest → (more : List Entry)
+    × (run ≡ front ++ more) × (rest ≡ entries_bytes more)
 first_entries [] run rest f r e = (run, refl, sym e)
 first_entries (x ∷ front) [] rest f r e =
     let long = ap length e ∙ ap length (append_assoc (entry_bytes x) (entries_bytes front) rest) ∙ length-append (entry_bytes x) (entries_bytes front ++ rest) in
@@ -37,7 +38,8 @@ first_entries (x ∷ front) (y ∷ run) rest f r e =
     let more = first_entries front run rest f.1 r.1 both.1 in
     (more.0, ap (λ z. z ∷ run) same ∙ ap (λ l. x ∷ l) more.1, more.2)
 
-pub first_of_run : (buckets b : ℕ) (front run : List Entry) (rest : List ℕ) → AllByRecursion (IsEntryOf buckets b) front → AllByRecursion (IsEntryOf buckets b) run → entries_bytes run ≡ entries_bytes front ++ rest → (more : List Entry) × (run ≡ front ++ more) × (rest ≡ entries_bytes more)
+pub first_of_run : (buckets b : ℕ) (front run : List Entry) (rest : List ℕ) → AllByRecursion (IsEntryOf buckets b) front → AllByRecursion (IsEntryOf buckets b) run
+    → entries_bytes run ≡ entries_bytes front ++ rest → (more : List Entry) × (run ≡ front ++ more) × (rest ≡ entries_bytes more)
 first_of_run buckets b front run rest f r e = first_entries front run rest (each_room buckets b front f) (each_room buckets b run r) e
 
 none_left : (more : List Entry) → [] ≡ entries_bytes more → more ≡ []
@@ -67,7 +69,8 @@ each_behind buckets b [] x more h = h.0
 each_behind buckets b (y ∷ front) x more h = each_behind buckets b front x more h.1
 
 -- where bytes are left of a run, its next entry stands there
-pub next_of_run : (buckets b : ℕ) (front run : List Entry) (rest : List ℕ) → AllByRecursion (IsEntryOf buckets b) front → AllByRecursion (IsEntryOf buckets b) run → entries_bytes run ≡ entries_bytes front ++ rest → 1 ≤ length rest → (x : Entry) × ((others : List Entry) × (IsEntryOf buckets b x × (rest ≡ entry_bytes x ++ entries_bytes others)))
+pub next_of_run : (buckets b : ℕ) (front run : List Entry) (rest : List ℕ) → AllByRecursion (IsEntryOf buckets b) front → AllByRecursion (IsEntryOf buckets b) run
+    → entries_bytes run ≡ entries_bytes front ++ rest → 1 ≤ length rest → (x : Entry) × ((others : List Entry) × (IsEntryOf buckets b x × (rest ≡ entry_bytes x ++ entries_bytes others)))
 next_of_run buckets b front run rest f r e some =
     let more = first_of_run buckets b front run rest f r e in
     let next = some_bytes more.0 rest more.2 some in

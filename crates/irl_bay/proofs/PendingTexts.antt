@@ -39,7 +39,8 @@ same_offers (x ∷ xs) (y ∷ ys) e t =
 
 -- ---- the texts from a number on
 -- a file that begins with the texts of a list
-pub texts_held : (list : List Tuple) (cut text size : ℕ) (file : List ℕ) → text ≡ length (texts_of (take cut list)) → length (texts_of list) ≡ size → BeginsWith file (texts_of list) → (take (size - text) (drop text file) ≡ texts_of (drop cut list)) × (size - text ≡ length (texts_of (drop cut list)))
+pub texts_held : (list : List Tuple) (cut text size : ℕ) (file : List ℕ) → text ≡ length (texts_of (take cut list)) → length (texts_of list) ≡ size → BeginsWith file (texts_of list)
+    → (take (size - text) (drop text file) ≡ texts_of (drop cut list)) × (size - text ≡ length (texts_of (drop cut list)))
 texts_held list cut text size file at all begins =
     let first = texts_of (take cut list) in
     let last = texts_of (drop cut list) in

@@ -19,13 +19,15 @@ abbrev pub TakesBelow : Reaching → ℕ → List ℕ → Reaching → Type 0
 TakesBelow old at payload new = (commit : Commit) × IsCommit old.buckets commit × (payload ≡ commit_bytes commit) × IsWithin old.lengths.items old.most commit.cut × (new ≡ old)
 
 -- commits that were taken are within the bounds
-pub took_below : (buckets at : ℕ) (old new : Reaching) (commits : List Commit) → old.buckets ≡ buckets → AllByRecursion (IsCommit buckets) commits → TakesAll TakesBelow old (placed_from at (map commit_bytes commits)) new
+pub took_below : (buckets at : ℕ) (old new : Reaching) (commits : List Commit) → old.buckets ≡ buckets → AllByRecursion (IsCommit buckets) commits
+    → TakesAll TakesBelow old (placed_from at (map commit_bytes commits)) new
     → AllByRecursion (λ (commit : Commit). IsWithin old.lengths.items old.most commit.cut) commits × (new ≡ old)
 took_below buckets at old new [] same each took = (tt, took)
 took_below buckets at old new (commit ∷ commits) same each took =
     let step = took.1 in
     let is : commit ≡ step.0 = one_commit buckets (commit_bytes commit) commit step.0 each.0 (subst (λ (k : ℕ). IsCommit k step.0) same step.1) refl step.2 in
-    let rest = took_below buckets (at + length (record_text (commit_bytes commit))) old new commits same each.1 (subst (λ (v : Reaching). TakesAll TakesBelow v (placed_from (at + length (record_text (commit_bytes commit))) (map commit_bytes commits)) new) step.4 took.2) in
+    let rest = took_below buckets (at + length (record_text (commit_bytes commit))) old new commits same each.1
+    (subst (λ (v : Reaching). TakesAll TakesBelow v (placed_from (at + length (record_text (commit_bytes commit))) (map commit_bytes commits)) new) step.4 took.2) in
     ((subst (λ (x : Commit). IsWithin old.lengths.items old.most x.cut) (sym is) step.3, rest.0), rest.1)
 
 pub rise_each : (buckets : ℕ) (old : Commit) (commits : List Commit) → RiseFrom buckets old commits → AllByRecursion (IsCommit buckets) commits
@@ -52,15 +54,24 @@ splits (commit ∷ commits) (p ∷ first) payload rest is =
     let behind : map commit_bytes commits ≡ first ++ payload ∷ rest = cc in
     let one : p ≡ commit_bytes commit = cc in
     let so = splits commits first payload rest behind in
-    record { before = commit ∷ so.before; commit = so.commit; more = so.more; among = ap (λ (l : List Commit). commit ∷ l) so.among; first_are = cons-cons p (commit_bytes commit) first (map commit_bytes so.before) one so.first_are; payload_is = so.payload_is }
+    record {
+      before = commit ∷ so.before;
+      commit = so.commit;
+      more = so.more;
+      among = ap (λ (l : List Commit). commit ∷ l) so.among;
+      first_are = cons-cons p (commit_bytes commit) first (map commit_bytes so.before) one so.first_are;
+      payload_is = so.payload_is;
+    }
 
 all-apart : (P : Commit → Type 0) (xs ys : List Commit) → AllByRecursion P (xs ++ ys) → AllByRecursion P xs × AllByRecursion P ys
 all-apart P [] ys each = (tt, each)
 all-apart P (x ∷ xs) ys each = let rest = all-apart P xs ys each.1 in ((each.0, rest.0), rest.1)
 
 -- a commit that was refused is the first that isn't
-pub first_refused : (buckets at : ℕ) (old reached : Reaching) (commits : List Commit) (first : List (List ℕ)) (payload : List ℕ) (rest : List (List ℕ)) → old.buckets ≡ buckets → RiseFrom buckets (first_commit buckets) commits
-    → map commit_bytes commits ≡ first ++ payload ∷ rest → at ≡ 0 + length (records_text first) → TakesAll TakesBelow old (placed_from 0 first) reached → ((commit : Commit) → IsCommit reached.buckets commit → payload ≡ commit_bytes commit → IsWithin reached.lengths.items reached.most commit.cut → ⊥)
+pub first_refused : (buckets at : ℕ) (old reached : Reaching) (commits : List Commit) (first : List (List ℕ)) (payload : List ℕ) (rest : List (List ℕ)) → old.buckets ≡ buckets
+    → RiseFrom buckets (first_commit buckets) commits
+    → map commit_bytes commits ≡ first ++ payload ∷ rest → at ≡ 0 + length (records_text first) → TakesAll TakesBelow old (placed_from 0 first) reached
+    → ((commit : Commit) → IsCommit reached.buckets commit → payload ≡ commit_bytes commit → IsWithin reached.lengths.items reached.most commit.cut → ⊥)
     → IsFirstAbove old.lengths.items old.most commits at
 first_refused buckets at old reached commits first payload rest same rise is place took refused =
     let so = splits commits first payload rest is in
@@ -73,17 +84,20 @@ first_refused buckets at old reached commits first payload rest same rise is pla
       among = so.among;
       place = omega (arith, place, ap (λ (ps : List (List ℕ)). length (records_text ps)) so.first_are);
       within = below.0;
-      above = λ here. refused so.commit (subst (λ (v : Reaching). IsCommit v.buckets so.commit) (sym below.1) (subst (λ (k : ℕ). IsCommit k so.commit) (sym same) each.1.0)) so.payload_is (subst (λ (v : Reaching). IsWithin v.lengths.items v.most so.commit.cut) (sym below.1) here);
+      above = λ here. refused so.commit (subst (λ (v : Reaching). IsCommit v.buckets so.commit) (sym below.1) (subst (λ (k : ℕ). IsCommit k so.commit) (sym same) each.1.0)) so.payload_is
+          (subst (λ (v : Reaching). IsWithin v.lengths.items v.most so.commit.cut) (sym below.1) here);
     }
 
 -- the same of what is known of the visitor
-pub first_as : (buckets n : ℕ) (lengths ls : List ℕ) (most m : ℕ) (commits : List Commit) (at : ℕ) → buckets ≡ n → lengths ≡ ls → most ≡ m → (RiseFrom buckets (first_commit buckets) commits → IsFirstAbove lengths most commits at) → RiseFrom n (first_commit n) commits → IsFirstAbove ls m commits at
+pub first_as : (buckets n : ℕ) (lengths ls : List ℕ) (most m : ℕ) (commits : List Commit) (at : ℕ) → buckets ≡ n → lengths ≡ ls → most ≡ m
+    → (RiseFrom buckets (first_commit buckets) commits → IsFirstAbove lengths most commits at) → RiseFrom n (first_commit n) commits → IsFirstAbove ls m commits at
 first_as buckets n lengths ls most m commits at same_n same_l same_m first rise =
     subst (λ (l : List ℕ). IsFirstAbove l m commits at) same_l
     (subst (λ (k : ℕ). IsFirstAbove lengths k commits at) same_m (first (subst (λ (k : ℕ). RiseFrom k (first_commit k) commits) (sym same_n) rise)))
 
 -- where all were taken, the last is within them too
-last_within : (lengths : List ℕ) (most : ℕ) (first : Commit) (commits : List Commit) → IsWithin lengths most first.cut → AllByRecursion (λ (commit : Commit). IsWithin lengths most commit.cut) commits → IsWithin lengths most (last_commit first commits).cut
+last_within : (lengths : List ℕ) (most : ℕ) (first : Commit) (commits : List Commit) → IsWithin lengths most first.cut → AllByRecursion (λ (commit : Commit). IsWithin lengths most commit.cut) commits
+    → IsWithin lengths most (last_commit first commits).cut
 last_within lengths most first [] here each = here
 last_within lengths most first (commit ∷ commits) here each = last_within lengths most commit commits each.0 each.1
 
@@ -100,7 +114,8 @@ zeros_below (suc n) (x ∷ xs) same = (omega arith, zeros_below n xs (omega (ari
 zeros_few : (n most : ℕ) → sum (replicate n 0) ≤ most
 zeros_few n most = omega (arith, sum_by-replicate (λ (m : ℕ). m) n 0)
 
-pub all_within : (buckets : ℕ) (old new : Reaching) (commits : List Commit) → old.buckets ≡ buckets → length old.lengths.items ≡ buckets → RiseFrom buckets (first_commit buckets) commits → TakesAll TakesBelow old (placed_from 0 (map commit_bytes commits)) new
+pub all_within : (buckets : ℕ) (old new : Reaching) (commits : List Commit) → old.buckets ≡ buckets → length old.lengths.items ≡ buckets → RiseFrom buckets (first_commit buckets) commits
+    → TakesAll TakesBelow old (placed_from 0 (map commit_bytes commits)) new
     → IsWithin old.lengths.items old.most (last_commit (first_commit buckets) commits).cut
 all_within buckets old new commits same count rise took =
     last_within old.lengths.items old.most (first_commit buckets) commits (record { lists = zeros_below buckets old.lengths.items count; all = zeros_few buckets old.most })
@@ -108,7 +123,8 @@ all_within buckets old new commits same count rise took =
 
 -- ---- the history of a manifest
 abbrev pub TakesCommit : History → ℕ → List ℕ → History → Type 0
-TakesCommit old at payload new = IsCommit old.buckets new.last × (payload ≡ commit_bytes new.last) × IsAtOrAbove old.last new.last × (new.count ≡ min (old.count + 1) (2 ^ 64 - 1)) × (new.buckets ≡ old.buckets)
+TakesCommit old at payload new = IsCommit old.buckets new.last × (payload ≡ commit_bytes new.last) × IsAtOrAbove old.last new.last × (new.count ≡ min (old.count + 1) (2 ^ 64 - 1))
+    × (new.buckets ≡ old.buckets)
 
 -- what was taken of a manifest
 pub record TookCommits (buckets : ℕ) (first : Commit) (count : ℕ) (payloads : List (List ℕ)) (new : History) : Type 0 where
@@ -119,7 +135,8 @@ pub record TookCommits (buckets : ℕ) (first : Commit) (count : ℕ) (payloads 
   pub counted : new.count ≡ min (count + length commits) (2 ^ 64 - 1)
   pub buckets_are : new.buckets ≡ buckets
 
-pub took_commits : (buckets at : ℕ) (old new : History) (payloads : List (List ℕ)) → old.buckets ≡ buckets → old.count < 2 ^ 64 → TakesAll TakesCommit old (placed_from at payloads) new → TookCommits buckets old.last old.count payloads new
+pub took_commits : (buckets at : ℕ) (old new : History) (payloads : List (List ℕ)) → old.buckets ≡ buckets → old.count < 2 ^ 64 → TakesAll TakesCommit old (placed_from at payloads) new
+    → TookCommits buckets old.last old.count payloads new
 took_commits buckets at old new [] same fits took = record {
   commits = [];
   rise = tt;
@@ -147,7 +164,8 @@ few_commits [] = omega arith
 few_commits (commit ∷ commits) = omega (arith, few_commits commits, length-cons (commit_bytes commit) (map commit_bytes commits))
 
 -- a payload behind those of commits that rise is one of a commit that rises
-last_of : (buckets : ℕ) (old : Commit) (taken commits : List Commit) (payload : List ℕ) → RiseFrom buckets old taken → RiseFrom buckets old commits → map commit_bytes taken ++ payload ∷ [] ≡ map commit_bytes commits
+last_of : (buckets : ℕ) (old : Commit) (taken commits : List Commit) (payload : List ℕ) → RiseFrom buckets old taken → RiseFrom buckets old commits
+    → map commit_bytes taken ++ payload ∷ [] ≡ map commit_bytes commits
     → (commit : Commit) × IsCommit buckets commit × (payload ≡ commit_bytes commit) × IsAtOrAbove (last_commit old taken) commit
 last_of buckets old [] [] payload rise_t rise_c is = cc
 last_of buckets old [] (commit ∷ commits) payload rise_t rise_c is = (commit, rise_c.0, cc, rise_c.1)
@@ -162,7 +180,8 @@ last_of buckets old (one ∷ taken) (commit ∷ commits) payload rise_t rise_c i
 abbrev pub RefusesCommit : History → ℕ → List ℕ → History → Type 0
 RefusesCommit old at payload new = (commit : Commit) → IsCommit old.buckets commit → payload ≡ commit_bytes commit → IsAtOrAbove old.last commit → ⊥
 
-pub damaged_commits : (buckets : ℕ) (old after : History) (file : List ℕ) (at : ℕ) → old.buckets ≡ buckets → old.last ≡ first_commit buckets → old.count < 2 ^ 64 → IsBrokenFor TakesCommit old after file at ⊎ IsRefusedAt TakesCommit RefusesCommit old after file at → IsDamagedJournal (AreCommitPayloads buckets) file at
+pub damaged_commits : (buckets : ℕ) (old after : History) (file : List ℕ) (at : ℕ) → old.buckets ≡ buckets → old.last ≡ first_commit buckets → old.count < 2 ^ 64
+    → IsBrokenFor TakesCommit old after file at ⊎ IsRefusedAt TakesCommit RefusesCommit old after file at → IsDamagedJournal (AreCommitPayloads buckets) file at
 damaged_commits buckets old after file at same first fits (inl broken) =
     let took = took_commits buckets 0 old after broken.broken.payloads same fits broken.took in
     inl (record { broken = broken.broken; before = (took.commits, subst (λ (x : Commit). RiseFrom buckets x took.commits) first took.rise, took.payloads_are) })
@@ -180,7 +199,8 @@ damaged_commits buckets old after file at same first fits (inr refused) =
       place = refused.place;
       before = (took.commits, rise, took.payloads_are);
       bad = λ good.
-          let last = last_of buckets (first_commit buckets) took.commits good.0 refused.payload rise good.1 (ap (λ (ps : List (List ℕ)). ps ++ refused.payload ∷ []) (sym took.payloads_are) ∙ good.2) in
+          let last = last_of buckets (first_commit buckets) took.commits good.0 refused.payload rise good.1 (ap (λ (ps : List (List ℕ)). ps ++ refused.payload ∷ []) (sym took.payloads_are)
+          ∙ good.2) in
           let here : refused.reached.last ≡ last_commit (first_commit buckets) took.commits = took.last ∙ ap (λ (x : Commit). last_commit x took.commits) first in
           refused.refused last.0 (subst (λ (k : ℕ). IsCommit k last.0) (sym took.buckets_are) last.1) last.2 (subst (λ (x : Commit). IsAtOrAbove x last.0) (sym here) last.3);
     })

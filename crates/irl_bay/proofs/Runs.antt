@@ -15,22 +15,26 @@ all_both P [] ys all more = more
 all_both P (x ∷ xs) ys all more = (all.0, all_both P xs ys all.1 more)
 
 -- what is put together of a list's elements, with one element more
-pub one_more_of : {Y : Type 0} (part : Tuple → List Y) (offers : List Tuple) (i : ℕ) (offer : Tuple) → i < length offers → offer ≡ get_or offers i offer → flat_map part (take (i + 1) offers) ≡ flat_map part (take i offers) ++ part offer
+pub one_more_of : {Y : Type 0} (part : Tuple → List Y) (offers : List Tuple) (i : ℕ) (offer : Tuple) → i < length offers → offer ≡ get_or offers i offer
+    → flat_map part (take (i + 1) offers) ≡ flat_map part (take i offers) ++ part offer
 one_more_of part offers i offer within is =
     ap (flat_map part) (take_more offers i offer within ∙ ap (λ (o : Tuple). take i offers ++ o ∷ []) (sym is))
     ∙ flat_map-append part (take i offers) (offer ∷ []) ∙ ap (λ (l : List _). flat_map part (take i offers) ++ l) (append-nil (part offer))
 
 -- and what holds of each
-pub all_more : (P : Tuple → Type 0) (offers : List Tuple) (i : ℕ) (offer : Tuple) → i < length offers → offer ≡ get_or offers i offer → AllByRecursion P (take i offers) → P offer → AllByRecursion P (take (i + 1) offers)
+pub all_more : (P : Tuple → Type 0) (offers : List Tuple) (i : ℕ) (offer : Tuple) → i < length offers → offer ≡ get_or offers i offer → AllByRecursion P (take i offers) → P offer
+    → AllByRecursion P (take (i + 1) offers)
 all_more P offers i offer within is all here =
     subst (AllByRecursion P) (sym (take_more offers i offer within ∙ ap (λ (o : Tuple). take i offers ++ o ∷ []) (sym is)))
     (all_both P (take i offers) (offer ∷ []) all (here, tt))
 
 -- ---- runs
 -- a run more, of offers behind the list's
-pub one_run_more : (array : ℕ) (list news : List Tuple) (runs : List (List Tuple)) → AreRuns array list runs → IsRun array news → AllByRecursion IsOffer news → AreRuns array (list ++ news) (runs ++ news ∷ [])
+pub one_run_more : (array : ℕ) (list news : List Tuple) (runs : List (List Tuple)) → AreRuns array list runs → IsRun array news → AllByRecursion IsOffer news
+    → AreRuns array (list ++ news) (runs ++ news ∷ [])
 one_run_more array list news runs are is offers = record {
-  joined = ap (λ (l : List Tuple). l ++ news) are.joined ∙ ap (λ (l : List Tuple). flat_map (λ run. run) runs ++ l) (sym (append-nil news)) ∙ sym (flat_map-append (λ (run : List Tuple). run) runs (news ∷ []));
+  joined = ap (λ (l : List Tuple). l ++ news) are.joined ∙ ap (λ (l : List Tuple). flat_map (λ run. run) runs ++ l) (sym (append-nil news))
+      ∙ sym (flat_map-append (λ (run : List Tuple). run) runs (news ∷ []));
   sizes = all_both (IsRun array) runs (news ∷ []) are.sizes (is, tt);
   offers = all_both IsOffer list news are.offers offers;
 }

@@ -80,7 +80,8 @@ spelling_reads entry bytes is spelled = subst (Reads entry) spelled (own_bytes e
 part : (at n : ℕ) (bytes : List ℕ) → drop at bytes ≡ take n (drop at bytes) ++ drop (at + n) bytes
 part at n bytes = sym (take-append-drop n (drop at bytes)) ∙ ap (λ (rest : List ℕ). take n (drop at bytes) ++ rest) (drop-drop n at bytes)
 
-six_parts : (bytes : List ℕ) → length bytes ≡ 48 → drop 4 bytes ≡ take 4 (drop 4 bytes) ++ (take 8 (drop 8 bytes) ++ (take 8 (drop 16 bytes) ++ (take 8 (drop 24 bytes) ++ (take 8 (drop 32 bytes) ++ take 8 (drop 40 bytes)))))
+six_parts : (bytes : List ℕ) → length bytes ≡ 48 → drop 4 bytes ≡ take 4 (drop 4 bytes)
+    ++ (take 8 (drop 8 bytes) ++ (take 8 (drop 16 bytes) ++ (take 8 (drop 24 bytes) ++ (take 8 (drop 32 bytes) ++ take 8 (drop 40 bytes)))))
 six_parts bytes long =
     let last : drop 40 bytes ≡ take 8 (drop 40 bytes) = sym (take_all 8 (drop 40 bytes) (omega (arith, length-drop 40 bytes))) in
     part 4 4 bytes
@@ -163,7 +164,8 @@ same_verdict (Some (Known a)) (Some (Known b)) e k = ap (λ (v : ℕ). Some (Kno
 made_of : ℕ → Op → Option Verdict → ℕ → ℕ → ℕ → ℕ → ℕ → JudgedEntry
 made_of bucket op verdict aux_len key value from place = record { bucket = bucket; op = op; verdict = verdict; aux_len = aux_len; key = key; value = value; from = from; place = place }
 
-same_made : (b b' : ℕ) (o o' : Op) (v v' : Option Verdict) (a a' k k' w w' f f' p p' : ℕ) → b ≡ b' → o ≡ o' → v ≡ v' → a ≡ a' → k ≡ k' → w ≡ w' → f ≡ f' → p ≡ p' → made_of b o v a k w f p ≡ made_of b' o' v' a' k' w' f' p'
+same_made : (b b' : ℕ) (o o' : Op) (v v' : Option Verdict) (a a' k k' w w' f f' p p' : ℕ) → b ≡ b' → o ≡ o' → v ≡ v' → a ≡ a' → k ≡ k' → w ≡ w' → f ≡ f' → p ≡ p'
+    → made_of b o v a k w f p ≡ made_of b' o' v' a' k' w' f' p'
 same_made b b' o o' v v' a a' k k' w w' f f' p p' hb ho hv ha hk hw hf hp = cc
 
 same_fields : (x y : JudgedEntry) → x.bucket ≡ y.bucket → x.op ≡ y.op → x.verdict ≡ y.verdict → x.aux_len ≡ y.aux_len → x.key ≡ y.key → x.value ≡ y.value → x.from ≡ y.from → x.place ≡ y.place → x ≡ y

@@ -5,7 +5,7 @@ use Rattle.irl_offer.specs.Tuple.{Tuple}
 use Rattle.irl_model.specs.Judging.{after}
 use Rattle.irl_model.specs.Book.{Book, judged_offers}
 use Rattle.irl_disk.specs.Disk.{Files}
-use Rattle.irl_disk.specs.Images.{Snapshot, IsConsistent}
+use Rattle.irl_disk.specs.Images.{Told, IsConsistent}
 use Rattle.irl_journal.specs.Appending.{Tail, IsOpen}
 use Rattle.irl_journal.specs.Blob.{Front, IsCommitted}
 use Rattle.irl_journal.specs.Format.{StandsFor}
@@ -23,7 +23,8 @@ use Rattle.irl_bay.specs.Holding.{Holds, HoldsBucket, IsLong}
 
 -- ---- a stop now leaves files that stand for the book
 -- a bucket's two files
-pub bucket_stands : (images : Files → Type 0) (array cut : ℕ) (bucket : Bucket) (list : List Tuple) (image : Files) → HoldsBucket images array cut bucket list → images image → HasBucket array list (image bucket.journal.file) (image bucket.aux.file)
+pub bucket_stands : (images : Files → Type 0) (array cut : ℕ) (bucket : Bucket) (list : List Tuple) (image : Files) → HoldsBucket images array cut bucket list → images image
+    → HasBucket array list (image bucket.journal.file) (image bucket.aux.file)
 bucket_stands images array cut bucket list image holds left = record {
   runs = holds.before ++ holds.behind;
   are = holds.are;
@@ -53,13 +54,13 @@ holds_stands images drum book image law holds left = record {
 }
 
 -- ---- what is told is as long as what is committed
-front_long : (now : Snapshot) (blob : Front) (held : List ℕ) (files : Files) → IsConsistent now → IsCommitted now.images blob held → now.files ≡ Some files → blob.length ≤ length (files blob.file)
+front_long : (now : Told) (blob : Front) (held : List ℕ) (files : Files) → IsConsistent now → IsCommitted now.images blob held → now.files ≡ Some files → blob.length ≤ length (files blob.file)
 front_long now blob held files law committed told = omega (arith, committed.size, begins_long (files blob.file) held (committed.each files (law.told files told)))
 
-tail_long : (now : Snapshot) (tail : Tail) (payloads : List (List ℕ)) (files : Files) → IsConsistent now → IsOpen now.images tail payloads → now.files ≡ Some files → tail.end < length (files tail.file)
+tail_long : (now : Told) (tail : Tail) (payloads : List (List ℕ)) (files : Files) → IsConsistent now → IsOpen now.images tail payloads → now.files ≡ Some files → tail.end < length (files tail.file)
 tail_long now tail payloads files law is_open told = omega (arith, within payloads (files tail.file) tail.end (is_open files (law.told files told)))
 
-pub holds_long : (now : Snapshot) (drum : Drum) (book : Book) (files : Files) → IsConsistent now → Holds now.images drum book → now.files ≡ Some files → IsLong drum files
+pub holds_long : (now : Told) (drum : Drum) (book : Book) (files : Files) → IsConsistent now → Holds now.images drum book → now.files ≡ Some files → IsLong drum files
 holds_long now drum book files law holds told = record {
   manifest = tail_long now drum.manifest _ files law holds.manifest told;
   cache = front_long now (cache_front drum) _ files law holds.cache told;

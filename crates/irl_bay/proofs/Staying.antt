@@ -1,11 +1,10 @@
 -- Of calls that change only some files: what is open or committed in the others stays so, and two stretches join.
 use Rattle.std.proofs.Common.{◌≡◌, ◌∙◌, ℕ, List, Option, None, Some, refl, sym, subst}
-use Rattle.irl_disk.specs.Disk.{Files, Changes, ChangesFile}
-use Rattle.irl_disk.specs.Images.{Snapshot, IsConsistent, LeavesBy, LeavesSame}
+use Rattle.irl_disk.specs.Disk.{Files, Changes, ChangesFile, ChangesOnly, TellsOnly}
+use Rattle.irl_disk.specs.Images.{Told, IsConsistent, LeavesBy, LeavesSame}
 use Rattle.irl_disk.proofs.Stretches.{widens_by, joins_by, same_by, left_now}
 use Rattle.irl_journal.specs.Appending.{Tail, Ends, IsOpen}
 use Rattle.irl_journal.specs.Blob.{Front, BeginsWith, IsCommitted}
-use Rattle.irl_bay.specs.Holding.{ChangesOnly, TellsOnly}
 
 -- ---- from one joint image to another
 pub only_one : (among : ℕ → Type 0) (f : ℕ) (step : List ℕ → List ℕ → Type 0) (old new : Files) → among f → ChangesFile f step old new → ChangesOnly among old new
@@ -40,22 +39,24 @@ told_before among (Some old) new files tells told =
     (old, refl, subst (λ (after : Files). ChangesOnly among old after) same tells.2)
 
 -- ---- what stops leave
-pub leaves_one : (among : ℕ → Type 0) (f : ℕ) (step : List ℕ → List ℕ → Type 0) (old new : Snapshot) → among f → LeavesBy (ChangesFile f step) old new → LeavesBy (ChangesOnly among) old new
+pub leaves_one : (among : ℕ → Type 0) (f : ℕ) (step : List ℕ → List ℕ → Type 0) (old new : Told) → among f → LeavesBy (ChangesFile f step) old new → LeavesBy (ChangesOnly among) old new
 leaves_one among f step old new is leaves = widens_by old new _ _ leaves (λ x y changes. only_one among f step x y is changes)
 
-pub leaves_same : (among : ℕ → Type 0) (old new : Snapshot) → LeavesSame old new → LeavesBy (ChangesOnly among) old new
+pub leaves_same : (among : ℕ → Type 0) (old new : Told) → LeavesSame old new → LeavesBy (ChangesOnly among) old new
 leaves_same among old new leaves = same_by old new _ (λ x g out. refl) leaves
 
-pub leaves_both : (among : ℕ → Type 0) (old mid new : Snapshot) → IsConsistent mid → LeavesBy (ChangesOnly among) old mid → LeavesBy (ChangesOnly among) mid new → LeavesBy (ChangesOnly among) old new
+pub leaves_both : (among : ℕ → Type 0) (old mid new : Told) → IsConsistent mid → LeavesBy (ChangesOnly among) old mid → LeavesBy (ChangesOnly among) mid new → LeavesBy (ChangesOnly among) old new
 leaves_both among old mid new law first second = joins_by old mid new _ law (λ x y z. only_both among x y z) first second
 
 -- ---- what stays in the other files
-pub open_stays : (among : ℕ → Type 0) (old new : Snapshot) (tail : Tail) (payloads : List (List ℕ)) → IsConsistent new → LeavesBy (ChangesOnly among) old new → (among tail.file → ⊥) → IsOpen old.images tail payloads → IsOpen new.images tail payloads
+pub open_stays : (among : ℕ → Type 0) (old new : Told) (tail : Tail) (payloads : List (List ℕ)) → IsConsistent new → LeavesBy (ChangesOnly among) old new → (among tail.file → ⊥)
+    → IsOpen old.images tail payloads → IsOpen new.images tail payloads
 open_stays among old new tail payloads law stops out is_open = λ image left.
     let from = left_now old new _ law stops image left in
     subst (λ (file : List ℕ). Ends tail.end file payloads) (sym (from.2 tail.file out)) (is_open from.0 from.1)
 
-pub committed_stays : (among : ℕ → Type 0) (old new : Snapshot) (blob : Front) (held : List ℕ) → IsConsistent new → LeavesBy (ChangesOnly among) old new → (among blob.file → ⊥) → IsCommitted old.images blob held → IsCommitted new.images blob held
+pub committed_stays : (among : ℕ → Type 0) (old new : Told) (blob : Front) (held : List ℕ) → IsConsistent new → LeavesBy (ChangesOnly among) old new → (among blob.file → ⊥)
+    → IsCommitted old.images blob held → IsCommitted new.images blob held
 committed_stays among old new blob held law stops out committed = record {
   size = committed.size;
   each = λ image left.

@@ -13,7 +13,7 @@ use Rattle.irl_model.specs.Pairs.{ArePairsOf, IsRising, keys_of, pair_of}
 use Rattle.irl_model.proofs.Parts.{each_too, parts_after, parts_judged, parts_of_pairs}
 use Rattle.irl_model.proofs.RisingKeys.{pairs_rise, rising_back, rising_front}
 use Rattle.irl_disk.specs.Disk.{Files, Changes, ChangesFile}
-use Rattle.irl_disk.specs.Images.{Snapshot, IsConsistent, LeavesBy, LeavesSame}
+use Rattle.irl_disk.specs.Images.{Told, IsConsistent, LeavesBy, LeavesSame}
 use Rattle.irl_disk.proofs.Stretches.{joins_by, same_by}
 use Rattle.irl_disk.proofs.Frames.{told_from}
 use Rattle.irl_journal.specs.Blob.{BeginsWith, KeepsFront}
@@ -21,7 +21,8 @@ use Rattle.irl_journal.proofs.Fronts.{keeps_both, keeps_none}
 use Rattle.irl_cache.specs.Reading.{HasRead, Reader, ReachesRead, TakesExactly, read_of}
 use Rattle.irl_cache.proofs.Frames.{takes_more, takes_nothing}
 use Rattle.irl_cache.specs.SortedRun.{IsSpoiltRun, RisesFrom, pairs_bytes}
-use Rattle.irl_cache.specs.Writing.{HasPut, HasWritten, ReachesPlace, RunWriter, Writer}
+use Rattle.irl_journal.specs.Growing.{HasPut, ReachesPlace, Writer}
+use Rattle.irl_cache.specs.Writing.{HasWritten, RunWriter}
 use Rattle.irl_merge.specs.declared.sweep.Sweep.{Sweep}
 use Rattle.irl_merge.specs.Sweeping.{HasSwept}
 use Rattle.irl_merge.proofs.Given.{given_is_rising, given_within}
@@ -76,14 +77,16 @@ has_place told pairs writer has = λ files is.
     omega (arith, ap (λ (l : List ℕ). length l) stand.2, length-append (stand.0 ++ has.put.written) stand.1, length-append stand.0 has.put.written, stand.3, has.put.place)
 
 -- what is done with a bucket is done with those before it
-pub done_on : (n b : ℕ) (sides after_sides : Sides) → rest_of after_sides ≡ rest_of sides → after_sides.buckets ≡ sides.buckets → after_sides.reader ≡ sides.reader → n ≤ b → IsDone b sides → IsDone n after_sides
+pub done_on : (n b : ℕ) (sides after_sides : Sides) → rest_of after_sides ≡ rest_of sides → after_sides.buckets ≡ sides.buckets → after_sides.reader ≡ sides.reader → n ≤ b → IsDone b sides
+    → IsDone n after_sides
 done_on n b sides after_sides left buckets reader le (inl more) =
     let lt : n < bucket_of sides.buckets more.0.key = omega (arith, more.3) in
     inl (more.0, more.1, left ∙ more.2, subst (λ (k : ℕ). n < bucket_of k more.0.key) (sym buckets) lt)
 done_on n b sides after_sides left buckets reader le (inr all) = inr (left ∙ all.0, subst (λ (r : Reader). r.given ≡ r.entries) (sym reader) all.1)
 
 -- ---- a bucket's sweep begins
-pub begins : (b : ℕ) (offers : List Tuple) (verdicts : List (Option Verdict)) (news : List Tuple) (told : Option Files) (sweep : Sweep) (sides : Sides) → HasMerged b offers verdicts told sides → AllByRecursion (λ offer. bucket_of sides.buckets offer.key ≡ b) news
+pub begins : (b : ℕ) (offers : List Tuple) (verdicts : List (Option Verdict)) (news : List Tuple) (told : Option Files) (sweep : Sweep) (sides : Sides) → HasMerged b offers verdicts told sides
+    → AllByRecursion (λ offer. bucket_of sides.buckets offer.key ≡ b) news
     → HasSwept sides.rule news [] [] sweep → IsSweeping b offers verdicts news told sweep sides
 begins b offers verdicts news told sweep sides has here swept =
     let none : has.fed ++ [] ≡ has.fed = append-nil has.fed in
@@ -105,7 +108,8 @@ begins b offers verdicts news told sweep sides has here swept =
     }
 
 -- ---- while it goes on
-module _ (b : ℕ) (offers : List Tuple) (verdicts : List (Option Verdict)) (news : List Tuple) (told : Option Files) (sweep : Sweep) (sides : Sides) (is : IsSweeping b offers verdicts news told sweep sides) where
+module _ (b : ℕ) (offers : List Tuple) (verdicts : List (Option Verdict)) (news : List Tuple) (told : Option Files) (sweep : Sweep) (sides : Sides)
+    (is : IsSweeping b offers verdicts news told sweep sides) where
   -- all that was read rises, and is no more than there is
   all_rise : IsRising ((is.before ++ is.fed) ++ rest_of sides)
   all_rise = rising_front ((is.before ++ is.fed) ++ rest_of sides) sides.reader.ahead is.read.rising
@@ -132,7 +136,8 @@ module _ (b : ℕ) (offers : List Tuple) (verdicts : List (Option Verdict)) (new
   puts_below = put_below sides.buckets b sides.rule is.before is.put offers (rising_front is.before is.fed fed_rise) is.keys is.before_below is.offers_below
 
   -- what is given, of pairs of the bucket, may be put behind it
-  pub more_rises : (fed given more : List Pair) (after_sweep : Sweep) → given ≡ is.given ++ more → AllByRecursion (λ (p : Pair). bucket_of sides.buckets p.key ≡ b) fed → HasSwept sides.rule news fed given after_sweep → RisesFrom sides.writer.last more
+  pub more_rises : (fed given more : List Pair) (after_sweep : Sweep) → given ≡ is.given ++ more → AllByRecursion (λ (p : Pair). bucket_of sides.buckets p.key ≡ b) fed
+      → HasSwept sides.rule news fed given after_sweep → RisesFrom sides.writer.last more
   more_rises fed given more after_sweep cut here swept =
       let test = is_here sides.buckets b in
       let of_fed = each_too (λ (p : Pair). here_is sides.buckets b p.key) fed here in
@@ -144,16 +149,20 @@ module _ (b : ℕ) (offers : List Tuple) (verdicts : List (Option Verdict)) (new
       subst (λ (last : Option ℕ). RisesFrom last more) (sym is.written.last) (rises_from_last (is.put ++ is.given) more (subst (λ (l : List Pair). IsRising l) cut_all all))
 
   -- the piece is of the bucket
-  pub piece_here : (piece rest : List Pair) → rest_of sides ≡ piece ++ rest → AllByRecursion (λ (p : Pair). bucket_of sides.buckets p.key ≤ b) piece → AllByRecursion (λ (p : Pair). bucket_of sides.buckets p.key ≡ b) (is.fed ++ piece)
+  pub piece_here : (piece rest : List Pair) → rest_of sides ≡ piece ++ rest → AllByRecursion (λ (p : Pair). bucket_of sides.buckets p.key ≤ b) piece
+      → AllByRecursion (λ (p : Pair). bucket_of sides.buckets p.key ≡ b) (is.fed ++ piece)
   piece_here piece rest cut upto =
       let from = lie_now sides.buckets b sides.reader.entries (is.before ++ is.fed) (rest_of sides) is.behind few all_rise in
       let of_piece = all_front (λ (p : Pair). b ≤ bucket_of sides.buckets p.key) piece rest (subst (AllByRecursion (λ (p : Pair). b ≤ bucket_of sides.buckets p.key)) cut from) in
       all_both (λ (p : Pair). bucket_of sides.buckets p.key ≡ b) is.fed piece is.fed_here
-      (all_two (λ (p : Pair). bucket_of sides.buckets p.key ≤ b) (λ (p : Pair). b ≤ bucket_of sides.buckets p.key) (λ (p : Pair). bucket_of sides.buckets p.key ≡ b) (λ p le ge. omega arith) piece upto of_piece)
+      (all_two (λ (p : Pair). bucket_of sides.buckets p.key ≤ b) (λ (p : Pair). b ≤ bucket_of sides.buckets p.key) (λ (p : Pair). bucket_of sides.buckets p.key ≡ b) (λ p le ge. omega arith) piece upto
+      of_piece)
 
   -- once it is fed
-  pub feeds : (piece rest more : List Pair) (new : Option Files) (after_sweep : Sweep) (after_sides : Sides) → rest_of sides ≡ piece ++ rest → rest_of after_sides ≡ rest → after_sides.rule ≡ sides.rule → after_sides.buckets ≡ sides.buckets → after_sides.reader ≡ sides.reader
-      → AllByRecursion (λ (p : Pair). bucket_of sides.buckets p.key ≤ b) piece → HasSwept sides.rule news (is.fed ++ piece) (is.given ++ more) after_sweep → IsSameFile sides.reader.file told new → HasWritten new ((is.put ++ is.given) ++ more) after_sides.writer
+  pub feeds : (piece rest more : List Pair) (new : Option Files) (after_sweep : Sweep) (after_sides : Sides) → rest_of sides ≡ piece ++ rest → rest_of after_sides ≡ rest
+      → after_sides.rule ≡ sides.rule → after_sides.buckets ≡ sides.buckets → after_sides.reader ≡ sides.reader
+      → AllByRecursion (λ (p : Pair). bucket_of sides.buckets p.key ≤ b) piece → HasSwept sides.rule news (is.fed ++ piece) (is.given ++ more) after_sweep → IsSameFile sides.reader.file told new
+      → HasWritten new ((is.put ++ is.given) ++ more) after_sides.writer
       → IsSweeping b offers verdicts news new after_sweep after_sides
   feeds piece rest more new after_sweep after_sides cut left rule buckets reader upto swept same written = record {
     before = is.before;
@@ -169,11 +178,13 @@ module _ (b : ℕ) (offers : List Tuple) (verdicts : List (Option Verdict)) (new
     swept = subst (λ r. HasSwept r news (is.fed ++ piece) (is.given ++ more) after_sweep) (sym rule) swept;
     read =
         let pairs : (is.before ++ is.fed) ++ rest_of sides ≡ (is.before ++ (is.fed ++ piece)) ++ rest_of after_sides =
-        ap (λ (l : List Pair). (is.before ++ is.fed) ++ l) cut ∙ sym (append_assoc (is.before ++ is.fed) piece rest) ∙ ap (λ (l : List Pair). l ++ rest) (append_assoc is.before is.fed piece) ∙ ap (λ (l : List Pair). (is.before ++ (is.fed ++ piece)) ++ l) (sym left) in
+        ap (λ (l : List Pair). (is.before ++ is.fed) ++ l) cut ∙ sym (append_assoc (is.before ++ is.fed) piece rest) ∙ ap (λ (l : List Pair). l ++ rest) (append_assoc is.before is.fed piece)
+        ∙ ap (λ (l : List Pair). (is.before ++ (is.fed ++ piece)) ++ l) (sym left) in
         subst (λ (r : Reader). HasRead new ((is.before ++ (is.fed ++ piece)) ++ rest_of after_sides) r) (sym reader)
         (subst (λ (l : List Pair). HasRead new l sides.reader) pairs (read_on told new ((is.before ++ is.fed) ++ rest_of sides) sides.reader same is.read));
     behind =
-        let lie = lie_on sides.buckets b sides.reader.entries (is.before ++ is.fed) piece rest (subst (λ (l : List Pair). LieFrom sides.buckets b sides.reader.entries (is.before ++ is.fed) l) cut is.behind) in
+        let lie = lie_on sides.buckets b sides.reader.entries (is.before ++ is.fed) piece rest
+        (subst (λ (l : List Pair). LieFrom sides.buckets b sides.reader.entries (is.before ++ is.fed) l) cut is.behind) in
         let fed_too = subst (λ (l : List Pair). LieFrom sides.buckets b sides.reader.entries l rest) (append_assoc is.before is.fed piece) lie in
         let left_too = subst (λ (l : List Pair). LieFrom sides.buckets b sides.reader.entries (is.before ++ (is.fed ++ piece)) l) (sym left) fed_too in
         let entries_too = subst (λ (r : Reader). LieFrom sides.buckets b r.entries (is.before ++ (is.fed ++ piece)) (rest_of after_sides)) (sym reader) left_too in
@@ -182,7 +193,8 @@ module _ (b : ℕ) (offers : List Tuple) (verdicts : List (Option Verdict)) (new
   }
 
   -- once the next block is read
-  pub nexts : (new : Option Files) (after_sides : Sides) → rest_of sides ≡ [] → after_sides.rule ≡ sides.rule → after_sides.buckets ≡ sides.buckets → after_sides.writer ≡ sides.writer → after_sides.reader.entries ≡ sides.reader.entries
+  pub nexts : (new : Option Files) (after_sides : Sides) → rest_of sides ≡ [] → after_sides.rule ≡ sides.rule → after_sides.buckets ≡ sides.buckets → after_sides.writer ≡ sides.writer
+      → after_sides.reader.entries ≡ sides.reader.entries
       → new ≡ told → HasRead new (((is.before ++ is.fed) ++ rest_of sides) ++ rest_of after_sides) after_sides.reader → IsSweeping b offers verdicts news new sweep after_sides
   nexts new after_sides none rule buckets writer count same read =
       let all : (is.before ++ is.fed) ++ rest_of sides ≡ is.before ++ is.fed = ap (λ (l : List Pair). (is.before ++ is.fed) ++ l) none ∙ append-nil (is.before ++ is.fed) in
@@ -210,14 +222,16 @@ module _ (b : ℕ) (offers : List Tuple) (verdicts : List (Option Verdict)) (new
 
   -- ---- it ends: the keys below the bucket and its own are two parts of a set
   parts : IsBucketCount sides.buckets → AreParts (border_of sides.buckets b) (keys_of (is.before ++ is.fed)) (keys_of is.before) (keys_of is.fed)
-  parts count = parts_of_pairs (border_of sides.buckets b) is.before is.fed fed_rise (each_too (λ (p : Pair). below_border sides.buckets b p.key count) is.before is.before_below) (each_too (λ (p : Pair). from_border sides.buckets b p.key count) is.fed is.fed_here)
+  parts count = parts_of_pairs (border_of sides.buckets b) is.before is.fed fed_rise (each_too (λ (p : Pair). below_border sides.buckets b p.key count) is.before is.before_below)
+      (each_too (λ (p : Pair). from_border sides.buckets b p.key count) is.fed is.fed_here)
 
   ends_behind : IsDone b sides → LieFrom sides.buckets (b + 1) sides.reader.entries (is.before ++ is.fed) (rest_of sides)
   ends_behind (inl left) = λ more few rises.
       let p = left.0 in
       let fed = is.before ++ is.fed in
       let whole : IsRising (p ∷ (left.1 ++ more)) = rising_back fed (p ∷ (left.1 ++ more)) (subst (λ (l : List Pair). IsRising (fed ++ (l ++ more))) left.2 rises) in
-      let later = each_too (λ (q : Pair) (lt : p.key < q.key). let le = bucket_after sides.buckets p.key q.key lt in omega (arith, le, left.3)) (left.1 ++ more) (above_first p (left.1 ++ more) whole) in
+      let later = each_too (λ (q : Pair) (lt : p.key < q.key). let le = bucket_after sides.buckets p.key q.key lt in
+      omega (arith, le, left.3)) (left.1 ++ more) (above_first p (left.1 ++ more) whole) in
       let here : b + 1 ≤ bucket_of sides.buckets p.key = omega (arith, left.3) in
       subst (λ (l : List Pair). AllByRecursion (λ (q : Pair). b + 1 ≤ bucket_of sides.buckets q.key) (l ++ more)) (sym left.2) (here, later)
   ends_behind (inr all) = λ more few rises.
@@ -245,7 +259,8 @@ module _ (b : ℕ) (offers : List Tuple) (verdicts : List (Option Verdict)) (new
     pub last_rises : RisesFrom sides.writer.last more
     last_rises = subst (λ (last : Option ℕ). RisesFrom last more) (sym is.written.last) (rises_from_last (is.put ++ is.given) more (pairs_rise _ ((is.put ++ is.given) ++ more) all_put))
 
-    pub ends : (found : List (Option Verdict)) (new : Option Files) (after_sides : Sides) → IsDone b sides → found ≡ map (λ p. p.1) (judgements sides.rule (keys_of is.fed) news) → rest_of after_sides ≡ rest_of sides → after_sides.rule ≡ sides.rule → after_sides.buckets ≡ sides.buckets → after_sides.reader ≡ sides.reader
+    pub ends : (found : List (Option Verdict)) (new : Option Files) (after_sides : Sides) → IsDone b sides → found ≡ map (λ p. p.1) (judgements sides.rule (keys_of is.fed) news)
+        → rest_of after_sides ≡ rest_of sides → after_sides.rule ≡ sides.rule → after_sides.buckets ≡ sides.buckets → after_sides.reader ≡ sides.reader
         → IsSameFile sides.reader.file told new → HasWritten new ((is.put ++ is.given) ++ more) after_sides.writer → HasMerged (b + 1) (offers ++ news) (verdicts ++ found) new after_sides
     ends found new after_sides done judged left rule buckets reader same written =
         let border = border_of sides.buckets b in
@@ -260,13 +275,16 @@ module _ (b : ℕ) (offers : List Tuple) (verdicts : List (Option Verdict)) (new
           put = (is.put ++ is.given) ++ more;
           verdicts_are =
               ap (λ (l : List (Option Verdict)). l ++ found) is.verdicts_are ∙ ap (λ (l : List (Option Verdict)). map (λ p. p.1) (judgements sides.rule (keys_of is.before) offers) ++ l) judged
-              ∙ sym (map-append (λ (p : Tuple × Option Verdict). p.1) (judgements sides.rule (keys_of is.before) offers) (judgements sides.rule (keys_of is.fed) news)) ∙ ap (map (λ (p : Tuple × Option Verdict). p.1)) (sym both)
+              ∙ sym (map-append (λ (p : Tuple × Option Verdict). p.1) (judgements sides.rule (keys_of is.before) offers) (judgements sides.rule (keys_of is.fed) news))
+              ∙ ap (map (λ (p : Tuple × Option Verdict). p.1)) (sym both)
               ∙ ap (λ r. map (λ (p : Tuple × Option Verdict). p.1) (judgements r keys (offers ++ news))) (sym rule);
           keys = subst (λ r. ArePairsOf (after r keys (offers ++ news)) ((is.put ++ is.given) ++ more)) (sym rule) all_put;
           fed_below = subst (λ (n : ℕ). AllByRecursion (λ (p : Pair). bucket_of n p.key < b + 1) (is.before ++ is.fed)) (sym buckets)
-              (all_both (λ (p : Pair). bucket_of sides.buckets p.key < b + 1) is.before is.fed (each_too (λ (p : Pair). under (bucket_of sides.buckets p.key)) is.before is.before_below) (each_too (λ (p : Pair). at (bucket_of sides.buckets p.key)) is.fed is.fed_here));
+              (all_both (λ (p : Pair). bucket_of sides.buckets p.key < b + 1) is.before is.fed (each_too (λ (p : Pair). under (bucket_of sides.buckets p.key)) is.before is.before_below)
+              (each_too (λ (p : Pair). at (bucket_of sides.buckets p.key)) is.fed is.fed_here));
           offers_below = subst (λ (n : ℕ). AllByRecursion (λ (o : Tuple). bucket_of n o.key < b + 1) (offers ++ news)) (sym buckets)
-              (all_both (λ (o : Tuple). bucket_of sides.buckets o.key < b + 1) offers news (each_too (λ (o : Tuple). under (bucket_of sides.buckets o.key)) offers is.offers_below) (each_too (λ (o : Tuple). at (bucket_of sides.buckets o.key)) news is.news_here));
+              (all_both (λ (o : Tuple). bucket_of sides.buckets o.key < b + 1) offers news (each_too (λ (o : Tuple). under (bucket_of sides.buckets o.key)) offers is.offers_below)
+              (each_too (λ (o : Tuple). at (bucket_of sides.buckets o.key)) news is.news_here));
           read = subst (λ (r : Reader). HasRead new ((is.before ++ is.fed) ++ rest_of after_sides) r) (sym reader)
               (subst (λ (l : List Pair). HasRead new ((is.before ++ is.fed) ++ l) sides.reader) (sym left) (read_on told new ((is.before ++ is.fed) ++ rest_of sides) sides.reader same is.read));
           behind = subst (λ (n : ℕ). LieFrom n (b + 1) after_sides.reader.entries (is.before ++ is.fed) (rest_of after_sides)) (sym buckets)
@@ -294,14 +312,16 @@ module _ (f : ℕ) where
       let then_ = rw one.1 at two in
       (then_.0, then_.1, step_both files one.0 then_.0 one.2 then_.2)
 
-  pub stops_none : (old new : Snapshot) → LeavesSame old new → LeavesBy (ChangesFile f (KeepsFront 0)) old new
+  pub stops_none : (old new : Told) → LeavesSame old new → LeavesBy (ChangesFile f (KeepsFront 0)) old new
   stops_none old new same = same_by old new _ step_none same
 
-  pub stops_both : (old mid new : Snapshot) → IsConsistent mid → LeavesBy (ChangesFile f (KeepsFront 0)) old mid → LeavesBy (ChangesFile f (KeepsFront 0)) mid new → LeavesBy (ChangesFile f (KeepsFront 0)) old new
+  pub stops_both : (old mid new : Told) → IsConsistent mid → LeavesBy (ChangesFile f (KeepsFront 0)) old mid → LeavesBy (ChangesFile f (KeepsFront 0)) mid new
+      → LeavesBy (ChangesFile f (KeepsFront 0)) old new
   stops_both old mid new law one two = joins_by old mid new _ law step_both one two
 
 -- ---- damage of the side that is read was there before the other was written
-pub spoilt_before : (f g count h at : ℕ) (step : List ℕ → List ℕ → Type 0) (told new : Option Files) → g ≢ f → Changes f step told new → ForSome new (λ files. (h ≡ g) × IsSpoiltRun count (files h) at) → ForSome told (λ files. (h ≡ g) × IsSpoiltRun count (files h) at)
+pub spoilt_before : (f g count h at : ℕ) (step : List ℕ → List ℕ → Type 0) (told new : Option Files) → g ≢ f → Changes f step told new → ForSome new (λ files. (h ≡ g) × IsSpoiltRun count (files h) at)
+    → ForSome told (λ files. (h ≡ g) × IsSpoiltRun count (files h) at)
 spoilt_before f g count h at step None new apart changes spoilt = λ files is. cc
 spoilt_before f g count h at step (Some old) new apart changes spoilt = λ files is.
     let same : old ≡ files = cc in
@@ -350,5 +370,8 @@ reads_none from to old new same taken =
 pub reads_both : (from mid to : Reader) (old then_ new : Option (ℕ → ℕ)) → mid.file ≡ from.file → ReadsOn from mid old then_ → ReadsOn mid to then_ new → ReadsOn from to old new
 reads_both from mid to old then_ new file one two =
     let all : 16 * (read_of mid - read_of from) + 16 * (read_of to - read_of mid) ≡ 16 * (read_of to - read_of from) = omega (arith, one.0, two.0) in
-    let second = subst (λ (f : ℕ). TakesExactly f (16 * (read_of to - read_of mid)) then_ new) file two.1 in
-    (omega (arith, one.0, two.0), subst (λ (n : ℕ). TakesExactly from.file n old new) all (takes_more from.file (16 * (read_of mid - read_of from)) (16 * (read_of to - read_of mid)) old then_ new one.1 second))
+    let second = subst (λ (f : ℕ). TakesExactly f (16 * (read_of to - read_of mid)) then_ new) file two.1 in (
+      omega (arith, one.0, two.0),
+      subst (λ (n : ℕ). TakesExactly from.file n old new) all
+          (takes_more from.file (16 * (read_of mid - read_of from)) (16 * (read_of to - read_of mid)) old then_ new one.1 second),
+    )

@@ -77,9 +77,15 @@ longer : {X : Type 0} (xs ys : List X) → IsPrefixOf xs ys → length xs ≤ le
 longer {X} xs ys prefix = omega (arith, ap (λ (l : List X). length l) prefix.1, length-append xs prefix.0)
 
 longer_texts : (xs ys : List Tuple) → IsPrefixOf xs ys → length (texts_of xs) ≤ length (texts_of ys)
-longer_texts xs ys prefix = omega (arith, ap (λ (l : List Tuple). length (texts_of l)) prefix.1, ap (λ (l : List ℕ). length l) (flat_map-append (λ (o : Tuple). o.aux) xs prefix.0), length-append (texts_of xs) (texts_of prefix.0))
+longer_texts xs ys prefix = omega (
+  arith,
+  ap (λ (l : List Tuple). length (texts_of l)) prefix.1,
+  ap (λ (l : List ℕ). length l) (flat_map-append (λ (o : Tuple). o.aux) xs prefix.0),
+  length-append (texts_of xs) (texts_of prefix.0),
+)
 
-above_one : (book : Book) (n : ℕ) (old new : Commit) → IsBook book → old.entries ≤ new.entries → (IsSome old.live → IsSome new.live) → IsCommitOf (with_cuts n book) old → IsCommitOf (with_cuts (suc n) book) new → IsAtOrAbove old new
+above_one : (book : Book) (n : ℕ) (old new : Commit) → IsBook book → old.entries ≤ new.entries → (IsSome old.live → IsSome new.live) → IsCommitOf (with_cuts n book) old
+    → IsCommitOf (with_cuts (suc n) book) new → IsAtOrAbove old new
 above_one book n old new is grows names before here =
     let x = with_cuts n book in
     let y = with_cuts (suc n) book in
@@ -95,7 +101,9 @@ above_one book n old new is grows names before here =
       live = names;
     }
 
-rise_of : (book : Book) (buckets n : ℕ) (old : Commit) (commits : List Commit) (d : Commit) → IsBook book → IsCommitOf (with_cuts n book) old → ((i : ℕ) → i < length commits → IsCommitOf (with_cuts (n + i + 1) book) (get_or commits i d)) → AllByRecursion (IsCommit buckets) commits → GrowFrom old.entries commits → NameFrom old.live commits → RiseFrom buckets old commits
+rise_of : (book : Book) (buckets n : ℕ) (old : Commit) (commits : List Commit) (d : Commit) → IsBook book → IsCommitOf (with_cuts n book) old
+    → ((i : ℕ) → i < length commits → IsCommitOf (with_cuts (n + i + 1) book) (get_or commits i d)) → AllByRecursion (IsCommit buckets) commits → GrowFrom old.entries commits
+    → NameFrom old.live commits → RiseFrom buckets old commits
 rise_of book buckets n old [] d is before each form grow name = tt
 rise_of book buckets n old (commit ∷ commits) d is before each form grow name =
     let first : n + 0 + 1 ≡ suc n = omega arith in
@@ -103,7 +111,8 @@ rise_of book buckets n old (commit ∷ commits) d is before each form grow name 
       form.0,
       above_one book n old commit is grow.0 name.0 before here,
       rise_of book buckets (suc n) commit commits d is here
-          (λ i within. let next : n + suc i + 1 ≡ suc n + i + 1 = omega arith in subst (λ (k : ℕ). IsCommitOf (with_cuts k book) (get_or commits i d)) next (each (suc i) (omega (arith, within)))) form.1 grow.1 name.1,
+          (λ i within. let next : n + suc i + 1 ≡ suc n + i + 1 = omega arith in
+          subst (λ (k : ℕ). IsCommitOf (with_cuts k book) (get_or commits i d)) next (each (suc i) (omega (arith, within)))) form.1 grow.1 name.1,
     )
 
 pub stands_rise : (base : ℕ) (settings : Settings) (book : Book) (files : Files) (stands : Stands base settings book files) → RiseFrom settings.buckets (first_commit settings.buckets) stands.commits
@@ -112,7 +121,8 @@ stands_rise base settings book files stands =
     let blank : IsBookOf settings (with_cuts 0 book) = record { is_book = earlier_book 0 book is.is_book; buckets = is.buckets; rule = is.rule; dropped = is.dropped } in
     subst (λ (k : ℕ). RiseFrom k (first_commit k) stands.commits) is.buckets
     (rise_of book book.buckets 0 (first_commit book.buckets) stands.commits (first_commit book.buckets) is.is_book (first_of settings (with_cuts 0 book) blank refl)
-    (λ i within. let same : i + 1 ≡ 0 + i + 1 = omega arith in subst (λ (k : ℕ). IsCommitOf (with_cuts k book) (get_or stands.commits i (first_commit book.buckets))) same (stands.commits_are.each i within))
+    (λ i within. let same : i + 1 ≡ 0 + i + 1 = omega arith in subst (λ (k : ℕ). IsCommitOf (with_cuts k book) (get_or stands.commits i (first_commit book.buckets))) same
+    (stands.commits_are.each i within))
     stands.commits_are.form stands.commits_are.grow stands.commits_are.name)
 
 -- each commit's cut is below the last one's
@@ -120,7 +130,8 @@ below_last : (buckets : ℕ) (old : Commit) (commits : List Commit) → RiseFrom
 below_last buckets old [] rise = below_self old.cut
 below_last buckets old (commit ∷ commits) rise = below_both old.cut commit.cut (last_commit commit commits).cut rise.1.cut (below_last buckets commit commits rise.2)
 
-among_below : (buckets : ℕ) (old : Commit) (before : List Commit) (commit : Commit) (more : List Commit) → RiseFrom buckets old (before ++ commit ∷ more) → IsBelow commit.cut (last_commit old (before ++ commit ∷ more)).cut
+among_below : (buckets : ℕ) (old : Commit) (before : List Commit) (commit : Commit) (more : List Commit) → RiseFrom buckets old (before ++ commit ∷ more)
+    → IsBelow commit.cut (last_commit old (before ++ commit ∷ more)).cut
 among_below buckets old [] commit more rise = below_last buckets commit more rise.2
 among_below buckets old (x ∷ before) commit more rise = among_below buckets x before commit more rise.2
 
@@ -136,7 +147,8 @@ record HasRunsOf (base side : ℕ) (settings : Settings) (b : ℕ) (list : List 
 last_same : (settings : Settings) (book : Book) (commits : List Commit) → IsBookOf settings book → last_commit (first_commit book.buckets) commits ≡ last_commit (first_commit settings.buckets) commits
 last_same settings book commits is = ap (λ (k : ℕ). last_commit (first_commit k) commits) is.buckets
 
-stands_runs : (base : ℕ) (settings : Settings) (book : Book) (files : Files) (last : Commit) (b : ℕ) → IsBookOf settings book → HasBucketOf base settings.array last b (live_offers book last b) files → HasRunsOf base (live_side last) settings b (live_offers book last b) files
+stands_runs : (base : ℕ) (settings : Settings) (book : Book) (files : Files) (last : Commit) (b : ℕ) → IsBookOf settings book → HasBucketOf base settings.array last b (live_offers book last b) files
+    → HasRunsOf base (live_side last) settings b (live_offers book last b) files
 stands_runs base settings book files last b is has =
     let side : ℕ = live_side last in
     let list = live_offers book last b in
@@ -150,12 +162,19 @@ stands_runs base settings book files last b is has =
       texts = omega (arith, ap text_length all, text_length-offers list, begins_long (files (file_of base 0 (Aux side b))) (texts_of list) has.texts);
     }
 
-stands_fronts : (base : ℕ) (settings : Settings) (book : Book) (files : Files) (stands : Stands base settings book files) → HasFronts base (last_commit (first_commit book.buckets) stands.commits) files
+stands_fronts : (base : ℕ) (settings : Settings) (book : Book) (files : Files) (stands : Stands base settings book files)
+    → HasFronts base (last_commit (first_commit book.buckets) stands.commits) files
 stands_fronts base settings book files stands =
     let commit = last_of_book settings book stands.commits stands.book_is stands.commits_are in
     let keys = entries (after book.rule book.base (judged_offers book)) in
     record {
-      cache = omega (arith, stands.cache.count, length-pairs keys, begins_long (files (file_of base 0 (Cache (last_commit (first_commit book.buckets) stands.commits).side))) (pairs_bytes keys) stands.cache.bytes);
+      cache = omega (
+        arith,
+        stands.cache.count,
+        length-pairs keys,
+        begins_long (files (file_of base 0 (Cache (last_commit (first_commit book.buckets) stands.commits).side))) (pairs_bytes keys)
+            stands.cache.bytes,
+      );
       judged = omega (arith, commit.judged, length-judged 0 (judged book), begins_long (files (file_of base 0 Judged)) (judged_entries 0 (judged book)) stands.judged_are);
       texts = omega (arith, commit.texts, begins_long (files (file_of base 0 Texts)) (texts_of (judged_offers book)) stands.texts);
     }
@@ -172,7 +191,8 @@ no_bucket_damage base side settings files b f at whole (inl (is, damaged)) =
     (λ n. (take n whole.0, runs_take (IsEntryRun settings b) n whole.0 whole.1.each, take-map entries_bytes n whole.0))
     (subst (λ (g : ℕ). IsDamagedJournal (AreRunPayloads settings b) (files g) at) is damaged)
 no_bucket_damage base side settings files b f at whole (inr (is, (runs, has, short))) =
-    let same : runs ≡ whole.0 = same_runs settings b runs whole.0 has.each whole.1.each (one_list (files (file_of base 0 (Journal side b))) (map entries_bytes runs) (map entries_bytes whole.0) has.records whole.1.records) in
+    let same : runs ≡ whole.0 = same_runs settings b runs whole.0 has.each whole.1.each
+    (one_list (files (file_of base 0 (Journal side b))) (map entries_bytes runs) (map entries_bytes whole.0) has.records whole.1.records) in
     omega (arith, whole.2, short.short, ap (λ (g : ℕ). length (files g)) is, ap (λ (rs : List (List Entry)). text_length (entries_in rs)) same)
 
 -- a cut that is below another counts no more
@@ -182,7 +202,8 @@ sum_below [] (y ∷ ys) below = absurd below
 sum_below (x ∷ xs) [] below = absurd below
 sum_below (x ∷ xs) (y ∷ ys) below = omega (arith, below.0, sum_below xs ys below.1, sum_by-cons (λ (n : ℕ). n) x xs, sum_by-cons (λ (n : ℕ). n) y ys)
 
-reached_too : (base : ℕ) (settings : Settings) (files : Files) (last commit other : Commit) → IsReached base settings files last other → IsBelow commit.cut other.cut → IsReached base settings files last commit
+reached_too : (base : ℕ) (settings : Settings) (files : Files) (last commit other : Commit) → IsReached base settings files last other → IsBelow commit.cut other.cut
+    → IsReached base settings files last commit
 reached_too base settings files last commit other reached below = record {
   lists = λ b within.
       let has = reached.lists b within in
@@ -199,12 +220,15 @@ pub record IsSane (base : ℕ) (settings : Settings) (files : Files) (commits : 
   pub buckets : (b : ℕ) → b < settings.buckets → IsWholeBucket base (live_side last) settings files b
   pub reached : IsReached base settings files last last
 
-not_behind : (base : ℕ) (settings : Settings) (files : Files) (commits : List Commit) (last : Commit) (f at : ℕ) → IsSane base settings files commits last → IsDamagedBehind base settings files commits last f at → ⊥
+not_behind : (base : ℕ) (settings : Settings) (files : Files) (commits : List Commit) (last : Commit) (f at : ℕ) → IsSane base settings files commits last
+    → IsDamagedBehind base settings files commits last f at → ⊥
 not_behind base settings files commits last f at sane (inl front) = no_front base last files f at sane.fronts front
 not_behind base settings files commits last f at sane (inr (fronts, inl (b, within, wholes, damaged))) = no_bucket_damage base (live_side last) settings files b f at (sane.buckets b within) damaged
 not_behind base settings files commits last f at sane (inr (fronts, inr (wholes, is, cut))) =
-    let below = among_below settings.buckets (first_commit settings.buckets) cut.before cut.commit cut.more (subst (RiseFrom settings.buckets (first_commit settings.buckets)) cut.among sane.manifest.rise) in
-    let end : last_commit (first_commit settings.buckets) (cut.before ++ cut.commit ∷ cut.more) ≡ last = ap (λ (l : List Commit). last_commit (first_commit settings.buckets) l) (sym cut.among) ∙ sane.last_is in
+    let below = among_below settings.buckets (first_commit settings.buckets) cut.before cut.commit cut.more
+    (subst (RiseFrom settings.buckets (first_commit settings.buckets)) cut.among sane.manifest.rise) in
+    let end : last_commit (first_commit settings.buckets) (cut.before ++ cut.commit ∷ cut.more) ≡ last = ap (λ (l : List Commit). last_commit (first_commit settings.buckets) l) (sym cut.among)
+    ∙ sane.last_is in
     let reached = reached_too base settings files last cut.commit last sane.reached (subst (λ (x : Commit). IsBelow cut.commit.cut x.cut) end below) in
     cut.above (subst (λ (x : Commit). IsReached base settings files x cut.commit) (sym sane.last_is) reached)
 
@@ -214,19 +238,24 @@ undamaged base settings files commits last f at sane (inl (is, damaged)) =
     (λ n. (take n commits, rise_take settings.buckets n (first_commit settings.buckets) commits sane.manifest.rise, take-map commit_bytes n commits))
     (subst (λ (g : ℕ). IsDamagedJournal (AreCommitPayloads settings.buckets) (files g) at) is damaged)
 undamaged base settings files commits last f at sane (inr (others, has, behind)) =
-    let same : others ≡ commits = same_commits settings.buckets others commits (rise_each settings.buckets (first_commit settings.buckets) others has.rise) (rise_each settings.buckets (first_commit settings.buckets) commits sane.manifest.rise)
+    let same : others ≡ commits = same_commits settings.buckets others commits (rise_each settings.buckets (first_commit settings.buckets) others has.rise)
+    (rise_each settings.buckets (first_commit settings.buckets) commits sane.manifest.rise)
     (one_list (files (file_of base 0 Manifest)) (map commit_bytes others) (map commit_bytes commits) has.records sane.manifest.records) in
     let end : last_commit (first_commit settings.buckets) others ≡ last = ap (λ (l : List Commit). last_commit (first_commit settings.buckets) l) same ∙ sane.last_is in
-    not_behind base settings files commits last f at sane (subst (λ (l : List Commit). IsDamagedBehind base settings files l last f at) same (subst (λ (x : Commit). IsDamagedBehind base settings files others x f at) end behind))
+    not_behind base settings files commits last f at sane (subst (λ (l : List Commit). IsDamagedBehind base settings files l last f at) same
+    (subst (λ (x : Commit). IsDamagedBehind base settings files others x f at) end behind))
 
 -- ---- files that stand for a book are
-stands_sane : (base : ℕ) (settings : Settings) (book : Book) (files : Files) (last : Commit) (stands : Stands base settings book files) → last_commit (first_commit book.buckets) stands.commits ≡ last → IsSane base settings files stands.commits last
+stands_sane : (base : ℕ) (settings : Settings) (book : Book) (files : Files) (last : Commit) (stands : Stands base settings book files) → last_commit (first_commit book.buckets) stands.commits ≡ last
+    → IsSane base settings files stands.commits last
 stands_sane base settings book files last stands here =
     let is = stands.book_is in
     let commit : IsCommitOf book last = subst (λ (x : Commit). IsCommitOf book x) here (last_of_book settings book stands.commits is stands.commits_are) in
-    let form : IsCommit settings.buckets last = subst (λ (k : ℕ). IsCommit k last) is.buckets (subst (λ (x : Commit). IsCommit book.buckets x) here (last_is book.buckets (first_commit book.buckets) stands.commits (first_is book.buckets) stands.commits_are.form)) in
+    let form : IsCommit settings.buckets last = subst (λ (k : ℕ). IsCommit k last) is.buckets
+    (subst (λ (x : Commit). IsCommit book.buckets x) here (last_is book.buckets (first_commit book.buckets) stands.commits (first_is book.buckets) stands.commits_are.form)) in
     let ends : IsLastOf settings book last = record { book_is = is; commit = commit; form = form } in
-    let runs = λ (b : ℕ) (within : b < settings.buckets). stands_runs base settings book files last b is (subst (λ (x : Commit). HasBucketOf base settings.array x b (live_offers book x b) files) here (stands.buckets b (omega (arith, within, is.buckets)))) in
+    let runs = λ (b : ℕ) (within : b < settings.buckets). stands_runs base settings book files last b is
+    (subst (λ (x : Commit). HasBucketOf base settings.array x b (live_offers book x b) files) here (stands.buckets b (omega (arith, within, is.buckets)))) in
     record {
       manifest = record { rise = stands_rise base settings book files stands; records = stands.manifest };
       last_is = sym (last_same settings book stands.commits is) ∙ here;

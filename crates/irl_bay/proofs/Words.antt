@@ -50,7 +50,8 @@ combined_small Add (Some old) value small lt = omega arith
 words_entered : (rule : Rule) (keys : KeyMap) (offer : Tuple) → AreWords keys → IsOffer offer → AreWords (entered rule keys offer)
 words_entered rule keys offer h is =
     let small : IsSmall (get keys offer.key) = subst IsSmall (sym (get-entries keys offer.key)) (found_small offer.key (entries keys) h) in
-    let new : AreWords (insert keys offer.key (combined rule (get keys offer.key) offer.value)) = words_insert keys offer.key _ is.key (combined_small rule (get keys offer.key) offer.value small is.value) h in
+    let new : AreWords (insert keys offer.key (combined rule (get keys offer.key) offer.value)) =
+    words_insert keys offer.key _ is.key (combined_small rule (get keys offer.key) offer.value small is.value) h in
     elim (enters offer.op) as (λ b. AreWords (cond b (insert keys offer.key (combined rule (get keys offer.key) offer.value)) keys)) [ true ↦ new | false ↦ h ]
 
 -- ---- a list of offers
@@ -78,11 +79,13 @@ all_stretch (first ∷ firsts) [] tos lists h = tt
 all_stretch (first ∷ firsts) (from ∷ froms) [] lists h = tt
 all_stretch (first ∷ firsts) (from ∷ froms) (to ∷ tos) [] h = tt
 all_stretch (first ∷ firsts) (from ∷ froms) (to ∷ tos) (list ∷ lists) h =
-    all_both (drop (from - first) (take (to - first) list)) (stretch firsts froms tos lists) (all_drop (from - first) (take (to - first) list) (all_take (to - first) list h.0)) (all_stretch firsts froms tos lists h.1)
+    all_both (drop (from - first) (take (to - first) list)) (stretch firsts froms tos lists) (all_drop (from - first) (take (to - first) list) (all_take (to - first) list h.0))
+    (all_stretch firsts froms tos lists h.1)
 
 all_stretches : (firsts from : List ℕ) (cuts : List (List ℕ)) (lists : List (List Tuple)) → AllByRecursion (AllByRecursion IsOffer) lists → AllByRecursion IsOffer (stretches firsts from cuts lists)
 all_stretches firsts from [] lists h = tt
-all_stretches firsts from (cut ∷ cuts) lists h = all_both (stretch firsts from cut lists) (stretches firsts cut cuts lists) (all_stretch firsts from cut lists h) (all_stretches firsts cut cuts lists h)
+all_stretches firsts from (cut ∷ cuts) lists h = all_both (stretch firsts from cut lists) (stretches firsts cut cuts lists) (all_stretch firsts from cut lists h)
+    (all_stretches firsts cut cuts lists h)
 
 -- each list by its number
 pub all_lists : (lists : List (List Tuple)) → ((b : ℕ) → b < length lists → AllByRecursion IsOffer (get_or lists b [])) → AllByRecursion (AllByRecursion IsOffer) lists

@@ -1,5 +1,5 @@
--- The cache: the keys that were judged, each with its value, keys rising. It has two sides, of which a merge reads one and writes
--- the other.
+-- The cache: the keys that were judged, each with its value, keys rising. It has two sides, of which a merge reads one
+-- and writes the other.
 use Rattle.std.specs.Prelude.{◌≡◌, ℕ, length}
 use Rattle.std.specs.FinMap.{entries}
 use Rattle.irl_model.specs.Judging.{KeyMap}

@@ -13,8 +13,8 @@ use Rattle.irl_bay.specs.Runs.{texts_of}
 pub record Commit : Type 0 where
   -- the live cache side, and how many keys it has
   pub side : ℕ
-  -- The side of the buckets' files that is live, which has the offers from the cut on. None in a record of the layout that had
-  -- but one side: its files have every offer.
+  -- The side of the buckets' files that is live, which has the offers from the cut on. None in a record of the layout
+  -- that had but one side: its files have every offer.
   pub live : Option ℕ
   pub entries : ℕ
   -- how many offers are judged, and how many of them Unique
@@ -27,7 +27,15 @@ pub record Commit : Type 0 where
 
 -- what is said before the first record
 abbrev pub first_commit : ℕ → Commit
-first_commit buckets = record { side = 0; live = None; entries = 0; judged = 0; unique = 0; texts = 0; cut = replicate buckets 0 }
+first_commit buckets = record {
+  side = 0;
+  live = None;
+  entries = 0;
+  judged = 0;
+  unique = 0;
+  texts = 0;
+  cut = replicate buckets 0;
+}
 
 -- the side of the buckets' files that a commit leaves live
 abbrev pub side_of : Option ℕ → ℕ
@@ -45,7 +53,9 @@ sides_byte side (Some live) = side + 2 + 2 * live
 -- the payload of a record
 abbrev pub commit_bytes : Commit → List ℕ
 commit_bytes commit =
-    sides_byte commit.side commit.live ∷ (little_bytes 8 commit.entries ++ (little_bytes 8 commit.judged ++ (little_bytes 8 commit.unique ++ (little_bytes 8 commit.texts ++ flat_map (little_bytes 8) commit.cut))))
+    sides_byte commit.side commit.live ∷ (little_bytes 8 commit.entries
+    ++ (little_bytes 8 commit.judged ++ (little_bytes 8 commit.unique
+    ++ (little_bytes 8 commit.texts ++ flat_map (little_bytes 8) commit.cut))))
 
 -- the numbers of eight bytes each that stand in these bytes, so many
 abbrev pub numbers_in : ℕ → List ℕ → List ℕ
@@ -86,7 +96,8 @@ last_commit first [] = first
 last_commit first (commit ∷ commits) = last_commit commit commits
 
 -- ---- which offers the live files of the buckets have
--- the number of the first of each bucket's: that of the cut where the commit names a side, else the first that the book keeps
+-- the number of the first of each bucket's: that of the cut where the commit names a side, else the first that the book
+-- keeps
 abbrev pub starts_by : List ℕ → List ℕ → Option ℕ → List ℕ
 starts_by firsts cut None = firsts
 starts_by firsts cut (Some side) = cut
@@ -96,12 +107,14 @@ starts book last = starts_by book.firsts last.cut last.live
 
 -- the offers of a bucket from that number on
 abbrev pub live_offers : Book → Commit → ℕ → List Tuple
-live_offers book last b = drop (slice_index (starts book last) b - slice_index book.firsts b) (slice_index_or book.lists b [])
+live_offers book last b = drop (slice_index (starts book last) b - slice_index book.firsts b)
+    (slice_index_or book.lists b [])
 
 -- the commits of a book's cuts, one for each: that of the book as it was when it had only the cuts up to this one
 pub record AreCommitsOf (book : Book) (commits : List Commit) : Type 0 where
   pub count : length commits ≡ length book.cuts
-  pub each : (i : ℕ) → i < length commits → IsCommitOf (with_cuts (i + 1) book) (slice_index_or commits i (first_commit book.buckets))
+  pub each : (i : ℕ) → i < length commits → IsCommitOf (with_cuts (i + 1) book)
+      (slice_index_or commits i (first_commit book.buckets))
   pub form : AllByRecursion (IsCommit book.buckets) commits
   pub grow : GrowFrom 0 commits
   pub name : NameFrom None commits
@@ -115,4 +128,5 @@ pub record HasLiveRecords (base buckets b : ℕ) (payloads : List (List ℕ)) (f
   pub commits : List Commit
   pub form : AllByRecursion (IsCommit buckets) commits
   pub manifest : HasCommits base commits files
-  pub records : HasRecords (files (file_of base 0 (Journal (live_side (last_commit (first_commit buckets) commits)) b))) payloads
+  pub records : HasRecords (files (file_of base 0 (Journal (live_side (last_commit (first_commit buckets) commits)) b)))
+      payloads

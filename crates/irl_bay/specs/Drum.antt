@@ -24,7 +24,15 @@ pub record Drum : Type 0 where
 
 -- what stands for a bucket that isn't there
 abbrev pub no_bucket : Bucket
-no_bucket = record { journal = record { file = 0; end = 0; is_sound = true }; aux = record { file = 0; length = 0 }; start = 0; durable = 0; gate = 0; skip = 0; text = 0 }
+no_bucket = record {
+  journal = record { file = 0; end = 0; is_sound = true };
+  aux = record { file = 0; length = 0 };
+  start = 0;
+  durable = 0;
+  gate = 0;
+  skip = 0;
+  text = 0;
+}
 
 abbrev pub bucket_at : Drum → ℕ → Bucket
 bucket_at drum b = slice_index_or drum.buckets b no_bucket
@@ -54,8 +62,8 @@ abbrev pub texts_front : Drum → Front
 texts_front drum = record { file = file_of drum.base 0 Texts; length = drum.last.texts }
 
 -- ---- what holds of every open bay
--- a bucket's files are its own on the live side, they begin with no offer that isn't judged, and of its offers no more are judged than
--- there are
+-- a bucket's files are its own on the live side, they begin with no offer that isn't judged, and of its offers no more
+-- are judged than there are
 pub record IsBucket (base side b cut : ℕ) (is_sound : Bool) (bucket : Bucket) : Type 0 where
   pub journal : bucket.journal.file ≡ file_of base 0 (Journal side b)
   pub aux : bucket.aux.file ≡ file_of base 0 (Aux side b)
@@ -75,7 +83,8 @@ pub record IsDrum (drum : Drum) : Type 0 where
   pub sound : drum.is_sound ≡ true → drum.manifest.is_sound ≡ true
   pub cuts : drum.cuts ≤ drum.manifest.end
   pub count : length drum.buckets ≡ drum.settings.buckets
-  pub buckets : (b : ℕ) → b < drum.settings.buckets → IsBucket drum.base (live_side drum.last) b (judged_at drum b) drum.is_sound (bucket_at drum b)
+  pub buckets : (b : ℕ) → b < drum.settings.buckets
+      → IsBucket drum.base (live_side drum.last) b (judged_at drum b) drum.is_sound (bucket_at drum b)
 
 -- ---- what a book says of it
 -- its numbers are the book's

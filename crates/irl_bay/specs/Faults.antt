@@ -1,7 +1,7 @@
 -- Faults of a bay's journals.
 use Rattle.std.specs.Prelude.{ℕ}
-use Rattle.irl_offer.specs.declared.receipt.Fault.{Fault}
-use Rattle.irl_offer.specs.declared.receipt.Fault.TheVariants.{Failed as StoreFailed, Memory as StoreMemory, Damaged as StoreDamaged}
+use Rattle.irl_base.specs.declared.fault.Fault.{Fault}
+use Rattle.irl_base.specs.declared.fault.Fault.TheVariants.{Failed as StoreFailed, Memory as StoreMemory, Damaged as StoreDamaged}
 use Rattle.irl_journal.specs.declared.fault.JournalFault.{JournalFault}
 use Rattle.irl_journal.specs.declared.fault.JournalFault.TheVariants.{Failed as JournalFailed, Memory as JournalMemory, Damaged as JournalDamaged}
 

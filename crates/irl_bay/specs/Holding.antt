@@ -1,4 +1,5 @@
--- An open bay holds a book: what it keeps in memory is the book's, and each joint image that a stop now may leave stands for it.
+-- An open bay holds a book: what it keeps in memory is the book's, and each joint image that a stop now may leave
+-- stands for it.
 use Rattle.std.specs.Prelude.{◌≡◌, ◌⊎◌, ℕ, ◌+◌, ◌-◌, ◌<◌, ◌≤◌, List, [], ◌++◌, map, length, take, slice_index, slice_index_or, Option, None, Some}
 use Rattle.std.specs.List.{flat_map, AllByRecursion}
 use Rattle.std.specs.FinMap.{entries}
@@ -6,7 +7,7 @@ use Rattle.irl_offer.specs.declared.settings.Settings.{Settings}
 use Rattle.irl_offer.specs.Tuple.{Tuple}
 use Rattle.irl_model.specs.Book.{Book, judged, judged_offers}
 use Rattle.irl_model.specs.Judging.{after}
-use Rattle.irl_disk.specs.Disk.{Files}
+use Rattle.irl_disk.specs.Disk.{Files, ChangesOnly}
 use Rattle.irl_journal.specs.Format.{records_text}
 use Rattle.irl_journal.specs.Appending.{IsOpen}
 use Rattle.irl_journal.specs.Blob.{IsCommitted}
@@ -28,7 +29,8 @@ pub record HoldsBucket (images : Files → Type 0) (array cut : ℕ) (bucket : B
   pub aux : IsCommitted images bucket.aux (texts_of list)
   pub durable : bucket.durable ≡ bucket.start + length list
   pub judged : cut ≤ length list
-  -- where the first pending offer stands: the gate of its record, how many offers of it are judged, and the place of its text
+  -- where the first pending offer stands: the gate of its record, how many offers of it are judged, and the place of
+  -- its text
   pub gate : bucket.gate ≡ length (records_text (map run_bytes before))
   pub skip : length (flat_map (λ run. run) before) + bucket.skip ≡ cut
   pub text : bucket.text ≡ length (texts_of (take cut list))
@@ -38,42 +40,33 @@ pub record Holds (images : Files → Type 0) (drum : Drum) (book : Book) : Type 
   -- each offer has its room, and those of a bucket from its start on stand in its files
   pub offers : (b : ℕ) → b < book.buckets → AllByRecursion IsOffer (slice_index_or book.lists b [])
   pub starts_are : (b : ℕ) → b < book.buckets → (bucket_at drum b).start ≡ slice_index (starts book drum.last) b
-  pub buckets : (b : ℕ) → b < book.buckets → HoldsBucket images drum.settings.array (judged_at drum b - (bucket_at drum b).start) (bucket_at drum b) (live_offers book drum.last b)
+  pub buckets : (b : ℕ) → b < book.buckets → HoldsBucket images drum.settings.array
+      (judged_at drum b - (bucket_at drum b).start) (bucket_at drum b) (live_offers book drum.last b)
   pub commits : List Commit
   pub commits_are : AreCommitsOf book commits
   pub last : drum.last ≡ last_commit (first_commit book.buckets) commits
   pub numbers : HasNumbers drum book
   pub manifest : IsOpen images drum.manifest (map commit_bytes commits)
   pub keys : drum.last.entries ≡ length (entries (after book.rule book.base (judged_offers book)))
-  pub cache : IsCommitted images (cache_front drum) (pairs_bytes (entries (after book.rule book.base (judged_offers book))))
+  pub cache : IsCommitted images (cache_front drum)
+      (pairs_bytes (entries (after book.rule book.base (judged_offers book))))
   pub judged_are : IsCommitted images (judged_front drum) (judged_entries 0 (judged book))
   pub texts : IsCommitted images (texts_front drum) (texts_of (judged_offers book))
 
 -- ---- from one joint image to another
--- only some files differ
-abbrev pub ChangesOnly : (ℕ → Type 0) → Files → Files → Type 0
-ChangesOnly among old new = (f : ℕ) → (among f → ⊥) → new f ≡ old f
-
--- the same of what is told; a store that tells nothing goes on telling nothing
-abbrev pub TellsOnly : (ℕ → Type 0) → Option Files → Option Files → Type 0
-TellsOnly among None new = new ≡ None
-TellsOnly among (Some old) new = (files : Files) × (new ≡ Some files) × ChangesOnly among old files
-
--- what is told changes by a step; a store that tells nothing goes on telling nothing
-abbrev pub TellsBy : (Files → Files → Type 0) → Option Files → Option Files → Type 0
-TellsBy step None new = new ≡ None
-TellsBy step (Some old) new = (files : Files) × (new ≡ Some files) × step old files
-
 -- the two files of a bucket
 abbrev pub IsFileOfBucket : Bucket → ℕ → Type 0
 IsFileOfBucket bucket f = (f ≡ bucket.journal.file) ⊎ (f ≡ bucket.aux.file)
 
--- only a bucket's files differ, and they have the list that it had, or that with new offers behind it: what a stop leaves in a flush
+-- only a bucket's files differ, and they have the list that it had, or that with new offers behind it: what a stop
+-- leaves in a flush
 pub record BucketBecomes (bucket : Bucket) (array : ℕ) (list news : List Tuple) (old new : Files) : Type 0 where
   pub others : ChangesOnly (IsFileOfBucket bucket) old new
-  pub has : HasBucket array list (new bucket.journal.file) (new bucket.aux.file) ⊎ HasBucket array (list ++ news) (new bucket.journal.file) (new bucket.aux.file)
+  pub has : HasBucket array list (new bucket.journal.file) (new bucket.aux.file)
+      ⊎ HasBucket array (list ++ news) (new bucket.journal.file) (new bucket.aux.file)
 
--- only some files differ, and the bay's stand for one of two books: what a stop leaves in a call that makes the one of the other
+-- only some files differ, and the bay's stand for one of two books: what a stop leaves in a call that makes the one of
+-- the other
 pub record Becomes (among : ℕ → Type 0) (base : ℕ) (settings : Settings) (x y : Book) (old new : Files) : Type 0 where
   pub others : ChangesOnly among old new
   pub stands : Stands base settings x new ⊎ Stands base settings y new
@@ -85,5 +78,7 @@ pub record IsLong (drum : Drum) (files : Files) : Type 0 where
   pub cache : (cache_front drum).length ≤ length (files (cache_front drum).file)
   pub judged : (judged_front drum).length ≤ length (files (judged_front drum).file)
   pub texts : (texts_front drum).length ≤ length (files (texts_front drum).file)
-  pub journals : (b : ℕ) → b < drum.settings.buckets → (bucket_at drum b).journal.end < length (files (bucket_at drum b).journal.file)
-  pub auxes : (b : ℕ) → b < drum.settings.buckets → (bucket_at drum b).aux.length ≤ length (files (bucket_at drum b).aux.file)
+  pub journals : (b : ℕ) → b < drum.settings.buckets
+      → (bucket_at drum b).journal.end < length (files (bucket_at drum b).journal.file)
+  pub auxes : (b : ℕ) → b < drum.settings.buckets
+      → (bucket_at drum b).aux.length ≤ length (files (bucket_at drum b).aux.file)

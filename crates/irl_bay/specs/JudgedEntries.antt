@@ -6,7 +6,7 @@ use Rattle.irl_offer.specs.declared.entry.Entry.{Entry}
 use Rattle.irl_offer.specs.declared.offer.Verdict.{Verdict}
 use Rattle.irl_offer.specs.declared.offer.Verdict.TheVariants.{Unique, Absent, Known}
 use Rattle.irl_offer.specs.declared.receipt.Judged.{Judged}
-use Rattle.irl_offer.specs.Limits.{max_text}
+use Rattle.irl_base.specs.Limits.{max_text}
 use Rattle.irl_bay.specs.declared.layout.judged_entry.JudgedEntry.{JudgedEntry}
 
 -- the number of a verdict, and the value that it tells
@@ -22,8 +22,8 @@ known_value (Some Unique) = 0
 known_value (Some Absent) = 0
 known_value (Some (Known value)) = value
 
--- the 48 bytes of an entry: the bucket, the operation, the verdict, a zero, the text's length, the key, the value, the source, the
--- value that the verdict tells, and the text's place
+-- the 48 bytes of an entry: the bucket, the operation, the verdict, a zero, the text's length, the key, the value, the
+-- source, the value that the verdict tells, and the text's place
 abbrev pub entry_spelling : JudgedEntry → List ℕ
 entry_spelling entry =
     entry.bucket ∷ op_number entry.op ∷ verdict_number entry.verdict ∷ 0 ∷ (little_bytes 4 entry.aux_len
@@ -80,7 +80,8 @@ row place bucket entry verdict = entry_spelling (record {
 abbrev pub rows : ℕ → ℕ → List Entry → List (Option Verdict) → List ℕ
 rows place bucket [] verdicts = []
 rows place bucket (entry ∷ entries) [] = []
-rows place bucket (entry ∷ entries) (verdict ∷ verdicts) = row place bucket entry verdict ++ rows (place + entry.aux_len) bucket entries verdicts
+rows place bucket (entry ∷ entries) (verdict ∷ verdicts) = row place bucket entry verdict
+    ++ rows (place + entry.aux_len) bucket entries verdicts
 
 -- ---- reading them back
 -- the judged offer of an entry with this text
@@ -94,7 +95,8 @@ with_text entry text = record {
 -- the judged offers of entries whose texts stand one behind the other
 abbrev pub with_texts : List JudgedEntry → List ℕ → List Judged
 with_texts [] texts = []
-with_texts (entry ∷ entries) texts = with_text entry (take entry.aux_len texts) ∷ with_texts entries (drop entry.aux_len texts)
+with_texts (entry ∷ entries) texts = with_text entry (take entry.aux_len texts)
+    ∷ with_texts entries (drop entry.aux_len texts)
 
 -- how many bytes the texts of entries have
 abbrev pub texts_length : List JudgedEntry → ℕ

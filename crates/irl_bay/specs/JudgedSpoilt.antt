@@ -6,8 +6,8 @@ use Rattle.irl_bay.specs.declared.layout.judged_entry.JudgedEntry.{JudgedEntry}
 use Rattle.irl_bay.specs.JudgedEntries.{IsJudgedEntry, entry_spelling}
 use Rattle.irl_bay.specs.Drum.{Drum, judged_front, texts_front}
 
--- an entry that may stand behind another, where one is looked at before it: it names the bucket of its key, and a text that is
--- committed and stands right behind the other's
+-- an entry that may stand behind another, where one is looked at before it: it names the bucket of its key, and a text
+-- that is committed and stands right behind the other's
 pub record FitsBehind (drum : Drum) (before : Option JudgedEntry) (entry : JudgedEntry) : Type 0 where
   pub is : IsJudgedEntry entry
   pub bucket : entry.bucket ≡ bucket_of drum.settings.buckets entry.key
@@ -29,7 +29,8 @@ pub record StandsBefore (bytes : List ℕ) (j : ℕ) (entry : JudgedEntry) : Typ
 pub record NoneFits (drum : Drum) (bytes : List ℕ) (j : ℕ) : Type 0 where
   pub before : Option JudgedEntry
   pub stands : IfSome before (StandsBefore bytes j)
-  pub none : (entry : JudgedEntry) → FitsBehind drum before entry → entry_spelling entry ≡ take 48 (drop (48 * j) bytes) → ⊥
+  pub none : (entry : JudgedEntry) → FitsBehind drum before entry → entry_spelling entry ≡ take 48 (drop (48 * j) bytes)
+      → ⊥
 
 -- the judged file has at this place a committed entry that may not stand there
 pub record IsSpoiltEntry (drum : Drum) (file : List ℕ) (at : ℕ) : Type 0 where

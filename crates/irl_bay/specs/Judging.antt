@@ -7,7 +7,7 @@ use Rattle.irl_offer.specs.declared.receipt.Pair.{Pair}
 use Rattle.irl_model.specs.Book.{Book, judged_cut, lengths_of, stretch, uniques_from}
 use Rattle.irl_model.specs.Pairs.{pair_of}
 use Rattle.irl_disk.specs.Disk.{Files}
-use Rattle.irl_disk.specs.Images.{Snapshot}
+use Rattle.irl_disk.specs.Images.{Told}
 use Rattle.irl_cache.specs.SortedRun.{pairs_bytes}
 use Rattle.irl_bay.specs.Drum.{Drum, durables}
 use Rattle.irl_bay.specs.Holding.{Holds}
@@ -24,7 +24,8 @@ abbrev pub waiting : Book → ℕ → List Tuple
 waiting book n = stretch book.firsts (judged_cut book) (lengths_of book) (take n book.lists)
 
 -- From one snapshot on, the pending offers of the first b buckets were judged and told.
-pub record HasJudged (drum : Drum) (b : ℕ) (first : Snapshot) (told : Option Files) (sides : Sides) (telling : Telling) : Type 0 where
+pub record HasJudged (drum : Drum) (b : ℕ) (first : Told) (told : Option Files) (sides : Sides)
+    (telling : Telling) : Type 0 where
   pub offers : List Tuple
   pub verdicts : List (Option Verdict)
   pub of : IsSidesOf drum sides

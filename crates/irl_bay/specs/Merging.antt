@@ -4,8 +4,8 @@ use Rattle.std.specs.FinMap.{entries}
 use Rattle.irl_model.specs.Book.{Book, judged, uniques, judged_offers, merged}
 use Rattle.irl_model.specs.Judging.{after}
 use Rattle.std.specs.Option.{ForSome}
-use Rattle.irl_disk.specs.Disk.{Files}
-use Rattle.irl_disk.specs.Images.{Snapshot, LeavesBy}
+use Rattle.irl_disk.specs.Disk.{Files, ChangesOnly, TellsBy}
+use Rattle.irl_disk.specs.Images.{Told, LeavesBy}
 use Rattle.irl_journal.specs.Appending.{Tail}
 use Rattle.irl_journal.specs.Blob.{Front, KeepsFront, IsCommitted}
 use Rattle.irl_bay.specs.BayFiles.{file_of, IsSideFile}
@@ -14,12 +14,12 @@ use Rattle.irl_bay.specs.declared.bucket.Bucket.{Bucket}
 use Rattle.irl_bay.specs.Drum.{Drum, durables, judged_front, texts_front}
 use Rattle.irl_bay.specs.Runs.{texts_of}
 use Rattle.irl_bay.specs.Commits.{Commit, live_side, IsCommit}
-use Rattle.irl_bay.specs.Holding.{ChangesOnly, Holds, TellsBy}
+use Rattle.irl_bay.specs.Holding.{Holds}
 use Rattle.irl_cache.specs.SortedRun.{pairs_bytes}
 use Rattle.irl_bay.specs.JudgedEntries.{judged_entries}
 
--- what it writes behind what is committed, and to the other side of the cache: so many keys, so many entries, of which so many are
--- Unique, and texts; and the new cut
+-- what it writes behind what is committed, and to the other side of the cache: so many keys, so many entries, of which
+-- so many are Unique, and texts; and the new cut
 pub record Batch : Type 0 where
   pub pairs : List ℕ
   pub entries : ℕ
@@ -49,7 +49,15 @@ pub record IsBatchOf (book : Book) (batch : Batch) : Type 0 where
 -- ---- what is committed then
 -- the commit of a batch
 abbrev pub next_commit : Drum → Batch → Commit
-next_commit drum batch = record { side = 1 - drum.last.side; live = Some (1 - live_side drum.last); entries = batch.entries; judged = drum.last.judged + batch.count; unique = min (drum.last.unique + batch.unique) (2 ^ 64 - 1); texts = drum.last.texts + length batch.texts; cut = batch.cut }
+next_commit drum batch = record {
+  side = 1 - drum.last.side;
+  live = Some (1 - live_side drum.last);
+  entries = batch.entries;
+  judged = drum.last.judged + batch.count;
+  unique = min (drum.last.unique + batch.unique) (2 ^ 64 - 1);
+  texts = drum.last.texts + length batch.texts;
+  cut = batch.cut;
+}
 
 -- a commit that a bay may have
 pub record HasRoom (buckets : ℕ) (commit : Commit) : Type 0 where
@@ -59,12 +67,22 @@ pub record HasRoom (buckets : ℕ) (commit : Commit) : Type 0 where
 
 -- a bucket of which all offers are judged, so many of them, with empty files on a side
 abbrev pub emptied : ℕ → ℕ → ℕ → ℕ → Bucket
-emptied base side b durable = record { journal = record { file = file_of base 0 (Journal side b); end = 0; is_sound = true }; aux = record { file = file_of base 0 (Aux side b); length = 0 }; start = durable; durable = durable; gate = 0; skip = 0; text = 0 }
+emptied base side b durable = record {
+  journal =
+      record { file = file_of base 0 (Journal side b); end = 0; is_sound = true };
+  aux = record { file = file_of base 0 (Aux side b); length = 0 };
+  start = durable;
+  durable = durable;
+  gate = 0;
+  skip = 0;
+  text = 0;
+}
 
 -- the same of all buckets, the first of which is b
 abbrev pub emptied_from : ℕ → ℕ → ℕ → List Bucket → List Bucket
 emptied_from base side b [] = []
-emptied_from base side b (bucket ∷ buckets) = emptied base side b bucket.durable ∷ emptied_from base side (b + 1) buckets
+emptied_from base side b (bucket ∷ buckets) = emptied base side b bucket.durable
+    ∷ emptied_from base side (b + 1) buckets
 
 -- a side whose files were cut: each bucket's journal has one byte, that of its first gate, and its texts have none
 pub record AreEmpty (base side buckets : ℕ) (files : Files) : Type 0 where
@@ -73,7 +91,15 @@ pub record AreEmpty (base side buckets : ℕ) (files : Files) : Type 0 where
 
 -- a bay after a merge, whose manifest is this one then
 abbrev pub with_commit : Tail → Commit → Drum → Drum
-with_commit manifest commit drum = record { base = drum.base; settings = drum.settings; is_sound = true; manifest = manifest; last = commit; cuts = drum.cuts + 1; buckets = emptied_from drum.base (1 - live_side drum.last) 0 drum.buckets }
+with_commit manifest commit drum = record {
+  base = drum.base;
+  settings = drum.settings;
+  is_sound = true;
+  manifest = manifest;
+  last = commit;
+  cuts = drum.cuts + 1;
+  buckets = emptied_from drum.base (1 - live_side drum.last) 0 drum.buckets;
+}
 
 -- what is committed of the other cache side, of the judged file and of the texts once a batch is written
 abbrev pub next_cache : Drum → Batch → Front
@@ -88,8 +114,10 @@ next_texts drum batch = record { file = file_of drum.base 0 Texts; length = drum
 -- from the images of one moment to those of a later one, a batch was written behind what is committed, and synced
 pub record IsWritten (drum : Drum) (batch : Batch) (old new : Files → Type 0) : Type 0 where
   pub cache : IsCommitted new (next_cache drum batch) batch.pairs
-  pub judged : (held : List ℕ) → IsCommitted old (judged_front drum) held → IsCommitted new (next_judged drum batch) (held ++ batch.judged)
-  pub texts : (held : List ℕ) → IsCommitted old (texts_front drum) held → IsCommitted new (next_texts drum batch) (held ++ batch.texts)
+  pub judged : (held : List ℕ) → IsCommitted old (judged_front drum) held
+      → IsCommitted new (next_judged drum batch) (held ++ batch.judged)
+  pub texts : (held : List ℕ) → IsCommitted old (texts_front drum) held
+      → IsCommitted new (next_texts drum batch) (held ++ batch.texts)
 
 -- the files that it was written to are as long as what is committed of them then
 pub record IsLongBatch (drum : Drum) (batch : Batch) (files : Files) : Type 0 where
@@ -100,7 +128,8 @@ pub record IsLongBatch (drum : Drum) (batch : Batch) (files : Files) : Type 0 wh
 -- ---- which files change
 -- those that a batch is written to: the cache side is the one that isn't live
 abbrev pub IsBatchFile : Drum → ℕ → Type 0
-IsBatchFile drum f = (f ≡ file_of drum.base 0 (Cache (1 - drum.last.side))) ⊎ (f ≡ file_of drum.base 0 Judged) ⊎ (f ≡ file_of drum.base 0 Texts)
+IsBatchFile drum f = (f ≡ file_of drum.base 0 (Cache (1 - drum.last.side))) ⊎ (f ≡ file_of drum.base 0 Judged)
+    ⊎ (f ≡ file_of drum.base 0 Texts)
 
 -- only those change, and what is committed of them stays
 pub record KeepsCommitted (drum : Drum) (old new : Files) : Type 0 where
@@ -109,29 +138,26 @@ pub record KeepsCommitted (drum : Drum) (old new : Files) : Type 0 where
   pub texts : KeepsFront (texts_front drum).length (old (texts_front drum).file) (new (texts_front drum).file)
 
 -- from one snapshot to a later one only such writes were made
-pub record Writes (drum : Drum) (old new : Snapshot) : Type 0 where
+pub record Writes (drum : Drum) (old new : Told) : Type 0 where
   pub told : TellsBy (KeepsCommitted drum) old.files new.files
   pub stops : LeavesBy (KeepsCommitted drum) old new
 
 -- a batch is written and synced, and this is its commit
-pub record IsSynced (drum : Drum) (batch : Batch) (old new : Snapshot) (next : Commit) : Type 0 where
+pub record IsSynced (drum : Drum) (batch : Batch) (old new : Told) (next : Commit) : Type 0 where
   pub next_is : next ≡ next_commit drum batch
   pub room : HasRoom drum.settings.buckets (next_commit drum batch)
   pub written : IsWritten drum batch old.images new.images
   pub long : ForSome new.files (IsLongBatch drum batch)
 
 -- The pending offers were judged, and a batch is written and synced, which is that of the book that the bay held.
-pub record IsJudged (drum : Drum) (old new : Snapshot) (next : Commit) : Type 0 where
+pub record IsJudged (drum : Drum) (old new : Told) (next : Commit) : Type 0 where
   pub batch : Batch
   pub fits : FitsBatch drum batch
   pub synced : IsSynced drum batch old new next
   pub of_book : ForSome old.files (λ _. (book : Book) → Holds old.images drum book → IsBatchOf book batch)
 
--- n bytes of this file were read, where a store tells it
-abbrev pub TakesOf : ℕ → ℕ → Option (ℕ → ℕ) → Option (ℕ → ℕ) → Type 0
-TakesOf f n None new = new ≡ None
-TakesOf f n (Some old) new = (counts : ℕ → ℕ) × (new ≡ Some counts) × (counts f ≡ old f + n)
-
--- the files that a merge changes: the manifest, those that a batch is written to, and those of the buckets on the side that isn't live
+-- the files that a merge changes: the manifest, those that a batch is written to, and those of the buckets on the side
+-- that isn't live
 abbrev pub IsMergeFile : Drum → ℕ → Type 0
-IsMergeFile drum f = (f ≡ file_of drum.base 0 Manifest) ⊎ IsBatchFile drum f ⊎ IsSideFile drum.base (1 - live_side drum.last) drum.settings.buckets f
+IsMergeFile drum f = (f ≡ file_of drum.base 0 Manifest) ⊎ IsBatchFile drum f
+    ⊎ IsSideFile drum.base (1 - live_side drum.last) drum.settings.buckets f

@@ -7,8 +7,8 @@ use Rattle.irl_offer.specs.Tuple.{Tuple}
 use Rattle.irl_offer.specs.declared.entry.Entry.{Entry}
 use Rattle.irl_offer.specs.declared.settings.Settings.{Settings}
 use Rattle.irl_model.specs.Book.{IsBelow}
-use Rattle.irl_disk.specs.Disk.{Files, ChangesAmong}
-use Rattle.irl_disk.specs.Images.{Snapshot, LeavesBy}
+use Rattle.irl_disk.specs.Disk.{Files, ChangesAmong, TellsBy}
+use Rattle.irl_disk.specs.Images.{Told, LeavesBy}
 use Rattle.irl_disk.specs.Taken.{TakesAmong}
 use Rattle.irl_journal.specs.Format.{records_text}
 use Rattle.irl_journal.specs.Blob.{IsCommitted}
@@ -18,15 +18,17 @@ use Rattle.irl_bay.specs.declared.layout.files.BayFile.TheVariants.{Cache, Judge
 use Rattle.irl_bay.specs.declared.bucket.Bucket.{Bucket}
 use Rattle.irl_bay.specs.Commits.{Commit, commit_bytes}
 use Rattle.irl_bay.specs.Damage.{HasRuns, IsLiveJournal, IsAdopted, entries_in, text_length}
-use Rattle.irl_bay.specs.Holding.{TellsBy}
 use Rattle.irl_bay.specs.Making.{IsJournalOn}
 use Rattle.irl_bay.specs.Runs.{HasBucket}
 
 -- what a commit names of the three files is committed: the bytes that they have up to there
 pub record AreFronts (images : Files → Type 0) (base : ℕ) (last : Commit) (files : Files) : Type 0 where
-  pub cache : IsCommitted images (record { file = file_of base 0 (Cache last.side); length = 16 * last.entries }) (take (16 * last.entries) (files (file_of base 0 (Cache last.side))))
-  pub judged : IsCommitted images (record { file = file_of base 0 Judged; length = 48 * last.judged }) (take (48 * last.judged) (files (file_of base 0 Judged)))
-  pub texts : IsCommitted images (record { file = file_of base 0 Texts; length = last.texts }) (take last.texts (files (file_of base 0 Texts)))
+  pub cache : IsCommitted images (record { file = file_of base 0 (Cache last.side); length = 16 * last.entries })
+      (take (16 * last.entries) (files (file_of base 0 (Cache last.side))))
+  pub judged : IsCommitted images (record { file = file_of base 0 Judged; length = 48 * last.judged })
+      (take (48 * last.judged) (files (file_of base 0 Judged)))
+  pub texts : IsCommitted images (record { file = file_of base 0 Texts; length = last.texts })
+      (take last.texts (files (file_of base 0 Texts)))
 
 -- an open bucket has its own files on a side, the first of whose offers has this number, and its places lie within them
 pub record IsOpenBucket (base side b first : ℕ) (bucket : Bucket) : Type 0 where
@@ -50,8 +52,10 @@ pub record IsLongBucket (bucket : Bucket) (files : Files) : Type 0 where
   pub aux : bucket.aux.length ≤ length (files bucket.aux.file)
 
 -- a bucket's files have this list, the first of whose offers has a number, and of which so many are judged
-pub record HasListOf (base side : ℕ) (settings : Settings) (b start cut : ℕ) (list : List Tuple) (files : Files) : Type 0 where
-  pub has : HasBucket settings.array list (files (file_of base 0 (Journal side b))) (files (file_of base 0 (Aux side b)))
+pub record HasListOf (base side : ℕ) (settings : Settings) (b start cut : ℕ) (list : List Tuple)
+    (files : Files) : Type 0 where
+  pub has : HasBucket settings.array list (files (file_of base 0 (Journal side b)))
+      (files (file_of base 0 (Aux side b)))
   pub here : AllByRecursion (λ offer. bucket_of settings.buckets offer.key ≡ b) list
   pub within : cut ≤ length list
   pub few : 48 * start < 2 ^ 64
@@ -79,12 +83,12 @@ pub record IsFirstAbove (lengths : List ℕ) (most : ℕ) (commits : List Commit
   pub above : IsWithin lengths most commit.cut → ⊥
 
 -- from one snapshot to a later one the files change at most as opening the bay may, for what is told and at each stop
-pub record AdoptsTo (base buckets : ℕ) (old new : Snapshot) : Type 0 where
+pub record AdoptsTo (base buckets : ℕ) (old new : Told) : Type 0 where
   pub files : TellsBy (IsAdopted base buckets) old.files new.files
   pub stops : LeavesBy (IsAdopted base buckets) old new
 
--- no byte is read but of the manifest and of the buckets' journals on one side; where the store tells its files, that is
--- the live one
+-- no byte is read but of the manifest and of the buckets' journals on one side; where the store tells its files, that
+-- is the live one
 pub record ReadsLive (base buckets : ℕ) (files : Option Files) (old new : Option (ℕ → ℕ)) : Type 0 where
   pub side : (side : ℕ) × (side ≤ 1) × TakesAmong (IsJournalOn base side buckets) old new
   pub live : ForSome files (λ told. TakesAmong (IsLiveJournal base buckets told) old new)

@@ -11,17 +11,19 @@ use Rattle.irl_bay.specs.declared.bucket.Bucket.{Bucket}
 use Rattle.irl_bay.specs.Runs.{entry_of_offer, texts_of}
 
 -- from a gate on a file has runs of a bucket's entries in whole open records, up to this place, and then these bytes
-pub record HasRunsTo (settings : Settings) (b from : ℕ) (file : List ℕ) (runs : List (List Entry)) (at : ℕ) (behind : List ℕ) : Type 0 where
+pub record HasRunsTo (settings : Settings) (b from : ℕ) (file : List ℕ) (runs : List (List Entry)) (at : ℕ)
+    (behind : List ℕ) : Type 0 where
   pub bytes : drop from file ≡ records_text (map entries_bytes runs) ++ behind
   pub each : AllByRecursion (IsEntryRun settings b) runs
   pub place : at ≡ from + length (records_text (map entries_bytes runs))
 
 -- from the first pending offer's gate on a bucket's journal has runs of these entries, up to its end
-pub record HasEntries (settings : Settings) (b : ℕ) (bucket : Bucket) (files : Files) (entries : List Entry) : Type 0 where
-  pub runs : List (List Entry)
-  pub behind : List ℕ
-  pub has : HasRunsTo settings b bucket.gate (files bucket.journal.file) runs bucket.journal.end behind
-  pub joined : entries ≡ entries_in runs
+pub record HasEntries (settings : Settings) (b : ℕ) (bucket : Bucket) (files : Files) (entries : List Entry) : Type 0
+  where
+    pub runs : List (List Entry)
+    pub behind : List ℕ
+    pub has : HasRunsTo settings b bucket.gate (files bucket.journal.file) runs bucket.journal.end behind
+    pub joined : entries ≡ entries_in runs
 
 -- behind so many entries these are those of the offers that a list has from a number on
 pub record AreEntriesFrom (skip cut : ℕ) (list : List Tuple) (entries : List Entry) : Type 0 where
@@ -49,8 +51,8 @@ pub record IsNoRun (settings : Settings) (b : ℕ) (bytes : List ℕ) : Type 0 w
 abbrev pub IsClosed : List ℕ → Type 0
 IsClosed bytes = (gate : ℕ) × (rest : List ℕ) × (bytes ≡ gate ∷ rest) × (gate ≢ open_gate)
 
--- Behind runs from the first pending offer's gate on, a bucket's journal has at this place no whole record, one that is no run, or
--- a closed gate that isn't the journal's end.
+-- Behind runs from the first pending offer's gate on, a bucket's journal has at this place no whole record, one that is
+-- no run, or a closed gate that isn't the journal's end.
 pub record IsSpoiltJournal (settings : Settings) (b : ℕ) (bucket : Bucket) (files : Files) (at : ℕ) : Type 0 where
   pub runs : List (List Entry)
   pub behind : List ℕ

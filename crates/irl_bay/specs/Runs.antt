@@ -2,7 +2,7 @@
 use Rattle.std.specs.Prelude.{◌≡◌, ℕ, ◌^◌, ◌<◌, ◌≤◌, List, map, length}
 use Rattle.std.specs.List.{flat_map, AllByRecursion}
 use Rattle.irl_offer.specs.Entries.{entry_bytes}
-use Rattle.irl_offer.specs.Limits.{max_text}
+use Rattle.irl_base.specs.Limits.{max_text}
 use Rattle.irl_offer.specs.Tuple.{Tuple}
 use Rattle.irl_offer.specs.declared.entry.Entry.{Entry}
 use Rattle.irl_journal.specs.Format.{StandsFor}
@@ -10,7 +10,13 @@ use Rattle.irl_journal.specs.Blob.{BeginsWith}
 
 -- an offer without its text
 abbrev pub entry_of_offer : Tuple → Entry
-entry_of_offer offer = record { op = offer.op; aux_len = length offer.aux; key = offer.key; value = offer.value; from = offer.from }
+entry_of_offer offer = record {
+  op = offer.op;
+  aux_len = length offer.aux;
+  key = offer.key;
+  value = offer.value;
+  from = offer.from;
+}
 
 -- the payload of a run of offers
 abbrev pub run_bytes : List Tuple → List ℕ

@@ -21,11 +21,12 @@ use Rattle.irl_bay.specs.declared.sides.Sides.{Sides}
 abbrev pub rest_of : Sides → List Pair
 rest_of sides = drop sides.fed sides.reader.block
 
--- Of pairs that were read, the first are fed. Those that aren't, and whichever are still read, up to so many in all, are of this
--- bucket or of one behind it where all rise.
+-- Of pairs that were read, the first are fed. Those that aren't, and whichever are still read, up to so many in all,
+-- are of this bucket or of one behind it where all rise.
 abbrev pub LieFrom : ℕ → ℕ → ℕ → List Pair → List Pair → Type 0
 LieFrom buckets b entries fed rest =
-    (more : List Pair) → length (fed ++ (rest ++ more)) ≤ entries → IsRising (fed ++ (rest ++ more)) → AllByRecursion (λ pair. b ≤ bucket_of buckets pair.key) (rest ++ more)
+    (more : List Pair) → length (fed ++ (rest ++ more)) ≤ entries → IsRising (fed ++ (rest ++ more))
+    → AllByRecursion (λ pair. b ≤ bucket_of buckets pair.key) (rest ++ more)
 
 -- Nothing is left of a bucket: what isn't fed begins behind it, or all was fed.
 abbrev pub IsDone : ℕ → Sides → Type 0
@@ -34,7 +35,8 @@ IsDone b sides =
     ⊎ ((rest_of sides ≡ []) × (sides.reader.given ≡ sides.reader.entries))
 
 -- The buckets before this one are judged: these are their offers, and the verdicts on them.
-pub record HasMerged (b : ℕ) (offers : List Tuple) (verdicts : List (Option Verdict)) (told : Option Files) (sides : Sides) : Type 0 where
+pub record HasMerged (b : ℕ) (offers : List Tuple) (verdicts : List (Option Verdict)) (told : Option Files)
+    (sides : Sides) : Type 0 where
   -- the keys that were fed, and those of the new side
   pub fed : List Pair
   pub put : List Pair
@@ -48,7 +50,8 @@ pub record HasMerged (b : ℕ) (offers : List Tuple) (verdicts : List (Option Ve
   pub written : HasWritten told put sides.writer
 
 -- This bucket is being judged, by a sweep for these offers of its.
-pub record IsSweeping (b : ℕ) (offers : List Tuple) (verdicts : List (Option Verdict)) (news : List Tuple) (told : Option Files) (sweep : Sweep) (sides : Sides) : Type 0 where
+pub record IsSweeping (b : ℕ) (offers : List Tuple) (verdicts : List (Option Verdict)) (news : List Tuple)
+    (told : Option Files) (sweep : Sweep) (sides : Sides) : Type 0 where
   -- the keys that were fed before it, and those of the new side
   pub before : List Pair
   pub put : List Pair

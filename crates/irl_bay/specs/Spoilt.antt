@@ -9,4 +9,5 @@ use Rattle.irl_bay.specs.Pending.{IsSpoiltBucket}
 abbrev pub IsSpoiltAt : Drum → Files → ℕ → ℕ → Type 0
 IsSpoiltAt drum files f at =
     ((f ≡ (cache_front drum).file) × FallsAt drum.last.entries (files f) at)
-    ⊎ ((b : ℕ) × (b < drum.settings.buckets) × IsSpoiltBucket drum.settings b (bucket_at drum b) (pending_at drum b) files f at)
+    ⊎ ((b : ℕ) × (b < drum.settings.buckets) × IsSpoiltBucket drum.settings b (bucket_at drum b) (pending_at drum b)
+    files f at)

@@ -23,22 +23,26 @@ pub record IsBookOf (settings : Settings) (book : Book) : Type 0 where
 
 -- the journal and the texts of a bucket, on the side that a commit leaves live, have this list
 abbrev pub HasBucketOf : ℕ → ℕ → Commit → ℕ → List Tuple → Files → Type 0
-HasBucketOf base array last b list files = HasBucket array list (files (file_of base 0 (Journal (live_side last) b))) (files (file_of base 0 (Aux (live_side last) b)))
+HasBucketOf base array last b list files = HasBucket array list (files (file_of base 0 (Journal (live_side last) b)))
+    (files (file_of base 0 (Aux (live_side last) b)))
 
--- The files of the bay whose first file is `base` stand for a book. What lies past the committed part of a file means nothing: each
--- part says what its file begins with, or of what records it has the text.
+-- The files of the bay whose first file is `base` stand for a book. What lies past the committed part of a file means
+-- nothing: each part says what its file begins with, or of what records it has the text.
 pub record Stands (base : ℕ) (settings : Settings) (book : Book) (files : Files) : Type 0 where
   pub book_is : IsBookOf settings book
   -- the manifest has a commit for each cut
   pub commits : List Commit
   pub commits_are : AreCommitsOf book commits
   pub manifest : HasCommits base commits files
-  -- each offer has its room, and those of a bucket that the last of the commits leaves to the live side stand in its journal and its
-  -- texts
+  -- each offer has its room, and those of a bucket that the last of the commits leaves to the live side stand in its
+  -- journal and its texts
   pub offers : (b : ℕ) → b < book.buckets → AllByRecursion IsOffer (slice_index_or book.lists b [])
-  pub buckets : (b : ℕ) → b < book.buckets → HasBucketOf base settings.array (last_commit (first_commit book.buckets) commits) b (live_offers book (last_commit (first_commit book.buckets) commits) b) files
+  pub buckets : (b : ℕ) → b < book.buckets → HasBucketOf base settings.array
+      (last_commit (first_commit book.buckets) commits) b
+      (live_offers book (last_commit (first_commit book.buckets) commits) b) files
   -- the last of them names too the side of the cache with the keys that are judged
-  pub cache : HasCache base (last_commit (first_commit book.buckets) commits) (after book.rule book.base (judged_offers book)) files
+  pub cache : HasCache base (last_commit (first_commit book.buckets) commits)
+      (after book.rule book.base (judged_offers book)) files
   -- and the judged offers stand in order, their texts likewise
   pub judged_are : BeginsWith (files (file_of base 0 Judged)) (judged_entries 0 (judged book))
   pub texts : BeginsWith (files (file_of base 0 Texts)) (texts_of (judged_offers book))

@@ -5,7 +5,7 @@ use Rattle.irl_offer.specs.declared.offer.Verdict.{Verdict}
 use Rattle.irl_offer.specs.declared.receipt.Judged.{Judged}
 use Rattle.irl_model.specs.Book.{judged_as, uniques_from}
 use Rattle.irl_disk.specs.Disk.{Files}
-use Rattle.irl_cache.specs.Writing.{HasPut}
+use Rattle.irl_journal.specs.Growing.{HasPut}
 use Rattle.irl_bay.specs.Drum.{Drum, judged_front, texts_front}
 use Rattle.irl_bay.specs.JudgedEntries.{judged_entries}
 use Rattle.irl_bay.specs.Runs.{texts_of}
@@ -23,10 +23,13 @@ pub record IsTellingOf (drum : Drum) (telling : Telling) : Type 0 where
   pub texts_kept : telling.texts.kept ≡ (texts_front drum).length
 
 -- Behind what is committed, these offers were put with these verdicts.
-pub record HasTold (drum : Drum) (offers : List Tuple) (verdicts : List (Option Verdict)) (told : Option Files) (telling : Telling) : Type 0 where
+pub record HasTold (drum : Drum) (offers : List Tuple) (verdicts : List (Option Verdict)) (told : Option Files)
+    (telling : Telling) : Type 0 where
   pub of : IsTellingOf drum telling
   pub count : length verdicts ≡ length offers
-  pub judged : HasPut told (judged_entries drum.last.texts (judged_with drum.settings.buckets offers verdicts)) telling.judged
+  pub judged : HasPut told (judged_entries drum.last.texts (judged_with drum.settings.buckets offers verdicts))
+      telling.judged
   pub texts : HasPut told (texts_of offers) telling.texts
   pub place : telling.place ≡ (drum.last.texts + length (texts_of offers)) % 2 ^ 64
-  pub unique : telling.unique ≡ min (drum.last.unique + length (uniques_from 0 (judged_with drum.settings.buckets offers verdicts))) (2 ^ 64 - 1)
+  pub unique : telling.unique ≡ min (drum.last.unique + length
+      (uniques_from 0 (judged_with drum.settings.buckets offers verdicts))) (2 ^ 64 - 1)

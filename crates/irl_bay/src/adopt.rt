@@ -1,13 +1,13 @@
 ghost use Rattle.std.specs.Prelude.{◌≡◌, ◌-◌, ◌<◌, ◌≤◌, ◌^◌, ◌*◌, ℕ, List, map, true, length};
 ghost use Rattle.std.specs.Prelude.{slice_index, slice_index_or, IfOk, OnOk, IsErrOf};
 ghost use Rattle.std.specs.Option.{ForSome};
-ghost use Rattle.irl_offer.specs.Faults.{HasCause};
+ghost use Rattle.irl_base.specs.Faults.{HasCause};
 ghost use Rattle.irl_offer.specs.Settings.{AreValid};
 ghost use Rattle.irl_offer.specs.Tuple.{Tuple};
-ghost use Rattle.irl_offer.specs.declared.receipt.Fault.TheVariants.{Failed as FailedFault, Full as FullFault};
-ghost use Rattle.irl_offer.specs.declared.receipt.Fault.TheVariants.{Damaged as DamagedFault};
+ghost use Rattle.irl_base.specs.declared.fault.Fault.TheVariants.{Failed as FailedFault, Full as FullFault};
+ghost use Rattle.irl_base.specs.declared.fault.Fault.TheVariants.{Damaged as DamagedFault};
 ghost use Rattle.irl_model.specs.Book.{Book};
-ghost use Rattle.irl_disk.specs.Disk.{Files};
+ghost use Rattle.irl_disk.specs.Disk.{Files, TellsBy};
 ghost use Rattle.irl_disk.specs.Images.{Leaves, LeavesBy, LeavesSame};
 ghost use Rattle.irl_disk.specs.Taken.{TakesAmong, TakesOnly};
 ghost use Rattle.irl_journal.specs.Appending.{Ends};
@@ -18,7 +18,7 @@ ghost use Rattle.irl_bay.specs.Commits.{live_side};
 ghost use Rattle.irl_bay.specs.Damage.{IsDamagedAt, IsAdopted, IsDamagedFront, IsDamagedBucket, IsWholeBucket};
 ghost use Rattle.irl_bay.specs.Damage.{IsLiveJournal, HasFronts, RiseFrom, starts_of};
 ghost use Rattle.irl_bay.specs.Drum.{IsDrum, no_bucket};
-ghost use Rattle.irl_bay.specs.Holding.{Holds, HoldsBucket, IsLong, TellsBy};
+ghost use Rattle.irl_bay.specs.Holding.{Holds, HoldsBucket, IsLong};
 ghost use Rattle.irl_bay.specs.Making.{IsJournalOn};
 ghost use Rattle.irl_bay.specs.Opening.{AreFronts, IsOpenBucket, HasWhole, IsLongBucket, HasListOf, IsJournalBelow};
 ghost use Rattle.irl_bay.specs.Opening.{OpensBelow, IsWithin, IsFirstAbove, AdoptsTo, ReadsLive};
@@ -54,33 +54,34 @@ impl Bay {
         ensures sound { IfOk result (λ bay. bay.is_sound ≡ true) }
         ensures drum { IfOk result (λ bay. IsDrum bay) }
         // Where the files stand for a book, the bay has it, and from then on each stop leaves it.
-        ensures holds { IfOk result (λ bay. ForSome (S.snapshot store.old).files (λ files. (book : Book) →
-            Stands base settings.now book files → Holds (S.snapshot store.new).images bay book)) }
-        ensures long { IfOk result (λ bay. ForSome (S.snapshot store.new).files (λ files. IsLong bay files)) }
+        ensures holds { IfOk result (λ bay. ForSome (S.told store.old).files (λ files. (book : Book) →
+            Stands base settings.now book files → Holds (S.told store.new).images bay book)) }
+        ensures long { IfOk result (λ bay. ForSome (S.told store.new).files (λ files. IsLong bay files)) }
         // Damage is the first by the layout's rules, and never named where the files stand for a book.
         ensures damaged { (f at : ℕ) → IsErrOf result (Fault.Damaged f at) →
-            ForSome (S.snapshot store.old).files (λ files. IsDamagedAt base settings.now files f at) }
+            ForSome (S.told store.old).files (λ files. IsDamagedAt base settings.now files f at) }
         ensures whole { (f at : ℕ) → IsErrOf result (Fault.Damaged f at) →
-            ForSome (S.snapshot store.old).files (λ files. (book : Book) → Stands base settings.now book files → ⊥) }
+            ForSome (S.told store.old).files (λ files. (book : Book) → Stands base settings.now book files → ⊥) }
         // And damage is always named.
-        ensures sane { OnOk result (ForSome (S.snapshot store.old).files (λ files. (f at : ℕ) →
+        ensures sane { OnOk result (ForSome (S.told store.old).files (λ files. (f at : ℕ) →
             IsDamagedAt base settings.now files f at → ⊥)) }
         ensures full { (n : ℕ) → IsErrOf result (Fault.Full n) → ⊥ }
         // A stop at any moment leaves each file as it was, but that the manifest or a live journal of at most one byte
         // has at most one; so it leaves files that stand for a book, where all did before.
         ensures files { TellsBy (IsAdopted base settings.now.buckets)
-            (S.snapshot store.old).files (S.snapshot store.new).files }
-        ensures stops { LeavesBy (IsAdopted base settings.now.buckets) (S.snapshot store.old) (S.snapshot store.new) }
-        ensures stands_stop { (book : Book) → ((image : Files) → (S.snapshot store.old).images image →
-            Stands base settings.now book image) → Leaves (S.snapshot store.old) (S.snapshot store.new)
+            (S.told store.old).files (S.told store.new).files }
+        ensures stops { LeavesBy (IsAdopted base settings.now.buckets) (S.told store.old) (S.told store.new) }
+        ensures stands_stop { (book : Book) → ((image : Files) → (S.told store.old).images image →
+            Stands base settings.now book image) → Leaves (S.told store.old) (S.told store.new)
             (λ image. Stands base settings.now book image) }
         // No byte is read but of the manifest and of the buckets' journals on one side,
         ensures taken { (side : ℕ) × (side ≤ 1)
-            × TakesAmong (IsJournalOn base side settings.now.buckets) (S.taken store.old) (S.taken store.new) }
+            × TakesAmong (IsJournalOn base side settings.now.buckets) (S.told store.old).taken
+            (S.told store.new).taken }
         // which is the side that the manifest leaves live, where the store tells its files.
-        ensures taken_live { ForSome (S.snapshot store.old).files (λ files.
-            TakesAmong (IsLiveJournal base settings.now.buckets files) (S.taken store.old) (S.taken store.new)) }
-        ensures cause { HasCause (IsErrOf result Fault.Failed) (S.faults store.old) (S.faults store.new) }
+        ensures taken_live { ForSome (S.told store.old).files (λ files.
+            TakesAmong (IsLiveJournal base settings.now.buckets files) (S.told store.old).taken (S.told store.new).taken) }
+        ensures cause { HasCause (IsErrOf result Fault.Failed) (S.told store.old).faults (S.told store.new).faults }
     {
         open_bay(alloc, store, base, settings)
     }
@@ -99,18 +100,18 @@ fn open_bay<S: Store>(
     ensures settings { IfOk result (λ bay. bay.settings ≡ settings.now) }
     ensures sound { IfOk result (λ bay. bay.is_sound ≡ true) }
     ensures drum { IfOk result (λ bay. IsDrum bay) }
-    ensures holds { IfOk result (λ bay. ForSome (S.snapshot store.old).files (λ files. (book : Book) →
-        Stands base settings.now book files → Holds (S.snapshot store.new).images bay book)) }
-    ensures long { IfOk result (λ bay. ForSome (S.snapshot store.new).files (λ files. IsLong bay files)) }
+    ensures holds { IfOk result (λ bay. ForSome (S.told store.old).files (λ files. (book : Book) →
+        Stands base settings.now book files → Holds (S.told store.new).images bay book)) }
+    ensures long { IfOk result (λ bay. ForSome (S.told store.new).files (λ files. IsLong bay files)) }
     ensures damaged { (f at : ℕ) → IsErrOf result (Fault.Damaged f at) →
-        ForSome (S.snapshot store.old).files (λ files. IsDamagedAt base settings.now files f at) }
-    ensures sane { OnOk result (ForSome (S.snapshot store.old).files (λ files. (f at : ℕ) →
+        ForSome (S.told store.old).files (λ files. IsDamagedAt base settings.now files f at) }
+    ensures sane { OnOk result (ForSome (S.told store.old).files (λ files. (f at : ℕ) →
         IsDamagedAt base settings.now files f at → ⊥)) }
     ensures full { (n : ℕ) → IsErrOf result (Fault.Full n) → ⊥ }
-    ensures adopts { AdoptsTo base settings.now.buckets (S.snapshot store.old) (S.snapshot store.new) }
-    ensures taken { ReadsLive base settings.now.buckets (S.snapshot store.old).files
-        (S.taken store.old) (S.taken store.new) }
-    ensures cause { HasCause (IsErrOf result Fault.Failed) (S.faults store.old) (S.faults store.new) }
+    ensures adopts { AdoptsTo base settings.now.buckets (S.told store.old) (S.told store.new) }
+    ensures taken { ReadsLive base settings.now.buckets (S.told store.old).files
+        (S.told store.old).taken (S.told store.new).taken }
+    ensures cause { HasCause (IsErrOf result Fault.Failed) (S.told store.old).faults (S.told store.new).faults }
 {
     let mut history = History::blank(alloc, settings.buckets)?;
     let f = BayFile::Manifest.number(base);
@@ -141,16 +142,16 @@ fn open_fronts<S: Store>(store: &mut S, base: u16, last: &Commit) -> Result<(), 
     requires side { last.now.side ≤ 1 }
     ensures entries { OnOk result (16 * last.now.entries < 2 ^ 64) }
     ensures judged { OnOk result (48 * last.now.judged < 2 ^ 64) }
-    ensures has { OnOk result (ForSome (S.snapshot store.old).files (λ files. HasFronts base last.now files)) }
-    ensures committed { OnOk result (ForSome (S.snapshot store.old).files (λ files.
-        AreFronts (S.snapshot store.new).images base last.now files)) }
+    ensures has { OnOk result (ForSome (S.told store.old).files (λ files. HasFronts base last.now files)) }
+    ensures committed { OnOk result (ForSome (S.told store.old).files (λ files.
+        AreFronts (S.told store.new).images base last.now files)) }
     ensures damaged { (f at : ℕ) → IsErrOf result (Fault.Damaged f at) →
-        ForSome (S.snapshot store.old).files (λ files. IsDamagedFront base last.now files f at) }
+        ForSome (S.told store.old).files (λ files. IsDamagedFront base last.now files f at) }
     ensures full { (n : ℕ) → IsErrOf result (Fault.Full n) → ⊥ }
-    ensures same { (S.snapshot store.new).files ≡ (S.snapshot store.old).files }
-    ensures stops { LeavesSame (S.snapshot store.old) (S.snapshot store.new) }
-    ensures taken { S.taken store.new ≡ S.taken store.old }
-    ensures cause { HasCause (IsErrOf result Fault.Failed) (S.faults store.old) (S.faults store.new) }
+    ensures same { (S.told store.new).files ≡ (S.told store.old).files }
+    ensures stops { LeavesSame (S.told store.old) (S.told store.new) }
+    ensures taken { (S.told store.new).taken ≡ (S.told store.old).taken }
+    ensures cause { HasCause (IsErrOf result Fault.Failed) (S.told store.old).faults (S.told store.new).faults }
 {
     let cache = BayFile::Cache(last.side).number(base);
     open_blob(store, cache, 16 * u128::from(last.entries))?;
@@ -176,30 +177,30 @@ fn open_buckets<S: Store>(
     ensures opened { IfOk result (λ buckets. (b : ℕ) → b < settings.now.buckets →
         IsOpenBucket base (live_side last.now) b (slice_index (starts_of settings.now.buckets last.now) b)
         (slice_index_or buckets.items b no_bucket)) }
-    ensures found { IfOk result (λ buckets. ForSome (S.snapshot store.old).files (λ files. (b : ℕ) →
+    ensures found { IfOk result (λ buckets. ForSome (S.told store.old).files (λ files. (b : ℕ) →
         b < settings.now.buckets →
         HasWhole base (live_side last.now) settings.now b files (slice_index_or buckets.items b no_bucket))) }
-    ensures long { IfOk result (λ buckets. ForSome (S.snapshot store.new).files (λ files. (b : ℕ) →
+    ensures long { IfOk result (λ buckets. ForSome (S.told store.new).files (λ files. (b : ℕ) →
         b < settings.now.buckets → IsLongBucket (slice_index_or buckets.items b no_bucket) files)) }
-    ensures holds { IfOk result (λ buckets. ForSome (S.snapshot store.old).files (λ files. (b : ℕ) (list : List Tuple) →
+    ensures holds { IfOk result (λ buckets. ForSome (S.told store.old).files (λ files. (b : ℕ) (list : List Tuple) →
         b < settings.now.buckets → HasListOf base (live_side last.now) settings.now b
         (slice_index (starts_of settings.now.buckets last.now) b)
         (slice_index last.now.cut b - slice_index (starts_of settings.now.buckets last.now) b) list files →
-        HoldsBucket (S.snapshot store.new).images settings.now.array
+        HoldsBucket (S.told store.new).images settings.now.array
         (slice_index last.now.cut b - slice_index (starts_of settings.now.buckets last.now) b)
         (slice_index_or buckets.items b no_bucket) list)) }
-    ensures damaged { (f at : ℕ) → IsErrOf result (Fault.Damaged f at) → ForSome (S.snapshot store.old).files (λ files.
+    ensures damaged { (f at : ℕ) → IsErrOf result (Fault.Damaged f at) → ForSome (S.told store.old).files (λ files.
         (b : ℕ) × (b < settings.now.buckets)
         × ((c : ℕ) → c < b → IsWholeBucket base (live_side last.now) settings.now files c)
         × IsDamagedBucket base (live_side last.now) settings.now b files f at) }
     ensures full { (n : ℕ) → IsErrOf result (Fault.Full n) → ⊥ }
     ensures files { TellsBy (OpensBelow base (live_side last.now) settings.now.buckets)
-        (S.snapshot store.old).files (S.snapshot store.new).files }
+        (S.told store.old).files (S.told store.new).files }
     ensures stops { LeavesBy (OpensBelow base (live_side last.now) settings.now.buckets)
-        (S.snapshot store.old) (S.snapshot store.new) }
+        (S.told store.old) (S.told store.new) }
     ensures taken { TakesAmong (IsJournalBelow base (live_side last.now) settings.now.buckets)
-        (S.taken store.old) (S.taken store.new) }
-    ensures cause { HasCause (IsErrOf result Fault.Failed) (S.faults store.old) (S.faults store.new) }
+        (S.told store.old).taken (S.told store.new).taken }
+    ensures cause { HasCause (IsErrOf result Fault.Failed) (S.told store.old).faults (S.told store.new).faults }
 {
     let mut buckets = Vec::with_capacity(alloc, settings.buckets as usize)?;
     for b in 0..settings.buckets {
@@ -228,22 +229,22 @@ fn check_cuts<S: Store>(
 ) -> Result<(), Fault>
     requires count { length lengths.items ≡ history.now.buckets }
     // The manifest has these commits.
-    requires last { ForSome (S.snapshot store.old).files (λ files. (commits : List CommitValue)
+    requires last { ForSome (S.told store.old).files (λ files. (commits : List CommitValue)
         × Ends manifest.now.end (files manifest.now.file) (map commit_bytes commits)
         × RiseFrom history.now.buckets (first_commit history.now.buckets) commits
         × (history.now.last ≡ last_commit (first_commit history.now.buckets) commits)) }
     ensures within { OnOk result (IsWithin lengths.items history.now.last.judged history.now.last.cut) }
     ensures idle { OnOk result (store.new ≡ store.old) }
     ensures damaged { (g at : ℕ) → IsErrOf result (Fault.Damaged g at) → (g ≡ f)
-        × ForSome (S.snapshot store.old).files (λ files. (commits : List CommitValue) →
+        × ForSome (S.told store.old).files (λ files. (commits : List CommitValue) →
         Ends manifest.now.end (files manifest.now.file) (map commit_bytes commits) →
         RiseFrom history.now.buckets (first_commit history.now.buckets) commits →
         IsFirstAbove lengths.items history.now.last.judged commits at) }
     ensures full { (n : ℕ) → IsErrOf result (Fault.Full n) → ⊥ }
-    ensures same { (S.snapshot store.new).files ≡ (S.snapshot store.old).files }
-    ensures stops { LeavesSame (S.snapshot store.old) (S.snapshot store.new) }
-    ensures taken { TakesOnly manifest.now.file (S.taken store.old) (S.taken store.new) }
-    ensures cause { HasCause (IsErrOf result Fault.Failed) (S.faults store.old) (S.faults store.new) }
+    ensures same { (S.told store.new).files ≡ (S.told store.old).files }
+    ensures stops { LeavesSame (S.told store.old) (S.told store.new) }
+    ensures taken { TakesOnly manifest.now.file (S.told store.old).taken (S.told store.new).taken }
+    ensures cause { HasCause (IsErrOf result Fault.Failed) (S.told store.old).faults (S.told store.new).faults }
 {
     if !is_below(&history.last.cut, &lengths) {
         let reaching = history.reaching(lengths);
@@ -266,21 +267,21 @@ fn first_above<S: Store>(
 ) -> Fault
     requires count { length reaching.lengths.items ≡ reaching.buckets }
     // There is such a commit.
-    requires above { ForSome (S.snapshot store.old).files (λ files. (commits : List CommitValue)
+    requires above { ForSome (S.told store.old).files (λ files. (commits : List CommitValue)
         × Ends manifest.now.end (files manifest.now.file) (map commit_bytes commits)
         × RiseFrom reaching.buckets (first_commit reaching.buckets) commits
         × (IsWithin reaching.lengths.items reaching.most
         (last_commit (first_commit reaching.buckets) commits).cut → ⊥)) }
     ensures damaged { (g at : ℕ) → result ≡ Fault.Damaged g at → (g ≡ f)
-        × ForSome (S.snapshot store.old).files (λ files. (commits : List CommitValue) →
+        × ForSome (S.told store.old).files (λ files. (commits : List CommitValue) →
         Ends manifest.now.end (files manifest.now.file) (map commit_bytes commits) →
         RiseFrom reaching.buckets (first_commit reaching.buckets) commits →
         IsFirstAbove reaching.lengths.items reaching.most commits at) }
     ensures full { (n : ℕ) → result ≡ Fault.Full n → ⊥ }
-    ensures same { (S.snapshot store.new).files ≡ (S.snapshot store.old).files }
-    ensures stops { LeavesSame (S.snapshot store.old) (S.snapshot store.new) }
-    ensures taken { TakesOnly manifest.now.file (S.taken store.old) (S.taken store.new) }
-    ensures cause { HasCause (result ≡ Fault.Failed) (S.faults store.old) (S.faults store.new) }
+    ensures same { (S.told store.new).files ≡ (S.told store.old).files }
+    ensures stops { LeavesSame (S.told store.old) (S.told store.new) }
+    ensures taken { TakesOnly manifest.now.file (S.told store.old).taken (S.told store.new).taken }
+    ensures cause { HasCause (result ≡ Fault.Failed) (S.told store.old).faults (S.told store.new).faults }
 {
     match manifest.revisit(alloc, store, 0, &mut reaching) {
         Ok(()) => Fault::Damaged(f, 0),

@@ -3,20 +3,20 @@ ghost use Rattle.std.specs.List.{All, AllByRecursion};
 ghost use Rattle.std.specs.Option.{ForSome};
 ghost use Rattle.irl_offer.specs.Buckets.{bucket_of};
 ghost use Rattle.irl_offer.specs.Tuple.{Tuple};
-ghost use Rattle.irl_offer.specs.Faults.{HasCause};
+ghost use Rattle.irl_base.specs.Faults.{HasCause};
 ghost use Rattle.irl_offer.specs.declared.offer.Verdict.{Verdict as VerdictValue};
 ghost use Rattle.irl_model.specs.Book.{Book};
 ghost use Rattle.irl_disk.specs.Disk.{Files};
 ghost use Rattle.irl_disk.specs.Images.{LeavesSame};
-ghost use Rattle.irl_disk.specs.Taken.{TakesAmong};
+ghost use Rattle.irl_disk.specs.Taken.{TakesAmong, TakesOf};
 ghost use Rattle.irl_cache.specs.Reading.{read_of};
-ghost use Rattle.irl_cache.specs.Writing.{ReachesPlace};
+ghost use Rattle.irl_journal.specs.Growing.{ReachesPlace};
 ghost use Rattle.irl_bay.specs.BayFiles.{IsFileOf};
 ghost use Rattle.irl_bay.specs.Damage.{text_length};
 ghost use Rattle.irl_bay.specs.Drum.{IsDrum, bucket_at, cache_front, durables, judged_at, pending_at};
 ghost use Rattle.irl_bay.specs.Holding.{Holds, HoldsBucket, IsLong};
 ghost use Rattle.irl_bay.specs.Judging.{HasJudged, batch_of};
-ghost use Rattle.irl_bay.specs.Merging.{IsJudged, IsSynced, TakesOf, Writes};
+ghost use Rattle.irl_bay.specs.Merging.{IsJudged, IsSynced, Writes};
 ghost use Rattle.irl_bay.specs.Runs.{entry_of_offer, texts_of};
 ghost use Rattle.irl_bay.specs.Sides.{HasMerged, IsSidesOf};
 ghost use Rattle.irl_bay.specs.Spoilt.{IsSpoiltAt};
@@ -27,8 +27,9 @@ use crate::layout::{BayFile, Commit};
 use crate::pending::Pending;
 use crate::sides::Sides;
 use crate::telling::Telling;
-use irl_cache::{CacheReader, CacheWriter, FileWriter};
+use irl_cache::{CacheReader, CacheWriter};
 use irl_disk::{Failed, Store};
+use irl_journal::FileWriter;
 use irl_offer::Fault;
 use std::alloc::AllocError;
 
@@ -37,21 +38,21 @@ impl Bay {
     /// judged entries and their texts behind what is committed of them, and syncs the three files. Gives the commit that is
     /// to be appended to the manifest.
     pub(crate) fn judge<S: Store>(&self, store: &mut S) -> Result<Commit, Fault>
-        requires { ForSome (S.snapshot store.old).files (λ files. IsLong self.now files) }
-        ensures judged { IfOk result (IsJudged self.now (S.snapshot store.old) (S.snapshot store.new)) }
-        ensures writes { Writes self.now (S.snapshot store.old) (S.snapshot store.new) }
+        requires { ForSome (S.told store.old).files (λ files. IsLong self.now files) }
+        ensures judged { IfOk result (IsJudged self.now (S.told store.old) (S.told store.new)) }
+        ensures writes { Writes self.now (S.told store.old) (S.told store.new) }
         ensures damaged { (f at : ℕ) → IsErrOf result (Fault.Damaged f at) →
-            ForSome (S.snapshot store.old).files (λ files. IsSpoiltAt self.now files f at) }
+            ForSome (S.told store.old).files (λ files. IsSpoiltAt self.now files f at) }
         ensures whole { (f at : ℕ) → IsErrOf result (Fault.Damaged f at) →
-            ForSome (S.snapshot store.old).files (λ _. (book : Book) →
-            Holds (S.snapshot store.old).images self.now book → ⊥) }
+            ForSome (S.told store.old).files (λ _. (book : Book) →
+            Holds (S.told store.old).images self.now book → ⊥) }
         ensures full { (n : ℕ) → IsErrOf result (Fault.Full n) → ⊥ }
         ensures taken { TakesAmong (IsFileOf self.now.base self.now.settings.buckets)
-            (S.taken store.old) (S.taken store.new) }
+            (S.told store.old).taken (S.told store.new).taken }
         // Each key of the live cache side is read once.
         ensures read { OnOk result (TakesOf (cache_front self.now).file (16 * self.now.last.entries)
-            (S.taken store.old) (S.taken store.new)) }
-        ensures cause { HasCause (IsErrOf result Fault.Failed) (S.faults store.old) (S.faults store.new) }
+            (S.told store.old).taken (S.told store.new).taken) }
+        ensures cause { HasCause (IsErrOf result Fault.Failed) (S.told store.old).faults (S.told store.new).faults }
     {
         let cut = self.lengths()?;
         let mut sides = self.sides()?;
@@ -70,22 +71,22 @@ impl Bay {
         requires sides { (told : Option Files) → HasMerged 0 [] [] told sides.old }
         requires of { IsSidesOf self.now sides.old }
         requires unread { read_of sides.old.reader ≡ 0 }
-        requires telling { HasTold self.now [] [] (S.snapshot store.old).files telling.old }
-        requires long { ForSome (S.snapshot store.old).files (λ files. IsLong self.now files) }
-        ensures judged { OnOk result (HasJudged self.now self.now.settings.buckets (S.snapshot store.old)
-            (S.snapshot store.new).files sides.new telling.new) }
-        ensures writes { Writes self.now (S.snapshot store.old) (S.snapshot store.new) }
+        requires telling { HasTold self.now [] [] (S.told store.old).files telling.old }
+        requires long { ForSome (S.told store.old).files (λ files. IsLong self.now files) }
+        ensures judged { OnOk result (HasJudged self.now self.now.settings.buckets (S.told store.old)
+            (S.told store.new).files sides.new telling.new) }
+        ensures writes { Writes self.now (S.told store.old) (S.told store.new) }
         ensures damaged { (f at : ℕ) → IsErrOf result (Fault.Damaged f at) →
-            ForSome (S.snapshot store.old).files (λ files. IsSpoiltAt self.now files f at) }
+            ForSome (S.told store.old).files (λ files. IsSpoiltAt self.now files f at) }
         ensures whole { (f at : ℕ) → IsErrOf result (Fault.Damaged f at) →
-            ForSome (S.snapshot store.old).files (λ _. (book : Book) →
-            Holds (S.snapshot store.old).images self.now book → ⊥) }
+            ForSome (S.told store.old).files (λ _. (book : Book) →
+            Holds (S.told store.old).images self.now book → ⊥) }
         ensures full { (n : ℕ) → IsErrOf result (Fault.Full n) → ⊥ }
         ensures taken { TakesAmong (IsFileOf self.now.base self.now.settings.buckets)
-            (S.taken store.old) (S.taken store.new) }
+            (S.told store.old).taken (S.told store.new).taken }
         ensures read { OnOk result (TakesOf (cache_front self.now).file (16 * read_of sides.new.reader)
-            (S.taken store.old) (S.taken store.new)) }
-        ensures cause { HasCause (IsErrOf result Fault.Failed) (S.faults store.old) (S.faults store.new) }
+            (S.told store.old).taken (S.told store.new).taken) }
+        ensures cause { HasCause (IsErrOf result Fault.Failed) (S.told store.old).faults (S.told store.new).faults }
     {
         for b in 0..self.settings.buckets {
             let pending = self.pending_of(store, b)?;
@@ -144,17 +145,17 @@ impl Bay {
         requires cut { cut.items ≡ durables self.now }
         requires sides { IsSidesOf self.now sides }
         requires telling { IsTellingOf self.now telling }
-        requires keys { ForSome (S.snapshot store.old).files (ReachesPlace sides.writer.out) }
-        requires judged { ForSome (S.snapshot store.old).files (ReachesPlace telling.judged) }
-        requires texts { ForSome (S.snapshot store.old).files (ReachesPlace telling.texts) }
+        requires keys { ForSome (S.told store.old).files (ReachesPlace sides.writer.out) }
+        requires judged { ForSome (S.told store.old).files (ReachesPlace telling.judged) }
+        requires texts { ForSome (S.told store.old).files (ReachesPlace telling.texts) }
         ensures synced { IfOk result (λ next. (b : ℕ) (offers : List Tuple) (verdicts : List (Option VerdictValue))
-            (merged : HasMerged b offers verdicts (S.snapshot store.old).files sides) →
-            HasTold self.now offers verdicts (S.snapshot store.old).files telling →
-            IsSynced self.now (batch_of self.now merged.put offers verdicts) (S.snapshot store.old)
-            (S.snapshot store.new) next) }
-        ensures writes { Writes self.now (S.snapshot store.old) (S.snapshot store.new) }
-        ensures taken { S.taken store.new ≡ S.taken store.old }
-        ensures cause { HasCause (IsErr result) (S.faults store.old) (S.faults store.new) }
+            (merged : HasMerged b offers verdicts (S.told store.old).files sides) →
+            HasTold self.now offers verdicts (S.told store.old).files telling →
+            IsSynced self.now (batch_of self.now merged.put offers verdicts) (S.told store.old)
+            (S.told store.new) next) }
+        ensures writes { Writes self.now (S.told store.old) (S.told store.new) }
+        ensures taken { (S.told store.new).taken ≡ (S.told store.old).taken }
+        ensures cause { HasCause (IsErr result) (S.told store.old).faults (S.told store.new).faults }
     {
         let Sides { writer, .. } = sides;
         let Telling {
@@ -186,22 +187,22 @@ impl Bay {
             ≡ (bucket_at self.now b).aux.length - (bucket_at self.now b).text) }
         ensures here { IfOk result (λ found. All (λ entry. bucket_of self.now.settings.buckets entry.key ≡ b)
             (drop found.skip found.entries.items)) }
-        ensures held { IfOk result (λ found. ForSome (S.snapshot store.old).files (λ _. (cut : ℕ) (list : List Tuple) →
-            HoldsBucket (S.snapshot store.old).images self.now.settings.array cut (bucket_at self.now b) list →
+        ensures held { IfOk result (λ found. ForSome (S.told store.old).files (λ _. (cut : ℕ) (list : List Tuple) →
+            HoldsBucket (S.told store.old).images self.now.settings.array cut (bucket_at self.now b) list →
             map entry_of_offer (drop cut list) ≡ drop found.skip found.entries.items)) }
         ensures damaged { (f at : ℕ) → IsErrOf result (Fault.Damaged f at) →
-            ForSome (S.snapshot store.old).files (λ files. IsSpoiltAt self.now files f at) }
+            ForSome (S.told store.old).files (λ files. IsSpoiltAt self.now files f at) }
         ensures whole { (f at : ℕ) → IsErrOf result (Fault.Damaged f at) →
-            ForSome (S.snapshot store.old).files (λ _. (list : List Tuple) → HoldsBucket (S.snapshot store.old).images
+            ForSome (S.told store.old).files (λ _. (list : List Tuple) → HoldsBucket (S.told store.old).images
             self.now.settings.array (judged_at self.now b - (bucket_at self.now b).start) (bucket_at self.now b) list →
             AllByRecursion (λ offer. bucket_of self.now.settings.buckets offer.key ≡ b) list → ⊥) }
         ensures full { (n : ℕ) → IsErrOf result (Fault.Full n) → ⊥ }
-        ensures same { (S.snapshot store.new).files ≡ (S.snapshot store.old).files }
-        ensures stops { LeavesSame (S.snapshot store.old) (S.snapshot store.new) }
+        ensures same { (S.told store.new).files ≡ (S.told store.old).files }
+        ensures stops { LeavesSame (S.told store.old) (S.told store.new) }
         ensures taken { TakesAmong (IsFileOf self.now.base self.now.settings.buckets)
-            (S.taken store.old) (S.taken store.new) }
-        ensures unread { TakesOf (cache_front self.now).file 0 (S.taken store.old) (S.taken store.new) }
-        ensures cause { HasCause (IsErrOf result Fault.Failed) (S.faults store.old) (S.faults store.new) }
+            (S.told store.old).taken (S.told store.new).taken }
+        ensures unread { TakesOf (cache_front self.now).file 0 (S.told store.old).taken (S.told store.new).taken }
+        ensures cause { HasCause (IsErrOf result Fault.Failed) (S.told store.old).faults (S.told store.new).faults }
     {
         let bucket = &self.buckets[b as usize];
         bucket.pending(self.alloc, store, &self.settings, b, self.pending(b))
@@ -210,22 +211,22 @@ impl Bay {
     // The texts of those offers, one behind the other.
     fn pending_texts_of<S: Store>(&self, store: &mut S, b: u32) -> Result<Vec<u8>, Fault>
         requires bucket { b < self.now.settings.buckets }
-        requires long { ForSome (S.snapshot store.old).files (λ files. IsLong self.now files) }
+        requires long { ForSome (S.told store.old).files (λ files. IsLong self.now files) }
         ensures length { IfOk result (λ texts.
             length texts.items ≡ (bucket_at self.now b).aux.length - (bucket_at self.now b).text) }
-        ensures held { IfOk result (λ texts. ForSome (S.snapshot store.old).files (λ _.
+        ensures held { IfOk result (λ texts. ForSome (S.told store.old).files (λ _.
             (array cut : ℕ) (list : List Tuple) →
-            HoldsBucket (S.snapshot store.old).images array cut (bucket_at self.now b) list →
+            HoldsBucket (S.told store.old).images array cut (bucket_at self.now b) list →
             texts.items ≡ texts_of (drop cut list))) }
         ensures damaged { (f at : ℕ) → IsErrOf result (Fault.Damaged f at) →
-            ForSome (S.snapshot store.old).files (λ _. ⊥) }
+            ForSome (S.told store.old).files (λ _. ⊥) }
         ensures full { (n : ℕ) → IsErrOf result (Fault.Full n) → ⊥ }
-        ensures same { (S.snapshot store.new).files ≡ (S.snapshot store.old).files }
-        ensures stops { LeavesSame (S.snapshot store.old) (S.snapshot store.new) }
+        ensures same { (S.told store.new).files ≡ (S.told store.old).files }
+        ensures stops { LeavesSame (S.told store.old) (S.told store.new) }
         ensures taken { TakesAmong (IsFileOf self.now.base self.now.settings.buckets)
-            (S.taken store.old) (S.taken store.new) }
-        ensures unread { TakesOf (cache_front self.now).file 0 (S.taken store.old) (S.taken store.new) }
-        ensures cause { HasCause (IsErrOf result Fault.Failed) (S.faults store.old) (S.faults store.new) }
+            (S.told store.old).taken (S.told store.new).taken }
+        ensures unread { TakesOf (cache_front self.now).file 0 (S.told store.old).taken (S.told store.new).taken }
+        ensures cause { HasCause (IsErrOf result Fault.Failed) (S.told store.old).faults (S.told store.new).faults }
     {
         self.buckets[b as usize].pending_texts(self.alloc, store)
     }

@@ -3,11 +3,12 @@ ghost use Rattle.std.specs.Prelude.{IfOk, OnOk, OnErr, IsErrOf, slice_index};
 ghost use Rattle.std.specs.List.{AllByRecursion};
 ghost use Rattle.std.specs.Option.{ForSome};
 ghost use Rattle.irl_offer.specs.Buckets.{bucket_of};
-ghost use Rattle.irl_offer.specs.Faults.{HasCause};
+ghost use Rattle.irl_base.specs.Faults.{HasCause};
 ghost use Rattle.irl_offer.specs.Settings.{AreValid};
-ghost use Rattle.irl_offer.specs.declared.receipt.Fault.TheVariants.{Failed as FailedFault, Memory as MemoryFault};
-ghost use Rattle.irl_offer.specs.declared.receipt.Fault.TheVariants.{Full as FullFault, Damaged as DamagedFault};
+ghost use Rattle.irl_base.specs.declared.fault.Fault.TheVariants.{Failed as FailedFault, Memory as MemoryFault};
+ghost use Rattle.irl_base.specs.declared.fault.Fault.TheVariants.{Full as FullFault, Damaged as DamagedFault};
 ghost use Rattle.irl_model.specs.Book.{Book, blank_book, flushed, judged, uniques, judged_cut, lengths_of};
+ghost use Rattle.irl_disk.specs.Disk.{TellsOnly, TellsBy, ChangesOnly};
 ghost use Rattle.irl_disk.specs.Images.{Leaves, LeavesBy};
 ghost use Rattle.irl_journal.specs.Appending.{IsOpen};
 ghost use Rattle.irl_journal.specs.Format.{HasRecords};
@@ -17,7 +18,7 @@ ghost use Rattle.irl_bay.specs.Commits.{live_side};
 ghost use Rattle.irl_bay.specs.Runs.{run_bytes};
 ghost use Rattle.irl_bay.specs.Drum.{Drum, IsDrum, bucket_at, durable_at, pending_at};
 ghost use Rattle.irl_bay.specs.Drum.{HasNumbers, KeepsCounts, CountsFlush};
-ghost use Rattle.irl_bay.specs.Holding.{Holds, IsLong, Becomes, TellsOnly, TellsBy, ChangesOnly};
+ghost use Rattle.irl_bay.specs.Holding.{Holds, IsLong, Becomes};
 ghost use Rattle.irl_bay.specs.Making.{IsUnmade, Makes};
 
 use crate::bucket::Bucket;
@@ -59,7 +60,15 @@ impl Model for Bay {
       buckets = b.buckets.items;
     } };
 
-    ghost invariant = { λ b. IsDrum (record { base = b.base; settings = b.settings; is_sound = b.is_sound; manifest = b.manifest; last = b.last; cuts = b.cuts; buckets = b.buckets.items }) };
+    ghost invariant = { λ b. IsDrum (record {
+      base = b.base;
+      settings = b.settings;
+      is_sound = b.is_sound;
+      manifest = b.manifest;
+      last = b.last;
+      cuts = b.cuts;
+      buckets = b.buckets.items;
+    }) };
 }
 
 impl Bay {
@@ -73,24 +82,24 @@ impl Bay {
     ) -> Result<Bay, Fault>
         requires base { base ≤ max_base }
         requires settings { AreValid settings.now }
-        requires unmade { ForSome (S.snapshot store.old).files (λ files. IsUnmade base settings.now.buckets files) }
+        requires unmade { ForSome (S.told store.old).files (λ files. IsUnmade base settings.now.buckets files) }
         ensures base { IfOk result (λ bay. bay.base ≡ base) }
         ensures settings { IfOk result (λ bay. bay.settings ≡ settings.now) }
         ensures sound { IfOk result (λ bay. bay.is_sound ≡ true) }
         ensures drum { IfOk result (λ bay. IsDrum bay) }
         // From then on each stop leaves files that stand for the book without an offer.
-        ensures holds { IfOk result (λ bay. Holds (S.snapshot store.new).images bay
+        ensures holds { IfOk result (λ bay. Holds (S.told store.new).images bay
             (blank_book settings.now.buckets settings.now.rule)) }
         // A stop at any moment leaves each file as it was, but that the manifest or a journal on side 0 of at most one
         // byte has at most one.
         ensures files { TellsBy (Makes base settings.now.buckets)
-            (S.snapshot store.old).files (S.snapshot store.new).files }
-        ensures stops { LeavesBy (Makes base settings.now.buckets) (S.snapshot store.old) (S.snapshot store.new) }
+            (S.told store.old).files (S.told store.new).files }
+        ensures stops { LeavesBy (Makes base settings.now.buckets) (S.told store.old) (S.told store.new) }
         ensures memory_same { IsErrOf result Fault.Memory → store.new ≡ store.old }
         ensures full { (n : ℕ) → IsErrOf result (Fault.Full n) → ⊥ }
         ensures damaged { (f at : ℕ) → IsErrOf result (Fault.Damaged f at) → ⊥ }
-        ensures taken { S.taken store.new ≡ S.taken store.old }
-        ensures cause { HasCause (IsErrOf result Fault.Failed) (S.faults store.old) (S.faults store.new) }
+        ensures taken { (S.told store.new).taken ≡ (S.told store.old).taken }
+        ensures cause { HasCause (IsErrOf result Fault.Failed) (S.told store.old).faults (S.told store.new).faults }
     {
         let mut buckets = Vec::with_capacity(alloc, settings.buckets as usize)?;
         let last = Commit::first(alloc, settings.buckets)?;
@@ -121,14 +130,14 @@ impl Bay {
         requires few { length array.old.items ≤ self.old.settings.array }
         requires offers { AllByRecursion (λ offer. bucket_of self.old.settings.buckets offer.key ≡ b) array.old.items }
         requires pending { pending_at self.old b < self.old.settings.trigger }
-        requires long { ForSome (S.snapshot store.old).files (λ files. IsLong self.old files) }
+        requires long { ForSome (S.told store.old).files (λ files. IsLong self.old files) }
         // The bay has the book with the offers at the end of the bucket's list, and from then on each stop leaves it.
-        ensures holds { OnOk result ((book : Book) → Holds (S.snapshot store.old).images self.old book →
-            Holds (S.snapshot store.new).images self.new (flushed b array.old.items book)) }
+        ensures holds { OnOk result ((book : Book) → Holds (S.told store.old).images self.old book →
+            Holds (S.told store.new).images self.new (flushed b array.old.items book)) }
         ensures drum { IsDrum self.new }
         // A sound bay may be asked again.
         ensures long_kept { self.new.is_sound ≡ true →
-            ForSome (S.snapshot store.new).files (λ files. IsLong self.new files) }
+            ForSome (S.told store.new).files (λ files. IsLong self.new files) }
         ensures counts { OnOk result (CountsFlush b (length array.old.items) self.old self.new) }
         ensures counts_kept { OnErr result (KeepsCounts self.old self.new) }
         ensures emptied { OnOk result (array.new ≡ record { room = array.old.room; items = [] }) }
@@ -144,26 +153,26 @@ impl Bay {
         ensures full_same { (n : ℕ) → IsErrOf result (Fault.Full n) → (store.new ≡ store.old) × (self.new ≡ self.old) }
         // A stop at any moment leaves files that stand for the book, with the offers or without, and no other file
         // changes.
-        ensures stops { (book : Book) → Holds (S.snapshot store.old).images self.old book →
+        ensures stops { (book : Book) → Holds (S.told store.old).images self.old book →
             LeavesBy (Becomes (IsBucketFile self.old.base (live_side self.old.last) b) self.old.base self.old.settings book
-            (flushed b array.old.items book)) (S.snapshot store.old) (S.snapshot store.new) }
+            (flushed b array.old.items book)) (S.told store.old) (S.told store.new) }
         // The bucket's journal has one record more, of all these offers.
         ensures gains { OnOk result ((payloads : List (List ℕ)) →
-            IsOpen (S.snapshot store.old).images (bucket_at self.old b).journal payloads →
-            IsOpen (S.snapshot store.new).images (bucket_at self.new b).journal
+            IsOpen (S.told store.old).images (bucket_at self.old b).journal payloads →
+            IsOpen (S.told store.new).images (bucket_at self.new b).journal
             (payloads ++ run_bytes array.old.items ∷ [])) }
         ensures gains_stop { (payloads : List (List ℕ)) →
-            IsOpen (S.snapshot store.old).images (bucket_at self.old b).journal payloads →
-            Leaves (S.snapshot store.old) (S.snapshot store.new) (λ image.
+            IsOpen (S.told store.old).images (bucket_at self.old b).journal payloads →
+            Leaves (S.told store.old) (S.told store.new) (λ image.
             HasRecords (image (file_of self.old.base 0 (JournalFile (live_side self.old.last) b))) payloads
             ⊎ HasRecords (image (file_of self.old.base 0 (JournalFile (live_side self.old.last) b)))
             (payloads ++ run_bytes array.old.items ∷ [])) }
         ensures others { TellsOnly (IsBucketFile self.old.base (live_side self.old.last) b)
-            (S.snapshot store.old).files (S.snapshot store.new).files }
+            (S.told store.old).files (S.told store.new).files }
         ensures others_stop { LeavesBy (ChangesOnly (IsBucketFile self.old.base (live_side self.old.last) b))
-            (S.snapshot store.old) (S.snapshot store.new) }
-        ensures taken { S.taken store.new ≡ S.taken store.old }
-        ensures cause { HasCause (IsErrOf result Fault.Failed) (S.faults store.old) (S.faults store.new) }
+            (S.told store.old) (S.told store.new) }
+        ensures taken { (S.told store.new).taken ≡ (S.told store.old).taken }
+        ensures cause { HasCause (IsErrOf result Fault.Failed) (S.told store.old).faults (S.told store.new).faults }
     {
         let left = self
             .settings

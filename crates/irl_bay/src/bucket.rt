@@ -2,9 +2,9 @@ ghost use Rattle.std.specs.Prelude.{◌≡◌, ◌≢◌, ◌⊎◌, ◌≤◌, 
 ghost use Rattle.std.specs.Prelude.{length, IfOk, OnOk, OnErr, IsErr};
 ghost use Rattle.std.specs.List.{AllByRecursion};
 ghost use Rattle.std.specs.Option.{ForSome};
-ghost use Rattle.irl_offer.specs.Faults.{HasCause};
+ghost use Rattle.irl_base.specs.Faults.{HasCause};
 ghost use Rattle.irl_offer.specs.Tuple.{Tuple};
-ghost use Rattle.irl_disk.specs.Disk.{Changes, ChangesFile, Scribbled};
+ghost use Rattle.irl_disk.specs.Disk.{Changes, ChangesFile, Scribbled, TellsOnly, ChangesOnly};
 ghost use Rattle.irl_disk.specs.Images.{Leaves, LeavesBy};
 ghost use Rattle.irl_journal.specs.Appending.{IsOpen};
 ghost use Rattle.irl_journal.specs.Format.{HasRecords};
@@ -12,7 +12,7 @@ ghost use Rattle.irl_bay.specs.BayFiles.{file_of, max_base};
 ghost use Rattle.irl_bay.specs.declared.layout.files.BayFile.TheVariants.{Journal as JournalFile, Aux as AuxFile};
 ghost use Rattle.irl_bay.specs.Runs.{IsOffer, IsRun, run_bytes, texts_of};
 ghost use Rattle.irl_bay.specs.Merging.{emptied};
-ghost use Rattle.irl_bay.specs.Holding.{HoldsBucket, BucketBecomes, IsFileOfBucket, TellsOnly, ChangesOnly};
+ghost use Rattle.irl_bay.specs.Holding.{HoldsBucket, BucketBecomes, IsFileOfBucket};
 
 use crate::layout::{BayFile, Run};
 use irl_disk::{Failed, Store};
@@ -49,19 +49,19 @@ impl Bucket {
         requires base { base ≤ max_base }
         requires side { side ≤ 1 }
         requires bucket { b < 64 }
-        requires short { ForSome (S.snapshot store.old).files (λ files.
+        requires short { ForSome (S.told store.old).files (λ files.
             length (files (file_of base 0 (JournalFile side b))) ≤ 1) }
         ensures bucket { IfOk result (λ bucket. bucket ≡ emptied base side b start) }
         ensures holds { IfOk result (λ bucket. (array : ℕ) →
-            HoldsBucket (S.snapshot store.new).images array 0 bucket []) }
+            HoldsBucket (S.told store.new).images array 0 bucket []) }
         ensures ok { OnOk result (Changes (file_of base 0 (JournalFile side b)) (λ _ new. length new ≡ 1)
-            (S.snapshot store.old).files (S.snapshot store.new).files) }
+            (S.told store.old).files (S.told store.new).files) }
         ensures err { OnErr result (Changes (file_of base 0 (JournalFile side b)) (Scribbled 0 1)
-            (S.snapshot store.old).files (S.snapshot store.new).files) }
+            (S.told store.old).files (S.told store.new).files) }
         ensures stops { LeavesBy (ChangesFile (file_of base 0 (JournalFile side b)) (Scribbled 0 1))
-            (S.snapshot store.old) (S.snapshot store.new) }
-        ensures taken { S.taken store.new ≡ S.taken store.old }
-        ensures cause { HasCause (IsErr result) (S.faults store.old) (S.faults store.new) }
+            (S.told store.old) (S.told store.new) }
+        ensures taken { (S.told store.new).taken ≡ (S.told store.old).taken }
+        ensures cause { HasCause (IsErr result) (S.told store.old).faults (S.told store.new).faults }
     {
         let journal = Journal::make(store, BayFile::Journal(side, b).number(base))?;
         Ok(Bucket {
@@ -89,14 +89,14 @@ impl Bucket {
         requires sound { self.old.journal.is_sound ≡ true }
         requires apart { self.old.journal.file ≢ self.old.aux.file }
         requires room { self.old.durable + length offers.now < 18446744073709551616 }
-        requires journal_long { ForSome (S.snapshot store.old).files (λ files.
+        requires journal_long { ForSome (S.told store.old).files (λ files.
             self.old.journal.end < length (files self.old.journal.file)) }
-        requires aux_long { ForSome (S.snapshot store.old).files (λ files.
+        requires aux_long { ForSome (S.told store.old).files (λ files.
             self.old.aux.length ≤ length (files self.old.aux.file)) }
         // The bucket has its list, and then these offers.
         ensures holds { OnOk result ((array cut : ℕ) (list : List Tuple) → IsRun array offers.now →
-            HoldsBucket (S.snapshot store.old).images array cut self.old list →
-            HoldsBucket (S.snapshot store.new).images array cut self.new (list ++ offers.now)) }
+            HoldsBucket (S.told store.old).images array cut self.old list →
+            HoldsBucket (S.told store.new).images array cut self.new (list ++ offers.now)) }
         ensures durable { OnOk result (self.new.durable ≡ self.old.durable + length offers.now) }
         ensures durable_kept { OnErr result (self.new.durable ≡ self.old.durable) }
         ensures journal_file { self.new.journal.file ≡ self.old.journal.file }
@@ -110,28 +110,28 @@ impl Bucket {
         ensures text { self.new.text ≡ self.old.text }
         // A stop at any moment leaves the list, with the offers behind it or without, and every other file as it was.
         ensures stops { (array cut : ℕ) (list : List Tuple) → IsRun array offers.now →
-            HoldsBucket (S.snapshot store.old).images array cut self.old list →
-            LeavesBy (BucketBecomes self.old array list offers.now) (S.snapshot store.old) (S.snapshot store.new) }
+            HoldsBucket (S.told store.old).images array cut self.old list →
+            LeavesBy (BucketBecomes self.old array list offers.now) (S.told store.old) (S.told store.new) }
         // Its journal has one record more, of all these offers.
         ensures gains { OnOk result ((payloads : List (List ℕ)) →
-            IsOpen (S.snapshot store.old).images self.old.journal payloads →
-            IsOpen (S.snapshot store.new).images self.new.journal (payloads ++ run_bytes offers.now ∷ [])) }
+            IsOpen (S.told store.old).images self.old.journal payloads →
+            IsOpen (S.told store.new).images self.new.journal (payloads ++ run_bytes offers.now ∷ [])) }
         ensures gains_stop { (payloads : List (List ℕ)) →
-            IsOpen (S.snapshot store.old).images self.old.journal payloads →
-            Leaves (S.snapshot store.old) (S.snapshot store.new) (λ image.
+            IsOpen (S.told store.old).images self.old.journal payloads →
+            Leaves (S.told store.old) (S.told store.new) (λ image.
             HasRecords (image self.old.journal.file) payloads
             ⊎ HasRecords (image self.old.journal.file) (payloads ++ run_bytes offers.now ∷ [])) }
         // What is told is as long as what is then committed.
-        ensures journal_kept { OnOk result (ForSome (S.snapshot store.new).files (λ files.
+        ensures journal_kept { OnOk result (ForSome (S.told store.new).files (λ files.
             self.new.journal.end < length (files self.new.journal.file))) }
-        ensures aux_kept { OnOk result (ForSome (S.snapshot store.new).files (λ files.
+        ensures aux_kept { OnOk result (ForSome (S.told store.new).files (λ files.
             self.new.aux.length ≤ length (files self.new.aux.file))) }
         // Every other file stays, whatever these have.
-        ensures others { TellsOnly (IsFileOfBucket self.old) (S.snapshot store.old).files (S.snapshot store.new).files }
+        ensures others { TellsOnly (IsFileOfBucket self.old) (S.told store.old).files (S.told store.new).files }
         ensures others_stop { LeavesBy (ChangesOnly (IsFileOfBucket self.old))
-            (S.snapshot store.old) (S.snapshot store.new) }
-        ensures taken { S.taken store.new ≡ S.taken store.old }
-        ensures cause { HasCause (IsErr result) (S.faults store.old) (S.faults store.new) }
+            (S.told store.old) (S.told store.new) }
+        ensures taken { (S.told store.new).taken ≡ (S.told store.old).taken }
+        ensures cause { HasCause (IsErr result) (S.told store.old).faults (S.told store.new).faults }
     {
         self.aux.append(store, &run.texts)?;
         self.journal.append(store, &mut run.frame)?;

@@ -1,11 +1,12 @@
 ghost use Rattle.std.specs.Prelude.{◌≡◌, ◌-◌, ◌<◌, ◌≤◌, ℕ, [], vec_capacity, IfOk, OnOk, IsErr};
 ghost use Rattle.std.specs.Option.{ForSome};
-ghost use Rattle.irl_offer.specs.Faults.{HasCause};
+ghost use Rattle.irl_disk.specs.Disk.{TellsOnly, ChangesOnly};
+ghost use Rattle.irl_base.specs.Faults.{HasCause};
 ghost use Rattle.irl_disk.specs.Images.{LeavesBy};
 ghost use Rattle.irl_bay.specs.BayFiles.{IsSideFile};
 ghost use Rattle.irl_bay.specs.Commits.{live_side};
 ghost use Rattle.irl_bay.specs.Drum.{durable_at};
-ghost use Rattle.irl_bay.specs.Holding.{HoldsBucket, TellsOnly, ChangesOnly};
+ghost use Rattle.irl_bay.specs.Holding.{HoldsBucket};
 ghost use Rattle.irl_bay.specs.Merging.{AreEmpty, emptied, emptied_from};
 
 use crate::bay::Bay;
@@ -28,18 +29,18 @@ impl Bay {
             emptied_from self.now.base (1 - live_side self.now.last) 0 self.now.buckets) }
         // From then on each stop leaves them without an offer,
         ensures holds { OnOk result ((array b : ℕ) → b < self.now.settings.buckets →
-            HoldsBucket (S.snapshot store.new).images array 0
+            HoldsBucket (S.told store.new).images array 0
             (emptied self.now.base (1 - live_side self.now.last) b (durable_at self.now b)) []) }
         // and what is told has a byte of each journal, and no text.
-        ensures empty { OnOk result (ForSome (S.snapshot store.new).files
+        ensures empty { OnOk result (ForSome (S.told store.new).files
             (AreEmpty self.now.base (1 - live_side self.now.last) self.now.settings.buckets)) }
         ensures others { TellsOnly (IsSideFile self.now.base (1 - live_side self.now.last) self.now.settings.buckets)
-            (S.snapshot store.old).files (S.snapshot store.new).files }
+            (S.told store.old).files (S.told store.new).files }
         ensures others_stop { LeavesBy
             (ChangesOnly (IsSideFile self.now.base (1 - live_side self.now.last) self.now.settings.buckets))
-            (S.snapshot store.old) (S.snapshot store.new) }
-        ensures taken { S.taken store.new ≡ S.taken store.old }
-        ensures cause { HasCause (IsErr result) (S.faults store.old) (S.faults store.new) }
+            (S.told store.old) (S.told store.new) }
+        ensures taken { (S.told store.new).taken ≡ (S.told store.old).taken }
+        ensures cause { HasCause (IsErr result) (S.told store.old).faults (S.told store.new).faults }
     {
         let side = 1 - self.last.live_side();
         self.cut_side(store, side)?;
@@ -54,14 +55,14 @@ impl Bay {
     // Cuts the buckets' files on a side to nothing.
     fn cut_side<S: Store>(&self, store: &mut S, side: u8) -> Result<(), Failed>
         requires { side ≤ 1 }
-        ensures cut { OnOk result (ForSome (S.snapshot store.new).files (λ files. (f : ℕ) →
+        ensures cut { OnOk result (ForSome (S.told store.new).files (λ files. (f : ℕ) →
             IsSideFile self.now.base side self.now.settings.buckets f → files f ≡ [])) }
         ensures others { TellsOnly (IsSideFile self.now.base side self.now.settings.buckets)
-            (S.snapshot store.old).files (S.snapshot store.new).files }
+            (S.told store.old).files (S.told store.new).files }
         ensures others_stop { LeavesBy (ChangesOnly (IsSideFile self.now.base side self.now.settings.buckets))
-            (S.snapshot store.old) (S.snapshot store.new) }
-        ensures taken { S.taken store.new ≡ S.taken store.old }
-        ensures cause { HasCause (IsErr result) (S.faults store.old) (S.faults store.new) }
+            (S.told store.old) (S.told store.new) }
+        ensures taken { (S.told store.new).taken ≡ (S.told store.old).taken }
+        ensures cause { HasCause (IsErr result) (S.told store.old).faults (S.told store.new).faults }
     {
         for b in 0..self.settings.buckets {
             store.cut(BayFile::Journal(side, b).number(self.base), 0)?;

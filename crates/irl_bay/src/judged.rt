@@ -2,7 +2,7 @@ ghost use Rattle.std.specs.Prelude.{◌≡◌, ◌+◌, ◌-◌, ◌*◌, ◌≤
 ghost use Rattle.std.specs.Prelude.{IfOk, IfSome, IsErrOf, slice_get};
 ghost use Rattle.std.specs.List.{flat_map};
 ghost use Rattle.std.specs.Option.{ForSome};
-ghost use Rattle.irl_offer.specs.Faults.{HasCause};
+ghost use Rattle.irl_base.specs.Faults.{HasCause};
 ghost use Rattle.irl_model.specs.Book.{Book, gone, judged as judged_of};
 ghost use Rattle.irl_disk.specs.Images.{LeavesSame};
 ghost use Rattle.irl_disk.specs.Taken.{TakesAmong, TakesOnly};
@@ -16,8 +16,8 @@ ghost use Rattle.irl_bay.specs.JudgedSpoilt.{FitsBehind, FitEach, NoneFits, IsJu
 use crate::bay::Bay;
 use crate::judged_part::JudgedPart;
 use crate::layout::{BayFile, JudgedEntry};
-use crate::reading::read_part;
 use irl_disk::Store;
+use irl_journal::read_part;
 use irl_offer::{Fault, Judged, bucket_of};
 
 impl Bay {
@@ -31,23 +31,23 @@ impl Bay {
     ) -> Result<JudgedPart, Fault>
         requires sound { self.now.is_sound ≡ true }
         requires place { i < self.now.last.judged }
-        requires long { ForSome (S.snapshot store.old).files (λ files. IsLong self.now files) }
+        requires long { ForSome (S.told store.old).files (λ files. IsLong self.now files) }
         ensures count { IfOk result (λ found. length found ≡ min most (self.now.last.judged - i)) }
         // They are those of the book.
-        ensures value { IfOk result (λ found. ForSome (S.snapshot store.old).files (λ _. (book : Book) →
-            Holds (S.snapshot store.old).images self.now book →
+        ensures value { IfOk result (λ found. ForSome (S.told store.old).files (λ _. (book : Book) →
+            Holds (S.told store.old).images self.now book →
             found ≡ take most (drop (i - gone book) (judged_of book)))) }
         // Damage is named only where it is, and never over files that stand for a book.
         ensures damaged { (f at : ℕ) → IsErrOf result (Fault.Damaged f at) →
-            ForSome (S.snapshot store.old).files (λ files. IsJudgedSpoiltAt self.now files f at) }
+            ForSome (S.told store.old).files (λ files. IsJudgedSpoiltAt self.now files f at) }
         ensures whole { (f at : ℕ) → IsErrOf result (Fault.Damaged f at) →
-            ForSome (S.snapshot store.old).files (λ _. (book : Book) →
-            Holds (S.snapshot store.old).images self.now book → ⊥) }
+            ForSome (S.told store.old).files (λ _. (book : Book) →
+            Holds (S.told store.old).images self.now book → ⊥) }
         ensures full { (n : ℕ) → IsErrOf result (Fault.Full n) → ⊥ }
-        ensures same { (S.snapshot store.new).files ≡ (S.snapshot store.old).files }
-        ensures stops { LeavesSame (S.snapshot store.old) (S.snapshot store.new) }
-        ensures taken { TakesAmong (IsJudgedFile self.now) (S.taken store.old) (S.taken store.new) }
-        ensures cause { HasCause (IsErrOf result Fault.Failed) (S.faults store.old) (S.faults store.new) }
+        ensures same { (S.told store.new).files ≡ (S.told store.old).files }
+        ensures stops { LeavesSame (S.told store.old) (S.told store.new) }
+        ensures taken { TakesAmong (IsJudgedFile self.now) (S.told store.old).taken (S.told store.new).taken }
+        ensures cause { HasCause (IsErrOf result Fault.Failed) (S.told store.old).faults (S.told store.new).faults }
     {
         let count = u64::from(most).min(self.last.judged - i);
         let entries = self.entries_from(store, i, count)?;
@@ -59,22 +59,22 @@ impl Bay {
     pub fn judged<S: Store>(&self, store: &mut S, i: u64) -> Result<Judged, Fault>
         requires sound { self.now.is_sound ≡ true }
         requires place { i < self.now.last.judged }
-        requires long { ForSome (S.snapshot store.old).files (λ files. IsLong self.now files) }
+        requires long { ForSome (S.told store.old).files (λ files. IsLong self.now files) }
         // It is that of the book.
-        ensures value { IfOk result (λ found. ForSome (S.snapshot store.old).files (λ _. (book : Book) →
-            Holds (S.snapshot store.old).images self.now book →
+        ensures value { IfOk result (λ found. ForSome (S.told store.old).files (λ _. (book : Book) →
+            Holds (S.told store.old).images self.now book →
             slice_get (judged_of book) (i - gone book) ≡ Some found)) }
         // Damage is named only where it is, and never over files that stand for a book.
         ensures damaged { (f at : ℕ) → IsErrOf result (Fault.Damaged f at) →
-            ForSome (S.snapshot store.old).files (λ files. IsJudgedSpoiltAt self.now files f at) }
+            ForSome (S.told store.old).files (λ files. IsJudgedSpoiltAt self.now files f at) }
         ensures whole { (f at : ℕ) → IsErrOf result (Fault.Damaged f at) →
-            ForSome (S.snapshot store.old).files (λ _. (book : Book) →
-            Holds (S.snapshot store.old).images self.now book → ⊥) }
+            ForSome (S.told store.old).files (λ _. (book : Book) →
+            Holds (S.told store.old).images self.now book → ⊥) }
         ensures full { (n : ℕ) → IsErrOf result (Fault.Full n) → ⊥ }
-        ensures same { (S.snapshot store.new).files ≡ (S.snapshot store.old).files }
-        ensures stops { LeavesSame (S.snapshot store.old) (S.snapshot store.new) }
-        ensures taken { TakesAmong (IsJudgedFile self.now) (S.taken store.old) (S.taken store.new) }
-        ensures cause { HasCause (IsErrOf result Fault.Failed) (S.faults store.old) (S.faults store.new) }
+        ensures same { (S.told store.new).files ≡ (S.told store.old).files }
+        ensures stops { LeavesSame (S.told store.old) (S.told store.new) }
+        ensures taken { TakesAmong (IsJudgedFile self.now) (S.told store.old).taken (S.told store.new).taken }
+        ensures cause { HasCause (IsErrOf result Fault.Failed) (S.told store.old).faults (S.told store.new).faults }
     {
         let part = self.judged_from(store, i, 1)?;
         let mut found = part.to_vec(self.alloc)?;
@@ -90,19 +90,19 @@ impl Bay {
     ) -> Result<Vec<JudgedEntry>, Fault>
         requires within { i + count ≤ self.now.last.judged }
         requires few { count < 2 ^ 32 }
-        requires long { ForSome (S.snapshot store.old).files (λ files. IsLong self.now files) }
+        requires long { ForSome (S.told store.old).files (λ files. IsLong self.now files) }
         ensures count { IfOk result (λ entries. length entries.items ≡ count) }
         ensures fit { IfOk result (λ entries. FitEach self.now None entries.items) }
-        ensures bytes { IfOk result (λ entries. ForSome (S.snapshot store.old).files (λ files.
+        ensures bytes { IfOk result (λ entries. ForSome (S.told store.old).files (λ files.
             flat_map entry_spelling entries.items
             ≡ take (48 * count) (drop (48 * i) (files (judged_front self.now).file)))) }
         ensures damaged { (f at : ℕ) → IsErrOf result (Fault.Damaged f at) →
-            ForSome (S.snapshot store.old).files (λ files. IsJudgedSpoiltAt self.now files f at) }
+            ForSome (S.told store.old).files (λ files. IsJudgedSpoiltAt self.now files f at) }
         ensures full { (n : ℕ) → IsErrOf result (Fault.Full n) → ⊥ }
-        ensures same { (S.snapshot store.new).files ≡ (S.snapshot store.old).files }
-        ensures stops { LeavesSame (S.snapshot store.old) (S.snapshot store.new) }
-        ensures taken { TakesOnly (judged_front self.now).file (S.taken store.old) (S.taken store.new) }
-        ensures cause { HasCause (IsErrOf result Fault.Failed) (S.faults store.old) (S.faults store.new) }
+        ensures same { (S.told store.new).files ≡ (S.told store.old).files }
+        ensures stops { LeavesSame (S.told store.old) (S.told store.new) }
+        ensures taken { TakesOnly (judged_front self.now).file (S.told store.old).taken (S.told store.new).taken }
+        ensures cause { HasCause (IsErrOf result Fault.Failed) (S.told store.old).faults (S.told store.new).faults }
     {
         let file = BayFile::Judged.number(self.base);
         let bytes = read_part(self.alloc, store, file, 48 * i, 48 * count)?;
@@ -165,18 +165,18 @@ impl Bay {
     // The texts of entries, in one piece.
     fn texts_of<S: Store>(&self, store: &mut S, entries: &[JudgedEntry]) -> Result<Vec<u8>, Fault>
         requires fit { FitEach self.now None entries.now }
-        requires long { ForSome (S.snapshot store.old).files (λ files. IsLong self.now files) }
+        requires long { ForSome (S.told store.old).files (λ files. IsLong self.now files) }
         ensures length { IfOk result (λ texts. length texts.items ≡ length_of_texts entries.now) }
-        ensures bytes { IfOk result (λ texts. ForSome (S.snapshot store.old).files (λ files. texts.items
+        ensures bytes { IfOk result (λ texts. ForSome (S.told store.old).files (λ files. texts.items
             ≡ take (length_of_texts entries.now)
             (drop (place_of_first entries.now) (files (texts_front self.now).file)))) }
         ensures damaged { (f at : ℕ) → IsErrOf result (Fault.Damaged f at) →
-            ForSome (S.snapshot store.old).files (λ _. ⊥) }
+            ForSome (S.told store.old).files (λ _. ⊥) }
         ensures full { (n : ℕ) → IsErrOf result (Fault.Full n) → ⊥ }
-        ensures same { (S.snapshot store.new).files ≡ (S.snapshot store.old).files }
-        ensures stops { LeavesSame (S.snapshot store.old) (S.snapshot store.new) }
-        ensures taken { TakesOnly (texts_front self.now).file (S.taken store.old) (S.taken store.new) }
-        ensures cause { HasCause (IsErrOf result Fault.Failed) (S.faults store.old) (S.faults store.new) }
+        ensures same { (S.told store.new).files ≡ (S.told store.old).files }
+        ensures stops { LeavesSame (S.told store.old) (S.told store.new) }
+        ensures taken { TakesOnly (texts_front self.now).file (S.told store.old).taken (S.told store.new).taken }
+        ensures cause { HasCause (IsErrOf result Fault.Failed) (S.told store.old).faults (S.told store.new).faults }
     {
         let from = first_place(entries);
         let file = BayFile::Texts.number(self.base);

@@ -1,6 +1,6 @@
 ghost use Rattle.std.specs.Prelude.{◌≡◌, ◌≤◌, ◌<◌, ◌↔◌, true, length, IfOk, Some, slice_get};
 ghost use Rattle.std.specs.List.{AllByRecursion};
-ghost use Rattle.irl_offer.specs.Limits.{max_text};
+ghost use Rattle.irl_base.specs.Limits.{max_text};
 ghost use Rattle.irl_bay.specs.JudgedEntries.{texts_length as length_of_texts};
 ghost use Rattle.irl_bay.specs.JudgedEntries.{with_text as judged_with_text, with_texts as judged_with_texts};
 ghost use Rattle.irl_bay.specs.JudgedParts.{IsPart, as_judged};

@@ -24,10 +24,10 @@ pub fn one_book()
 /// committed.
 pub fn what_is_held_stands<S: Store>(store: &S, bay: &Bay)
     ensures stands { (book : Book) (image : Files) → IsDrum bay.now →
-        Holds (S.snapshot store.now).images bay.now book → (S.snapshot store.now).images image →
+        Holds (S.told store.now).images bay.now book → (S.told store.now).images image →
         Stands bay.now.base bay.now.settings book image }
-    ensures long { (book : Book) (files : Files) → Holds (S.snapshot store.now).images bay.now book →
-        (S.snapshot store.now).files ≡ Some files → IsLong bay.now files }
+    ensures long { (book : Book) (files : Files) → Holds (S.told store.now).images bay.now book →
+        (S.told store.now).files ≡ Some files → IsLong bay.now files }
 {}
 
 /// What lies in files that aren't the bay's means nothing.

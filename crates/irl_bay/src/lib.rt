@@ -16,7 +16,6 @@ mod layout;
 mod merge;
 mod parts;
 mod pending;
-mod reading;
 mod sides;
 mod tally;
 mod telling;

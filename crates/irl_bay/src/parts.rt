@@ -1,11 +1,11 @@
 ghost use Rattle.std.specs.Prelude.{◌≡◌, ◌⊎◌, ◌<◌, ◌≤◌, ◌^◌, ℕ, List, true, length as len, take, IfOk, OnOk, IfSome};
 ghost use Rattle.std.specs.Prelude.{IsNone, IsErr, IsErrOf};
 ghost use Rattle.std.specs.Option.{ForSome};
-ghost use Rattle.irl_offer.specs.Faults.{HasCause};
+ghost use Rattle.irl_base.specs.Faults.{HasCause};
 ghost use Rattle.irl_offer.specs.Settings.{AreValid};
 ghost use Rattle.irl_offer.specs.Tuple.{Tuple};
-ghost use Rattle.irl_offer.specs.declared.receipt.Fault.TheVariants.{Failed as FailedFault, Memory as MemoryFault};
-ghost use Rattle.irl_offer.specs.declared.receipt.Fault.TheVariants.{Full as FullFault, Damaged as DamagedFault};
+ghost use Rattle.irl_base.specs.declared.fault.Fault.TheVariants.{Failed as FailedFault, Memory as MemoryFault};
+ghost use Rattle.irl_base.specs.declared.fault.Fault.TheVariants.{Full as FullFault, Damaged as DamagedFault};
 ghost use Rattle.irl_disk.specs.Disk.{Changes, ChangesFile};
 ghost use Rattle.irl_disk.specs.Images.{LeavesBy, LeavesSame};
 ghost use Rattle.irl_disk.specs.Taken.{TakesOnly};
@@ -45,16 +45,16 @@ pub fn open_blob<S: Store>(store: &mut S, f: u16, length: u128) -> Result<Blob, 
     requires { f < 10000 }
     ensures blob { IfOk result (λ blob. blob ≡ record { file = f; length = length }) }
     ensures fits { OnOk result (length < 2 ^ 64) }
-    ensures long { OnOk result (ForSome (S.snapshot store.old).files (λ files. length ≤ len (files f))) }
-    ensures committed { IfOk result (λ blob. ForSome (S.snapshot store.old).files (λ files.
-        IsCommitted (S.snapshot store.new).images blob (take length (files f)))) }
+    ensures long { OnOk result (ForSome (S.told store.old).files (λ files. length ≤ len (files f))) }
+    ensures committed { IfOk result (λ blob. ForSome (S.told store.old).files (λ files.
+        IsCommitted (S.told store.new).images blob (take length (files f)))) }
     ensures damaged { (g at : ℕ) → IsErrOf result (Fault.Damaged g at) → (g ≡ f)
-        × ForSome (S.snapshot store.old).files (λ files. IsShort length (files f) at) }
+        × ForSome (S.told store.old).files (λ files. IsShort length (files f) at) }
     ensures full { (n : ℕ) → IsErrOf result (Fault.Full n) → ⊥ }
-    ensures same { (S.snapshot store.new).files ≡ (S.snapshot store.old).files }
-    ensures stops { LeavesSame (S.snapshot store.old) (S.snapshot store.new) }
-    ensures taken { S.taken store.new ≡ S.taken store.old }
-    ensures cause { HasCause (IsErrOf result Fault.Failed) (S.faults store.old) (S.faults store.new) }
+    ensures same { (S.told store.new).files ≡ (S.told store.old).files }
+    ensures stops { LeavesSame (S.told store.old) (S.told store.new) }
+    ensures taken { (S.told store.new).taken ≡ (S.told store.old).taken }
+    ensures cause { HasCause (IsErrOf result Fault.Failed) (S.told store.old).faults (S.told store.new).faults }
 {
     match find_blob(store, f, length)? {
         Some(blob) => Ok(blob),
@@ -67,16 +67,16 @@ fn find_blob<S: Store>(store: &mut S, f: u16, length: u128) -> Result<Option<Blo
     requires { f < 10000 }
     ensures blob { IfOk result (λ found. IfSome found (λ blob. blob ≡ record { file = f; length = length })) }
     ensures fits { IfOk result (λ found. IfSome found (λ _. length < 2 ^ 64)) }
-    ensures long { IfOk result (λ found. IfSome found (λ _. ForSome (S.snapshot store.old).files (λ files.
+    ensures long { IfOk result (λ found. IfSome found (λ _. ForSome (S.told store.old).files (λ files.
         length ≤ len (files f)))) }
-    ensures committed { IfOk result (λ found. IfSome found (λ blob. ForSome (S.snapshot store.old).files (λ files.
-        IsCommitted (S.snapshot store.new).images blob (take length (files f))))) }
+    ensures committed { IfOk result (λ found. IfSome found (λ blob. ForSome (S.told store.old).files (λ files.
+        IsCommitted (S.told store.new).images blob (take length (files f))))) }
     ensures short { IfOk result (λ found. IsNone found → (2 ^ 64 ≤ length)
-        ⊎ ForSome (S.snapshot store.old).files (λ files. len (files f) < length)) }
-    ensures same { (S.snapshot store.new).files ≡ (S.snapshot store.old).files }
-    ensures stops { LeavesSame (S.snapshot store.old) (S.snapshot store.new) }
-    ensures taken { S.taken store.new ≡ S.taken store.old }
-    ensures cause { HasCause (IsErr result) (S.faults store.old) (S.faults store.new) }
+        ⊎ ForSome (S.told store.old).files (λ files. len (files f) < length)) }
+    ensures same { (S.told store.new).files ≡ (S.told store.old).files }
+    ensures stops { LeavesSame (S.told store.old) (S.told store.new) }
+    ensures taken { (S.told store.new).taken ≡ (S.told store.old).taken }
+    ensures cause { HasCause (IsErr result) (S.told store.old).faults (S.told store.new).faults }
 {
     match u64::try_from(length) {
         Ok(length) => Blob::open(store, f, length),
@@ -100,23 +100,24 @@ impl Bucket {
         requires side { live.side ≤ 1 }
         ensures opened { IfOk result (λ bucket. IsOpenBucket base live.side b live.start bucket) }
         // The files have runs of offers,
-        ensures found { IfOk result (λ bucket. ForSome (S.snapshot store.old).files (λ files.
+        ensures found { IfOk result (λ bucket. ForSome (S.told store.old).files (λ files.
             HasWhole base live.side settings.now b files bucket)) }
-        ensures long { IfOk result (λ bucket. ForSome (S.snapshot store.new).files (λ files.
+        ensures long { IfOk result (λ bucket. ForSome (S.told store.new).files (λ files.
             IsLongBucket bucket files)) }
         // and where they have a list, the bucket has it.
-        ensures holds { IfOk result (λ bucket. ForSome (S.snapshot store.old).files (λ files. (list : List Tuple) →
+        ensures holds { IfOk result (λ bucket. ForSome (S.told store.old).files (λ files. (list : List Tuple) →
             HasListOf base live.side settings.now b live.start live.judged list files →
-            HoldsBucket (S.snapshot store.new).images settings.now.array live.judged bucket list)) }
+            HoldsBucket (S.told store.new).images settings.now.array live.judged bucket list)) }
         ensures damaged { (f at : ℕ) → IsErrOf result (Fault.Damaged f at) →
-            ForSome (S.snapshot store.old).files (λ files. IsDamagedBucket base live.side settings.now b files f at) }
+            ForSome (S.told store.old).files (λ files. IsDamagedBucket base live.side settings.now b files f at) }
         ensures full { (n : ℕ) → IsErrOf result (Fault.Full n) → ⊥ }
         ensures changes { Changes (file_of base 0 (JournalFile live.side b)) IsOpened
-            (S.snapshot store.old).files (S.snapshot store.new).files }
+            (S.told store.old).files (S.told store.new).files }
         ensures stops { LeavesBy (ChangesFile (file_of base 0 (JournalFile live.side b)) IsOpened)
-            (S.snapshot store.old) (S.snapshot store.new) }
-        ensures taken { TakesOnly (file_of base 0 (JournalFile live.side b)) (S.taken store.old) (S.taken store.new) }
-        ensures cause { HasCause (IsErrOf result Fault.Failed) (S.faults store.old) (S.faults store.new) }
+            (S.told store.old) (S.told store.new) }
+        ensures taken { TakesOnly (file_of base 0 (JournalFile live.side b)) (S.told store.old).taken
+            (S.told store.new).taken }
+        ensures cause { HasCause (IsErrOf result Fault.Failed) (S.told store.old).faults (S.told store.new).faults }
     {
         let mut tally = Tally {
             settings: *settings,

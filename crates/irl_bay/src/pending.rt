@@ -3,7 +3,7 @@ ghost use Rattle.std.specs.Prelude.{map, take, drop, IfOk, IsErrOf, IsTrue};
 ghost use Rattle.std.specs.List.{All, AllByRecursion};
 ghost use Rattle.std.specs.Option.{ForSome};
 ghost use Rattle.irl_offer.specs.Buckets.{IsBucketCount, bucket_of as bucket_of_key};
-ghost use Rattle.irl_offer.specs.Faults.{HasCause};
+ghost use Rattle.irl_base.specs.Faults.{HasCause};
 ghost use Rattle.irl_offer.specs.Tuple.{Tuple};
 ghost use Rattle.irl_disk.specs.Images.{LeavesSame};
 ghost use Rattle.irl_disk.specs.Taken.{TakesOnly};
@@ -14,9 +14,8 @@ ghost use Rattle.irl_bay.specs.Pending.{HasEntries, AreEntriesFrom, IsSpoiltJour
 
 use crate::bucket::Bucket;
 use crate::gathering::Gathering;
-use crate::reading::read_part;
 use irl_disk::Store;
-use irl_journal::JournalFault;
+use irl_journal::{JournalFault, read_part};
 use irl_offer::{Entry, Fault, Settings, bucket_of};
 use std::alloc::Global;
 
@@ -57,22 +56,22 @@ impl Bucket {
             text_length (drop found.skip found.entries.items) ≡ self.now.aux.length - self.now.text) }
         ensures here { IfOk result (λ found. All (λ entry. bucket_of_key settings.now.buckets entry.key ≡ b)
             (drop found.skip found.entries.items)) }
-        ensures held { IfOk result (λ found. ForSome (S.snapshot store.old).files (λ _. (cut : ℕ) (list : List Tuple) →
-            HoldsBucket (S.snapshot store.old).images settings.now.array cut self.now list →
+        ensures held { IfOk result (λ found. ForSome (S.told store.old).files (λ _. (cut : ℕ) (list : List Tuple) →
+            HoldsBucket (S.told store.old).images settings.now.array cut self.now list →
             map entry_of_offer (drop cut list) ≡ drop found.skip found.entries.items)) }
         ensures damaged { (f at : ℕ) → IsErrOf result (Fault.Damaged f at) →
-            ForSome (S.snapshot store.old).files (λ files.
+            ForSome (S.told store.old).files (λ files.
             IsSpoiltBucket settings.now b self.now count files f at) }
         ensures whole { (f at : ℕ) → IsErrOf result (Fault.Damaged f at) →
-            ForSome (S.snapshot store.old).files (λ _. (cut : ℕ) (list : List Tuple) →
-            HoldsBucket (S.snapshot store.old).images settings.now.array cut self.now list →
+            ForSome (S.told store.old).files (λ _. (cut : ℕ) (list : List Tuple) →
+            HoldsBucket (S.told store.old).images settings.now.array cut self.now list →
             AllByRecursion (λ offer. bucket_of_key settings.now.buckets offer.key ≡ b) list →
             count + cut ≡ list_length list → ⊥) }
         ensures full { (n : ℕ) → IsErrOf result (Fault.Full n) → ⊥ }
-        ensures same { (S.snapshot store.new).files ≡ (S.snapshot store.old).files }
-        ensures stops { LeavesSame (S.snapshot store.old) (S.snapshot store.new) }
-        ensures taken { TakesOnly self.now.journal.file (S.taken store.old) (S.taken store.new) }
-        ensures cause { HasCause (IsErrOf result Fault.Failed) (S.faults store.old) (S.faults store.new) }
+        ensures same { (S.told store.new).files ≡ (S.told store.old).files }
+        ensures stops { LeavesSame (S.told store.old) (S.told store.new) }
+        ensures taken { TakesOnly self.now.journal.file (S.told store.old).taken (S.told store.new).taken }
+        ensures cause { HasCause (IsErrOf result Fault.Failed) (S.told store.old).faults (S.told store.new).faults }
     {
         let room = count.saturating_add(self.skip) as usize;
         let entries = match self.entries_from_gate(alloc, store, settings, b, room) {
@@ -98,24 +97,24 @@ impl Bucket {
     /// The texts of the offers that are not judged, one behind the other. It changes nothing.
     pub fn pending_texts<S: Store>(&self, alloc: Global, store: &mut S) -> Result<Vec<u8>, Fault>
         requires text { self.now.text ≤ self.now.aux.length }
-        requires long { ForSome (S.snapshot store.old).files (λ files.
+        requires long { ForSome (S.told store.old).files (λ files.
             self.now.aux.length ≤ list_length (files self.now.aux.file)) }
         ensures length { IfOk result (λ texts. list_length texts.items ≡ self.now.aux.length - self.now.text) }
-        ensures bytes { IfOk result (λ texts. ForSome (S.snapshot store.old).files (λ files.
+        ensures bytes { IfOk result (λ texts. ForSome (S.told store.old).files (λ files.
             texts.items ≡ take (self.now.aux.length - self.now.text)
             (drop self.now.text (files self.now.aux.file)))) }
-        ensures held { IfOk result (λ texts. ForSome (S.snapshot store.old).files (λ _.
+        ensures held { IfOk result (λ texts. ForSome (S.told store.old).files (λ _.
             (array cut : ℕ) (list : List Tuple) →
-            HoldsBucket (S.snapshot store.old).images array cut self.now list →
+            HoldsBucket (S.told store.old).images array cut self.now list →
             texts.items ≡ texts_of (drop cut list))) }
         // A store that tells has the bytes.
         ensures damaged { (f at : ℕ) → IsErrOf result (Fault.Damaged f at) →
-            ForSome (S.snapshot store.old).files (λ _. ⊥) }
+            ForSome (S.told store.old).files (λ _. ⊥) }
         ensures full { (n : ℕ) → IsErrOf result (Fault.Full n) → ⊥ }
-        ensures same { (S.snapshot store.new).files ≡ (S.snapshot store.old).files }
-        ensures stops { LeavesSame (S.snapshot store.old) (S.snapshot store.new) }
-        ensures taken { TakesOnly self.now.aux.file (S.taken store.old) (S.taken store.new) }
-        ensures cause { HasCause (IsErrOf result Fault.Failed) (S.faults store.old) (S.faults store.new) }
+        ensures same { (S.told store.new).files ≡ (S.told store.old).files }
+        ensures stops { LeavesSame (S.told store.old) (S.told store.new) }
+        ensures taken { TakesOnly self.now.aux.file (S.told store.old).taken (S.told store.new).taken }
+        ensures cause { HasCause (IsErrOf result Fault.Failed) (S.told store.old).faults (S.told store.new).faults }
     {
         let length = self.aux.length() - self.text;
         read_part(alloc, store, self.aux.file(), self.text, length)
@@ -132,22 +131,23 @@ impl Bucket {
     ) -> Result<Vec<Entry>, JournalFault>
         requires settings { IsBucketCount settings.now.buckets }
         requires gate { self.now.gate ≤ self.now.journal.end }
-        ensures found { IfOk result (λ entries. ForSome (S.snapshot store.old).files (λ files.
+        ensures found { IfOk result (λ entries. ForSome (S.told store.old).files (λ files.
             HasEntries settings.now b self.now files entries.items)) }
-        ensures held { IfOk result (λ entries. ForSome (S.snapshot store.old).files (λ _.
+        ensures held { IfOk result (λ entries. ForSome (S.told store.old).files (λ _.
             (cut : ℕ) (list : List Tuple) →
-            HoldsBucket (S.snapshot store.old).images settings.now.array cut self.now list →
+            HoldsBucket (S.told store.old).images settings.now.array cut self.now list →
             AreEntriesFrom self.now.skip cut list entries.items)) }
         ensures damaged { (at : ℕ) → IsErrOf result (JournalFault.Damaged at) →
-            ForSome (S.snapshot store.old).files (λ files. IsSpoiltJournal settings.now b self.now files at) }
+            ForSome (S.told store.old).files (λ files. IsSpoiltJournal settings.now b self.now files at) }
         ensures whole { (at : ℕ) → IsErrOf result (JournalFault.Damaged at) →
-            ForSome (S.snapshot store.old).files (λ _. (cut : ℕ) (list : List Tuple) →
-            HoldsBucket (S.snapshot store.old).images settings.now.array cut self.now list →
+            ForSome (S.told store.old).files (λ _. (cut : ℕ) (list : List Tuple) →
+            HoldsBucket (S.told store.old).images settings.now.array cut self.now list →
             AllByRecursion (λ offer. bucket_of_key settings.now.buckets offer.key ≡ b) list → ⊥) }
-        ensures same { (S.snapshot store.new).files ≡ (S.snapshot store.old).files }
-        ensures stops { LeavesSame (S.snapshot store.old) (S.snapshot store.new) }
-        ensures taken { TakesOnly self.now.journal.file (S.taken store.old) (S.taken store.new) }
-        ensures cause { HasCause (IsErrOf result JournalFault.Failed) (S.faults store.old) (S.faults store.new) }
+        ensures same { (S.told store.new).files ≡ (S.told store.old).files }
+        ensures stops { LeavesSame (S.told store.old) (S.told store.new) }
+        ensures taken { TakesOnly self.now.journal.file (S.told store.old).taken (S.told store.new).taken }
+        ensures cause { HasCause (IsErrOf result JournalFault.Failed) (S.told store.old).faults
+            (S.told store.new).faults }
     {
         let mut gathering = Gathering {
             alloc,

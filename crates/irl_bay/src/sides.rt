@@ -3,7 +3,7 @@ ghost use Rattle.std.specs.Prelude.{slice_index_or, IfOk, OnOk, IsErrOf};
 ghost use Rattle.std.specs.List.{AllByRecursion};
 ghost use Rattle.std.specs.Option.{ForSome};
 ghost use Rattle.irl_offer.specs.Buckets.{IsBucketCount, bucket_of as bucket_of_key};
-ghost use Rattle.irl_offer.specs.Faults.{HasCause};
+ghost use Rattle.irl_base.specs.Faults.{HasCause};
 ghost use Rattle.irl_offer.specs.Tuple.{Tuple};
 ghost use Rattle.irl_offer.specs.declared.offer.Verdict.{Verdict as VerdictValue};
 ghost use Rattle.irl_offer.specs.declared.receipt.Pair.{Pair as PairValue};
@@ -50,30 +50,30 @@ impl Sides {
         entries: &[Entry],
     ) -> Result<Vec<Option<Verdict>>, Fault>
         requires merged { (offers : List Tuple) × (verdicts : List (Option VerdictValue)) ×
-            HasMerged b offers verdicts (S.snapshot store.old).files self.old }
+            HasMerged b offers verdicts (S.told store.old).files self.old }
         requires entries { (news : List Tuple) × AreEntriesOf news entries.now
             × AllByRecursion (λ offer. bucket_of_key self.old.buckets offer.key ≡ b) news }
         ensures merged { IfOk result (λ found.
             (offers : List Tuple) (verdicts : List (Option VerdictValue)) (news : List Tuple) →
-            HasMerged b offers verdicts (S.snapshot store.old).files self.old → AreEntriesOf news entries.now →
+            HasMerged b offers verdicts (S.told store.old).files self.old → AreEntriesOf news entries.now →
             AllByRecursion (λ offer. bucket_of_key self.old.buckets offer.key ≡ b) news →
-            HasMerged (b + 1) (offers ++ news) (verdicts ++ found.items) (S.snapshot store.new).files self.new) }
+            HasMerged (b + 1) (offers ++ news) (verdicts ++ found.items) (S.told store.new).files self.new) }
         ensures count { IfOk result (λ found. length found.items ≡ length entries.now) }
         ensures same { IsSameCache self.old self.new }
         ensures damaged { (f at : ℕ) → IsErrOf result (Fault.Damaged f at) →
-            ForSome (S.snapshot store.old).files (λ files.
+            ForSome (S.told store.old).files (λ files.
             (f ≡ self.old.reader.file) × IsSpoiltRun self.old.reader.entries (files f) at) }
         ensures full { (n : ℕ) → IsErrOf result (Fault.Full n) → ⊥ }
         ensures changes { Changes self.old.writer.out.file (KeepsFront 0)
-            (S.snapshot store.old).files (S.snapshot store.new).files }
+            (S.told store.old).files (S.told store.new).files }
         ensures stops { LeavesBy (ChangesFile self.old.writer.out.file (KeepsFront 0))
-            (S.snapshot store.old) (S.snapshot store.new) }
-        ensures taken { TakesOnly self.old.reader.file (S.taken store.old) (S.taken store.new) }
+            (S.told store.old) (S.told store.new) }
+        ensures taken { TakesOnly self.old.reader.file (S.told store.old).taken (S.told store.new).taken }
         // Each key of the live side is read once.
         ensures read { OnOk result ((read_of self.old.reader ≤ read_of self.new.reader)
             × TakesExactly self.old.reader.file (16 * (read_of self.new.reader - read_of self.old.reader))
-            (S.taken store.old) (S.taken store.new)) }
-        ensures cause { HasCause (IsErrOf result Fault.Failed) (S.faults store.old) (S.faults store.new) }
+            (S.told store.old).taken (S.told store.new).taken) }
+        ensures cause { HasCause (IsErrOf result Fault.Failed) (S.told store.old).faults (S.told store.new).faults }
     {
         let mut sweep = Sweep::new(self.alloc, self.rule, entries)?;
         while self.feed(store, b, &mut sweep)? {}
@@ -85,29 +85,29 @@ impl Sides {
     fn feed<S: Store>(&mut self, store: &mut S, b: u32, sweep: &mut Sweep) -> Result<bool, Fault>
         requires sound { sweep.old.is_sound ≡ true }
         requires sweeping { (offers : List Tuple) × (verdicts : List (Option VerdictValue)) × (news : List Tuple) ×
-            IsSweeping b offers verdicts news (S.snapshot store.old).files sweep.old self.old }
+            IsSweeping b offers verdicts news (S.told store.old).files sweep.old self.old }
         ensures sweeping { OnOk result
             ((offers : List Tuple) (verdicts : List (Option VerdictValue)) (news : List Tuple) →
-            IsSweeping b offers verdicts news (S.snapshot store.old).files sweep.old self.old →
-            IsSweeping b offers verdicts news (S.snapshot store.new).files sweep.new self.new) }
+            IsSweeping b offers verdicts news (S.told store.old).files sweep.old self.old →
+            IsSweeping b offers verdicts news (S.told store.new).files sweep.new self.new) }
         ensures more { IfOk result (λ more. more ≡ true → self.old.reader.given < self.new.reader.given) }
         ensures done { IfOk result (λ more. more ≡ false → IsDone b self.new) }
         ensures sound { OnOk result (sweep.new.is_sound ≡ true) }
         ensures same { IsSameCache self.old self.new }
         ensures damaged { (f at : ℕ) → IsErrOf result (Fault.Damaged f at) →
-            ForSome (S.snapshot store.old).files (λ files.
+            ForSome (S.told store.old).files (λ files.
             (f ≡ self.old.reader.file) × IsSpoiltRun self.old.reader.entries (files f) at) }
         ensures full { (n : ℕ) → IsErrOf result (Fault.Full n) → ⊥ }
         ensures changes { Changes self.old.writer.out.file (KeepsFront 0)
-            (S.snapshot store.old).files (S.snapshot store.new).files }
+            (S.told store.old).files (S.told store.new).files }
         ensures stops { LeavesBy (ChangesFile self.old.writer.out.file (KeepsFront 0))
-            (S.snapshot store.old) (S.snapshot store.new) }
-        ensures taken { TakesOnly self.old.reader.file (S.taken store.old) (S.taken store.new) }
+            (S.told store.old) (S.told store.new) }
+        ensures taken { TakesOnly self.old.reader.file (S.told store.old).taken (S.told store.new).taken }
         // Each key of the live side is read once.
         ensures read { OnOk result ((read_of self.old.reader ≤ read_of self.new.reader)
             × TakesExactly self.old.reader.file (16 * (read_of self.new.reader - read_of self.old.reader))
-            (S.taken store.old) (S.taken store.new)) }
-        ensures cause { HasCause (IsErrOf result Fault.Failed) (S.faults store.old) (S.faults store.new) }
+            (S.told store.old).taken (S.told store.new).taken) }
+        ensures cause { HasCause (IsErrOf result Fault.Failed) (S.told store.old).faults (S.told store.new).faults }
     {
         if self.feed_piece(store, b, sweep)? {
             self.next_block(store)
@@ -125,11 +125,11 @@ impl Sides {
     ) -> Result<bool, Fault>
         requires sound { sweep.old.is_sound ≡ true }
         requires sweeping { (offers : List Tuple) × (verdicts : List (Option VerdictValue)) × (news : List Tuple) ×
-            IsSweeping b offers verdicts news (S.snapshot store.old).files sweep.old self.old }
+            IsSweeping b offers verdicts news (S.told store.old).files sweep.old self.old }
         ensures sweeping { OnOk result
             ((offers : List Tuple) (verdicts : List (Option VerdictValue)) (news : List Tuple) →
-            IsSweeping b offers verdicts news (S.snapshot store.old).files sweep.old self.old →
-            IsSweeping b offers verdicts news (S.snapshot store.new).files sweep.new self.new) }
+            IsSweeping b offers verdicts news (S.told store.old).files sweep.old self.old →
+            IsSweeping b offers verdicts news (S.told store.new).files sweep.new self.new) }
         ensures used_up { IfOk result (λ is_used_up. is_used_up ≡ true → rest_of self.new ≡ []) }
         ensures done { IfOk result (λ is_used_up. is_used_up ≡ false → IsDone b self.new) }
         ensures sound { OnOk result (sweep.new.is_sound ≡ true) }
@@ -138,11 +138,11 @@ impl Sides {
         ensures damaged { (f at : ℕ) → IsErrOf result (Fault.Damaged f at) → ⊥ }
         ensures full { (n : ℕ) → IsErrOf result (Fault.Full n) → ⊥ }
         ensures changes { Changes self.old.writer.out.file (KeepsFront 0)
-            (S.snapshot store.old).files (S.snapshot store.new).files }
+            (S.told store.old).files (S.told store.new).files }
         ensures stops { LeavesBy (ChangesFile self.old.writer.out.file (KeepsFront 0))
-            (S.snapshot store.old) (S.snapshot store.new) }
-        ensures taken { S.taken store.new ≡ S.taken store.old }
-        ensures cause { HasCause (IsErrOf result Fault.Failed) (S.faults store.old) (S.faults store.new) }
+            (S.told store.old) (S.told store.new) }
+        ensures taken { (S.told store.new).taken ≡ (S.told store.old).taken }
+        ensures cause { HasCause (IsErrOf result Fault.Failed) (S.told store.old).faults (S.told store.new).faults }
     {
         let rest = &self.reader.block()[self.fed..];
         let count = count_up_to(rest, self.buckets, b);
@@ -159,27 +159,27 @@ impl Sides {
         requires used_up { rest_of self.old ≡ [] }
         requires sweeping { (b : ℕ) × (offers : List Tuple) × (verdicts : List (Option VerdictValue))
             × (news : List Tuple) × (sweep : SweepValue) ×
-            IsSweeping b offers verdicts news (S.snapshot store.old).files sweep self.old }
+            IsSweeping b offers verdicts news (S.told store.old).files sweep self.old }
         ensures sweeping { OnOk result ((b : ℕ) (offers : List Tuple) (verdicts : List (Option VerdictValue))
             (news : List Tuple) (sweep : SweepValue) →
-            IsSweeping b offers verdicts news (S.snapshot store.old).files sweep self.old →
-            IsSweeping b offers verdicts news (S.snapshot store.new).files sweep self.new) }
+            IsSweeping b offers verdicts news (S.told store.old).files sweep self.old →
+            IsSweeping b offers verdicts news (S.told store.new).files sweep self.new) }
         ensures more { IfOk result (λ more. more ≡ true → self.old.reader.given < self.new.reader.given) }
         ensures done { IfOk result (λ more. more ≡ false → (b : ℕ) → IsDone b self.new) }
         ensures writer { self.new.writer ≡ self.old.writer }
         ensures same { IsSameCache self.old self.new }
         ensures damaged { (f at : ℕ) → IsErrOf result (Fault.Damaged f at) →
-            ForSome (S.snapshot store.old).files (λ files.
+            ForSome (S.told store.old).files (λ files.
             (f ≡ self.old.reader.file) × IsSpoiltRun self.old.reader.entries (files f) at) }
         ensures full { (n : ℕ) → IsErrOf result (Fault.Full n) → ⊥ }
-        ensures same_files { (S.snapshot store.new).files ≡ (S.snapshot store.old).files }
-        ensures stops { LeavesSame (S.snapshot store.old) (S.snapshot store.new) }
-        ensures taken { TakesOnly self.old.reader.file (S.taken store.old) (S.taken store.new) }
+        ensures same_files { (S.told store.new).files ≡ (S.told store.old).files }
+        ensures stops { LeavesSame (S.told store.old) (S.told store.new) }
+        ensures taken { TakesOnly self.old.reader.file (S.told store.old).taken (S.told store.new).taken }
         // Each key of the live side is read once.
         ensures read { OnOk result ((read_of self.old.reader ≤ read_of self.new.reader)
             × TakesExactly self.old.reader.file (16 * (read_of self.new.reader - read_of self.old.reader))
-            (S.taken store.old) (S.taken store.new)) }
-        ensures cause { HasCause (IsErrOf result Fault.Failed) (S.faults store.old) (S.faults store.new) }
+            (S.told store.old).taken (S.told store.new).taken) }
+        ensures cause { HasCause (IsErrOf result Fault.Failed) (S.told store.old).faults (S.told store.new).faults }
     {
         self.fed = 0;
         Ok(self.reader.next_block(store)? > 0)
@@ -190,25 +190,25 @@ impl Sides {
         requires sound { sweep.is_sound ≡ true }
         requires sweeping { (b : ℕ) × (offers : List Tuple) × (verdicts : List (Option VerdictValue))
             × (news : List Tuple) × IsDone b self.old
-            × IsSweeping b offers verdicts news (S.snapshot store.old).files sweep self.old }
+            × IsSweeping b offers verdicts news (S.told store.old).files sweep self.old }
         ensures merged { IfOk result (λ found.
             (b : ℕ) (offers : List Tuple) (verdicts : List (Option VerdictValue)) (news : List Tuple) →
-            IsDone b self.old → IsSweeping b offers verdicts news (S.snapshot store.old).files sweep self.old →
-            HasMerged (b + 1) (offers ++ news) (verdicts ++ found.items) (S.snapshot store.new).files self.new) }
+            IsDone b self.old → IsSweeping b offers verdicts news (S.told store.old).files sweep self.old →
+            HasMerged (b + 1) (offers ++ news) (verdicts ++ found.items) (S.told store.new).files self.new) }
         ensures count { IfOk result (λ found.
             (b : ℕ) (offers : List Tuple) (verdicts : List (Option VerdictValue)) (news : List Tuple) →
-            IsSweeping b offers verdicts news (S.snapshot store.old).files sweep self.old →
+            IsSweeping b offers verdicts news (S.told store.old).files sweep self.old →
             length found.items ≡ length news) }
         ensures reader { self.new.reader ≡ self.old.reader }
         ensures same { IsSameCache self.old self.new }
         ensures damaged { (f at : ℕ) → IsErrOf result (Fault.Damaged f at) → ⊥ }
         ensures full { (n : ℕ) → IsErrOf result (Fault.Full n) → ⊥ }
         ensures changes { Changes self.old.writer.out.file (KeepsFront 0)
-            (S.snapshot store.old).files (S.snapshot store.new).files }
+            (S.told store.old).files (S.told store.new).files }
         ensures stops { LeavesBy (ChangesFile self.old.writer.out.file (KeepsFront 0))
-            (S.snapshot store.old) (S.snapshot store.new) }
-        ensures taken { S.taken store.new ≡ S.taken store.old }
-        ensures cause { HasCause (IsErrOf result Fault.Failed) (S.faults store.old) (S.faults store.new) }
+            (S.told store.old) (S.told store.new) }
+        ensures taken { (S.told store.new).taken ≡ (S.told store.old).taken }
+        ensures cause { HasCause (IsErrOf result Fault.Failed) (S.told store.old).faults (S.told store.new).faults }
     {
         self.out.clear();
         let verdicts = sweep.end(&mut self.out)?;

@@ -2,23 +2,22 @@ ghost use Rattle.std.specs.Prelude.{◌≡◌, ◌≢◌, ◌⊎◌, ◌<◌, �
 ghost use Rattle.std.specs.List.{AllByRecursion};
 ghost use Rattle.std.specs.Option.{ForSome};
 ghost use Rattle.irl_offer.specs.Buckets.{bucket_of};
-ghost use Rattle.irl_offer.specs.Faults.{HasCause};
+ghost use Rattle.irl_base.specs.Faults.{HasCause};
 ghost use Rattle.irl_offer.specs.Tuple.{Tuple};
 ghost use Rattle.irl_offer.specs.declared.offer.Verdict.{Verdict as VerdictValue};
 ghost use Rattle.irl_model.specs.Book.{is_unique as is_unique_of};
-ghost use Rattle.irl_disk.specs.Disk.{Changes, ChangesFile};
+ghost use Rattle.irl_disk.specs.Disk.{Changes, ChangesFile, TellsOnly};
 ghost use Rattle.irl_disk.specs.Images.{LeavesBy};
 ghost use Rattle.irl_journal.specs.Blob.{KeepsFront};
-ghost use Rattle.irl_cache.specs.Writing.{HasPut, ReachesPlace};
+ghost use Rattle.irl_journal.specs.Growing.{HasPut, ReachesPlace};
 ghost use Rattle.irl_bay.specs.Drum.{Drum};
-ghost use Rattle.irl_bay.specs.Holding.{TellsOnly};
 ghost use Rattle.irl_bay.specs.JudgedEntries.{rows};
 ghost use Rattle.irl_bay.specs.Merging.{Writes};
 ghost use Rattle.irl_bay.specs.Pending.{AreOffersOf};
 
 use crate::layout::push_judged;
-use irl_cache::FileWriter;
 use irl_disk::Store;
+use irl_journal::FileWriter;
 use irl_offer::{Entry, Fault, Verdict};
 use std::alloc::Global;
 
@@ -49,21 +48,21 @@ impl Telling {
     ) -> Result<(), Fault>
         requires bucket { b < 256 }
         requires count { length verdicts.now ≡ length entries.now }
-        requires judged { ForSome (S.snapshot store.old).files (ReachesPlace self.old.judged) }
-        requires texts { ForSome (S.snapshot store.old).files (ReachesPlace self.old.texts) }
+        requires judged { ForSome (S.told store.old).files (ReachesPlace self.old.judged) }
+        requires texts { ForSome (S.told store.old).files (ReachesPlace self.old.texts) }
         ensures told { OnOk result ((drum : Drum) (offers : List Tuple) (before : List (Option VerdictValue))
-            (news : List Tuple) → HasTold drum offers before (S.snapshot store.old).files self.old →
+            (news : List Tuple) → HasTold drum offers before (S.told store.old).files self.old →
             AreOffersOf news entries.now texts.now →
             AllByRecursion (λ offer. bucket_of drum.settings.buckets offer.key ≡ b) news →
-            HasTold drum (offers ++ news) (before ++ verdicts.now) (S.snapshot store.new).files self.new) }
+            HasTold drum (offers ++ news) (before ++ verdicts.now) (S.told store.new).files self.new) }
         ensures damaged { (f at : ℕ) → IsErrOf result (Fault.Damaged f at) → ⊥ }
         ensures full { (n : ℕ) → IsErrOf result (Fault.Full n) → ⊥ }
         ensures step { (drum : Drum) → IsTellingOf drum self.old →
-            Writes drum (S.snapshot store.old) (S.snapshot store.new) }
+            Writes drum (S.told store.old) (S.told store.new) }
         ensures others { TellsOnly (λ f. (f ≡ self.old.judged.file) ⊎ (f ≡ self.old.texts.file))
-            (S.snapshot store.old).files (S.snapshot store.new).files }
-        ensures taken { S.taken store.new ≡ S.taken store.old }
-        ensures cause { HasCause (IsErrOf result Fault.Failed) (S.faults store.old) (S.faults store.new) }
+            (S.told store.old).files (S.told store.new).files }
+        ensures taken { (S.told store.new).taken ≡ (S.told store.old).taken }
+        ensures cause { HasCause (IsErrOf result Fault.Failed) (S.told store.old).faults (S.told store.new).faults }
     {
         self.put_rows(store, b, entries, verdicts)?;
         self.texts.put(store, texts)?;
@@ -83,9 +82,9 @@ impl Telling {
     ) -> Result<(), Fault>
         requires bucket { b < 256 }
         requires count { length verdicts.now ≡ length entries.now }
-        requires long { ForSome (S.snapshot store.old).files (ReachesPlace self.old.judged) }
-        ensures put { OnOk result ((bytes : List ℕ) → HasPut (S.snapshot store.old).files bytes self.old.judged →
-            HasPut (S.snapshot store.new).files (bytes ++ rows self.old.place b entries.now verdicts.now)
+        requires long { ForSome (S.told store.old).files (ReachesPlace self.old.judged) }
+        ensures put { OnOk result ((bytes : List ℕ) → HasPut (S.told store.old).files bytes self.old.judged →
+            HasPut (S.told store.new).files (bytes ++ rows self.old.place b entries.now verdicts.now)
             self.new.judged) }
         ensures file { self.new.judged.file ≡ self.old.judged.file }
         ensures kept { self.new.judged.kept ≡ self.old.judged.kept }
@@ -95,11 +94,11 @@ impl Telling {
         ensures damaged { (f at : ℕ) → IsErrOf result (Fault.Damaged f at) → ⊥ }
         ensures full { (n : ℕ) → IsErrOf result (Fault.Full n) → ⊥ }
         ensures changes { Changes self.old.judged.file (KeepsFront self.old.judged.kept)
-            (S.snapshot store.old).files (S.snapshot store.new).files }
+            (S.told store.old).files (S.told store.new).files }
         ensures stops { LeavesBy (ChangesFile self.old.judged.file (KeepsFront self.old.judged.kept))
-            (S.snapshot store.old) (S.snapshot store.new) }
-        ensures taken { S.taken store.new ≡ S.taken store.old }
-        ensures cause { HasCause (IsErrOf result Fault.Failed) (S.faults store.old) (S.faults store.new) }
+            (S.told store.old) (S.told store.new) }
+        ensures taken { (S.told store.new).taken ≡ (S.told store.old).taken }
+        ensures cause { HasCause (IsErrOf result Fault.Failed) (S.told store.old).faults (S.told store.new).faults }
     {
         let mut row = Vec::with_capacity(self.alloc, 48)?;
         let mut next = self.place;

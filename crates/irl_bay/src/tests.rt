@@ -2,7 +2,7 @@ ghost use Rattle.std.specs.Prelude.{◌≡◌, ◌<◌, ◌≤◌, ⊤, true, le
 ghost use Rattle.std.specs.List.{AllByRecursion};
 ghost use Rattle.irl_offer.specs.Buckets.{IsBucketCount, bucket_of as bucket_of_key};
 ghost use Rattle.irl_model.specs.Book.{Book};
-ghost use Rattle.irl_disk.specs.Memory.{snapshot_of};
+ghost use Rattle.irl_disk.specs.Memory.{told_by};
 ghost use Rattle.irl_bay.specs.Drum.{pending_at};
 ghost use Rattle.irl_bay.specs.Holding.{Holds};
 
@@ -46,7 +46,7 @@ pub(crate) fn settings_of(buckets: u32, array: u32, cap: u64) -> Settings {
 
 // Makes a bay: for each journal, the manifest's and the buckets', in two calls of the store.
 pub(crate) fn made(alloc: Global, failing: Vec<u64>, settings: &Settings) -> Result<Waiting, Fault>
-    ensures { IfOk result (λ kept. (book : Book) × Holds (snapshot_of kept.store).images kept.bay book) }
+    ensures { IfOk result (λ kept. (book : Book) × Holds (told_by kept.store).images kept.bay book) }
 {
     if !settings.is_valid() {
         return Err(Fault::Memory);
@@ -67,8 +67,8 @@ pub(crate) fn put(
     key: u64,
     aux: &[u8; 1],
 ) -> Result<(), AllocError>
-    requires { (book : Book) × Holds (snapshot_of kept.old.store).images kept.old.bay book }
-    ensures { (book : Book) × Holds (snapshot_of kept.new.store).images kept.new.bay book }
+    requires { (book : Book) × Holds (told_by kept.old.store).images kept.old.bay book }
+    ensures { (book : Book) × Holds (told_by kept.new.store).images kept.new.bay book }
 {
     if !kept.array.is_full() {
         kept.array.push(Offer {
@@ -115,8 +115,8 @@ fn can_flush(bay: &Bay, b: u32, array: &Array) -> bool
 
 // Flushes the offers that wait to this bucket.
 pub(crate) fn flush(kept: &mut Waiting, b: u32) -> Result<(), Fault>
-    requires { (book : Book) × Holds (snapshot_of kept.old.store).images kept.old.bay book }
-    ensures { OnOk result ((book : Book) × Holds (snapshot_of kept.new.store).images kept.new.bay book) }
+    requires { (book : Book) × Holds (told_by kept.old.store).images kept.old.bay book }
+    ensures { OnOk result ((book : Book) × Holds (told_by kept.new.store).images kept.new.bay book) }
 {
     if !can_flush(&kept.bay, b, &kept.array) {
         return Err(Fault::Memory);
@@ -126,7 +126,7 @@ pub(crate) fn flush(kept: &mut Waiting, b: u32) -> Result<(), Fault>
 
 // A bay of one bucket that was made in calls 0 to 3, with two offers that wait.
 fn two_waiting(alloc: Global, failing: Vec<u64>) -> Result<Waiting, Fault>
-    ensures { IfOk result (λ kept. (book : Book) × Holds (snapshot_of kept.store).images kept.bay book) }
+    ensures { IfOk result (λ kept. (book : Book) × Holds (told_by kept.store).images kept.bay book) }
 {
     let mut kept = made(alloc, failing, &settings_of(1, 2, 1_000))?;
     put(alloc, &mut kept, 1, b"p")?;
@@ -137,7 +137,7 @@ fn two_waiting(alloc: Global, failing: Vec<u64>) -> Result<Waiting, Fault>
 // Lets 1,000 offers wait for 16 buckets, one bucket after the other, and flushes them as soon as the array is full or
 // the bucket's last waits.
 fn flush_all(alloc: Global, kept: &mut Waiting) -> Result<(), Fault>
-    requires { (book : Book) × Holds (snapshot_of kept.old.store).images kept.old.bay book }
+    requires { (book : Book) × Holds (told_by kept.old.store).images kept.old.bay book }
 {
     for i in 0..1_000 {
         let b = i * 16 / 1_000;

@@ -1,5 +1,5 @@
 -- A pass breaks no rule, and numbers wait after it as the items do.
-use Rattle.std.proofs.Common.{◌≡◌, ◌≢◌, ◌∙◌, ℕ, zero, suc, ◌+◌, ◌*◌, ◌≤◌, List, [], ◌∷◌, ◌++◌, map, length, get_or, set, cond, min, not, sym, ap, refl, arith, Bool, true, false, Option, None, Some}
+use Rattle.std.proofs.Common.{◌≡◌, ◌≢◌, ◌∙◌, ℕ, zero, suc, ◌+◌, ◌*◌, List, [], ◌∷◌, ◌++◌, map, length, set, cond, min, not, sym, ap, refl, arith, Bool, true, false, Option, None, Some}
 use Rattle.std.specs.Prelude.{◌&&◌, nat_eq, nat_le, nat_lt}
 use Rattle.std.specs.List.{list_all}
 use Rattle.std.proofs.lemmas.Bool.{eq-eqb, eqb-false, le-leb, false≢true}
@@ -8,12 +8,13 @@ use Rattle.irl_offer.specs.Purses.{Budget}
 use Rattle.irl_offer.specs.declared.place.Place.{Place}
 use Rattle.irl_offer.specs.declared.place.Slot.{Slot}
 use Rattle.irl_offer.specs.declared.place.Slot.TheVariants.{Front, Queue, Last}
-use Rattle.irl_model.specs.Events.{Progress, Pass, numbers_of, after_event}
-use Rattle.irl_model.specs.Legal.{are_read, are_rising, broken, is_slot_within, passes_on}
-use Rattle.irl_model.specs.Queues.{Waiting, list_at, with_one, put, delivered, next_queues, round_ended, after_pass}
+use Rattle.irl_events.specs.Events.{Progress, Pass, numbers_of, after_event}
+use Rattle.irl_events.specs.Legal.{are_read, are_rising, broken, is_slot_within, passes_on}
+use Rattle.irl_base.specs.Lists.{list_at, with_one}
+use Rattle.irl_events.specs.Queues.{Waiting, put, delivered, next_queues, round_ended, after_pass}
 use Rattle.irl_beast.specs.declared.item.Item.{Item}
 use Rattle.irl_beast.specs.Passes.{item_numbers, numbered, passed, read_by}
-use Rattle.irl_beast.specs.Places.{count_of, slot_at, place, places_behind}
+use Rattle.irl_beast.specs.Places.{slot_at, place, places_behind}
 
 -- ---- places
 numbers_behind : (p j : ℕ) (budget : Budget) (earlier items : List Item) → numbers_of (places_behind p j budget earlier items) ≡ item_numbers items
@@ -102,8 +103,10 @@ ended_numbers lists queues passes = by_test (nat_lt passes queues)
     more : next_queues queues (list_at lists 64) ≡ next_queues queues (list_at (lists_of lists) 64)
     more = ap (λ (n : ℕ). cond (nat_eq n 0) queues (min (2 * queues) 64)) (sym long)
 
-    by_test : (b : Bool) → numbered (cond b (record { lists = lists; queues = queues; passes = passes }) (record { lists = set (set lists 64 []) 0 (list_at lists 64); queues = next_queues queues (list_at lists 64); passes = 0 }))
-        ≡ cond b (record { lists = lists_of lists; queues = queues; passes = passes }) (record { lists = set (set (lists_of lists) 64 []) 0 (list_at (lists_of lists) 64); queues = next_queues queues (list_at (lists_of lists) 64); passes = 0 })
+    by_test : (b : Bool) → numbered (cond b (record { lists = lists; queues = queues; passes = passes })
+        (record { lists = set (set lists 64 []) 0 (list_at lists 64); queues = next_queues queues (list_at lists 64); passes = 0 }))
+        ≡ cond b (record { lists = lists_of lists; queues = queues; passes = passes })
+        (record { lists = set (set (lists_of lists) 64 []) 0 (list_at (lists_of lists) 64); queues = next_queues queues (list_at (lists_of lists) 64); passes = 0 })
     by_test true = refl
     by_test false =
         ap (λ (ls : List (List ℕ)). record { lists = ls; queues = next_queues queues (list_at lists 64); passes = 0 }) first
@@ -127,7 +130,8 @@ unbroken true true e f = refl
 unbroken true false e f = absurd (false≢true f)
 unbroken false passes e f = absurd (false≢true e)
 
-pub pass_legal : (x : Progress) (waiting : Waiting Item) (budget : Budget) (fresh : List Item) → x.begun ≡ true → x.front ≡ [] → x.waiting ≡ numbered waiting → are_rising x.read x.sent (item_numbers fresh) ≡ true → broken x (Pass x.sent) (place waiting.passes waiting.queues budget (read_by waiting fresh)) ≡ None
+pub pass_legal : (x : Progress) (waiting : Waiting Item) (budget : Budget) (fresh : List Item) → x.begun ≡ true → x.front ≡ [] → x.waiting ≡ numbered waiting
+    → are_rising x.read x.sent (item_numbers fresh) ≡ true → broken x (Pass x.sent) (place waiting.passes waiting.queues budget (read_by waiting fresh)) ≡ None
 pass_legal x waiting budget fresh begun front waits rising =
     let queue : List Item = list_at waiting.lists waiting.passes in
     let places : List Place = place waiting.passes waiting.queues budget (read_by waiting fresh) in
@@ -142,7 +146,8 @@ pass_legal x waiting budget fresh begun front waits rising =
     ∙ place_within waiting.passes waiting.queues budget (queue ++ fresh) in
     unbroken x.begun (passes_on x (Pass x.sent) places) begun (both _ _ (both _ _ (both _ _ (eq-eqb x.sent x.sent refl) none) reads) slots)
 
-pub pass_waiting : (x : Progress) (waiting : Waiting Item) (budget : Budget) (fresh : List Item) (judged : ℕ) → x.waiting ≡ numbered waiting → (after_event x (Pass judged) (place waiting.passes waiting.queues budget (read_by waiting fresh))).waiting ≡ numbered (passed budget waiting fresh)
+pub pass_waiting : (x : Progress) (waiting : Waiting Item) (budget : Budget) (fresh : List Item) (judged : ℕ) → x.waiting ≡ numbered waiting
+    → (after_event x (Pass judged) (place waiting.passes waiting.queues budget (read_by waiting fresh))).waiting ≡ numbered (passed budget waiting fresh)
 pass_waiting x waiting budget fresh judged waits =
     let read : List Item = read_by waiting fresh in
     let places : List Place = place waiting.passes waiting.queues budget read in

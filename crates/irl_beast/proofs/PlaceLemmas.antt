@@ -25,7 +25,8 @@ module _ (p j : ℕ) (budget : Budget) where
   length-places earlier [] = refl
   length-places earlier (item ∷ items) = ap suc (length-places (earlier ++ item ∷ []) items)
 
-  behind-more : (earlier items : List Item) (x : Item) → places_behind p j budget earlier (items ++ x ∷ []) ≡ places_behind p j budget earlier items ++ place_behind p j budget (earlier ++ items) x ∷ []
+  behind-more : (earlier items : List Item) (x : Item) → places_behind p j budget earlier (items ++ x ∷ []) ≡ places_behind p j budget earlier items ++ place_behind p j budget (earlier ++ items) x
+      ∷ []
   unfolding places_behind
   behind-more earlier [] x = ap (λ t. place_behind p j budget t x ∷ []) (sym (append-nil earlier))
   behind-more earlier (item ∷ items) x =

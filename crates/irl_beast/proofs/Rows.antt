@@ -4,9 +4,9 @@ use Rattle.std.specs.Prelude.{map}
 use Rattle.irl_offer.specs.Purses.{Budget}
 use Rattle.irl_offer.specs.declared.place.Slot.TheVariants.{Front, Queue, Last}
 use Rattle.irl_beast.specs.declared.item.Item.{Item}
-use Rattle.irl_model.specs.Queues.{Waiting, delivered}
+use Rattle.irl_events.specs.Queues.{Waiting, delivered}
 use Rattle.irl_beast.specs.Places.{count_of, place, places_behind}
-use Rattle.irl_model.specs.Queues.{none_waiting, queue_of, last_of}
+use Rattle.irl_events.specs.Queues.{none_waiting, queue_of, last_of}
 use Rattle.irl_beast.specs.Passes.{passed}
 
 abbrev one : Budget

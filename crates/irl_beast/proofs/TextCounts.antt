@@ -1,69 +1,18 @@
--- What a tree with texts as keys has at a text after one more entry.
-use Rattle.std.proofs.Common.{◌≡◌, ◌∙◌, ℕ, Bool, true, false, List, [], ◌∷◌, Option, Some, cond, ◌+◌, arith, refl, sym, ap}
+-- Counts of a tree with texts as keys after one more of a text.
+use Rattle.std.proofs.Common.{◌≡◌, ◌∙◌, ℕ, Bool, true, false, List, Option, Some, cond, ◌+◌, arith, refl, sym, ap}
 use Rattle.std.specs.Prelude.{Vec, bytes_eq, unwrap_or}
-use Rattle.std.specs.declared.cmp.Ordering.{Ordering}
-use Rattle.std.specs.declared.cmp.Ordering.TheVariants.{Less, Equal, Greater}
-use Rattle.std.specs.Ordering.{nat_cmp, is_eq, match_ordering}
-use Rattle.std.specs.Cmp.Lexicographic.{slice_cmp}
-use Rattle.std.specs.BTreeMap.{is_at, insert_entry}
-use Rattle.std.specs.Map.{lookup}
-use Rattle.std.proofs.lemmas.Map.Text.{is_eq-slice_cmp}
+use Rattle.std.specs.BTreeMap.{insert_entry}
 use Rattle.std.proofs.lemmas.Slice.Eq.{bytes_eq-Decides}
+use Rattle.irl_base.proofs.TextMaps.{value_at, vec_cmp, value_at-insert}
 use Rattle.irl_beast.specs.Counts.{count_in}
-
--- what the entries have at a text
-abbrev pub value_at : {A X : Type 0} → List (Vec ℕ A × X) → List ℕ → Option X
-value_at entries pld = lookup (is_at (λ k. slice_cmp nat_cmp pld k.items)) entries
-
-abbrev pub vec_cmp : {A : Type 0} → Vec ℕ A → Vec ℕ A → Ordering
-vec_cmp a b = slice_cmp nat_cmp a.items b.items
-
-same_text : (a b : List ℕ) → slice_cmp nat_cmp a b ≡ Equal → a ≡ b
-same_text a b e = (bytes_eq-Decides a b).0 (sym (is_eq-slice_cmp a b) ∙ ap is_eq e)
-
-twice : {X : Type 0} (a b : Bool) → a ≡ b → (v w : X) (o : Option X) → cond b (Some v) o ≡ cond a (Some v) (cond b (Some w) o)
-twice true true e v w o = refl
-twice true false e v w o = cc
-twice false b e v w o = ap (λ t. cond t (Some v) o) (sym e) ∙ sym (ap (λ t. cond t (Some w) o) (sym e))
-
-turned : {X : Type 0} (a b : Bool) (v w : X) (o : Option X) → (a ≡ true → b ≡ false) → cond b (Some w) (cond a (Some v) o) ≡ cond a (Some v) (cond b (Some w) o)
-turned true true v w o apart = absurd (let e = apart refl in cc)
-turned true false v w o apart = refl
-turned false b v w o apart = refl
-
--- whether the text is that of the key
-abbrev pub is_of : {A : Type 0} → List ℕ → Vec ℕ A → Bool
-is_of {A = A} pld k = is_at (λ (x : Vec ℕ A). slice_cmp nat_cmp pld x.items) k
-
-not_both : (a b c : List ℕ) → slice_cmp nat_cmp b c ≡ Greater → is_eq (slice_cmp nat_cmp a b) ≡ true → is_eq (slice_cmp nat_cmp a c) ≡ false
-not_both a b c e f =
-    let same : a ≡ b = (bytes_eq-Decides a b).0 (sym (is_eq-slice_cmp a b) ∙ f) in
-    ap (λ t. is_eq (slice_cmp nat_cmp t c)) same ∙ ap is_eq e
-
-module _ {A X : Type 0} (pld : List ℕ) (k : Vec ℕ A) (v : X) where
-  insert_by : (e : Vec ℕ A × X) (es : List (Vec ℕ A × X)) (o : Ordering) → vec_cmp k e.0 ≡ o → value_at (insert_entry vec_cmp es k v) pld ≡ cond (is_of pld k) (Some v) (value_at es pld) → value_at (match_ordering o ((k, v) ∷ e ∷ es) ((e.0, v) ∷ es) (e ∷ insert_entry vec_cmp es k v)) pld ≡ cond (is_of pld k) (Some v) (value_at (e ∷ es) pld)
-  insert_by e es Less is later = refl
-  insert_by e es Equal is later = twice (is_of pld k) (is_of pld e.0) (ap (λ t. is_eq (slice_cmp nat_cmp pld t)) (same_text k.items e.0.items is)) v e.1 (value_at es pld)
-  insert_by e es Greater is later =
-      ap (λ o. cond (is_of pld e.0) (Some e.1) o) later
-      ∙ turned (is_of pld k) (is_of pld e.0) v e.1 (value_at es pld) (not_both pld k.items e.0.items is)
-
-  at_insert : (es : List (Vec ℕ A × X)) → value_at (insert_entry vec_cmp es k v) pld ≡ cond (is_of pld k) (Some v) (value_at es pld)
-  at_insert [] = refl
-  at_insert (e ∷ es) = insert_by e es (vec_cmp k e.0) refl (at_insert es)
-
-  -- what the entries have at a text after one more entry
-  pub value_at-insert : (es new : List (Vec ℕ A × X)) → new ≡ insert_entry vec_cmp es k v → value_at new pld ≡ cond (bytes_eq pld k.items) (Some v) (value_at es pld)
-  value_at-insert es new is =
-      ap (λ t. value_at t pld) is ∙ at_insert es
-      ∙ ap (λ b. cond b (Some v) (value_at es pld)) (is_eq-slice_cmp pld k.items)
 
 at_more : (found : Option ℕ) (b : Bool) (n : ℕ) → (b ≡ true → n ≡ unwrap_or found 0 + 1) → unwrap_or (cond b (Some n) found) 0 ≡ unwrap_or found 0 + cond b 1 0
 at_more found true n h = h refl
 at_more found false n h = omega arith
 
 -- the counts after one more of a domain
-pub count_in-more : {A : Type 0} (old new : List (Vec ℕ A × ℕ)) (k : Vec ℕ A) (pld : List ℕ) (n : ℕ) → k.items ≡ pld → n ≡ count_in old pld + 1 → new ≡ insert_entry vec_cmp old k n → (q : List ℕ) → count_in new q ≡ count_in old q + cond (bytes_eq q pld) 1 0
+pub count_in-more : {A : Type 0} (old new : List (Vec ℕ A × ℕ)) (k : Vec ℕ A) (pld : List ℕ) (n : ℕ) → k.items ≡ pld → n ≡ count_in old pld + 1 → new ≡ insert_entry vec_cmp old k n → (q : List ℕ)
+    → count_in new q ≡ count_in old q + cond (bytes_eq q pld) 1 0
 count_in-more old new k pld n text more is q =
     ap (λ o. unwrap_or o 0) (value_at-insert q k n old new is ∙ ap (λ t. cond (bytes_eq q t) (Some n) (value_at old q)) text)
     ∙ at_more (value_at old q) (bytes_eq q pld) n (λ e. more ∙ ap (λ t. count_in old t + 1) (sym ((bytes_eq-Decides q pld).0 e)))

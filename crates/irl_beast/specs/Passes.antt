@@ -1,8 +1,9 @@
--- What a pass makes of what waits (Lee, Leonard, Wang and Loguinov, "IRLbot: Scaling to 6 Billion Pages and Beyond", WWW 2008,
--- section 6).
+-- What a pass makes of what waits (Lee, Leonard, Wang and Loguinov, "IRLbot: Scaling to 6 Billion Pages and Beyond",
+-- WWW 2008, section 6).
 use Rattle.std.specs.Prelude.{ℕ, List, ◌++◌, map}
 use Rattle.irl_offer.specs.Purses.{Budget}
-use Rattle.irl_model.specs.Queues.{Waiting, list_at, after_pass}
+use Rattle.irl_base.specs.Lists.{list_at}
+use Rattle.irl_events.specs.Queues.{Waiting, after_pass}
 use Rattle.irl_beast.specs.declared.item.Item.{Item}
 use Rattle.irl_beast.specs.Places.{place}
 

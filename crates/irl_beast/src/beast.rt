@@ -1,13 +1,15 @@
-ghost use Rattle.std.specs.Prelude.{◌≡◌, ◌<◌, ◌≤◌, ◌++◌, ◌+◌, [], IfOk, OnOk, OnErr, slice_index_or, slice_set, vec_len};
-ghost use Rattle.irl_model.specs.Plain.{items_of};
-ghost use Rattle.irl_model.specs.Queues.{list_at, delivered, Grown};
+ghost use Rattle.std.specs.Prelude.{◌≡◌, ◌<◌, ◌≤◌, ◌+◌, List, IfOk, OnOk, OnErr};
+ghost use Rattle.irl_offer.specs.Purses.{Budget};
+ghost use Rattle.irl_events.specs.Queues.{none_waiting, queue_of, last_of, round_ended};
+ghost use Rattle.irl_beast.specs.declared.item.Item.{Item as ItemValue};
 ghost use Rattle.irl_beast.specs.Places.{place};
-ghost use Rattle.irl_model.specs.Queues.{none_waiting, queue_of, last_of, round_ended};
 ghost use Rattle.irl_beast.specs.Passes.{read_by, passed};
+ghost use Rattle.irl_beast.specs.Plans.{IsPlanOf, planned};
 
-use crate::Item;
-use crate::lists::{LAST, cut_back, lengths, no_items, replaced, taken};
+use crate::lists::{LAST, LISTS, lengths_without};
 use crate::placing::placed;
+use crate::{Item, Plan};
+use irl_base::lists::{empty_lists, replace_at, take_out};
 use irl_offer::{Place, Purse};
 use std::alloc::{AllocError, Global};
 use std::marker::Model;
@@ -24,8 +26,8 @@ pub struct Beast {
 
 impl Model for Beast {
     ghost use Rattle.std.specs.Prelude.{◌≡◌, ◌≤◌, ◌<◌, vec_len};
-    ghost use Rattle.irl_model.specs.Plain.{items_of};
-    ghost use Rattle.irl_model.specs.Queues.{Waiting};
+    ghost use Rattle.irl_base.specs.Lists.{items_of};
+    ghost use Rattle.irl_events.specs.Queues.{Waiting};
     ghost use Rattle.irl_beast.specs.declared.item.Item.{Item};
 
     ghost Value = { Waiting Item };
@@ -42,7 +44,7 @@ impl Beast {
         requires most { queues ≤ 64 }
         ensures { IfOk result (λ beast. beast ≡ none_waiting queues) }
     {
-        let lists = no_items(alloc)?;
+        let lists = empty_lists(alloc, LISTS)?;
         Ok(Beast {
             alloc,
             lists,
@@ -59,24 +61,31 @@ impl Beast {
         ensures ok { OnOk result (self.new ≡ passed (B.budgets purse.now) self.old fresh.items) }
         ensures err { OnErr result (self.new ≡ self.old) }
     {
-        let lengths = lengths(self.alloc, &self.lists)?;
-        match read_next(
-            self.alloc,
-            &mut self.lists,
-            fresh,
-            self.passes,
-            self.queues,
-            purse,
-        ) {
-            Ok(places) => {
-                self.end_pass();
-                Ok(places)
-            }
-            Err(error) => {
-                cut_back(&mut self.lists, &lengths);
-                Err(error)
-            }
-        }
+        let plan = self.plan(&fresh, purse)?;
+        Ok(self.commit(plan))
+    }
+
+    /// What a pass would do that reads these fresh items behind the next queue: its places, and all the memory that it takes.
+    pub fn plan<B: Purse>(&self, fresh: &[Item], purse: &B) -> Result<Plan, AllocError>
+        ensures { IfOk result (λ plan. plan ≡ planned (B.budgets purse.now) self.now fresh.now) }
+    {
+        let queue = self.queue(self.passes + 1);
+        let placed = placed(self.alloc, queue, fresh, self.passes, self.queues, purse)?;
+        let lengths = lengths_without(self.alloc, &self.lists, self.passes as usize)?;
+        Plan::new(self.alloc, placed.places, lengths, placed.more)
+    }
+
+    /// Does the pass that was planned of what waits, and hands its places back. It takes no memory, and can't fail.
+    pub fn commit(&mut self, plan: Plan) -> Vec<Place>
+        requires { IsPlanOf self.old plan }
+        ensures places { result.items ≡ plan.places }
+        ensures passed { (budget : Budget) (fresh : List ItemValue) → plan ≡ planned budget self.old fresh →
+            self.new ≡ passed budget self.old fresh }
+    {
+        take_out(self.alloc, &mut self.lists, self.passes as usize);
+        let places = plan.put(&mut self.lists);
+        self.end_pass();
+        places
     }
 
     // A pass more, and the end of the round where it was the last one.
@@ -88,11 +97,11 @@ impl Beast {
             self.passes = passes;
             return;
         }
-        let last = taken(self.alloc, &mut self.lists, LAST);
+        let last = take_out(self.alloc, &mut self.lists, LAST);
         if !last.is_empty() {
             self.queues = (2 * self.queues).min(64);
         }
-        replaced(&mut self.lists, 0, last);
+        replace_at(&mut self.lists, 0, last);
         self.passes = 0;
     }
 
@@ -128,39 +137,5 @@ impl Beast {
         ensures round { result < self.now.queues }
     {
         self.passes
-    }
-}
-
-// Reads the queue behind so many passes and then the fresh items, and puts them into their lists.
-fn read_next<B: Purse>(
-    alloc: Global,
-    lists: &mut Vec<Vec<Item>>,
-    mut fresh: Vec<Item>,
-    passes: u32,
-    queues: u32,
-    purse: &B,
-) -> Result<Vec<Place>, AllocError>
-    requires round { passes < queues }
-    requires most { queues ≤ 64 }
-    requires len { vec_len lists.old ≡ 65 }
-    ensures places { IfOk result (λ places. places.items
-        ≡ place passes queues (B.budgets purse.now) (list_at (items_of lists.old.items) passes ++ fresh.items)) }
-    ensures ok { OnOk result (items_of lists.new.items ≡ delivered (slice_set (items_of lists.old.items) passes [])
-        (list_at (items_of lists.old.items) passes ++ fresh.items)
-        (place passes queues (B.budgets purse.now) (list_at (items_of lists.old.items) passes ++ fresh.items))) }
-    ensures err { OnErr result (Grown (items_of lists.old.items) (items_of lists.new.items)) }
-    ensures len { vec_len lists.new ≡ 65 }
-{
-    let mut read = taken(alloc, lists, passes as usize);
-    if let Err(error) = read.append(&mut fresh) {
-        replaced(lists, passes as usize, read);
-        return Err(error);
-    }
-    match placed(alloc, lists, &read, passes, queues, purse) {
-        Ok(places) => Ok(places),
-        Err(error) => {
-            replaced(lists, passes as usize, read);
-            Err(error)
-        }
     }
 }

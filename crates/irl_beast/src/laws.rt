@@ -1,9 +1,9 @@
 ghost use Rattle.std.specs.Prelude.{◌≡◌, ◌+◌, ◌++◌, ℕ, List, [], true, None};
 ghost use Rattle.std.specs.List.{list_all};
 ghost use Rattle.irl_offer.specs.Purses.{Budget};
-ghost use Rattle.irl_model.specs.Events.{Progress, Pass as PassEvent, numbers_of, after_event};
-ghost use Rattle.irl_model.specs.Legal.{are_read, are_rising, broken, is_slot_within};
-ghost use Rattle.irl_model.specs.Queues.{Waiting};
+ghost use Rattle.irl_events.specs.Events.{Progress, Pass as PassEvent, numbers_of, after_event};
+ghost use Rattle.irl_events.specs.Legal.{are_read, are_rising, broken, is_slot_within};
+ghost use Rattle.irl_events.specs.Queues.{Waiting};
 ghost use Rattle.irl_beast.specs.Places.{place};
 ghost use Rattle.irl_beast.specs.Passes.{item_numbers, numbered, passed, read_by};
 ghost use Rattle.irl_beast.specs.declared.item.Item.{Item};

@@ -8,10 +8,12 @@ mod item;
 mod laws;
 mod lists;
 mod placing;
+mod plan;
 
 pub use beast::Beast;
 pub use item::Item;
 pub use laws::a_pass_is_legal;
+pub use plan::Plan;
 
 #[cfg(test)]
 mod tests;

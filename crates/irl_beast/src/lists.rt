@@ -1,49 +1,18 @@
-ghost use Rattle.std.specs.Prelude.{◌≡◌, ◌<◌, ◌≤◌, [], ◌∷◌, ◌++◌, ℕ, List, length, take, slice_set, IfOk, OnOk, OnErr, vec_len, Bool};
+ghost use Rattle.std.specs.Prelude.{◌≡◌, ◌<◌, [], length, slice_set, IfOk, OnOk, OnErr, vec_len};
 ghost use Rattle.std.specs.Prelude.{map as list_map};
-ghost use Rattle.irl_model.specs.Plain.{items_of};
-ghost use Rattle.irl_model.specs.Queues.{list_at, put as with_item, with_one, Grown, FitsSlot, empty_lists};
+ghost use Rattle.irl_base.specs.Lists.{items_of, with_one};
+ghost use Rattle.irl_events.specs.Queues.{put as with_item, FitsSlot};
 
 use crate::Item;
+use irl_base::lists::{lengths, push_at};
 use irl_offer::Slot;
 use std::alloc::{AllocError, Global};
-use std::mem;
 
 /// How many lists there are: 64 queues, and the last.
 pub const LISTS: usize = 65;
 
 /// The number of the last list.
 pub const LAST: usize = 64;
-
-/// As many lists as there may be, all empty.
-pub fn no_items(alloc: Global) -> Result<Vec<Vec<Item>>, AllocError>
-    ensures lists { IfOk result (λ lists. items_of lists.items ≡ empty_lists) }
-    ensures len { IfOk result (λ lists. vec_len lists ≡ 65) }
-{
-    let mut lists = Vec::with_capacity(alloc, LISTS)?;
-    for _ in 0..LISTS {
-        lists.push(Vec::new(alloc))?;
-    }
-    Ok(lists)
-}
-
-/// Takes a list out. It takes no memory.
-pub fn taken(alloc: Global, lists: &mut Vec<Vec<Item>>, at: usize) -> Vec<Item>
-    requires { at < vec_len lists.old }
-    ensures taken { result.items ≡ list_at (items_of lists.old.items) at }
-    ensures left { items_of lists.new.items ≡ slice_set (items_of lists.old.items) at [] }
-    ensures len { vec_len lists.new ≡ vec_len lists.old }
-{
-    mem::replace(&mut lists[at], Vec::new(alloc))
-}
-
-/// Puts a list in place of another.
-pub fn replaced(lists: &mut Vec<Vec<Item>>, at: usize, list: Vec<Item>)
-    requires { at < vec_len lists.old }
-    ensures lists { items_of lists.new.items ≡ slice_set (items_of lists.old.items) at list.items }
-    ensures len { vec_len lists.new ≡ vec_len lists.old }
-{
-    lists[at] = list;
-}
 
 // Puts a copy of an item behind the others of a list.
 fn push_copy(
@@ -61,7 +30,7 @@ fn push_copy(
         number: item.number,
         pld: item.pld.copy(alloc)?,
     };
-    lists[at].push(copy)?;
+    push_at(lists, at, copy)?;
     Ok(())
 }
 
@@ -85,31 +54,17 @@ pub fn put(
     }
 }
 
-/// The lengths of the lists.
-pub fn lengths(alloc: Global, lists: &[Vec<Item>]) -> Result<Vec<usize>, AllocError>
-    ensures { IfOk result (λ lengths. lengths.items ≡ list_map (λ list. vec_len list) lists.now) }
+/// The lengths that the lists have once this one is emptied.
+pub fn lengths_without(
+    alloc: Global,
+    lists: &[Vec<Item>],
+    at: usize,
+) -> Result<Vec<usize>, AllocError>
+    requires { at < length lists.now }
+    ensures lengths { IfOk result (λ lengths. lengths.items ≡ list_map length (slice_set (items_of lists.now) at [])) }
+    ensures len { IfOk result (λ lengths. vec_len lengths ≡ length lists.now) }
 {
-    lists.iter().map(|list| list.len()).collect(alloc)
-}
-
-// Cuts a list to at most so many items.
-fn cut(lists: &mut Vec<Vec<Item>>, at: usize, len: usize)
-    requires { at < vec_len lists.old }
-    ensures lists { items_of lists.new.items
-        ≡ slice_set (items_of lists.old.items) at (take len (list_at (items_of lists.old.items) at)) }
-    ensures len { vec_len lists.new ≡ vec_len lists.old }
-{
-    lists[at].truncate(len);
-}
-
-/// Cuts lists that have grown back to the lengths that they had.
-pub fn cut_back(lists: &mut Vec<Vec<Item>>, lengths: &[usize])
-    requires { length lengths.now ≡ vec_len lists.old }
-    ensures lists { (base : List (List Item)) → Grown base (items_of lists.old.items) →
-        lengths.now ≡ list_map length base → items_of lists.new.items ≡ base }
-    ensures len { vec_len lists.new ≡ vec_len lists.old }
-{
-    for (at, len) in lengths.iter().enumerate() {
-        cut(lists, at, *len);
-    }
+    let mut lengths = lengths(alloc, lists)?;
+    lengths[at] = 0;
+    Ok(lengths)
 }

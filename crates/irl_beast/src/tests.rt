@@ -99,7 +99,9 @@ fn passes_postpone_what_is_past_the_budget(rt: HostRuntime) -> Result<(), Fail> 
     let alloc = rt.alloc();
     let mut beast = Beast::new(alloc, 2)?;
     for step in &STEPS {
+        let plan = beast.plan(&items(alloc, step.first, step.count)?, &One)?;
         let places = beast.pass(items(alloc, step.first, step.count)?, &One)?;
+        assert_eq!(rt; plan.places(), places.as_slice());
         assert_eq!(rt; places.len(), step.places.len());
         for (place, (number, slot)) in places.iter().zip(step.places) {
             assert_eq!(rt;

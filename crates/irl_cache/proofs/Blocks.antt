@@ -20,7 +20,8 @@ use Rattle.irl_cache.proofs.RunBytes.{bytes_joined, key_first, length-mapped, le
 bytes_given : (pairs : List Pair) → length (pairs_bytes (map pair_of pairs)) ≡ 16 * length pairs
 bytes_given pairs = length-pairs (map pair_of pairs) ∙ ap (λ (n : ℕ). 16 * n) (length-mapped pairs)
 
-piece_begins : (pairs ahead : List Pair) (file : List ℕ) → BeginsWith file (pairs_bytes (map pair_of pairs)) → pairs_bytes (map pair_of ahead) ≡ take (16 * length ahead) (drop (16 * length pairs) file) → BeginsWith file (pairs_bytes (map pair_of (pairs ++ ahead)))
+piece_begins : (pairs ahead : List Pair) (file : List ℕ) → BeginsWith file (pairs_bytes (map pair_of pairs)) → pairs_bytes (map pair_of ahead)
+    ≡ take (16 * length ahead) (drop (16 * length pairs) file) → BeginsWith file (pairs_bytes (map pair_of (pairs ++ ahead)))
 piece_begins pairs ahead file begins piece =
     let bytes = pairs_bytes (map pair_of pairs) in
     let n = 16 * length ahead in
@@ -33,7 +34,8 @@ piece_begins pairs ahead file begins piece =
           ∙ ap (λ (l : List ℕ). l ++ drop n begins.0) (sym (bytes_joined pairs ahead)),
     )
 
-pub piece_read : (before now : Option Files) (pairs ahead : List Pair) (r : Reader) (last : Option ℕ) → now ≡ before → r.ahead ≡ [] → HasRead before pairs r → RisesFrom r.last ahead → last ≡ last_from r.last ahead → AreWordPairs (map pair_of ahead) → r.given + length ahead ≤ r.entries
+pub piece_read : (before now : Option Files) (pairs ahead : List Pair) (r : Reader) (last : Option ℕ) → now ≡ before → r.ahead ≡ [] → HasRead before pairs r → RisesFrom r.last ahead → last
+    ≡ last_from r.last ahead → AreWordPairs (map pair_of ahead) → r.given + length ahead ≤ r.entries
     → ForSome before (λ files. pairs_bytes (map pair_of ahead) ≡ take (16 * length ahead) (drop (16 * r.given) (files r.file)))
     → HasRead now pairs (record { file = r.file; entries = r.entries; most = r.most; given = r.given; block = []; ahead = ahead; last = last })
 piece_read before now pairs ahead r last same none had rises last_is words within piece =
@@ -52,10 +54,12 @@ piece_read before now pairs ahead r last same none had rises last_is words withi
     }
 
 -- and one block more of what was read ahead
-pub block_given : (told : Option Files) (pairs : List Pair) (r : Reader) (n : ℕ) → n ≤ length r.ahead → HasRead told pairs r → HasRead told (pairs ++ take n r.ahead) (record { file = r.file; entries = r.entries; most = r.most; given = r.given + n; block = take n r.ahead; ahead = drop n r.ahead; last = r.last })
+pub block_given : (told : Option Files) (pairs : List Pair) (r : Reader) (n : ℕ) → n ≤ length r.ahead → HasRead told pairs r
+    → HasRead told (pairs ++ take n r.ahead) (record { file = r.file; entries = r.entries; most = r.most; given = r.given + n; block = take n r.ahead; ahead = drop n r.ahead; last = r.last })
 block_given told pairs r n within had =
     let all : (pairs ++ take n r.ahead) ++ drop n r.ahead ≡ pairs ++ r.ahead = append_assoc pairs (take n r.ahead) (drop n r.ahead) ∙ ap (λ (l : List Pair). pairs ++ l) (take-append-drop n r.ahead) in
-    let first : length (take n r.ahead) + length (drop n r.ahead) ≡ length r.ahead = sym (length-append (take n r.ahead) (drop n r.ahead)) ∙ ap (λ (l : List Pair). length l) (take-append-drop n r.ahead) in
+    let first : length (take n r.ahead) + length (drop n r.ahead) ≡ length r.ahead = sym (length-append (take n r.ahead) (drop n r.ahead))
+    ∙ ap (λ (l : List Pair). length l) (take-append-drop n r.ahead) in
     let rest = length-drop n r.ahead in
     record {
       count = omega (arith, had.count, length-append pairs (take n r.ahead), first, rest, within);
@@ -77,7 +81,8 @@ number_in a b n file within =
     ∙ ap (little_number 8) (drop-drop a b file)
 
 -- the key of the last pair, where it stands
-last_stands : (p : Pair) (ps : List Pair) (rest : List ℕ) (last : Option ℕ) (k : ℕ) → AreWordPairs (map pair_of (p ∷ ps)) → last_from last (p ∷ ps) ≡ Some k → little_number 8 (drop (16 * length ps) (pairs_bytes (map pair_of (p ∷ ps)) ++ rest)) ≡ k
+last_stands : (p : Pair) (ps : List Pair) (rest : List ℕ) (last : Option ℕ) (k : ℕ) → AreWordPairs (map pair_of (p ∷ ps)) → last_from last (p ∷ ps) ≡ Some k
+    → little_number 8 (drop (16 * length ps) (pairs_bytes (map pair_of (p ∷ ps)) ++ rest)) ≡ k
 last_stands p [] rest last k words is = key_first (pair_of p) rest words.0 ∙ (let same : p.key ≡ k = cc in same)
 last_stands p (q ∷ qs) rest last k words is =
     let e = little_bytes 8 p.key ++ little_bytes 8 p.value in
@@ -87,13 +92,15 @@ last_stands p (q ∷ qs) rest last k words is =
     ∙ ap (little_number 8) (drop-append-add e (pairs_bytes (map pair_of (q ∷ qs)) ++ rest) (16 * length qs))
     ∙ last_stands q qs rest (Some p.key) k words.1 is
 
-last_key : (pairs : List Pair) (file : List ℕ) (k : ℕ) → AreWordPairs (map pair_of pairs) → BeginsWith file (pairs_bytes (map pair_of pairs)) → last_from None pairs ≡ Some k → (n : ℕ) × (length pairs ≡ suc n) × (little_number 8 (drop (16 * n) file) ≡ k)
+last_key : (pairs : List Pair) (file : List ℕ) (k : ℕ) → AreWordPairs (map pair_of pairs) → BeginsWith file (pairs_bytes (map pair_of pairs)) → last_from None pairs ≡ Some k → (n : ℕ)
+    × (length pairs ≡ suc n) × (little_number 8 (drop (16 * n) file) ≡ k)
 last_key [] file k words begins is = absurd (let no : ⊥ = cc in no)
 last_key (p ∷ ps) file k words begins is =
     (length ps, refl, ap (λ (l : List ℕ). little_number 8 (drop (16 * length ps) l)) begins.1 ∙ last_stands p ps begins.0 None k words is)
 
 -- the last key before a piece is the key of the entry before it
-falls_first : (entries given k : ℕ) (pairs : List Pair) (file : List ℕ) → given ≡ length pairs → given < entries → AreWordPairs (map pair_of pairs) → BeginsWith file (pairs_bytes (map pair_of pairs)) → last_from None pairs ≡ Some k → 16 * given + 16 ≤ length file → little_number 8 (drop (16 * given) file) ≤ k → FallsAt entries file (16 * given)
+falls_first : (entries given k : ℕ) (pairs : List Pair) (file : List ℕ) → given ≡ length pairs → given < entries → AreWordPairs (map pair_of pairs) → BeginsWith file (pairs_bytes (map pair_of pairs))
+    → last_from None pairs ≡ Some k → 16 * given + 16 ≤ length file → little_number 8 (drop (16 * given) file) ≤ k → FallsAt entries file (16 * given)
 falls_first entries given k pairs file count less words begins last long falls =
     let stands = last_key pairs file k words begins last in
     record {
@@ -104,7 +111,8 @@ falls_first entries given k pairs file count less words begins last long falls =
       falls = omega (arith, falls, stands.2);
     }
 
-pub falls_in : (entries m at : ℕ) (file part : List ℕ) (pairs : List Pair) (given : ℕ) (before_it : Option ℕ) → given ≡ length pairs → given + m ≤ entries → AreWordPairs (map pair_of pairs) → BeginsWith file (pairs_bytes (map pair_of pairs)) → before_it ≡ last_from None pairs
+pub falls_in : (entries m at : ℕ) (file part : List ℕ) (pairs : List Pair) (given : ℕ) (before_it : Option ℕ) → given ≡ length pairs → given + m ≤ entries → AreWordPairs (map pair_of pairs)
+    → BeginsWith file (pairs_bytes (map pair_of pairs)) → before_it ≡ last_from None pairs
     → part ≡ take (16 * m) (drop (16 * given) file) → length part ≡ 16 * m → FallsFrom before_it part at → FallsAt entries file (16 * given + at)
 falls_in entries m at file part pairs given before_it count within words begins last part_is size falls =
     let reach : min (16 * m) (length file - 16 * given) ≡ 16 * m =
@@ -112,14 +120,17 @@ falls_in entries m at file part pairs given before_it count within words begins 
     elim falls.i as (λ (i : ℕ). 16 * i + 16 ≤ length part → at ≡ 16 * i → last_at before_it i part ≡ Some falls.before → FallsAt entries file (16 * given + at)) [
       | zero ↦ λ room place before.
           let here : little_number 8 (drop at part) ≡ little_number 8 (drop (16 * given) file) =
-          ap (λ (l : List ℕ). little_number 8 (drop at l)) part_is ∙ number_in at (16 * given) (16 * m) file (omega (arith, room, place, size)) ∙ ap (λ (n : ℕ). little_number 8 (drop n file)) (omega (arith, place)) in
+          ap (λ (l : List ℕ). little_number 8 (drop at l)) part_is ∙ number_in at (16 * given) (16 * m) file (omega (arith, room, place, size))
+          ∙ ap (λ (n : ℕ). little_number 8 (drop n file)) (omega (arith, place)) in
           let same : 16 * given ≡ 16 * given + at = omega (arith, place) in
-          subst (FallsAt entries file) same (falls_first entries given falls.before pairs file count (omega (arith, room, size, within)) words begins (sym last ∙ before) (omega (arith, reach, room, size)) (omega (arith, falls.falls, here)))
+          subst (FallsAt entries file) same (falls_first entries given falls.before pairs file count (omega (arith, room, size, within)) words begins (sym last ∙ before)
+          (omega (arith, reach, room, size)) (omega (arith, falls.falls, here)))
       | suc j ↦ λ room place before.
           let key : little_number 8 (drop (16 * j) part) ≡ falls.before = cc in
           let here = ap (λ (l : List ℕ). little_number 8 (drop at l)) part_is ∙ number_in at (16 * given) (16 * m) file (omega (arith, room, place, size)) in
           let low : little_number 8 (drop (16 * j) part) ≡ little_number 8 (drop (16 * (given + j)) file) =
-          ap (λ (l : List ℕ). little_number 8 (drop (16 * j) l)) part_is ∙ number_in (16 * j) (16 * given) (16 * m) file (omega (arith, room, size)) ∙ ap (λ (n : ℕ). little_number 8 (drop n file)) (omega arith) in
+          ap (λ (l : List ℕ). little_number 8 (drop (16 * j) l)) part_is ∙ number_in (16 * j) (16 * given) (16 * m) file (omega (arith, room, size))
+          ∙ ap (λ (n : ℕ). little_number 8 (drop n file)) (omega arith) in
           record {
             i = given + j;
             within = omega (arith, room, size, within);
@@ -148,7 +159,8 @@ upto : (a b : ℕ) → (a ≤ b) ⊎ (suc b ≤ a)
 upto a b = grind arith
 
 -- as many as a block may have, or all that are left
-pub count_of : (ahead given entries most : ℕ) → 1 ≤ most → given + ahead ≤ entries → (given < entries → 1 ≤ ahead) → (given + ahead ≡ entries) ⊎ ((x : ℕ) × ahead ≡ most * x) → min ahead most ≡ min most (entries - given)
+pub count_of : (ahead given entries most : ℕ) → 1 ≤ most → given + ahead ≤ entries → (given < entries → 1 ≤ ahead) → (given + ahead ≡ entries) ⊎ ((x : ℕ) × ahead ≡ most * x) → min ahead most
+    ≡ min most (entries - given)
 count_of ahead given entries most some within more filled = ⊎_elim
     (λ (all : given + ahead ≡ entries). omega (arith, all))
     (λ (whole : (x : ℕ) × ahead ≡ most * x). multiple whole.0 whole.1)

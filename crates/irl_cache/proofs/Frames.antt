@@ -1,40 +1,20 @@
 -- What callers of readers and writers need: what holds stays while another file changes.
-use Rattle.std.proofs.Common.{◌≡◌, ◌≢◌, ◌∙◌, ℕ, ◌+◌, List, [], ◌++◌, length, map, Option, None, Some, refl, sym, ap, subst, arith, length-append}
+use Rattle.std.proofs.Common.{◌≡◌, ◌∙◌, ℕ, ◌+◌, List, [], ◌++◌, length, map, Option, None, Some, refl, sym, subst, arith, length-append}
 use Rattle.std.specs.Option.{ForSome}
 use Rattle.std.specs.FinMap.{entries}
 use Rattle.irl_offer.specs.declared.receipt.Pair.{Pair}
 use Rattle.irl_model.specs.Judging.{KeyMap}
 use Rattle.irl_model.specs.Pairs.{ArePairsOf, IsRising, pair_of}
-use Rattle.irl_disk.specs.Disk.{Files, Changes}
-use Rattle.irl_disk.proofs.Frames.{told_from}
+use Rattle.irl_disk.specs.Disk.{Files}
 use Rattle.irl_journal.specs.Blob.{BeginsWith}
 use Rattle.irl_journal.proofs.Fronts.{begins_less, begins_long}
+use Rattle.irl_journal.proofs.Growing.{StaysTold, put_stays, put_reaches}
 use Rattle.irl_cache.specs.Reading.{Reader, HasRead, ReachesRead, TakesExactly}
 use Rattle.irl_cache.specs.SortedRun.{AreWords, AreWordPairs, RisesFrom, pairs_bytes}
-use Rattle.irl_cache.specs.Writing.{Writer, RunWriter, HasPut, HasWritten, ReachesPlace, end_of}
+use Rattle.irl_journal.specs.Growing.{ReachesPlace}
+use Rattle.irl_cache.specs.Writing.{RunWriter, HasWritten}
 use Rattle.irl_cache.proofs.Rising.{rising_front, rising_behind}
 use Rattle.irl_cache.proofs.RunBytes.{bytes_joined, length-mapped, length-pairs, pairs_front, same_fronts}
-
--- what is told of one file is as before
-abbrev pub StaysTold : ℕ → Option Files → Option Files → Type 0
-StaysTold f old new = ForSome new (λ files. (before : Files) × (old ≡ Some before) × (files f ≡ before f))
-
--- a change of another file
-pub stays_told : (f g : ℕ) (step : List ℕ → List ℕ → Type 0) (old new : Option Files) → f ≢ g → Changes g step old new → StaysTold f old new
-stays_told f g step old new apart changes = λ files told.
-    let from = told_from g step old new files changes told in
-    (from.0, from.1, from.2.others f apart)
-
-pub put_stays : (bytes : List ℕ) (w : Writer) (old new : Option Files) → StaysTold w.file old new → HasPut old bytes w → HasPut new bytes w
-put_stays bytes w old new same put = record {
-  written = put.written;
-  are = put.are;
-  place = put.place;
-  stand = λ files told.
-      let from = same files told in
-      let was = put.stand from.0 from.1 in
-      (was.0, was.1, from.2 ∙ was.2, was.3);
-}
 
 pub written_stays : (pairs : List Pair) (w : RunWriter) (old new : Option Files) → StaysTold w.out.file old new → HasWritten old pairs w → HasWritten new pairs w
 written_stays pairs w old new same had = record { put = put_stays (pairs_bytes (map pair_of pairs)) w.out old new same had.put; rising = had.rising; last = had.last }
@@ -51,15 +31,6 @@ read_stays pairs r old new same had = record {
       let begins = had.bytes from.0 from.1 in
       (begins.0, from.2 ∙ begins.1);
 }
-
--- ---- how much a file has
-pub put_reaches : (told : Option Files) (bytes : List ℕ) (w : Writer) → HasPut told bytes w → ForSome told (ReachesPlace w)
-put_reaches told bytes w put = λ files tells.
-    let stands = put.stand files tells in
-    omega (arith, put.place, stands.3, ap (λ (l : List ℕ). length l) stands.2, length-append (stands.0 ++ put.written) stands.1, length-append stands.0 put.written)
-
-pub put_end : (told : Option Files) (bytes : List ℕ) (w : Writer) → HasPut told bytes w → end_of w ≡ w.kept + length bytes
-put_end told bytes w put = omega (arith, put.place, ap (λ (l : List ℕ). length l) put.are, length-append put.written w.waiting)
 
 pub read_reaches : (told : Option Files) (pairs : List Pair) (r : Reader) → HasRead told pairs r → ForSome told (ReachesRead r)
 read_reaches told pairs r had = λ files tells.
@@ -79,7 +50,8 @@ read_bytes told pairs r had = λ files tells.
     (subst (λ (l : List ℕ). BeginsWith (files r.file) l) (bytes_joined pairs r.ahead) (had.bytes files tells))
 
 -- a whole run is the set whose bytes the file begins with
-pub read_is : (told : Option Files) (pairs : List Pair) (r : Reader) (files : Files) (keys : KeyMap) → HasRead told pairs r → told ≡ Some files → AreWords keys → length pairs ≡ length (entries keys) → BeginsWith (files r.file) (pairs_bytes (entries keys)) → ArePairsOf keys pairs
+pub read_is : (told : Option Files) (pairs : List Pair) (r : Reader) (files : Files) (keys : KeyMap) → HasRead told pairs r → told ≡ Some files → AreWords keys → length pairs ≡ length (entries keys)
+    → BeginsWith (files r.file) (pairs_bytes (entries keys)) → ArePairsOf keys pairs
 read_is told pairs r files keys had tells fits size begins =
     same_fronts (map pair_of pairs) (entries keys) (files r.file) (read_words told pairs r had) fits (length-mapped pairs ∙ size) (read_bytes told pairs r had files tells) begins
 

@@ -69,7 +69,8 @@ module _ (bytes : List ℕ) (at : ℕ) (within : at + 16 ≤ length bytes) (fit 
       ∙ sym (take-add 8 8 (drop at bytes))
 
 -- one entry more of a piece
-pub piece_more : (bytes : List ℕ) (i : ℕ) (pairs : List Pair) (p : Pair) → i < length bytes / 16 → ((k : ℕ) → slice_index bytes k < 256) → p.key ≡ little_number 8 (drop (16 * i) bytes) → p.value ≡ little_number 8 (drop (16 * i + 8) bytes)
+pub piece_more : (bytes : List ℕ) (i : ℕ) (pairs : List Pair) (p : Pair) → i < length bytes / 16 → ((k : ℕ) → slice_index bytes k < 256) → p.key ≡ little_number 8 (drop (16 * i) bytes) → p.value
+    ≡ little_number 8 (drop (16 * i + 8) bytes)
     → pairs_bytes (map pair_of pairs) ≡ take (16 * i) bytes → pairs_bytes (map pair_of (pairs ++ p ∷ [])) ≡ take (16 * (i + 1)) bytes
 piece_more bytes i pairs p within fit key value so_far =
     let entry = entry_is bytes (16 * i) (omega (arith, within)) fit p.key p.value key value in

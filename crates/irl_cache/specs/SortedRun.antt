@@ -1,5 +1,5 @@
--- A sorted run on the disk: keys with their values, 16 bytes each, the lowest byte first, keys rising. What lies past the last
--- entry means nothing.
+-- A sorted run on the disk: keys with their values, 16 bytes each, the lowest byte first, keys rising. What lies past
+-- the last entry means nothing.
 use Rattle.std.specs.Prelude.{◌≡◌, ◌⊎◌, ℕ, zero, suc, ◌+◌, ◌*◌, ◌^◌, ◌<◌, ◌≤◌, List, [], ◌∷◌, ◌++◌, length, drop, Option, None, Some}
 use Rattle.std.specs.List.{flat_map, AllByRecursion}
 use Rattle.std.specs.FinMap.{entries}
@@ -49,7 +49,8 @@ pub record FallsAt (count : ℕ) (file : List ℕ) (at : ℕ) : Type 0 where
   pub there : at + 16 ≤ length file
   pub falls : little_number 8 (drop at file) ≤ little_number 8 (drop (16 * i) file)
 
--- the key at this place of a part of a run isn't above the one before it, which for the first is the last key before the part
+-- the key at this place of a part of a run isn't above the one before it, which for the first is the last key before
+-- the part
 pub record FallsFrom (last : Option ℕ) (part : List ℕ) (at : ℕ) : Type 0 where
   pub i : ℕ
   pub within : 16 * i + 16 ≤ length part

@@ -1,17 +1,16 @@
-ghost use Rattle.std.specs.Prelude.{◌≡◌, ◌+◌, ◌-◌, ◌*◌, ◌≤◌, ◌<◌, ◌^◌, ◌++◌, ◌↔◌, [], List, ℕ, min, take, drop, Option};
-ghost use Rattle.std.specs.Prelude.{length as len, IfOk, OnOk, OnErr, IsErr, IsErrOf};
+ghost use Rattle.std.specs.Prelude.{◌≡◌, ◌+◌, ◌-◌, ◌≤◌, ◌<◌, ◌^◌, ◌++◌, ◌↔◌, [], List, ℕ, min, take, drop, Option};
+ghost use Rattle.std.specs.Prelude.{length as len, IfOk, OnOk, OnErr, IsErr};
 ghost use Rattle.std.specs.Option.{ForSome};
 ghost use Rattle.irl_offer.specs.declared.receipt.Pair.{Pair};
-ghost use Rattle.irl_offer.specs.Faults.{HasCause};
+ghost use Rattle.irl_base.specs.Faults.{HasCause};
 ghost use Rattle.irl_disk.specs.Disk.{Files};
 ghost use Rattle.irl_disk.specs.Images.{LeavesSame};
-ghost use Rattle.irl_disk.specs.Taken.{Takes, TakesOnly};
-ghost use Rattle.irl_cache.specs.Reading.{HasRead, IsFilled, ReachesRead, TakesExactly, read_of, without_block};
-ghost use Rattle.irl_cache.specs.SortedRun.{IsSpoiltRun};
+ghost use Rattle.irl_disk.specs.Taken.{Takes};
+ghost use Rattle.irl_cache.specs.Reading.{HasRead, IsFilled, ReachesRead, ReadsOn, read_of};
 
 use crate::decode::{ENTRY, read_pairs};
-use crate::file_writer::PIECE;
 use irl_disk::{Failed, Store};
+use irl_journal::PIECE;
 use irl_offer::{Fault, Pair};
 use std::alloc::{AllocError, Global};
 use std::marker::Model;
@@ -93,33 +92,21 @@ impl CacheReader {
     /// isn't above the one before it, also in the block before. A refusal gives no block and leaves what was given, so that the
     /// call may be made again. It takes no memory.
     pub fn next_block<S: Store>(&mut self, store: &mut S) -> Result<usize, Fault>
-        requires { ForSome (S.snapshot store.old).files (ReachesRead self.old) }
+        requires { ForSome (S.told store.old).files (ReachesRead self.old) }
         ensures count { IfOk result (λ n. n ≡ min self.old.most (self.old.entries - self.old.given)) }
         ensures block { IfOk result (λ n. n ≡ len self.new.block) }
         ensures end { IfOk result (λ n. (n ≡ 0) ↔ (self.old.given ≡ self.old.entries)) }
         ensures given { IfOk result (λ n. self.new.given ≡ self.old.given + n) }
         // The blocks so far and this one, joined, are the run's first entries, and their keys rise.
-        ensures read { OnOk result ((pairs : List Pair) → HasRead (S.snapshot store.old).files pairs self.old →
-            HasRead (S.snapshot store.new).files (pairs ++ self.new.block) self.new) }
-        ensures read_before { OnErr result ((pairs : List Pair) → HasRead (S.snapshot store.old).files pairs self.old →
-            HasRead (S.snapshot store.new).files pairs self.new) }
-        ensures err { OnErr result (self.new ≡ without_block self.old) }
+        ensures read { OnOk result ((pairs : List Pair) → HasRead (S.told store.old).files pairs self.old →
+            HasRead (S.told store.new).files (pairs ++ self.new.block) self.new) }
+        ensures read_before { OnErr result ((pairs : List Pair) → HasRead (S.told store.old).files pairs self.old →
+            HasRead (S.told store.new).files pairs self.new) }
         ensures run { (self.new.file ≡ self.old.file) × (self.new.entries ≡ self.old.entries)
             × (self.new.most ≡ self.old.most) }
-        ensures long { ForSome (S.snapshot store.new).files (ReachesRead self.new) }
-        ensures damaged { (f at : ℕ) → IsErrOf result (Fault.Damaged f at) → (pairs : List Pair) →
-            HasRead (S.snapshot store.old).files pairs self.old → ForSome (S.snapshot store.old).files (λ files.
-            (f ≡ self.old.file) × IsSpoiltRun self.old.entries (files f) at) }
-        ensures memory { IsErrOf result Fault.Memory → ⊥ }
-        ensures full { (n : ℕ) → IsErrOf result (Fault.Full n) → ⊥ }
-        ensures same { (S.snapshot store.new).files ≡ (S.snapshot store.old).files }
-        ensures stops { LeavesSame (S.snapshot store.old) (S.snapshot store.new) }
         // Each entry is read once: in all, as many as were read by the last block, which are all of them at the end.
-        ensures taken { OnOk result (TakesExactly self.old.file (16 * (read_of self.new - read_of self.old))
-            (S.taken store.old) (S.taken store.new)) }
+        ensures reads_on { ReadsOn result self.old self.new (S.told store.old) (S.told store.new) }
         ensures ahead { OnOk result ((read_of self.old ≤ read_of self.new) × (read_of self.new ≤ self.new.entries)) }
-        ensures taken_err { OnErr result (TakesOnly self.old.file (S.taken store.old) (S.taken store.new)) }
-        ensures cause { HasCause (IsErrOf result Fault.Failed) (S.faults store.old) (S.faults store.new) }
     {
         self.fill(store)?;
         let count = (self.pairs.len() - self.end).min(self.most as usize);
@@ -138,24 +125,12 @@ impl CacheReader {
 
     // Reads the next piece where all of the last one was given, and there is more.
     fn fill<S: Store>(&mut self, store: &mut S) -> Result<(), Fault>
-        requires { ForSome (S.snapshot store.old).files (ReachesRead self.old) }
+        requires { ForSome (S.told store.old).files (ReachesRead self.old) }
         ensures more { OnOk result (self.new.given < self.new.entries → 1 ≤ len self.new.ahead) }
-        ensures read { OnOk result ((pairs : List Pair) → HasRead (S.snapshot store.old).files pairs self.old →
-            HasRead (S.snapshot store.new).files pairs self.new) }
+        ensures read { OnOk result ((pairs : List Pair) → HasRead (S.told store.old).files pairs self.old →
+            HasRead (S.told store.new).files pairs self.new) }
         ensures ok { OnOk result (IsFilled self.old self.new) }
-        ensures err { OnErr result (self.new ≡ without_block self.old) }
-        ensures long { ForSome (S.snapshot store.new).files (ReachesRead self.new) }
-        ensures damaged { (f at : ℕ) → IsErrOf result (Fault.Damaged f at) → (pairs : List Pair) →
-            HasRead (S.snapshot store.old).files pairs self.old → ForSome (S.snapshot store.old).files (λ files.
-            (f ≡ self.old.file) × IsSpoiltRun self.old.entries (files f) at) }
-        ensures memory { IsErrOf result Fault.Memory → ⊥ }
-        ensures full { (n : ℕ) → IsErrOf result (Fault.Full n) → ⊥ }
-        ensures same { (S.snapshot store.new).files ≡ (S.snapshot store.old).files }
-        ensures stops { LeavesSame (S.snapshot store.old) (S.snapshot store.new) }
-        ensures taken { OnOk result (TakesExactly self.old.file (16 * (read_of self.new - read_of self.old))
-            (S.taken store.old) (S.taken store.new)) }
-        ensures taken_err { OnErr result (TakesOnly self.old.file (S.taken store.old) (S.taken store.new)) }
-        ensures cause { HasCause (IsErrOf result Fault.Failed) (S.faults store.old) (S.faults store.new) }
+        ensures reads_on { ReadsOn result self.old self.new (S.told store.old) (S.told store.new) }
     {
         if self.end < self.pairs.len() || self.given == self.entries {
             return Ok(());
@@ -167,24 +142,12 @@ impl CacheReader {
     fn read_piece<S: Store>(&mut self, store: &mut S) -> Result<(), Fault>
         requires none { self.old.ahead ≡ [] }
         requires left { self.old.given < self.old.entries }
-        requires long { ForSome (S.snapshot store.old).files (ReachesRead self.old) }
+        requires long { ForSome (S.told store.old).files (ReachesRead self.old) }
         ensures more { OnOk result (1 ≤ len self.new.ahead) }
-        ensures read { OnOk result ((pairs : List Pair) → HasRead (S.snapshot store.old).files pairs self.old →
-            HasRead (S.snapshot store.new).files pairs self.new) }
+        ensures read { OnOk result ((pairs : List Pair) → HasRead (S.told store.old).files pairs self.old →
+            HasRead (S.told store.new).files pairs self.new) }
         ensures ok { OnOk result (IsFilled self.old self.new) }
-        ensures err { OnErr result (self.new ≡ without_block self.old) }
-        ensures long { ForSome (S.snapshot store.new).files (ReachesRead self.new) }
-        ensures damaged { (f at : ℕ) → IsErrOf result (Fault.Damaged f at) → (pairs : List Pair) →
-            HasRead (S.snapshot store.old).files pairs self.old → ForSome (S.snapshot store.old).files (λ files.
-            (f ≡ self.old.file) × IsSpoiltRun self.old.entries (files f) at) }
-        ensures memory { IsErrOf result Fault.Memory → ⊥ }
-        ensures full { (n : ℕ) → IsErrOf result (Fault.Full n) → ⊥ }
-        ensures same { (S.snapshot store.new).files ≡ (S.snapshot store.old).files }
-        ensures stops { LeavesSame (S.snapshot store.old) (S.snapshot store.new) }
-        ensures taken { OnOk result (TakesExactly self.old.file (16 * len self.new.ahead)
-            (S.taken store.old) (S.taken store.new)) }
-        ensures taken_err { OnErr result (TakesOnly self.old.file (S.taken store.old) (S.taken store.new)) }
-        ensures cause { HasCause (IsErrOf result Fault.Failed) (S.faults store.old) (S.faults store.new) }
+        ensures reads_on { ReadsOn result self.old self.new (S.told store.old) (S.told store.new) }
     {
         self.pairs.clear();
         self.start = 0;
@@ -219,18 +182,18 @@ fn read_front<S: Store>(
 ) -> Result<usize, Failed>
     requires file { f < 10000 }
     requires room { wanted ≤ len bytes.old }
-    requires place { ForSome (S.snapshot store.old).files (λ files. at ≤ len (files f)) }
+    requires place { ForSome (S.told store.old).files (λ files. at ≤ len (files f)) }
     ensures size { len bytes.new ≡ len bytes.old }
     ensures within { IfOk result (λ n. (n ≤ wanted) × (at + n < 2 ^ 64)) }
-    ensures count { IfOk result (λ n. ForSome (S.snapshot store.old).files (λ files.
+    ensures count { IfOk result (λ n. ForSome (S.told store.old).files (λ files.
         n ≡ min wanted (len (files f) - at))) }
-    ensures bytes { IfOk result (λ n. ForSome (S.snapshot store.old).files (λ files.
+    ensures bytes { IfOk result (λ n. ForSome (S.told store.old).files (λ files.
         take n bytes.new ≡ take n (drop at (files f)))) }
-    ensures same { (S.snapshot store.new).files ≡ (S.snapshot store.old).files }
-    ensures stops { LeavesSame (S.snapshot store.old) (S.snapshot store.new) }
-    ensures taken { IfOk result (λ n. Takes f n (S.taken store.old) (S.taken store.new)) }
-    ensures taken_err { OnErr result (S.taken store.new ≡ S.taken store.old) }
-    ensures cause { HasCause (IsErr result) (S.faults store.old) (S.faults store.new) }
+    ensures same { (S.told store.new).files ≡ (S.told store.old).files }
+    ensures stops { LeavesSame (S.told store.old) (S.told store.new) }
+    ensures taken { IfOk result (λ n. Takes f n (S.told store.old).taken (S.told store.new).taken) }
+    ensures taken_err { OnErr result ((S.told store.new).taken ≡ (S.told store.old).taken) }
+    ensures cause { HasCause (IsErr result) (S.told store.old).faults (S.told store.new).faults }
 {
     store.read(f, at, &mut bytes[..wanted])
 }

@@ -1,12 +1,11 @@
-ghost use Rattle.std.specs.Prelude.{◌≤◌, None, length, IsErr, IfOk};
-ghost use Rattle.std.specs.Option.{ForSome};
+ghost use Rattle.std.specs.Prelude.{◌≤◌, IsErr};
 ghost use Rattle.std.proofs.Common.{rules};
-ghost use Rattle.irl_offer.specs.Faults.{HasCause};
+ghost use Rattle.irl_base.specs.Faults.{HasCause};
 ghost use Rattle.irl_disk.specs.Images.{silent};
-ghost use Rattle.irl_disk.specs.Memory.{snapshot_of};
 
-use crate::{CacheReader, CacheWriter, FileWriter};
-use irl_disk::{Failed, MemStore, Part, Store};
+use crate::{CacheReader, CacheWriter};
+use irl_disk::{Failed, Store};
+use irl_journal::FileWriter;
 use irl_offer::{Fault, Pair};
 use std::alloc::{AllocError, Global};
 use std::test::Fail;
@@ -56,11 +55,7 @@ impl Quiet {
 }
 
 impl Store for Quiet {
-    ghost snapshot = { λ _. silent };
-
-    ghost faults = { λ store. store.faults };
-
-    ghost taken = { λ _. None };
+    ghost told = { λ store. silent store.faults };
 
     ghost is_consistent = { Prim.search rules };
 
@@ -309,57 +304,6 @@ fn pieces_stand_behind_one_another(rt: HostRuntime) -> Result<(), Fail> {
         assert_eq!(rt; writer.length(), length);
         assert_eq!(rt; writer.finish(&mut store), Ok(length));
         assert_eq!(rt; store.bytes.as_slice(), want.as_slice());
-    }
-    Ok(())
-}
-
-// A store whose file 7 has `abc`, which was written in call 0 and synced in call 1.
-fn begun(alloc: Global) -> Result<MemStore, Fail>
-    ensures { IfOk result (λ store. ForSome (snapshot_of store).files (λ files. 3 ≤ length (files 7))) }
-{
-    let mut store = MemStore::new(alloc, Vec::new(alloc));
-    let mut writer = FileWriter::at(alloc, 7, 0)?;
-    writer.put(&mut store, b"abc")?;
-    writer.finish(&mut store)?;
-    Ok(store)
-}
-
-// Puts `de` and `fgh` behind them, in calls 2 and 3.
-fn grow(alloc: Global, store: &mut MemStore) -> Result<u64, Fail>
-    requires { ForSome (snapshot_of store.old).files (λ files. 3 ≤ length (files 7)) }
-{
-    let mut writer = FileWriter::at(alloc, 7, 3)?;
-    writer.put(store, b"de")?;
-    writer.put(store, b"fgh")?;
-    Ok(writer.finish(store)?)
-}
-
-// The first bytes of file 7 after a stop in this call, and zeros where it ends before.
-fn left(alloc: Global, store: &MemStore, call: u64, part: Part) -> Result<[u8; 8], Fail> {
-    let mut into = [0; 8];
-    if call < store.calls() {
-        store.image(alloc, call, part)?.read(7, 0, &mut into)?;
-    }
-    Ok(into)
-}
-
-#[test]
-fn a_stop_leaves_the_bytes_that_stay(rt: HostRuntime) -> Result<(), Fail> {
-    let alloc = rt.alloc();
-    let mut store = begun(alloc)?;
-    assert_eq!(rt; grow(alloc, &mut store)?, 8);
-    assert_eq!(rt; store.calls(), 4);
-    let before = b"abc\0\0\0\0\0";
-    let after = b"abcdefgh";
-    let torn = b"abc\xA5e\xA5g\xA5";
-    for (call, parts) in [
-        (1, [before, before, before]),
-        (2, [before, after, torn]),
-        (3, [after, after, after]),
-    ] {
-        for (part, want) in [Part::Old, Part::New, Part::Torn].into_iter().zip(parts) {
-            assert_eq!(rt; left(alloc, &store, call, part)?, *want);
-        }
     }
     Ok(())
 }

@@ -2,17 +2,18 @@ ghost use Rattle.std.specs.Prelude.{◌≡◌, ◌+◌, ◌*◌, ◌≤◌, ◌<
 ghost use Rattle.std.specs.Prelude.{length as len, IfOk, OnOk, OnErr, IsErr};
 ghost use Rattle.std.specs.Option.{ForSome};
 ghost use Rattle.irl_offer.specs.declared.receipt.Pair.{Pair};
-ghost use Rattle.irl_offer.specs.Faults.{HasCause};
+ghost use Rattle.irl_base.specs.Faults.{HasCause};
 ghost use Rattle.irl_model.specs.Pairs.{pair_of};
-ghost use Rattle.irl_disk.specs.Disk.{Files, Changes, ChangesFile};
-ghost use Rattle.irl_disk.specs.Images.{LeavesBy};
+ghost use Rattle.irl_disk.specs.Disk.{Files, ChangesFile};
+ghost use Rattle.irl_disk.specs.Effects.{OnlyChanges};
 ghost use Rattle.irl_journal.specs.Blob.{KeepsFront, IsCommitted};
+ghost use Rattle.irl_journal.specs.Growing.{ReachesPlace, end_of};
 ghost use Rattle.irl_cache.specs.SortedRun.{pairs_bytes, IsAbove, RisesFrom};
-ghost use Rattle.irl_cache.specs.Writing.{HasWritten, ReachesPlace, end_of};
+ghost use Rattle.irl_cache.specs.Writing.{HasWritten};
 
 use crate::decode::{ENTRY, pair_bytes};
-use crate::file_writer::{FileWriter, PIECE};
 use irl_disk::{Failed, Store};
+use irl_journal::{FileWriter, PIECE};
 use irl_offer::Pair;
 use std::alloc::{AllocError, Global};
 use std::marker::Model;
@@ -26,7 +27,8 @@ pub struct CacheWriter {
 
 impl Model for CacheWriter {
     ghost use Rattle.std.specs.Prelude.{◌≡◌, ◌%◌};
-    ghost use Rattle.irl_cache.specs.Writing.{RunWriter, end_of};
+    ghost use Rattle.irl_journal.specs.Growing.{end_of};
+    ghost use Rattle.irl_cache.specs.Writing.{RunWriter};
 
     ghost Value = { RunWriter };
 
@@ -53,23 +55,20 @@ impl CacheWriter {
     /// Puts a pair, whose key is above all before. The file is as long as what was written of it, as it is while nobody else
     /// changes it. A refusal leaves what was put, and the pair may be put again. It takes no memory.
     pub fn put<S: Store>(&mut self, store: &mut S, pair: Pair) -> Result<(), Failed>
-        requires long { ForSome (S.snapshot store.old).files (ReachesPlace self.old.out) }
+        requires long { ForSome (S.told store.old).files (ReachesPlace self.old.out) }
         requires above { IsAbove self.old.last pair.key }
-        ensures written { OnOk result ((pairs : List Pair) → HasWritten (S.snapshot store.old).files pairs self.old →
-            HasWritten (S.snapshot store.new).files (pairs ++ pair ∷ []) self.new) }
-        ensures written_before { OnErr result ((pairs : List Pair) → HasWritten (S.snapshot store.old).files pairs self.old →
-            HasWritten (S.snapshot store.new).files pairs self.new) }
+        ensures written { OnOk result ((pairs : List Pair) → HasWritten (S.told store.old).files pairs self.old →
+            HasWritten (S.told store.new).files (pairs ++ pair ∷ []) self.new) }
+        ensures written_before { OnErr result ((pairs : List Pair) → HasWritten (S.told store.old).files pairs self.old
+            →
+            HasWritten (S.told store.new).files pairs self.new) }
         ensures end { OnOk result (end_of self.new.out ≡ end_of self.old.out + 16) }
         ensures last { OnOk result (self.new.last ≡ Option.Some pair.key) }
         ensures file { self.new.out.file ≡ self.old.out.file }
-        ensures long { ForSome (S.snapshot store.new).files (ReachesPlace self.new.out) }
+        ensures long { ForSome (S.told store.new).files (ReachesPlace self.new.out) }
         // No other file changes.
-        ensures changes { Changes self.old.out.file (KeepsFront 0)
-            (S.snapshot store.old).files (S.snapshot store.new).files }
-        ensures stops { LeavesBy (ChangesFile self.old.out.file (KeepsFront 0))
-            (S.snapshot store.old) (S.snapshot store.new) }
-        ensures taken { S.taken store.new ≡ S.taken store.old }
-        ensures cause { HasCause (IsErr result) (S.faults store.old) (S.faults store.new) }
+        ensures changes { OnlyChanges (ChangesFile self.old.out.file (KeepsFront 0)) (IsErr result)
+            (S.told store.old) (S.told store.new) }
     {
         self.out.put(store, &pair_bytes(pair))?;
         self.last = Some(pair.key);
@@ -79,23 +78,19 @@ impl CacheWriter {
     /// Puts pairs whose keys rise, from above all before. A refusal leaves the first of them put, or none, and the others may
     /// be put then. It takes no memory.
     pub fn put_all<S: Store>(&mut self, store: &mut S, pairs: &[Pair]) -> Result<(), Failed>
-        requires long { ForSome (S.snapshot store.old).files (ReachesPlace self.old.out) }
+        requires long { ForSome (S.told store.old).files (ReachesPlace self.old.out) }
         requires rising { RisesFrom self.old.last pairs.now }
-        ensures written { OnOk result ((before : List Pair) → HasWritten (S.snapshot store.old).files before self.old →
-            HasWritten (S.snapshot store.new).files (before ++ pairs.now) self.new) }
+        ensures written { OnOk result ((before : List Pair) → HasWritten (S.told store.old).files before self.old →
+            HasWritten (S.told store.new).files (before ++ pairs.now) self.new) }
         ensures written_some { OnErr result ((before : List Pair) →
-            HasWritten (S.snapshot store.old).files before self.old → (n : ℕ) × (n ≤ len pairs.now)
-            × HasWritten (S.snapshot store.new).files (before ++ take n pairs.now) self.new) }
+            HasWritten (S.told store.old).files before self.old → (n : ℕ) × (n ≤ len pairs.now)
+            × HasWritten (S.told store.new).files (before ++ take n pairs.now) self.new) }
         ensures end { OnOk result (end_of self.new.out ≡ end_of self.old.out + 16 * len pairs.now) }
         ensures file { self.new.out.file ≡ self.old.out.file }
-        ensures long { ForSome (S.snapshot store.new).files (ReachesPlace self.new.out) }
+        ensures long { ForSome (S.told store.new).files (ReachesPlace self.new.out) }
         // No other file changes.
-        ensures changes { Changes self.old.out.file (KeepsFront 0)
-            (S.snapshot store.old).files (S.snapshot store.new).files }
-        ensures stops { LeavesBy (ChangesFile self.old.out.file (KeepsFront 0))
-            (S.snapshot store.old) (S.snapshot store.new) }
-        ensures taken { S.taken store.new ≡ S.taken store.old }
-        ensures cause { HasCause (IsErr result) (S.faults store.old) (S.faults store.new) }
+        ensures changes { OnlyChanges (ChangesFile self.old.out.file (KeepsFront 0)) (IsErr result)
+            (S.told store.old) (S.told store.new) }
     {
         for pair in pairs {
             self.put(store, *pair)?;
@@ -106,24 +101,20 @@ impl CacheWriter {
     /// Writes what waits and syncs the file: each stop from then on leaves the pairs that were put, of which it gives the
     /// number.
     pub fn finish<S: Store>(self, store: &mut S) -> Result<u64, Failed>
-        requires { ForSome (S.snapshot store.old).files (ReachesPlace self.out) }
+        requires { ForSome (S.told store.old).files (ReachesPlace self.out) }
         ensures committed { IfOk result (λ entries. (pairs : List Pair) →
-            HasWritten (S.snapshot store.old).files pairs self →
-            IsCommitted (S.snapshot store.new).images (record { file = self.out.file; length = 16 * entries })
+            HasWritten (S.told store.old).files pairs self →
+            IsCommitted (S.told store.new).images (record { file = self.out.file; length = 16 * entries })
             (pairs_bytes (map pair_of pairs))) }
         ensures count { IfOk result (λ entries. (pairs : List Pair) →
-            HasWritten (S.snapshot store.old).files pairs self → entries ≡ len pairs) }
+            HasWritten (S.told store.old).files pairs self → entries ≡ len pairs) }
         ensures end { IfOk result (λ entries. 16 * entries ≡ end_of self.out) }
         ensures bound { IfOk result (λ entries. 16 * entries < 2 ^ 64) }
-        ensures long { IfOk result (λ entries. ForSome (S.snapshot store.new).files (λ files.
+        ensures long { IfOk result (λ entries. ForSome (S.told store.new).files (λ files.
             16 * entries ≤ len (files self.out.file))) }
         // No other file changes.
-        ensures changes { Changes self.out.file (KeepsFront 0)
-            (S.snapshot store.old).files (S.snapshot store.new).files }
-        ensures stops { LeavesBy (ChangesFile self.out.file (KeepsFront 0))
-            (S.snapshot store.old) (S.snapshot store.new) }
-        ensures taken { S.taken store.new ≡ S.taken store.old }
-        ensures cause { HasCause (IsErr result) (S.faults store.old) (S.faults store.new) }
+        ensures changes { OnlyChanges (ChangesFile self.out.file (KeepsFront 0)) (IsErr result)
+            (S.told store.old) (S.told store.new) }
     {
         Ok(self.out.finish(store)? / ENTRY as u64)
     }

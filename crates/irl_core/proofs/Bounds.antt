@@ -22,7 +22,8 @@ record FlushParts (x : CoreState) (b : ℕ) : Type 0 where
 
 flush_parts : (x : CoreState) (b : ℕ) → may_flush x b ≡ true → FlushParts x b
 flush_parts x b may =
-    let all = and_parts (nat_lt b x.settings.buckets && nat_lt 0 (length (array_of x b)) && nat_lt (pending_in x b) x.settings.trigger) (nat_le (durable_in x b + length (array_of x b)) x.settings.cap) may in
+    let all = and_parts (nat_lt b x.settings.buckets && nat_lt 0 (length (array_of x b)) && nat_lt (pending_in x b) x.settings.trigger) (nat_le (durable_in x b + length (array_of x b)) x.settings.cap)
+    may in
     let three = and_parts (nat_lt b x.settings.buckets && nat_lt 0 (length (array_of x b))) (nat_lt (pending_in x b) x.settings.trigger) all.0 in
     let two = and_parts (nat_lt b x.settings.buckets) (nat_lt 0 (length (array_of x b))) three.0 in
     record {

@@ -1,6 +1,6 @@
 -- The fate of a URL: one that no pass has read is fresh, and one that was read is not.
 use Rattle.std.proofs.Common.{◌≡◌, ◌≢◌, ℕ, ◌+◌, ◌<◌, ◌≤◌, arith, true}
-use Rattle.irl_model.specs.Events.{has_number}
+use Rattle.irl_events.specs.Events.{has_number}
 use Rattle.irl_fate.specs.declared.fate.Fate.TheVariants.{Fresh}
 use Rattle.irl_fate.specs.Fates.{fate_of}
 use Rattle.irl_fate.specs.Standing.{count, one_if, stands}

@@ -13,14 +13,14 @@ use Rattle.irl_offer.specs.declared.outcome.Outcome.{Outcome}
 use Rattle.irl_offer.specs.declared.place.Place.{Place}
 use Rattle.irl_offer.specs.declared.settings.Settings.{Settings}
 use Rattle.irl_model.specs.Book.{IsBook, IsBelow, AreOfBuckets, blank_book, list_lengths, lengths_of, judged_cut, gone, judged, judged_next, flushed, flushed_lists, merged}
-use Rattle.irl_model.specs.Events.{Event, Pass, Settle, Progress, has_number, numbers_of, before_all, after_event}
-use Rattle.irl_model.specs.Legal.{one_rose, passes_on, settles}
+use Rattle.irl_events.specs.Events.{Event, Pass, Settle, Progress, has_number, numbers_of, before_all, after_event}
+use Rattle.irl_events.specs.Legal.{one_rose, passes_on, settles}
 use Rattle.irl_model.proofs.FrontLaws.{flushed_judged, merged_book}
 use Rattle.irl_model.proofs.Flushes.{flushed_lists-set, length-flushed_lists, flushed_book, flushed_uniques}
 use Rattle.irl_model.proofs.Merges.{merged_judged}
 use Rattle.irl_model.proofs.Stretches.{below_same, below_both}
 use Rattle.irl_fate.specs.Standing.{count, one_if, stands, IsWaiting}
-use Rattle.irl_fate.proofs.Applying.{after_more}
+use Rattle.irl_events.proofs.Following.{after_more}
 use Rattle.irl_fate.proofs.Settling.{settle_parts}
 use Rattle.irl_fate.proofs.Steps.{pass_parts}
 use Rattle.irl_fate.proofs.Waiting.{pass_stands, pass_waiting, settle_stands}
@@ -45,7 +45,8 @@ all_join : {X : Type 0} (P : X → Type 0) (xs ys : List X) → AllByRecursion P
 all_join P [] ys h k = k
 all_join P (x ∷ xs) ys h k = (h.0, all_join P xs ys h.1 k)
 
-each_flushed : (buckets b c i : ℕ) (news : List Tuple) (lists : List (List Tuple)) → b ≡ c + i → AllByRecursion (λ (o : Tuple). bucket_of buckets o.key ≡ b) news → AreOfBuckets buckets c lists → AreOfBuckets buckets c (flushed_lists i news lists)
+each_flushed : (buckets b c i : ℕ) (news : List Tuple) (lists : List (List Tuple)) → b ≡ c + i → AllByRecursion (λ (o : Tuple). bucket_of buckets o.key ≡ b) news → AreOfBuckets buckets c lists
+    → AreOfBuckets buckets c (flushed_lists i news lists)
 each_flushed buckets b c i news [] is theirs each = tt
 each_flushed buckets b c zero news (list ∷ lists) is theirs each =
     let same : b ≡ c = omega arith in
@@ -75,7 +76,8 @@ blank_at zero b = refl
 blank_at (suc n) zero = refl
 blank_at (suc n) (suc b) = blank_at n b
 
-pub room_set : (room at : ℕ) (list : List Tuple) (lists : List (List Tuple)) → length list ≤ room → ((b : ℕ) → length (get_or lists b []) ≤ room) → (b : ℕ) → length (get_or (set lists at list) b []) ≤ room
+pub room_set : (room at : ℕ) (list : List Tuple) (lists : List (List Tuple)) → length list ≤ room → ((b : ℕ) → length (get_or lists b []) ≤ room) → (b : ℕ)
+    → length (get_or (set lists at list) b []) ≤ room
 room_set room at list lists short all b = elim (cases_eq b at) [
   | inl here ↦ elim (cases_lt at (length lists)) [
     | inl lt ↦
@@ -316,7 +318,8 @@ pass_kept x places is may =
           let before : count n (from_on (course x).read (numbers_in x.urls)) + stands (course x) n ≡ one_if (has_number (numbers_in x.urls) n) = is.once n in
           let none : count n (from_on q (numbers_in x.urls)) ≡ 0 = count_all_read n x.urls in
           let all : count n (from_on (course x).read (numbers_of places)) ≡ count n (from_on (course x).read (numbers_in x.urls)) = ap (count n) same in
-          let stood : stands (after_event (course x) (Pass q) places) n ≡ stands (course x) n + count n (from_on (course x).read (numbers_of places)) = pass_stands (course x) q places is.waiting parts n (unread_nowhere x is n) in
+          let stood : stands (after_event (course x) (Pass q) places) n ≡ stands (course x) n + count n (from_on (course x).read (numbers_of places)) =
+          pass_stands (course x) q places is.waiting parts n (unread_nowhere x is n) in
           let now : count n (from_on q (numbers_in x.urls)) + stands (after_event (course x) (Pass q) places) n ≡ one_if (has_number (numbers_in x.urls) n) = omega arith in
           subst P (sym more) now;
     }
@@ -342,7 +345,8 @@ settle_kept x outcomes is may =
       once = λ n.
           let P : Progress → Type 0 = λ p. count n (from_on p.read (numbers_in x.urls)) + stands p n ≡ one_if (has_number (numbers_in x.urls) n) in
           let before : count n (from_on (course x).read (numbers_in x.urls)) + stands (course x) n ≡ one_if (has_number (numbers_in x.urls) n) = is.once n in
-          let stood : stands (after_event (course x) (Settle fronts outcomes) []) n ≡ stands (course x) n = settle_stands (course x) fronts outcomes n (record { front = parts.front; distinct = parts.distinct }) (stands_most x is n) in
+          let stood : stands (after_event (course x) (Settle fronts outcomes) []) n ≡ stands (course x) n =
+          settle_stands (course x) fronts outcomes n (record { front = parts.front; distinct = parts.distinct }) (stands_most x is n) in
           let now : count n (from_on (course x).read (numbers_in x.urls)) + stands (after_event (course x) (Settle fronts outcomes) []) n ≡ one_if (has_number (numbers_in x.urls) n) = omega arith in
           subst P (sym more) now;
     }

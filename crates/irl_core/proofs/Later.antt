@@ -4,7 +4,7 @@ use Rattle.irl_offer.specs.declared.outcome.Outcome.{Outcome}
 use Rattle.irl_offer.specs.declared.place.Place.{Place}
 use Rattle.irl_offer.specs.declared.settings.Settings.{Settings}
 use Rattle.irl_model.specs.Book.{IsPrefixOf, judged}
-use Rattle.irl_model.specs.Events.{Progress, before_all, progress, after_events}
+use Rattle.irl_events.specs.Events.{Progress, before_all, progress, after_events}
 use Rattle.irl_model.proofs.FrontLaws.{judged_front}
 use Rattle.irl_fate.specs.Fates.{fate_of}
 use Rattle.irl_fate.specs.declared.fate.Fate.TheVariants.{Done}

@@ -7,6 +7,7 @@ pub mod Later
 pub mod Numbers
 pub mod Opened
 pub mod Receipts
+pub mod SentPairs
 pub mod Shown
 pub mod StateLemmas
 pub mod Stores

@@ -7,7 +7,7 @@ use Rattle.std.proofs.lemmas.List.{map-append}
 use Rattle.irl_offer.specs.Tuple.{Tuple}
 use Rattle.irl_offer.specs.declared.receipt.Judged.{Judged}
 use Rattle.irl_model.specs.Book.{Book, gone, judged, judged_next, uniques, uniques_from, is_unique, merged}
-use Rattle.irl_model.specs.Events.{has_number}
+use Rattle.irl_events.specs.Events.{has_number}
 use Rattle.irl_model.proofs.Merges.{merged_uniques}
 use Rattle.irl_fate.specs.Standing.{count, one_if}
 use Rattle.irl_fate.proofs.Counting.{one_true, one_false, count_append, count_filter}
@@ -19,7 +19,8 @@ told k js = map (λ p. p.0) (uniques_from k js)
 told_more : (k : ℕ) (j : Judged) (js : List Judged) → told k (j ∷ js) ≡ cond (is_unique j.verdict) (k ∷ told (k + 1) js) (told (k + 1) js)
 told_more k j js = by_test (is_unique j.verdict)
   where
-    by_test : (b : Bool) → map (λ (p : ℕ × Tuple). p.0) (map (λ (p : ℕ × Judged). (p.0, p.1.offer)) (cond b ((k, j) ∷ filter (λ p. is_unique p.1.verdict) (enumerate_from (k + 1) js)) (filter (λ p. is_unique p.1.verdict) (enumerate_from (k + 1) js))))
+    by_test : (b : Bool) → map (λ (p : ℕ × Tuple). p.0) (map (λ (p : ℕ × Judged). (p.0, p.1.offer))
+        (cond b ((k, j) ∷ filter (λ p. is_unique p.1.verdict) (enumerate_from (k + 1) js)) (filter (λ p. is_unique p.1.verdict) (enumerate_from (k + 1) js))))
         ≡ cond b (k ∷ told (k + 1) js) (told (k + 1) js)
     by_test true = refl
     by_test false = refl

@@ -10,9 +10,10 @@ use Rattle.irl_offer.specs.declared.outcome.Outcome.{Outcome}
 use Rattle.irl_offer.specs.declared.place.Place.{Place}
 use Rattle.irl_offer.specs.declared.settings.Settings.{Settings}
 use Rattle.irl_model.specs.Book.{Book, IsBelow, gone, judged, lengths_of, list_lengths}
-use Rattle.irl_model.specs.Events.{Event, Begin, Pairs, Pass, Robots, Settle, Happened, Progress, has_number, numbers_of, after_event, after_events, before_all, progress}
-use Rattle.irl_model.specs.Legal.{AreLegalAfter, broken, passes_on}
-use Rattle.irl_model.specs.Queues.{Waiting, list_at}
+use Rattle.irl_events.specs.Events.{Event, Begin, Pairs, Pass, Robots, Settle, Happened, Progress, has_number, numbers_of, after_event, after_events, before_all, progress}
+use Rattle.irl_events.specs.Legal.{AreLegalAfter, broken, passes_on}
+use Rattle.irl_base.specs.Lists.{list_at}
+use Rattle.irl_events.specs.Queues.{Waiting}
 use Rattle.irl_model.proofs.Stretches.{below_same}
 use Rattle.irl_fate.specs.Reads.{reads, was_read, IsCrawl}
 use Rattle.irl_fate.specs.Standing.{count, count_all, one_if, stands, IsWaiting}
@@ -104,7 +105,8 @@ module _ (buckets : ℕ) (urls : Book) (read : ℕ → Bool) (x : Progress) (sto
       ap (λ (b : Bool). (h && true) || b) e ∙ or_false (h && true) ∙ ap (λ (b : Bool). h && b) (sym (lt refl))
   read_either h false f false m e old lt = ap (λ (b : Bool). b || f) (and_false h) ∙ e ∙ and_swap m h
 
-  told_pass : (sent : ℕ) (places : List Place) → IsOfUrls urls x (Pass sent) places → passes_on x (Pass sent) places ≡ true → Told urls (λ n. read n || has_number (numbers_of places) n) (after_event x (Pass sent) places)
+  told_pass : (sent : ℕ) (places : List Place) → IsOfUrls urls x (Pass sent) places → passes_on x (Pass sent) places ≡ true
+      → Told urls (λ n. read n || has_number (numbers_of places) n) (after_event x (Pass sent) places)
   told_pass sent places books breaks_none =
       let queue = list_at x.waiting.lists x.waiting.passes in
       let fresh : List ℕ = filter (λ n. nat_le x.read n && nat_lt n sent) numbers in
@@ -136,11 +138,13 @@ module _ (buckets : ℕ) (urls : Book) (read : ℕ → Bool) (x : Progress) (sto
   told_event (Robots note) places books h = told_same (λ n. sym (or_false (read n))) (record { once = told.once; sent = told.sent; fronts = told.fronts })
   told_event (Settle fronts outcomes) places books h = told_same (λ n. sym (or_false (read n))) (record { once = told.once; sent = told.sent; fronts = books })
 
-told_after : (buckets : ℕ) (urls : Book) (read : ℕ → Bool) (x : Progress) (events : List Happened) → AreLegalAfter x events → AreOfUrls urls x events → Stood buckets read x → Told urls read x → Told urls (λ n. read n || was_read events n) (after_events x events)
+told_after : (buckets : ℕ) (urls : Book) (read : ℕ → Bool) (x : Progress) (events : List Happened) → AreLegalAfter x events → AreOfUrls urls x events → Stood buckets read x → Told urls read x
+    → Told urls (λ n. read n || was_read events n) (after_events x events)
 told_after buckets urls read x [] legal books stood told = told_same (λ n. sym (or_false (read n))) told
 told_after buckets urls read x (h ∷ hs) legal books stood told =
     told_same (λ n. or_all (read n) (reads h.0 h.1 n) (was_read hs n))
-    (told_after buckets urls (λ n. read n || reads h.0 h.1 n) (after_event x h.0 h.1) hs legal.1 books.1 (stood_event buckets read x stood h.0 h.1 legal.0) (told_event buckets urls read x stood told h.0 h.1 books.0 legal.0))
+    (told_after buckets urls (λ n. read n || reads h.0 h.1 n) (after_event x h.0 h.1) hs legal.1 books.1 (stood_event buckets read x stood h.0 h.1 legal.0)
+    (told_event buckets urls read x stood told h.0 h.1 books.0 legal.0))
 
 -- no bucket's list is shorter than nothing
 below_firsts : (n : ℕ) (firsts : List ℕ) (lists : List (List Tuple)) → length firsts ≡ n → length lists ≡ n → IsBelow (replicate n 0) (list_lengths firsts lists)
@@ -163,7 +167,8 @@ module _ (settings : Settings) (urls : Book) (events : List Happened) (is : IsSt
 
   told : Told urls (was_read events) x
   told =
-      told_after settings.buckets urls (λ n. false) (before_all settings.queues settings.buckets) events is.rules is.each (stood_first settings.queues settings.buckets is.valid.budgets.queues.0 is.valid.budgets.queues.1) (record {
+      told_after settings.buckets urls (λ n. false) (before_all settings.queues settings.buckets) events is.rules is.each
+      (stood_first settings.queues settings.buckets is.valid.budgets.queues.0 is.valid.budgets.queues.1) (record {
         once = λ n. sym (ap (λ (b : Bool). has_number (numbers_in urls) n && b) (le-ltb n 0 (omega arith)) ∙ and_false (has_number (numbers_in urls) n));
         sent = omega arith;
         fronts = below_firsts settings.buckets urls.firsts urls.lists (is.book.firsts ∙ is.buckets) (is.book.lists ∙ is.buckets);

@@ -154,13 +154,18 @@ stop_empties x (SettleStop outcomes took) c h =
     taken_emptied (may_settle x outcomes) x (stopped took (with_event (settle_event x outcomes) []) x) c (emptied_at (cond took (with_event (settle_event x outcomes) [] x) x).arrays c) h
 
 -- one of some lists once another has moved to its end: it is as it was, or that has come behind it
-flushed_at : (b : ℕ) (news : List Tuple) (lists : List (List Tuple)) (c : ℕ) → (get_or (flushed_lists b news lists) c [] ≡ get_or lists c []) ⊎ ((c ≡ b) × (get_or (flushed_lists b news lists) c [] ≡ get_or lists c [] ++ news))
+flushed_at : (b : ℕ) (news : List Tuple) (lists : List (List Tuple)) (c : ℕ) → (get_or (flushed_lists b news lists) c [] ≡ get_or lists c [])
+    ⊎ ((c ≡ b) × (get_or (flushed_lists b news lists) c [] ≡ get_or lists c [] ++ news))
 flushed_at b news lists c =
     let set_is : get_or (flushed_lists b news lists) c [] ≡ get_or (set lists b (get_or lists b [] ++ news)) c [] = ap (λ (ls : List (List Tuple)). get_or ls c []) (flushed_lists-set b news lists) in
     elim (cases_eq c b) [
       | inl here ↦ elim (cases_lt b (length lists)) [
         | inl lt ↦
-            inr (here, set_is ∙ ap (λ n. get_or (set lists b (get_or lists b [] ++ news)) n []) here ∙ get_or-set_same lists b (get_or lists b [] ++ news) [] lt ∙ ap (λ n. get_or lists n [] ++ news) (sym here))
+            inr (
+              here,
+              set_is ∙ ap (λ n. get_or (set lists b (get_or lists b [] ++ news)) n []) here ∙ get_or-set_same lists b (get_or lists b [] ++ news) [] lt
+                  ∙ ap (λ n. get_or lists n [] ++ news) (sym here),
+            )
         | inr le ↦ inl (set_is ∙ ap (λ (ls : List (List Tuple)). get_or ls c []) (set_past lists b (get_or lists b [] ++ news) le))
       ]
       | inr other ↦ inl (set_is ∙ get_or-set_other lists b c (get_or lists b [] ++ news) [] other)
@@ -253,7 +258,8 @@ offer_given x b c offer = elim (flushed_at b (offer ∷ []) x.arrays c) [
 
 may_flush_parts : (x : CoreState) (b : ℕ) → may_flush x b ≡ true → b < x.settings.buckets
 may_flush_parts x b may =
-    let all = and_parts (nat_lt b x.settings.buckets && nat_lt 0 (length (array_of x b)) && nat_lt (pending_in x b) x.settings.trigger) (nat_le (durable_in x b + length (array_of x b)) x.settings.cap) may in
+    let all = and_parts (nat_lt b x.settings.buckets && nat_lt 0 (length (array_of x b)) && nat_lt (pending_in x b) x.settings.trigger) (nat_le (durable_in x b + length (array_of x b)) x.settings.cap)
+    may in
     let three = and_parts (nat_lt b x.settings.buckets && nat_lt 0 (length (array_of x b))) (nat_lt (pending_in x b) x.settings.trigger) all.0 in
     ltb-true b x.settings.buckets (and_parts (nat_lt b x.settings.buckets) (nat_lt 0 (length (array_of x b))) three.0).0
 
@@ -271,7 +277,8 @@ flush_given x b c is lt = elim (cases_eq c b) [
       let P : ℕ → Type 0 = λ n. IsPrefixOf (given x n) (given (with_list b x) n) in
       subst P (sym here) ([], same ∙ sym (append-nil (given x b)))
   | inr other ↦
-      let list : list_of (with_list b x) c ≡ list_of x c = ap (λ (ls : List (List Tuple)). get_or ls c []) (flushed_lists-set b (array_of x b) x.urls.lists) ∙ get_or-set_other x.urls.lists b c (list_of x b ++ array_of x b) [] other in
+      let list : list_of (with_list b x) c ≡ list_of x c = ap (λ (ls : List (List Tuple)). get_or ls c []) (flushed_lists-set b (array_of x b) x.urls.lists)
+      ∙ get_or-set_other x.urls.lists b c (list_of x b ++ array_of x b) [] other in
       let array : array_of (with_list b x) c ≡ array_of x c = get_or-set_other x.arrays b c [] [] other in
       ([], ap (λ (l : List Tuple). l ++ array_of (with_list b x) c) list ∙ ap (λ (a : List Tuple). list_of x c ++ a) array ∙ sym (append-nil (given x c)))
 ]
@@ -313,7 +320,8 @@ offer_taken false old new one receipt h = absurd (cc)
 offer_at : (x : CoreState) (b : ℕ) (offer : Tuple) → IsCore x → b < x.settings.buckets → GivenAt (with_offer b offer x) b (durable_in x b + length (array_of x b)) offer
 offer_at x b offer is lt =
     let within : b < length x.arrays = omega (arith, is.arrays) in
-    let array : array_of (with_offer b offer x) b ≡ array_of x b ++ offer ∷ [] = ap (λ (ls : List (List Tuple)). get_or ls b []) (flushed_lists-set b (offer ∷ []) x.arrays) ∙ get_or-set_same x.arrays b (array_of x b ++ offer ∷ []) [] within in
+    let array : array_of (with_offer b offer x) b ≡ array_of x b ++ offer ∷ [] = ap (λ (ls : List (List Tuple)). get_or ls b []) (flushed_lists-set b (offer ∷ []) x.arrays)
+    ∙ get_or-set_same x.arrays b (array_of x b ++ offer ∷ []) [] within in
     let all : given (with_offer b offer x) b ≡ given x b ++ offer ∷ [] = ap (λ (a : List Tuple). list_of x b ++ a) array ∙ sym (append_assoc (list_of x b) (array_of x b) (offer ∷ [])) in
     let durable = durable_is x b is lt in
     let long = length-append (list_of x b) (array_of x b) in
@@ -324,7 +332,8 @@ record IsReceived (x y : CoreState) (b : ℕ) (offer : Tuple) (receipt : Receipt
   at : GivenAt y b receipt.number offer
   kept : IsCore y
 
-received : (x : CoreState) (b : ℕ) (offer : Tuple) (receipt : Receipt) → IsCore x → b < x.settings.buckets → (step x (Offer b offer)).1 ≡ ReceiptReply receipt → IsReceived x (step x (Offer b offer)).0 b offer receipt
+received : (x : CoreState) (b : ℕ) (offer : Tuple) (receipt : Receipt) → IsCore x → b < x.settings.buckets → (step x (Offer b offer)).1 ≡ ReceiptReply receipt
+    → IsReceived x (step x (Offer b offer)).0 b offer receipt
 received x b offer receipt is lt h =
     let one : Receipt = record { bucket = b; number = durable_in x b + length (array_of x b) } in
     let both = offer_taken (may_offer x b offer) x (with_offer b offer x) one receipt h in
@@ -368,7 +377,8 @@ record IsFlushed (z : CoreState) (b : ℕ) (receipt : Receipt) (offer : Tuple) :
   stands : StandsAt z receipt offer
   below : receipt.number < get_or z.acknowledged b 0
 
-flush_at : (y : CoreState) (b : ℕ) (receipt : Receipt) (offer : Tuple) → IsCore y → b < y.settings.buckets → b ≡ receipt.bucket → GivenAt y b receipt.number offer → IsFlushed (with_word b (with_list b y)) b receipt offer
+flush_at : (y : CoreState) (b : ℕ) (receipt : Receipt) (offer : Tuple) → IsCore y → b < y.settings.buckets → b ≡ receipt.bucket → GivenAt y b receipt.number offer
+    → IsFlushed (with_word b (with_list b y)) b receipt offer
 flush_at y b receipt offer is lt bucket at =
     let whole = list_flushed y b is lt in
     let stands : slice_get (list_of (with_list b y) b) at.0 ≡ Some offer = ap (λ (l : List Tuple). slice_get l at.0) whole ∙ at.1.1 in
@@ -379,11 +389,13 @@ flush_at y b receipt offer is lt bucket at =
     let number : get_or y.urls.firsts b 0 + at.0 ≡ receipt.number = at.1.0 in
     let many : length y.acknowledged ≡ length (lengths_of y.urls) = below_long y.acknowledged (lengths_of y.urls) is.acknowledged in
     let all : length (lengths_of y.urls) ≡ y.urls.buckets = length-lengths_of y.urls is.urls in
-    let word : get_or (set y.acknowledged b (durable_in (with_list b y) b)) b 0 ≡ durable_in (with_list b y) b = get_or-set_same y.acknowledged b (durable_in (with_list b y) b) 0 (omega (arith, is.buckets)) in
+    let word : get_or (set y.acknowledged b (durable_in (with_list b y) b)) b 0 ≡ durable_in (with_list b y) b =
+    get_or-set_same y.acknowledged b (durable_in (with_list b y) b) 0 (omega (arith, is.buckets)) in
     let P : ℕ → Type 0 = λ c. (place : ℕ) × ((get_or y.urls.firsts c 0 + place ≡ receipt.number) × (slice_get (list_of (with_list b y) c) place ≡ Some offer)) in
     record { stands = subst P bucket (at.0, (number, stands)); below = omega arith }
 
-flush_received : (y : CoreState) (b : ℕ) (receipt : Receipt) (offer : Tuple) → IsCore y → b ≡ receipt.bucket → GivenAt y b receipt.number offer → (step y (Flush b)).1 ≡ Taken → IsFlushed (step y (Flush b)).0 b receipt offer
+flush_received : (y : CoreState) (b : ℕ) (receipt : Receipt) (offer : Tuple) → IsCore y → b ≡ receipt.bucket → GivenAt y b receipt.number offer → (step y (Flush b)).1 ≡ Taken
+    → IsFlushed (step y (Flush b)).0 b receipt offer
 flush_received y b receipt offer is bucket at h =
     let may = flush_taken (may_flush y b) y (with_word b (with_list b y)) h in
     let P : Bool → Type 0 = λ t. IsFlushed (taken_if t y (with_word b (with_list b y)) Taken).0 b receipt offer in

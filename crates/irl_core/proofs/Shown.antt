@@ -7,13 +7,13 @@ use Rattle.irl_offer.specs.Tuple.{Tuple}
 use Rattle.irl_offer.specs.declared.outcome.Outcome.{Outcome}
 use Rattle.irl_offer.specs.declared.place.Place.{Place}
 use Rattle.irl_model.specs.Book.{gone, judged, lengths_of, list_lengths, judged_cut}
-use Rattle.irl_model.specs.Events.{Event, Pass, Pairs, Progress, numbers_of, after_event}
-use Rattle.irl_model.specs.Legal.{broken}
-use Rattle.irl_model.specs.Plain.{items_of}
+use Rattle.irl_events.specs.Events.{Event, Pass, Pairs, Progress, numbers_of, after_event}
+use Rattle.irl_events.specs.Legal.{broken}
+use Rattle.irl_base.specs.Lists.{items_of}
 use Rattle.irl_model.proofs.PlainLemmas.{no_numbers}
 use Rattle.irl_model.proofs.Stretches.{below_long, last_above}
-use Rattle.irl_fate.specs.Seen.{HasFronts}
-use Rattle.irl_fate.specs.declared.event.Event.{Event as ToldEvent}
+use Rattle.irl_events.specs.Seen.{HasFronts}
+use Rattle.irl_events.specs.declared.event.Event.{Event as ToldEvent}
 use Rattle.irl_core.specs.declared.pure.Core.TheInside.{Inside}
 use Rattle.irl_core.specs.Steps.{CoreState, durable_in, pending_in, judged_in, course, broken_in_core, may_pass, may_settle, settle_event, unread, url_numbers}
 use Rattle.irl_core.specs.Stores.{AreEquallyFar}
@@ -75,7 +75,8 @@ pub told_alike : (f x : Progress) (judged : ℕ) → AreEquallyFar f x → AreEq
 told_alike f x judged a = alike_other f x (Pairs 0 judged 0) [] refl a
 
 -- a settle breaks a rule of the fates where it breaks one in the core
-pub settle_is : (a : Inside) (x : CoreState) (event : Event) (outcomes : List (ℕ × Outcome)) (places : List Place) → IsKept a → shown a ≡ x → event ≡ settle_event x outcomes → places ≡ [] → is_none (broken a.fates event places) ≡ may_settle x outcomes
+pub settle_is : (a : Inside) (x : CoreState) (event : Event) (outcomes : List (ℕ × Outcome)) (places : List Place) → IsKept a → shown a ≡ x → event ≡ settle_event x outcomes → places ≡ []
+    → is_none (broken a.fates event places) ≡ may_settle x outcomes
 settle_is a x event outcomes places k view is none =
     ap (λ (ps : List Place). is_none (broken a.fates event ps)) none
     ∙ ap (λ (e : Event). is_none (broken a.fates e [])) is
@@ -87,7 +88,8 @@ and_true : (b c : Bool) → c ≡ true → b ≡ (b && c)
 and_true true c e = sym e
 and_true false c e = refl
 
-pub took_is : (a : Inside) (x : CoreState) (q : ℕ) (places : List Place) (fates : Progress) → IsKept a → shown a ≡ x → q ≡ judged_in x → fates ≡ told_sent a.fates q → pointwise nat_eq (unread x (numbers_of places)) (unread x (url_numbers x)) ≡ true → is_none (broken fates (Pass q) places) ≡ may_pass x places
+pub took_is : (a : Inside) (x : CoreState) (q : ℕ) (places : List Place) (fates : Progress) → IsKept a → shown a ≡ x → q ≡ judged_in x → fates ≡ told_sent a.fates q
+    → pointwise nat_eq (unread x (numbers_of places)) (unread x (url_numbers x)) ≡ true → is_none (broken fates (Pass q) places) ≡ may_pass x places
 took_is a x q places fates k view number fates_is all =
     ap (λ (f : Progress). is_none (broken f (Pass q) places)) fates_is
     ∙ ap (λ (o : Option ℕ). is_none o) (alike_pass (told_sent a.fates q) (course (shown a)) q places (told_alike a.fates (course (shown a)) q k.fates.alike) refl refl)

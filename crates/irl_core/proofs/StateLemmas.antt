@@ -15,12 +15,13 @@ use Rattle.irl_offer.specs.declared.receipt.Judged.{Judged}
 use Rattle.irl_offer.specs.declared.settings.Settings.{Settings}
 use Rattle.irl_offer.specs.Tuple.{Tuple}
 use Rattle.irl_model.specs.Book.{Book, IsBook, IsFront, IsBelow, ArePrefixes, at_cut, gone, is_unique, judged, judged_offers, lengths_of, list_lengths, stretches, uniques, uniques_from, with_cuts}
-use Rattle.irl_model.specs.Events.{Event, Begin, Pairs, Pass, Robots, Settle, Happened, Progress, after_event, before_all, numbers_of, progress}
-use Rattle.irl_model.specs.Legal.{AreLegalAfter, are_read, are_rising, begins_once, broken, pairs_rise, passes_on}
-use Rattle.irl_model.specs.Links.{linked, pair_offers, pairs as pairs_of}
-use Rattle.irl_model.specs.Queues.{Waiting, delivered, list_at, next_queues, put, round_ended, with_one}
+use Rattle.irl_events.specs.Events.{Event, Begin, Pairs, Pass, Robots, Settle, Happened, Progress, after_event, before_all, numbers_of, progress}
+use Rattle.irl_events.specs.Legal.{AreLegalAfter, are_read, are_rising, begins_once, broken, pairs_rise, passes_on}
+use Rattle.irl_events.specs.Links.{AreAlike, first_with, linked, pair_offers, pairs as pairs_of}
+use Rattle.irl_base.specs.Lists.{list_at, with_one}
+use Rattle.irl_events.specs.Queues.{Waiting, delivered, next_queues, put, round_ended}
 use Rattle.irl_model.proofs.FrontLaws.{front_same, judged_front, judged_offers_front, stretches_same}
-use Rattle.irl_model.proofs.LinkLemmas.{pairs-append}
+use Rattle.irl_events.proofs.LinkLemmas.{pairs-append}
 use Rattle.irl_model.proofs.Merges.{earlier_all, earlier_book, earlier_front, length-judged, uniques_from-append}
 use Rattle.irl_model.proofs.Stretches.{below_both}
 use Rattle.irl_star.specs.Budgets.{budget}
@@ -28,9 +29,10 @@ use Rattle.irl_beast.specs.declared.item.Item.{Item}
 use Rattle.irl_beast.specs.Passes.{item_numbers}
 use Rattle.irl_beast.specs.Places.{place}
 use Rattle.irl_beast.proofs.LegalPasses.{place_numbers}
-use Rattle.irl_fate.proofs.Applying.{after_more, lawful_more}
+use Rattle.irl_events.proofs.Following.{after_more}
+use Rattle.irl_fate.proofs.Applying.{lawful_more}
 use Rattle.irl_fate.proofs.Steps.{PassParts, pass_parts}
-use Rattle.irl_core.specs.States.{AreAlike, AreOffered, HoldsLinks, IsLegalState, IsOfBooks, begun_with, cut_count, first_with, item_of, judged_by, offers_of, read_by, suffixes_of, uniques_within, url_text}
+use Rattle.irl_core.specs.States.{AreOffered, HoldsLinks, IsLegalState, IsOfBooks, begun_with, cut_count, item_of, judged_by, offers_of, read_by, suffixes_of, uniques_within, url_text}
 use Rattle.irl_core.specs.Stores.{AreOfUrls, IsOfUrls, IsStored}
 
 -- each of some events has P, with those before it, the first of which are these
@@ -38,7 +40,8 @@ abbrev pub Along : (List Happened → Happened → Type 0) → List Happened →
 Along P seen [] = Unit {0}
 Along P seen (h ∷ hs) = P seen h × Along P (seen ++ h ∷ []) hs
 
-pub each-along : (P : List Happened → Happened → Type 0) (seen events before : List Happened) (h : Happened) (after : List Happened) → Along P seen events → events ≡ before ++ h ∷ after → P (seen ++ before) h
+pub each-along : (P : List Happened → Happened → Type 0) (seen events before : List Happened) (h : Happened) (after : List Happened) → Along P seen events → events ≡ before ++ h ∷ after
+    → P (seen ++ before) h
 each-along P seen [] [] h after all is = absurd (cc)
 each-along P seen [] (b ∷ before) h after all is = absurd (cc)
 each-along P seen (e ∷ es) [] h after all is =
@@ -50,11 +53,15 @@ each-along P seen (e ∷ es) (b ∷ before) h after all is =
     let there : P ((seen ++ e ∷ []) ++ before) h = each-along P (seen ++ e ∷ []) es before h after all.1 rest in
     subst (λ (hs : List Happened). P hs h) (append_assoc seen (e ∷ []) before ∙ ap (λ (y : Happened). seen ++ y ∷ before) same) there
 
-pub along-each : (P : List Happened → Happened → Type 0) (seen events : List Happened) → ((before : List Happened) (h : Happened) (after : List Happened) → events ≡ before ++ h ∷ after → P (seen ++ before) h) → Along P seen events
+pub along-each : (P : List Happened → Happened → Type 0) (seen events : List Happened)
+    → ((before : List Happened) (h : Happened) (after : List Happened) → events ≡ before ++ h ∷ after → P (seen ++ before) h) → Along P seen events
 along-each P seen [] all = tt
 along-each P seen (e ∷ es) all =
-    let here : P seen e = subst (λ (hs : List Happened). P hs e) (append-nil seen) (all [] e es refl) in
-    (here, along-each P (seen ++ e ∷ []) es (λ before h after is. subst (λ (hs : List Happened). P hs h) (sym (append_assoc seen (e ∷ []) before)) (all (e ∷ before) h after (ap (λ (hs : List Happened). e ∷ hs) is))))
+    let here : P seen e = subst (λ (hs : List Happened). P hs e) (append-nil seen) (all [] e es refl) in (
+      here,
+      along-each P (seen ++ e ∷ []) es (λ before h after is. subst (λ (hs : List Happened). P hs h) (sym (append_assoc seen (e ∷ []) before))
+          (all (e ∷ before) h after (ap (λ (hs : List Happened). e ∷ hs) is))),
+    )
 
 pub along-more : (P : List Happened → Happened → Type 0) (seen events : List Happened) (h : Happened) → Along P seen events → P (seen ++ events) h → Along P seen (events ++ h ∷ [])
 along-more P seen [] h all one = (subst (λ (hs : List Happened). P hs h) (append-nil seen) one, tt)
@@ -205,7 +212,8 @@ low_within : (t from to : ℕ) (us : List (ℕ × Tuple)) → to ≤ t → AreLo
 low_within t from to [] le = tt
 low_within t from to (u ∷ us) le = by (nat_le from u.0) (nat_lt u.0 to) refl (low_within t from to us le)
   where
-    by : (a b : Bool) → nat_lt u.0 to ≡ b → AreLow t (map (λ (p : ℕ × Tuple). p.0) (filter (is_within from to) us)) → AreLow t (map (λ (p : ℕ × Tuple). p.0) (cond (a && b) (u ∷ filter (is_within from to) us) (filter (is_within from to) us)))
+    by : (a b : Bool) → nat_lt u.0 to ≡ b → AreLow t (map (λ (p : ℕ × Tuple). p.0) (filter (is_within from to) us))
+        → AreLow t (map (λ (p : ℕ × Tuple). p.0) (cond (a && b) (u ∷ filter (is_within from to) us) (filter (is_within from to) us)))
     by true true e rest = (let lt : u.0 < to = ltb-true u.0 to e in omega arith, rest)
     by true false e rest = rest
     by false b e rest = rest
@@ -276,7 +284,8 @@ module _ (book more : Book) (is : IsBook book) (front : IsFront book more) where
       let test : ℕ × Tuple → Bool = λ p. nat_eq p.0 n in
       let text : Option (ℕ × Tuple) → List ℕ = λ o. unwrap_or (option_map (λ (p : ℕ × Tuple). p.1.aux) o) [] in
       ap (λ (us : List (ℕ × Tuple)). text (find test us)) uniques_more
-      ∙ ap text (find-append test (uniques book) later ∙ ap (λ (o : Option (ℕ × Tuple)). option_or (find test (uniques book)) o) (none_at total n later lt later_high) ∙ or_none (find test (uniques book)))
+      ∙ ap text (find-append test (uniques book) later ∙ ap (λ (o : Option (ℕ × Tuple)). option_or (find test (uniques book)) o) (none_at total n later lt later_high)
+      ∙ or_none (find test (uniques book)))
 
   items_same : (domain : List ℕ → List ℕ) (ns : List ℕ) → AreLow total ns → map (item_of domain more) ns ≡ map (item_of domain book) ns
   items_same domain [] low = refl
@@ -289,7 +298,8 @@ module _ (book more : Book) (is : IsBook book) (front : IsFront book more) where
       let waits = list_at x.waiting.lists x.waiting.passes in
       ap (λ (us : List (ℕ × Tuple)). map (item_of domain more) (waits ++ map (λ (p : ℕ × Tuple). p.0) us)) (within_same x.read q le)
       ∙ items_same domain (waits ++ map (λ (p : ℕ × Tuple). p.0) (uniques_within x.read q book))
-      (all_append (λ (n : ℕ). n < total) waits (map (λ (p : ℕ × Tuple). p.0) (uniques_within x.read q book)) (low_at total x.waiting.lists x.waiting.passes low) (low_within total x.read q (uniques book) le))
+      (all_append (λ (n : ℕ). n < total) waits (map (λ (p : ℕ × Tuple). p.0) (uniques_within x.read q book)) (low_at total x.waiting.lists x.waiting.passes low)
+      (low_within total x.read q (uniques book) le))
 
   all_judged : (b : Book) → judged_offers (at_cut (cut_count b) b) ≡ judged_offers b
   all_judged b = ap judged_offers (earlier_all (cut_count b - b.dropped) b (omega arith))
@@ -330,14 +340,16 @@ module _ (domain : List ℕ → List ℕ → List ℕ) (key : List ℕ → ℕ) 
   pass_of : (x : Progress) (q : ℕ) (places : List Place) → broken x (Pass q) places ≡ None → PassParts x q places
   pass_of x q places none = pass_parts x q places (third_rule (begins_once x (Pass q)) (pairs_rise x (Pass q)) (passes_on x (Pass q) places) _ none)
 
-  low_after : (suffixes : List ℕ) (x : Progress) (event : Event) (places : List Place) → IsLow x → broken x event places ≡ None → IsOfBooks (domain suffixes) key settings urls pairs x event places → IsLow (after_event x event places)
+  low_after : (suffixes : List ℕ) (x : Progress) (event : Event) (places : List Place) → IsLow x → broken x event places ≡ None → IsOfBooks (domain suffixes) key settings urls pairs x event places
+      → IsLow (after_event x event places)
   low_after suffixes x (Begin text) places low none books = record { cuts = low.cuts; sent = low.sent; lists = low.lists }
   low_after suffixes x (Pairs cuts many sent) places low none books =
       record { cuts = books.0.made; sent = omega (arith, books.0.counted, judged_within urls more is front cuts); lists = low.lists }
   low_after suffixes x (Pass q) places low none books =
       let parts = pass_of x q places none in
       let waits = list_at x.waiting.lists x.waiting.passes in
-      let read : AreLow most (numbers_of places) = low_read most waits x.read q (numbers_of places) parts.numbers (low_at most x.waiting.lists x.waiting.passes low.lists) (omega (arith, parts.number, low.sent)) in
+      let read : AreLow most (numbers_of places) = low_read most waits x.read q (numbers_of places) parts.numbers (low_at most x.waiting.lists x.waiting.passes low.lists)
+      (omega (arith, parts.number, low.sent)) in
       record {
         cuts = low.cuts;
         sent = low.sent;
@@ -347,7 +359,8 @@ module _ (domain : List ℕ → List ℕ → List ℕ) (key : List ℕ → ℕ) 
   low_after suffixes x (Robots note) places low none books = record { cuts = low.cuts; sent = low.sent; lists = low.lists }
   low_after suffixes x (Settle fronts outcomes) places low none books = record { cuts = low.cuts; sent = low.sent; lists = low.lists }
 
-  of_more : (suffixes : List ℕ) (x : Progress) (event : Event) (places : List Place) → IsLow x → broken x event places ≡ None → IsOfBooks (domain suffixes) key settings urls pairs x event places → IsOfBooks (domain suffixes) key settings more pairs x event places
+  of_more : (suffixes : List ℕ) (x : Progress) (event : Event) (places : List Place) → IsLow x → broken x event places ≡ None → IsOfBooks (domain suffixes) key settings urls pairs x event places
+      → IsOfBooks (domain suffixes) key settings more pairs x event places
   of_more suffixes x (Begin text) places low none books = books
   of_more suffixes x (Pairs cuts many sent) places low none books =
       let made : cuts ≤ cut_count urls = books.0.made in
@@ -364,7 +377,8 @@ module _ (domain : List ℕ → List ℕ → List ℕ) (key : List ℕ → ℕ) 
       let parts = pass_of x q places none in
       let within : q ≤ most = omega (arith, parts.number, low.sent) in
       books
-      ∙ sym (ap (λ (links : List Tuple). place x.waiting.passes x.waiting.queues (budget settings (linked links)) (read_by (domain suffixes) more x q)) (pairs_same urls more is front (domain suffixes) key x.cuts low.cuts)
+      ∙ sym (ap (λ (links : List Tuple). place x.waiting.passes x.waiting.queues (budget settings (linked links)) (read_by (domain suffixes) more x q))
+      (pairs_same urls more is front (domain suffixes) key x.cuts low.cuts)
       ∙ ap (place x.waiting.passes x.waiting.queues (budget settings (linked (pairs_of (domain suffixes) key urls x.cuts)))) (read_same urls more is front (domain suffixes) x q low.lists within))
   of_more suffixes x (Robots note) places low none books = books
   of_more suffixes x (Settle fronts outcomes) places low none books = (below_both fronts (lengths_of urls) (lengths_of more) books.0 (lengths_more urls more is front), books.1)
@@ -388,7 +402,8 @@ module _ (domain : List ℕ → List ℕ → List ℕ) (key : List ℕ → ℕ) 
   more_urls events legal =
       let suffixes = unwrap_or (begun_with events) [] in
       let low : IsLow (progress settings.queues settings.buckets []) = record { cuts = omega arith; sent = omega arith; lists = low_blank most 65 } in
-      let all : Along (ByBooks domain key settings urls pairs suffixes) [] events = along-each (ByBooks domain key settings urls pairs suffixes) [] events (λ before e after same. legal.each before after e.0 e.1 same) in
+      let all : Along (ByBooks domain key settings urls pairs suffixes) [] events =
+      along-each (ByBooks domain key settings urls pairs suffixes) [] events (λ before e after same. legal.each before after e.0 e.1 same) in
       let kept : Along (ByBooks domain key settings more pairs suffixes) [] events = along_more_urls suffixes [] events low legal.rules all in
       record {
         rules = legal.rules;
@@ -397,7 +412,8 @@ module _ (domain : List ℕ → List ℕ → List ℕ) (key : List ℕ → ℕ) 
       }
 
 module _ (domain : List ℕ → List ℕ → List ℕ) (key : List ℕ → ℕ) (settings : Settings) (urls pairs more : Book) (is : IsBook pairs) (front : IsFront pairs more) where
-  of_more_pairs : (suffixes : List ℕ) (x : Progress) (event : Event) (places : List Place) → IsOfBooks (domain suffixes) key settings urls pairs x event places → IsOfBooks (domain suffixes) key settings urls more x event places
+  of_more_pairs : (suffixes : List ℕ) (x : Progress) (event : Event) (places : List Place) → IsOfBooks (domain suffixes) key settings urls pairs x event places
+      → IsOfBooks (domain suffixes) key settings urls more x event places
   of_more_pairs suffixes x (Begin text) places books = books
   of_more_pairs suffixes x (Pairs cuts many sent) places books =
       let cut = books.0.at_a_cut.0 in
@@ -409,7 +425,8 @@ module _ (domain : List ℕ → List ℕ → List ℕ) (key : List ℕ → ℕ) 
           made = books.0.made;
           counted = books.0.counted;
           at_a_cut = (cut, omega arith, counted ∙ sym (judged_by_same pairs more is front cut made));
-          alike = λ k. ap (λ (us : List (ℕ × Tuple)). option_map (λ (o : Tuple). o.aux) (first_with k (map (λ (p : ℕ × Tuple). p.1) us))) (within_same pairs more is front 0 sent within) ∙ books.0.alike k;
+          alike = λ k. ap (λ (us : List (ℕ × Tuple)). option_map (λ (o : Tuple). o.aux) (first_with k (map (λ (p : ℕ × Tuple). p.1) us))) (within_same pairs more is front 0 sent within)
+              ∙ books.0.alike k;
         },
         books.1,
       )
@@ -417,7 +434,8 @@ module _ (domain : List ℕ → List ℕ → List ℕ) (key : List ℕ → ℕ) 
   of_more_pairs suffixes x (Robots note) places books = books
   of_more_pairs suffixes x (Settle fronts outcomes) places books = books
 
-  pub more_pairs : (events : List Happened) → HoldsLinks domain key urls more (begun_with events) → IsLegalState domain key settings urls pairs events → IsLegalState domain key settings urls more events
+  pub more_pairs : (events : List Happened) → HoldsLinks domain key urls more (begun_with events) → IsLegalState domain key settings urls pairs events
+      → IsLegalState domain key settings urls more events
   more_pairs events links legal = record {
     rules = legal.rules;
     each = λ before after e p same. of_more_pairs (unwrap_or (begun_with events) []) (progress settings.queues settings.buckets before) e p (legal.each before after e p same);
@@ -437,12 +455,14 @@ within_numbers from to [] = refl
 within_numbers from to (u ∷ us) = by (is_within from to u) (within_numbers from to us)
   where
     by : (b : Bool) → map (λ (p : ℕ × Tuple). p.0) (filter (is_within from to) us) ≡ filter (is_number_within from to) (map (λ (p : ℕ × Tuple). p.0) us)
-        → map (λ (p : ℕ × Tuple). p.0) (cond b (u ∷ filter (is_within from to) us) (filter (is_within from to) us)) ≡ cond b (u.0 ∷ filter (is_number_within from to) (map (λ (p : ℕ × Tuple). p.0) us)) (filter (is_number_within from to) (map (λ (p : ℕ × Tuple). p.0) us))
+        → map (λ (p : ℕ × Tuple). p.0) (cond b (u ∷ filter (is_within from to) us) (filter (is_within from to) us))
+        ≡ cond b (u.0 ∷ filter (is_number_within from to) (map (λ (p : ℕ × Tuple). p.0) us)) (filter (is_number_within from to) (map (λ (p : ℕ × Tuple). p.0) us))
     by true e = ap (λ (ns : List ℕ). u.0 ∷ ns) e
     by false e = e
 
 -- the numbers of what a pass reads
-read_numbers : (domain : List ℕ → List ℕ) (urls : Book) (x : Progress) (q : ℕ) → item_numbers (read_by domain urls x q) ≡ list_at x.waiting.lists x.waiting.passes ++ filter (is_number_within x.read q) (map (λ (p : ℕ × Tuple). p.0) (uniques urls))
+read_numbers : (domain : List ℕ → List ℕ) (urls : Book) (x : Progress) (q : ℕ) → item_numbers (read_by domain urls x q) ≡ list_at x.waiting.lists x.waiting.passes
+    ++ filter (is_number_within x.read q) (map (λ (p : ℕ × Tuple). p.0) (uniques urls))
 read_numbers domain urls x q =
     let waits = list_at x.waiting.lists x.waiting.passes in
     items_numbers domain urls (waits ++ map (λ (p : ℕ × Tuple). p.0) (uniques_within x.read q urls))
@@ -459,18 +479,22 @@ module _ (domain : List ℕ → List ℕ → List ℕ) (key : List ℕ → ℕ) 
   of_urls suffixes x (Robots note) places books = tt
   of_urls suffixes x (Settle fronts outcomes) places books = books.0
 
-  along_urls : (suffixes : List ℕ) (seen events : List Happened) → Along (ByBooks domain key settings urls pairs suffixes) seen events → AreOfUrls urls (progress settings.queues settings.buckets seen) events
+  along_urls : (suffixes : List ℕ) (seen events : List Happened) → Along (ByBooks domain key settings urls pairs suffixes) seen events
+      → AreOfUrls urls (progress settings.queues settings.buckets seen) events
   along_urls suffixes seen [] all = tt
   along_urls suffixes seen (h ∷ hs) all =
-      let same : progress settings.queues settings.buckets (seen ++ h ∷ []) ≡ after_event (progress settings.queues settings.buckets seen) h.0 h.1 = after_more (before_all settings.queues settings.buckets) seen h in (
+      let same : progress settings.queues settings.buckets (seen ++ h ∷ []) ≡ after_event (progress settings.queues settings.buckets seen) h.0 h.1 =
+      after_more (before_all settings.queues settings.buckets) seen h in (
         of_urls suffixes (progress settings.queues settings.buckets seen) h.0 h.1 all.0,
         subst (λ (x : Progress). AreOfUrls urls x hs) same (along_urls suffixes (seen ++ h ∷ []) hs all.1),
       )
 
-  pub legal_stored : (events : List Happened) → AreValid settings → urls.buckets ≡ settings.buckets → urls.rule ≡ settings.rule → IsLegalState domain key settings urls pairs events → IsStored settings urls events
+  pub legal_stored : (events : List Happened) → AreValid settings → urls.buckets ≡ settings.buckets → urls.rule ≡ settings.rule → IsLegalState domain key settings urls pairs events
+      → IsStored settings urls events
   legal_stored events valid buckets rule legal =
       let suffixes = unwrap_or (begun_with events) [] in
-      let all : Along (ByBooks domain key settings urls pairs suffixes) [] events = along-each (ByBooks domain key settings urls pairs suffixes) [] events (λ before e after same. legal.each before after e.0 e.1 same) in
+      let all : Along (ByBooks domain key settings urls pairs suffixes) [] events =
+      along-each (ByBooks domain key settings urls pairs suffixes) [] events (λ before e after same. legal.each before after e.0 e.1 same) in
       record {
         valid = valid;
         book = is;

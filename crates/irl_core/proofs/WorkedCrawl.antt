@@ -15,14 +15,14 @@ use Rattle.irl_offer.specs.declared.place.Slot.TheVariants.{Front, Queue, Last}
 use Rattle.irl_offer.specs.Tuple.{Tuple}
 use Rattle.irl_model.specs.Judging.{KeyMap, answer, combined}
 use Rattle.irl_model.specs.Book.{Book, blank_book, uniques, is_unique}
-use Rattle.irl_model.specs.Events.{Event, Begin, Pairs, Pass, Settle, Happened, progress}
-use Rattle.irl_model.specs.Legal.{AreLegal}
-use Rattle.irl_model.specs.Links.{linked, pairs as pairs_of}
-use Rattle.irl_model.specs.Queues.{delivered}
+use Rattle.irl_events.specs.Events.{Event, Begin, Pairs, Pass, Settle, Happened, progress}
+use Rattle.irl_events.specs.Legal.{AreLegal}
+use Rattle.irl_events.specs.Links.{first_with, linked, pairs as pairs_of}
+use Rattle.irl_events.specs.Queues.{delivered}
 use Rattle.irl_star.specs.Budgets.{degree, domains, ranks_before, rank, budget}
 use Rattle.irl_beast.specs.declared.item.Item.{Item}
 use Rattle.irl_beast.specs.Places.{count_of, place, places_behind}
-use Rattle.irl_core.specs.States.{AreOffered, AreSent, IsLegalState, IsOfBooks, first_with, offers_of, places_of}
+use Rattle.irl_core.specs.States.{AreOffered, AreSent, IsLegalState, IsOfBooks, offers_of, places_of}
 use Rattle.irl_core.specs.Worked.{at, crawl, domain, events, key, more_events, more_urls, offer, other_pairs, pairs, places, settings, stray_pairs, two_passes, urls}
 use Rattle.irl_core.proofs.StateLemmas.{each-along}
 
@@ -77,7 +77,8 @@ no_third : get two 3 ≡ None
 no_third = get-insert nat_cmp_total one 2 (combined Keep (get one 2) 0) 3 ∙ get-insert nat_cmp_total none 1 (combined Keep (get none 1) 0) 3 ∙ get-empty nat_cmp 3
 
 no_fourth : get three 4 ≡ None
-no_fourth = get-insert nat_cmp_total two 3 (combined Keep (get two 3) 0) 4 ∙ get-insert nat_cmp_total one 2 (combined Keep (get one 2) 0) 4 ∙ get-insert nat_cmp_total none 1 (combined Keep (get none 1) 0) 4 ∙ get-empty nat_cmp 4
+no_fourth = get-insert nat_cmp_total two 3 (combined Keep (get two 3) 0) 4 ∙ get-insert nat_cmp_total one 2 (combined Keep (get one 2) 0) 4
+    ∙ get-insert nat_cmp_total none 1 (combined Keep (get none 1) 0) 4 ∙ get-empty nat_cmp 4
 
 urls_are : uniques urls ≡ found
 urls_are =

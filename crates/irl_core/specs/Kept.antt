@@ -2,10 +2,11 @@
 use Rattle.std.specs.Prelude.{◌≡◌, ℕ, ◌≤◌, true, List, map, length, replicate}
 use Rattle.irl_offer.specs.declared.place.Place.{Place}
 use Rattle.irl_model.specs.Book.{last_cut}
-use Rattle.irl_model.specs.Events.{Progress, Happened}
-use Rattle.irl_model.specs.Plain.{items_of, whole_book}
-use Rattle.irl_fate.specs.declared.event.Event.{Event}
-use Rattle.irl_fate.specs.Seen.{seen}
+use Rattle.irl_events.specs.Events.{Progress, Happened}
+use Rattle.irl_base.specs.Lists.{items_of}
+use Rattle.irl_model.specs.Plain.{whole_book}
+use Rattle.irl_events.specs.declared.event.Event.{Event}
+use Rattle.irl_events.specs.Seen.{seen}
 use Rattle.irl_core.specs.declared.pure.Core.TheInside.{Inside}
 use Rattle.irl_core.specs.Steps.{CoreState, course, judged_in, list_of}
 use Rattle.irl_core.specs.Stores.{AreEquallyFar}
@@ -24,8 +25,8 @@ shown a = record {
   acknowledged = a.acknowledged.items;
 }
 
--- The fates are those of the core's events. They were told of a beginning, and of sent pairs of so many judged offers at most,
--- which a core has no events of.
+-- The fates are those of the core's events. They were told of a beginning, and of sent pairs of so many judged offers
+-- at most, which a core has no events of.
 pub record AreFatesOf (fates x : Progress) (judged : ℕ) : Type 0 where
   pub begun : fates.begun ≡ true
   pub cuts : fates.cuts ≡ 0

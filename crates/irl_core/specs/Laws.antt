@@ -4,15 +4,15 @@ use Rattle.irl_offer.specs.Settings.{AreValid}
 use Rattle.irl_offer.specs.Tuple.{Tuple}
 use Rattle.irl_offer.specs.declared.receipt.Receipt.{Receipt}
 use Rattle.irl_model.specs.Book.{IsBook, IsBelow, AreOfBuckets, lengths_of}
-use Rattle.irl_model.specs.Events.{has_number}
+use Rattle.irl_events.specs.Events.{has_number}
 use Rattle.irl_fate.specs.Standing.{count, one_if, stands, IsWaiting}
 use Rattle.irl_core.specs.declared.step.Step.{Step}
 use Rattle.irl_core.specs.declared.step.Step.TheVariants.{Offer, Flush, Merge, Stop, FlushStop, MergeStop, Pass, Settle, SettleStop}
 use Rattle.irl_core.specs.declared.step.Reply.TheVariants.{Stopped}
 use Rattle.irl_core.specs.Steps.{CoreState, array_of, list_of, judged_in, course, url_numbers, unread, step}
 
--- Each number of a URL stands once: among those that no pass has read, or in the front, a queue, the last list or what is done.
--- No other number stands anywhere.
+-- Each number of a URL stands once: among those that no pass has read, or in the front, a queue, the last list or what
+-- is done. No other number stands anywhere.
 abbrev pub StandOnce : CoreState → Type 0
 StandOnce x = (n : ℕ) → count n (unread x (url_numbers x)) + stands (course x) n ≡ one_if (has_number (url_numbers x) n)
 
@@ -69,8 +69,10 @@ NoneStopped x (s ∷ steps) = ((step x s).1 ≢ Stopped) × NoneStopped (step x 
 -- an offer stands in its bucket's list at the number of a receipt
 abbrev pub StandsAt : CoreState → Receipt → Tuple → Type 0
 StandsAt x receipt offer =
-    (place : ℕ) × ((slice_index x.urls.firsts receipt.bucket + place ≡ receipt.number) × (slice_get (list_of x receipt.bucket) place ≡ Some offer))
+    (place : ℕ) × ((slice_index x.urls.firsts receipt.bucket + place ≡ receipt.number)
+    × (slice_get (list_of x receipt.bucket) place ≡ Some offer))
 
 -- an offer stands at a number among what its bucket was given
 abbrev pub GivenAt : CoreState → ℕ → ℕ → Tuple → Type 0
-GivenAt x b number offer = (place : ℕ) × ((slice_index x.urls.firsts b + place ≡ number) × (slice_get (given x b) place ≡ Some offer))
+GivenAt x b number offer = (place : ℕ) × ((slice_index x.urls.firsts b + place ≡ number)
+    × (slice_get (given x b) place ≡ Some offer))

@@ -1,5 +1,5 @@
--- The core of a store: what calls and stops make of its arrays, of its book of URLs, of a crawl's passes and settles, and of
--- what is acknowledged, one step at a time and without a disk.
+-- The core of a store: what calls and stops make of its arrays, of its book of URLs, of a crawl's passes and settles,
+-- and of what is acknowledged, one step at a time and without a disk.
 use Rattle.std.specs.Prelude.{ℕ, ◌+◌, ◌-◌, nat_eq, nat_le, nat_lt, Bool, true, ◌&&◌, if◌then◌else◌, List, [], ◌∷◌, ◌++◌, map, length, filter, replicate, slice_index, slice_index_or, slice_set, Option, is_none}
 use Rattle.std.specs.Cmp.Lexicographic.{pointwise}
 use Rattle.irl_offer.specs.Buckets.{bucket_of}
@@ -8,8 +8,8 @@ use Rattle.irl_offer.specs.declared.outcome.Outcome.{Outcome}
 use Rattle.irl_offer.specs.declared.place.Place.{Place}
 use Rattle.irl_offer.specs.declared.settings.Settings.{Settings}
 use Rattle.irl_model.specs.Book.{Book, blank_book, lengths_of, judged_cut, gone, judged, uniques, flushed, flushed_lists, merged}
-use Rattle.irl_model.specs.Events.{Event, Pass as PassEvent, Settle as SettleEvent, Happened, Progress, numbers_of, progress}
-use Rattle.irl_model.specs.Legal.{broken, one_rose}
+use Rattle.irl_events.specs.Events.{Event, Pass as PassEvent, Settle as SettleEvent, Happened, Progress, numbers_of, progress}
+use Rattle.irl_events.specs.Legal.{broken, one_rose}
 use Rattle.irl_core.specs.declared.step.Step.{Step}
 use Rattle.irl_core.specs.declared.step.Step.TheVariants.{Offer, Flush, Merge, Stop, FlushStop, MergeStop, Pass, Settle, SettleStop}
 use Rattle.irl_core.specs.declared.step.Reply.{Reply}
@@ -69,8 +69,8 @@ abbrev pub unread : CoreState → List ℕ → List ℕ
 unread x numbers = filter (λ n. nat_le (course x).read n) numbers
 
 -- ---- when a step is taken
--- the least rule that an event with its places breaks in a core, where so many offers are judged: no event begins a crawl there,
--- and no event says that pairs are sent
+-- the least rule that an event with its places breaks in a core, where so many offers are judged: no event begins a
+-- crawl there, and no event says that pairs are sent
 abbrev pub broken_in_core : Progress → ℕ → Event → List Place → Option ℕ
 broken_in_core x judged event places = broken (record x { begun = true; sent = judged }) event places
 
@@ -83,9 +83,11 @@ settle_event x outcomes = SettleEvent (lengths_of x.urls) outcomes
 
 -- the bucket is the key's, and its array has room
 abbrev pub may_offer : CoreState → ℕ → Tuple → Bool
-may_offer x b offer = nat_eq b (bucket_of x.settings.buckets offer.key) && nat_lt (length (array_of x b)) x.settings.array
+may_offer x b offer = nat_eq b (bucket_of x.settings.buckets offer.key) && nat_lt (length (array_of x b))
+    x.settings.array
 
--- the array of a bucket isn't empty, too few of the bucket's offers are pending for a merge, and the list stays within the cap
+-- the array of a bucket isn't empty, too few of the bucket's offers are pending for a merge, and the list stays within
+-- the cap
 abbrev pub may_flush : CoreState → ℕ → Bool
 may_flush x b =
     nat_lt b x.settings.buckets && nat_lt 0 (length (array_of x b)) && nat_lt (pending_in x b) x.settings.trigger
@@ -139,11 +141,12 @@ stopped took effect x = emptied (if took then effect x else x)
 abbrev pub taken_if : Bool → CoreState → CoreState → Reply → CoreState × Reply
 taken_if may old new reply = if may then (new, reply) else (old, Refused)
 
--- Each step with its reply. A stop in a call is told from one between calls: its flag says whether the call took effect. It
--- acknowledges nothing, and where the call's condition isn't met it is refused too, whatever its flag.
+-- Each step with its reply. A stop in a call is told from one between calls: its flag says whether the call took
+-- effect. It acknowledges nothing, and where the call's condition isn't met it is refused too, whatever its flag.
 abbrev pub step : CoreState → Step → CoreState × Reply
 step x (Offer b offer) =
-    taken_if (may_offer x b offer) x (with_offer b offer x) (Receipt (record { bucket = b; number = durable_in x b + length (array_of x b) }))
+    taken_if (may_offer x b offer) x (with_offer b offer x)
+    (Receipt (record { bucket = b; number = durable_in x b + length (array_of x b) }))
 step x (Flush b) = taken_if (may_flush x b) x (with_word b (with_list b x)) Taken
 step x Merge = taken_if (may_merge x) x (with_cut x) (Cut (x.urls.dropped + length x.urls.cuts + 1))
 step x Stop = (emptied x, Stopped)

@@ -1,8 +1,8 @@
 ghost use Rattle.std.specs.Prelude.{◌≡◌, ◌≤◌, ◌++◌, ◌∷◌, [], length, true, if◌then◌else◌, is_none, None, IfOk, OnOk, OnErr};
 ghost use Rattle.irl_offer.specs.Buckets.{IsBucketCount};
-ghost use Rattle.irl_model.specs.Events.{after_event, before_all, Pairs as SeenPairs};
-ghost use Rattle.irl_model.specs.Legal.{broken};
-ghost use Rattle.irl_fate.specs.Seen.{seen, HasFronts};
+ghost use Rattle.irl_events.specs.Events.{after_event, before_all, Pairs as SeenPairs};
+ghost use Rattle.irl_events.specs.Legal.{broken};
+ghost use Rattle.irl_events.specs.Seen.{seen, HasFronts};
 
 use irl_fate::{Event, FateFault, Fates, Places};
 use irl_offer::{Place, Text};

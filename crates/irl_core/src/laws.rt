@@ -6,8 +6,8 @@ ghost use Rattle.irl_offer.specs.declared.receipt.Receipt.{Receipt};
 ghost use Rattle.irl_offer.specs.declared.settings.Settings.{Settings};
 ghost use Rattle.irl_model.specs.Book.{Book, IsBook, IsFront, IsPrefixOf, IsBelow, judged, lengths_of, uniques};
 ghost use Rattle.irl_offer.specs.declared.place.Place.{Place};
-ghost use Rattle.irl_model.specs.Events.{Happened, Progress, Pass as PassEvent, Settle as SettleEvent, has_number, progress};
-ghost use Rattle.irl_model.specs.Legal.{broken};
+ghost use Rattle.irl_events.specs.Events.{Happened, Progress, Pass as PassEvent, Settle as SettleEvent, has_number, progress};
+ghost use Rattle.irl_events.specs.Legal.{broken};
 ghost use Rattle.irl_fate.specs.Fates.{fate_of};
 ghost use Rattle.irl_fate.specs.Standing.{count, one_if, stands};
 ghost use Rattle.irl_fate.specs.declared.fate.Fate.TheVariants.{Fresh as FreshFate, Queue as QueueFate, Done as DoneFate};
@@ -66,7 +66,8 @@ pub fn what_was_there_stays()
     ensures events { (x : CoreState) (steps : List Step) → IsPrefixOf x.events (after_steps x steps).events }
     ensures done { (x : CoreState) (steps : List Step) (n : ℕ) (outcome : Outcome) → IsCore x →
         fate_of (course x) n ≡ DoneFate outcome → fate_of (course (after_steps x steps)) n ≡ DoneFate outcome }
-    ensures read { (x : CoreState) (steps : List Step) → IsCore x → (course x).read ≤ (course (after_steps x steps)).read }
+    ensures read { (x : CoreState) (steps : List Step) → IsCore x
+        → (course x).read ≤ (course (after_steps x steps)).read }
     ensures acknowledged { (x : CoreState) (steps : List Step) → IsCore x →
         IsBelow x.acknowledged (after_steps x steps).acknowledged }
 {}
@@ -104,7 +105,8 @@ pub fn a_stop_takes_effect_or_not()
 /// bucket's list at the receipt's number, from then on and whatever the steps are. What is acknowledged then counts it. A
 /// stop in the flush leaves it there too, where the flush took effect.
 pub fn a_flushed_offer_stands_at_its_number()
-    ensures number { (x : CoreState) (b : ℕ) (offer : Tuple) (receipt : Receipt) (between later : List Step) → IsCore x →
+    ensures number { (x : CoreState) (b : ℕ) (offer : Tuple) (receipt : Receipt) (between later : List Step) → IsCore x
+        →
         let y = after_steps (step x (Offer b offer)).0 between in
         (step x (Offer b offer)).1 ≡ ReceiptReply receipt → NoneStopped (step x (Offer b offer)).0 between →
         (step y (Flush b)).1 ≡ Taken → StandsAt (after_steps (step y (Flush b)).0 later) receipt offer }
@@ -113,7 +115,8 @@ pub fn a_flushed_offer_stands_at_its_number()
         (step x (Offer b offer)).1 ≡ ReceiptReply receipt → NoneStopped (step x (Offer b offer)).0 between →
         (step y (Flush b)).1 ≡ Taken →
         receipt.number < slice_index (after_steps (step y (Flush b)).0 later).acknowledged b }
-    ensures stopped { (x : CoreState) (b : ℕ) (offer : Tuple) (receipt : Receipt) (between later : List Step) → IsCore x →
+    ensures stopped { (x : CoreState) (b : ℕ) (offer : Tuple) (receipt : Receipt) (between later : List Step) → IsCore x
+        →
         let y = after_steps (step x (Offer b offer)).0 between in
         (step x (Offer b offer)).1 ≡ ReceiptReply receipt → NoneStopped (step x (Offer b offer)).0 between →
         (step y (FlushStop b true)).1 ≡ Stopped →
@@ -147,13 +150,19 @@ pub fn other_events_are_no_steps()
     ensures fates { (x y : Progress) (n : ℕ) → AreEquallyFar x y → fate_of x n ≡ fate_of y n }
     ensures passes { (x y : Progress) (judged : ℕ) (places : List Place) → AreEquallyFar x y → x.begun ≡ true →
         x.sent ≡ judged → broken x (PassEvent judged) places ≡ broken_in_core y judged (PassEvent judged) places }
-    ensures settles { (x y : Progress) (judged : ℕ) (fronts : List ℕ) (outcomes : List (ℕ × Outcome)) → AreEquallyFar x y →
-        x.begun ≡ true → broken x (SettleEvent fronts outcomes) [] ≡ broken_in_core y judged (SettleEvent fronts outcomes) [] }
-    ensures others { (settings : Settings) (arrays : List (List Tuple)) (urls : Book) (events : List Happened) (h : Happened)
-        (acknowledged : List ℕ) → is_step h.0 ≡ false → core_of_store settings arrays urls (events ++ h ∷ []) acknowledged
+    ensures settles { (x y : Progress) (judged : ℕ) (fronts : List ℕ) (outcomes : List (ℕ × Outcome))
+        → AreEquallyFar x y →
+        x.begun ≡ true → broken x (SettleEvent fronts outcomes) []
+        ≡ broken_in_core y judged (SettleEvent fronts outcomes) [] }
+    ensures others { (settings : Settings) (arrays : List (List Tuple)) (urls : Book) (events : List Happened)
+        (h : Happened)
+        (acknowledged : List ℕ) → is_step h.0 ≡ false
+        → core_of_store settings arrays urls (events ++ h ∷ []) acknowledged
         ≡ core_of_store settings arrays urls events acknowledged }
-    ensures steps { (settings : Settings) (arrays : List (List Tuple)) (urls : Book) (events : List Happened) (h : Happened)
-        (acknowledged : List ℕ) → is_step h.0 ≡ true → core_of_store settings arrays urls (events ++ h ∷ []) acknowledged
+    ensures steps { (settings : Settings) (arrays : List (List Tuple)) (urls : Book) (events : List Happened)
+        (h : Happened)
+        (acknowledged : List ℕ) → is_step h.0 ≡ true
+        → core_of_store settings arrays urls (events ++ h ∷ []) acknowledged
         ≡ with_event h.0 h.1 (core_of_store settings arrays urls events acknowledged) }
 {}
 

@@ -17,7 +17,7 @@ pub use laws::{
 pub use pure::Core;
 pub use states::{
     a_legal_store_is_a_core, a_worked_crawl_is_legal, longer_books_keep_a_legal_state,
-    one_event_more_is_legal,
+    one_event_more_is_legal, sent_pairs_give_the_budgets,
 };
 pub use step::{Reply, Step};
 

@@ -1,23 +1,12 @@
-ghost use Rattle.std.specs.Prelude.{◌≡◌, ◌<◌, ◌++◌, ◌∷◌, [], length, slice_index, slice_index_or, slice_set, replicate, vec_len, IfOk, OnOk, OnErr};
+ghost use Rattle.std.specs.Prelude.{◌≡◌, ◌<◌, ◌∷◌, [], length, slice_index, slice_index_or, slice_set, replicate, vec_len, IfOk, OnOk, OnErr};
 ghost use Rattle.std.specs.Prelude.{map as list_map};
-ghost use Rattle.irl_model.specs.Legal.{one_rose};
+ghost use Rattle.irl_events.specs.Legal.{one_rose};
 ghost use Rattle.irl_model.specs.Book.{flushed_lists};
-ghost use Rattle.irl_model.specs.Plain.{items_of};
+ghost use Rattle.irl_base.specs.Lists.{items_of};
 
 use irl_fate::Numbers;
 use irl_offer::Offer;
 use std::alloc::{AllocError, Global};
-
-/// So many lists, all empty.
-pub fn no_offers(alloc: Global, count: u32) -> Result<Vec<Vec<Offer>>, AllocError>
-    ensures { IfOk result (λ lists. items_of lists.items ≡ replicate count []) }
-{
-    let mut lists = Vec::new(alloc);
-    for _ in 0..count {
-        lists.push(Vec::new(alloc))?;
-    }
-    Ok(lists)
-}
 
 /// So many zeros.
 pub fn zeros(alloc: Global, count: u32) -> Result<Vec<u64>, AllocError>
@@ -56,7 +45,7 @@ pub fn push_at(lists: &mut Vec<Vec<Offer>>, at: u32, offer: Offer) -> Result<(),
     ensures ok { OnOk result (items_of lists.new.items ≡ flushed_lists at (offer ∷ []) (items_of lists.old.items)) }
     ensures err { OnErr result (items_of lists.new.items ≡ items_of lists.old.items) }
 {
-    lists[at as usize].push(offer)?;
+    irl_base::lists::push_at(lists, at as usize, offer)?;
     Ok(())
 }
 

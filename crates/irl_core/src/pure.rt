@@ -2,9 +2,9 @@ ghost use Rattle.std.specs.Prelude.{◌≡◌, ◌<◌, ◌≤◌, ◌+◌, [], 
 ghost use Rattle.std.specs.Cmp.Lexicographic.{pointwise};
 ghost use Rattle.irl_offer.specs.Settings.{AreValid};
 ghost use Rattle.irl_model.specs.Book.{judged as judged_of};
-ghost use Rattle.irl_model.specs.Events.{numbers_of};
+ghost use Rattle.irl_events.specs.Events.{numbers_of};
 ghost use Rattle.irl_fate.specs.Fates.{fate_of};
-ghost use Rattle.irl_fate.specs.Seen.{seen, HasFronts};
+ghost use Rattle.irl_events.specs.Seen.{seen, HasFronts};
 ghost use Rattle.irl_core.specs.Laws.{IsCore};
 ghost use Rattle.irl_core.specs.Steps.{step as step_of, core_of, new_core, course, unread, url_numbers, judged_in, durable_in, array_of, pending_in};
 ghost use Rattle.irl_core.specs.Steps.{may_offer as may_offer_of, may_flush as may_flush_of, may_merge as may_merge_of, may_pass, may_settle as may_settle_of};
@@ -13,10 +13,9 @@ ghost use Rattle.irl_core.specs.declared.step.Step.TheVariants.{Offer as OfferSt
 ghost use Rattle.irl_core.specs.declared.step.Step.TheVariants.{FlushStop as FlushStopStep, MergeStop as MergeStopStep, SettleStop as SettleStopStep};
 
 use crate::fates::{add_event, begun, tell_sent};
-use crate::lists::{
-    empty_all, length_at, lengths, move_to, no_offers, numbers, push_at, rise, set_at, zeros,
-};
+use crate::lists::{empty_all, length_at, lengths, move_to, numbers, push_at, rise, set_at, zeros};
 use crate::{Reply, Step};
+use irl_base::lists::empty_lists;
 use irl_fate::{Event, Fate, Fates, Places, Settled};
 use irl_offer::{Judged, Offer, Place, Receipt, Settings, bucket_of};
 use std::alloc::{AllocError, Global};
@@ -66,8 +65,8 @@ impl Core {
     {
         let buckets = settings.buckets;
         let fates = begun(alloc, settings.queues, buckets)?;
-        let arrays = no_offers(alloc, buckets)?;
-        let lists = no_offers(alloc, buckets)?;
+        let arrays = empty_lists(alloc, buckets as usize)?;
+        let lists = empty_lists(alloc, buckets as usize)?;
         let cut = zeros(alloc, buckets)?;
         let acknowledged = zeros(alloc, buckets)?;
         Ok(Core {
@@ -395,7 +394,8 @@ impl Core {
 
     // Adds a pass, if it breaks no rule.
     fn add_pass(&mut self, places: Places) -> Result<bool, AllocError>
-        requires { pointwise nat_eq (unread self.old (numbers_of places)) (unread self.old (url_numbers self.old)) ≡ true }
+        requires { pointwise nat_eq (unread self.old (numbers_of places)) (unread self.old (url_numbers self.old))
+            ≡ true }
         ensures value { IfOk result (λ took. took ≡ may_pass self.old places) }
         ensures ok { IfOk result (λ took. took ≡ true → self.new ≡ with_event (pass_event self.old) places self.old) }
         ensures refused { IfOk result (λ took. took ≡ false → self.new ≡ self.old) }
@@ -414,7 +414,8 @@ impl Core {
     // Adds a settle, if it breaks no rule.
     fn add_settle(&mut self, done: Settled) -> Result<bool, AllocError>
         ensures value { IfOk result (λ took. took ≡ may_settle_of self.old done) }
-        ensures ok { IfOk result (λ took. took ≡ true → self.new ≡ with_event (settle_event self.old done) [] self.old) }
+        ensures ok { IfOk result (λ took. took ≡ true
+            → self.new ≡ with_event (settle_event self.old done) [] self.old) }
         ensures refused { IfOk result (λ took. took ≡ false → self.new ≡ self.old) }
         ensures err { OnErr result (self.new ≡ self.old) }
     {

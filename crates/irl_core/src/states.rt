@@ -1,14 +1,17 @@
-ghost use Rattle.std.specs.Prelude.{◌≡◌, ℕ, List, [], ◌∷◌, ◌++◌, None, unwrap_or};
+ghost use Rattle.std.specs.Prelude.{◌≡◌, ℕ, List, [], ◌∷◌, ◌++◌, map, None, unwrap_or};
 ghost use Rattle.irl_offer.specs.Settings.{AreValid};
 ghost use Rattle.irl_offer.specs.declared.place.Place.{Place};
 ghost use Rattle.irl_offer.specs.declared.settings.Settings.{Settings};
+ghost use Rattle.irl_offer.specs.Tuple.{Tuple};
 ghost use Rattle.irl_model.specs.Book.{Book, IsBook, IsFront, blank_book};
-ghost use Rattle.irl_model.specs.Events.{Event, Begin, Happened, progress};
-ghost use Rattle.irl_model.specs.Legal.{broken};
+ghost use Rattle.irl_events.specs.Events.{Event, Begin, Happened, progress};
+ghost use Rattle.irl_events.specs.Legal.{broken};
+ghost use Rattle.irl_events.specs.Links.{linked};
+ghost use Rattle.irl_star.specs.Budgets.{budget, degree};
 ghost use Rattle.irl_offer.specs.declared.offer.Rule.TheVariants.{Keep};
 ghost use Rattle.irl_offer.specs.declared.place.Slot.TheVariants.{Front, Last, Queue};
 ghost use Rattle.irl_core.specs.Laws.{IsCore};
-ghost use Rattle.irl_core.specs.States.{HoldsLinks, IsLegalState, IsOfBooks, begun_with};
+ghost use Rattle.irl_core.specs.States.{AreSent, HoldsLinks, IsLegalState, IsOfBooks, begun_with, uniques_within};
 ghost use Rattle.irl_core.specs.Stores.{IsStored, opened_core};
 ghost use Rattle.irl_core.specs.Worked as worked;
 
@@ -19,18 +22,30 @@ ghost use Rattle.irl_core.specs.Worked as worked;
 /// judged, a pair with another domain, a pair that no link has, a settle past the end of a list, a place beside another event
 /// than a pass, and pairs where no crawl has begun. A new store is legal.
 pub fn a_worked_crawl_is_legal()
-    ensures legal { IsLegalState worked.domain worked.key worked.settings worked.urls worked.pairs (worked.events (Queue 2)) }
-    ensures place { IsLegalState worked.domain worked.key worked.settings worked.urls worked.pairs (worked.events Last) → ⊥ }
-    ensures later { IsLegalState worked.domain worked.key worked.settings worked.more_urls worked.pairs (worked.events (Queue 2)) }
-    ensures budget { IsLegalState worked.domain worked.key worked.settings worked.more_urls worked.pairs (worked.more_events Front) }
-    ensures no_budget { IsLegalState worked.domain worked.key worked.settings worked.more_urls worked.pairs (worked.more_events (Queue 2)) → ⊥ }
-    ensures again { IsLegalState worked.domain worked.key worked.settings worked.more_urls worked.pairs worked.two_passes }
-    ensures unsent { IsLegalState worked.domain worked.key worked.settings worked.urls worked.pairs (worked.crawl 1 3 0 (worked.places (Queue 2)) 3) → ⊥ }
-    ensures counted { IsLegalState worked.domain worked.key worked.settings worked.urls worked.pairs (worked.crawl 1 2 1 (worked.at 0 Front ∷ worked.at 1 (Queue 2) ∷ []) 3) → ⊥ }
-    ensures other_text { IsLegalState worked.domain worked.key worked.settings worked.urls worked.other_pairs (worked.events (Queue 2)) → ⊥ }
-    ensures stray { IsLegalState worked.domain worked.key worked.settings worked.urls worked.stray_pairs (worked.events (Queue 2)) → ⊥ }
-    ensures past_list { IsLegalState worked.domain worked.key worked.settings worked.urls worked.pairs (worked.crawl 1 3 1 (worked.places (Queue 2)) 4) → ⊥ }
-    ensures beside { IsLegalState worked.domain worked.key worked.settings worked.urls worked.pairs ((Begin [], worked.at 0 Front ∷ []) ∷ []) → ⊥ }
+    ensures legal { IsLegalState worked.domain worked.key worked.settings worked.urls worked.pairs
+        (worked.events (Queue 2)) }
+    ensures place { IsLegalState worked.domain worked.key worked.settings worked.urls worked.pairs (worked.events Last)
+        → ⊥ }
+    ensures later { IsLegalState worked.domain worked.key worked.settings worked.more_urls worked.pairs
+        (worked.events (Queue 2)) }
+    ensures budget { IsLegalState worked.domain worked.key worked.settings worked.more_urls worked.pairs
+        (worked.more_events Front) }
+    ensures no_budget { IsLegalState worked.domain worked.key worked.settings worked.more_urls worked.pairs
+        (worked.more_events (Queue 2)) → ⊥ }
+    ensures again { IsLegalState worked.domain worked.key worked.settings worked.more_urls worked.pairs
+        worked.two_passes }
+    ensures unsent { IsLegalState worked.domain worked.key worked.settings worked.urls worked.pairs
+        (worked.crawl 1 3 0 (worked.places (Queue 2)) 3) → ⊥ }
+    ensures counted { IsLegalState worked.domain worked.key worked.settings worked.urls worked.pairs
+        (worked.crawl 1 2 1 (worked.at 0 Front ∷ worked.at 1 (Queue 2) ∷ []) 3) → ⊥ }
+    ensures other_text { IsLegalState worked.domain worked.key worked.settings worked.urls worked.other_pairs
+        (worked.events (Queue 2)) → ⊥ }
+    ensures stray { IsLegalState worked.domain worked.key worked.settings worked.urls worked.stray_pairs
+        (worked.events (Queue 2)) → ⊥ }
+    ensures past_list { IsLegalState worked.domain worked.key worked.settings worked.urls worked.pairs
+        (worked.crawl 1 3 1 (worked.places (Queue 2)) 4) → ⊥ }
+    ensures beside { IsLegalState worked.domain worked.key worked.settings worked.urls worked.pairs
+        ((Begin [], worked.at 0 Front ∷ []) ∷ []) → ⊥ }
     ensures unbegun { IsLegalState worked.domain worked.key worked.settings worked.urls worked.pairs [] → ⊥ }
     ensures blank { IsLegalState worked.domain worked.key worked.settings (blank_book 1 Keep) (blank_book 1 Keep) [] }
 {}
@@ -53,9 +68,23 @@ pub fn longer_books_keep_a_legal_state()
         (events : List Happened) → IsBook urls → IsFront urls more →
         IsLegalState domain key settings urls pairs events → IsLegalState domain key settings more pairs events }
     // The pairs' book may be offered what it may hold, and nothing else.
-    ensures pairs { (domain : List ℕ → List ℕ → List ℕ) (key : List ℕ → ℕ) (settings : Settings) (urls pairs more : Book)
-        (events : List Happened) → IsBook pairs → IsFront pairs more → HoldsLinks domain key urls more (begun_with events) →
+    ensures pairs { (domain : List ℕ → List ℕ → List ℕ) (key : List ℕ
+        → ℕ) (settings : Settings) (urls pairs more : Book)
+        (events : List Happened) → IsBook pairs → IsFront pairs more
+        → HoldsLinks domain key urls more (begun_with events) →
         IsLegalState domain key settings urls pairs events → IsLegalState domain key settings urls more events }
+{}
+
+/// The budgets that the links of sent pairs give are those that the unique pairs give which were judged when they were sent, each
+/// of which counts for the domain that it leads to: so they are told from the book of pairs alone.
+pub fn sent_pairs_give_the_budgets()
+    ensures degrees { (links : List Tuple) (urls pairs : Book) (cuts judged sent : ℕ) →
+        AreSent links urls pairs cuts judged sent → (domain : List ℕ) →
+        degree (map (λ p. p.1.aux) (uniques_within 0 sent pairs)) domain ≡ degree (linked links) domain }
+    ensures budgets { (links : List Tuple) (urls pairs : Book) (cuts judged sent : ℕ) →
+        AreSent links urls pairs cuts judged sent → (settings : Settings) (domain : List ℕ) →
+        budget settings (map (λ p. p.1.aux) (uniques_within 0 sent pairs)) domain
+        ≡ budget settings (linked links) domain }
 {}
 
 /// A legal store that was opened is a core, where its settings are valid and its URLs are a book of these settings. The numbers

@@ -20,7 +20,8 @@ chosen false x y same = same refl
 mixed_outside : (at n : ℕ) (synced new : List ℕ) (i : ℕ) → (i < at) ⊎ (at + n ≤ i) → mixed at n synced new i ≡ get_or new i 0
 mixed_outside at n synced new i out = grind (arith, nat_tests)
 
-free_after_write : (is_done : Bool) (at : ℕ) (bytes : List ℕ) (s : FileState) (i : ℕ) → at ≤ length s.now → is_free s i ≡ false → (i < at) ⊎ (at + length bytes ≤ i) → is_free (after_write is_done at bytes s) i ≡ false
+free_after_write : (is_done : Bool) (at : ℕ) (bytes : List ℕ) (s : FileState) (i : ℕ) → at ≤ length s.now → is_free s i ≡ false → (i < at) ⊎ (at + length bytes ≤ i)
+    → is_free (after_write is_done at bytes s) i ≡ false
 free_after_write is_done at bytes s i le h out =
     let n = not_free s i h in
     let e : min at (length s.now) ≡ at = omega arith in

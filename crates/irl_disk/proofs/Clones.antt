@@ -25,5 +25,6 @@ from_option None new clones = rw clones refl
 from_option (Some v) None clones = absurd clones
 from_option (Some v) (Some w) clones = same_from_clone v.items w.items clones.0
 
-pub files_from_clone : (old new : List (ℕ × Vec ℕ Global)) → AllZip (λ p q. (q.0 ≡ p.0) × (AllZip (λ (x y : ℕ). y ≡ x) p.1.items q.1.items × (vec_len q.1 ≡ vec_len p.1))) old new → (f : ℕ) → files_among new f ≡ files_among old f
+pub files_from_clone : (old new : List (ℕ × Vec ℕ Global)) → AllZip (λ p q. (q.0 ≡ p.0) × (AllZip (λ (x y : ℕ). y ≡ x) p.1.items q.1.items × (vec_len q.1 ≡ vec_len p.1))) old new → (f : ℕ)
+    → files_among new f ≡ files_among old f
 files_from_clone old new clones f = from_option _ _ (lookup_clone (λ (x y : ℕ). y ≡ x) IsFileClone (is_at (nat_cmp f)) (λ x y e. rw e refl) old new clones)

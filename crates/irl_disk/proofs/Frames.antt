@@ -4,7 +4,8 @@ use Rattle.irl_disk.specs.Disk.{Files, Changes, ChangesFile, ChangesAmong}
 use Rattle.irl_disk.specs.Taken.{Takes, TakesAmong, TakesOnly}
 
 -- a store that tells after a change of one file told before it
-pub told_from : (f : ℕ) (step : List ℕ → List ℕ → Type 0) (old new : Option Files) (files : Files) → Changes f step old new → new ≡ Some files → (before : Files) × (old ≡ Some before) × ChangesFile f step before files
+pub told_from : (f : ℕ) (step : List ℕ → List ℕ → Type 0) (old new : Option Files) (files : Files) → Changes f step old new → new ≡ Some files → (before : Files) × (old ≡ Some before)
+    × ChangesFile f step before files
 told_from f step None new files changes told = cc
 told_from f step (Some old) new files changes told =
     let same : changes.0 ≡ files = cc in
@@ -33,7 +34,8 @@ module _ (among : ℕ → Type 0) (step : ℕ → List ℕ → List ℕ → Type
   }
 
   -- two changes, one after the other
-  pub among_joins : (old mid new : Files) → ((g : ℕ) (x y z : List ℕ) → among g → step g x y → step g y z → step g x z) → ChangesAmong among step old mid → ChangesAmong among step mid new → ChangesAmong among step old new
+  pub among_joins : (old mid new : Files) → ((g : ℕ) (x y z : List ℕ) → among g → step g x y → step g y z → step g x z) → ChangesAmong among step old mid → ChangesAmong among step mid new
+      → ChangesAmong among step old new
   among_joins old mid new both first second = record {
     changed = λ g is. both g (old g) (mid g) (new g) is (first.changed g is) (second.changed g is);
     others = λ g out. second.others g out ∙ first.others g out;

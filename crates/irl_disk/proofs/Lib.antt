@@ -1,5 +1,6 @@
 pub mod Before
 pub mod Clones
+pub mod Effects
 pub mod Frames
 pub mod Logged
 pub mod Pieces

@@ -32,7 +32,8 @@ done_is_now call first old new was now before pushed after f =
     after f ∙ ap (λ bytes. read_after call f bytes) (before f)
     ∙ sym (rw (pushed, after_more old (record { call = call; is_done = true }) f start) (now_done call f (after_entries old f start)))
 
-failed_is_now : (call : Call) (first : List (ℕ × Vec ℕ Global)) (old new : List LoggedCall) (was now : Files) → AreNow first old was → (new ≡ old) ⊎ (new ≡ old ++ record { call = call; is_done = false } ∷ [])
+failed_is_now : (call : Call) (first : List (ℕ × Vec ℕ Global)) (old new : List LoggedCall) (was now : Files) → AreNow first old was → (new ≡ old)
+    ⊎ (new ≡ old ++ record { call = call; is_done = false } ∷ [])
     → ((f : ℕ) → now f ≡ was f) → AreNow first new now
 failed_is_now call first old new was now before (inl same) after f = after f ∙ rw same (before f)
 failed_is_now call first old new was now before (inr pushed) after f =

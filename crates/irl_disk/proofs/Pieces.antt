@@ -82,7 +82,8 @@ piece_replaced (n ∷ ns) (suc f) bs cs new lt fits is =
     let rest : take (a + l + b) (drop n cs) ≡ take a (drop n bs) ++ new ++ tail =
     sym (drop-take n (a + l + b) cs) ∙ ap (λ (xs : List ℕ). drop n xs) was
     ∙ drop-append-le n front tail long ∙ ap (λ (xs : List ℕ). xs ++ tail) (drop-append-le n (take (n + a) bs) new enough ∙ ap (λ (xs : List ℕ). xs ++ new) (drop-take n a bs)) in
-    let others : pieces (set ns f l) (drop n cs) ≡ set (pieces ns (drop n bs)) f new = piece_replaced ns f (drop n bs) (drop n cs) new (omega arith) (omega (arith, length-drop n bs, sum-cons n ns)) rest in
+    let others : pieces (set ns f l) (drop n cs) ≡ set (pieces ns (drop n bs)) f new =
+    piece_replaced ns f (drop n bs) (drop n cs) new (omega arith) (omega (arith, length-drop n bs, sum-cons n ns)) rest in
     cc
 
 -- the lengths before a piece, its own and those behind it
@@ -105,7 +106,13 @@ piece_resized ns f bs to lt fits room =
     let cs = copy_within bs (a + n) (sum ns) (a + to) in
     let count : sum ns - (a + n) ≡ b = omega arith in
     let long : length new ≡ to = length-take-le to (drop a bs) (omega (arith, length-drop a bs)) in
-    let front : length (take (a + to) bs ++ tail) ≡ a + to + b = omega (arith, length-append (take (a + to) bs) tail, length-take (a + to) bs, length-take b (drop (a + n) bs), length-drop (a + n) bs) in
+    let front : length (take (a + to) bs ++ tail) ≡ a + to + b = omega (
+      arith,
+      length-append (take (a + to) bs) tail,
+      length-take (a + to) bs,
+      length-take b (drop (a + n) bs),
+      length-drop (a + n) bs,
+    ) in
     let made : cs ≡ take (a + to) bs ++ tail ++ left = ap (λ (k : ℕ). take (a + to) bs ++ take k (drop (a + n) bs) ++ left) count in
     let is : take (a + to + b) cs ≡ take a bs ++ new ++ tail =
     ap (λ (xs : List ℕ). take (a + to + b) xs) made ∙ take_at (take (a + to) bs ++ tail) left (a + to + b) front ∙ ap (λ (xs : List ℕ). xs ++ tail) (take-add a to bs) in
@@ -158,7 +165,8 @@ piece_long (n ∷ ns) bs zero fits = length-take-le n bs (omega (arith, sum-cons
 piece_long (n ∷ ns) bs (suc f) fits = piece_long ns (drop n bs) f (omega (arith, sum-cons n ns, length-drop n bs))
 
 -- ---- the same as files
-pub piece_changes : (ns bs ms cs : List ℕ) (f : ℕ) (x : List ℕ) (step : List ℕ → List ℕ → Type 0) → f < length ns → pieces ms cs ≡ set (pieces ns bs) f x → step (files_cut ns bs f) x → ChangesFile f step (files_cut ns bs) (files_cut ms cs)
+pub piece_changes : (ns bs ms cs : List ℕ) (f : ℕ) (x : List ℕ) (step : List ℕ → List ℕ → Type 0) → f < length ns → pieces ms cs ≡ set (pieces ns bs) f x → step (files_cut ns bs f) x
+    → ChangesFile f step (files_cut ns bs) (files_cut ms cs)
 piece_changes ns bs ms cs f x step lt is steps = record {
   changed = subst (λ (new : List ℕ). step (files_cut ns bs f) new)
       (sym (ap (λ (files : List (List ℕ)). get_or files f []) is ∙ get_or-set_same (pieces ns bs) f x [] (omega (arith, pieces-length ns bs)))) steps;

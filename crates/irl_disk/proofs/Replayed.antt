@@ -49,7 +49,8 @@ module _ (h : History) (i : ℕ) (entry : LoggedCall) (within : i < length h.ent
   pub now_more : (is_done : Bool) → entry.is_done ≡ is_done → (f : ℕ) → (states_at (i + 1) h f).now ≡ (after_call entry.call is_done f (states_at i h f)).now
   now_more is_done e f = ap (λ (s : FileState). s.now) (states_more f) ∙ rw e refl
 
-  pub done_more : entry.is_done ≡ true → (old new : Files) → ((f : ℕ) → old f ≡ (states_at i h f).now) → ((f : ℕ) → new f ≡ read_after entry.call f (old f)) → (f : ℕ) → new f ≡ (states_at (i + 1) h f).now
+  pub done_more : entry.is_done ≡ true → (old new : Files) → ((f : ℕ) → old f ≡ (states_at i h f).now) → ((f : ℕ) → new f ≡ read_after entry.call f (old f)) → (f : ℕ)
+      → new f ≡ (states_at (i + 1) h f).now
   done_more e old new was after f = after f ∙ ap (λ (xs : List ℕ). read_after entry.call f xs) (was f) ∙ sym (now_more true e f ∙ now_done entry.call f (states_at i h f))
 
   pub failed_more : entry.is_done ≡ false → (old : Files) → ((f : ℕ) → old f ≡ (states_at i h f).now) → (f : ℕ) → old f ≡ (states_at (i + 1) h f).now

@@ -15,7 +15,7 @@ use Rattle.irl_disk.specs.Images.{Follows, Leaves, LeavesBy, LeavesSame}
 use Rattle.irl_disk.specs.Model.{FileState, at_rest, after_write, after_cut, after_sync, IsFileImage, AreImages}
 use Rattle.irl_disk.specs.ModelLaws.{IsSound, image_at_rest}
 use Rattle.irl_disk.specs.Calls.{History, ChangesState, IsLogged, Logs, files_among, after_call, after_entry, after_entries, states, states_at, ImagesSince, read_after}
-use Rattle.irl_disk.specs.Memory.{files_in, call_count, snapshot_of}
+use Rattle.irl_disk.specs.Memory.{files_in, call_count, told_by}
 use Rattle.irl_disk.specs.MemoryLaws.{sound_states, since_now}
 use Rattle.irl_disk.proofs.Before.{below_or_above, scribbled, partly_cut}
 
@@ -91,7 +91,7 @@ module _ (call : Call) (is_done : Bool) (old new : History) (logs : Logs call is
       (below_or_above (length old.entries) left.0)
 
 -- a call that was refused
-pub refused_leaves : (old new : MemStore) (P : Files → Type 0) → new.log ≡ old.log → ((image : Files) → (snapshot_of old).images image → P image) → Leaves (snapshot_of old) (snapshot_of new) P
+pub refused_leaves : (old new : MemStore) (P : Files → Type 0) → new.log ≡ old.log → ((image : Files) → (told_by old).images image → P image) → Leaves (told_by old) (told_by new) P
 refused_leaves old new P same was = record {
   later = omega (arith, ap (λ (h : History). length h.entries) same);
   each = λ image left. was image (since_now old image (subst (λ (h : History). ImagesSince h (call_count old) image) same left));
@@ -100,9 +100,9 @@ refused_leaves old new P same was = record {
 
 -- what a stop leaves from before the call to behind it
 pub leaves : (call : Call) (P : Files → Type 0) (old new : MemStore) → Made call old.log new.log
-    → ((image : Files) → (snapshot_of old).images image → P image)
+    → ((image : Files) → (told_by old).images image → P image)
     → ((is_done : Bool) (image : Files) → AreImages (λ f. after_call call is_done f (states old.log f)) image → P image)
-    → Leaves (snapshot_of old) (snapshot_of new) P
+    → Leaves (told_by old) (told_by new) P
 leaves call P old new (inl same) was next = refused_leaves old new P same was
 leaves call P old new (inr (is_done, logs)) was next = record {
   later = omega (arith, one_longer call is_done old.log new.log logs);
@@ -113,10 +113,10 @@ leaves call P old new (inr (is_done, logs)) was next = record {
 -- a call that changes no file's images
 pub quiet_leaves : (call : Call) (old new : MemStore) → Made call old.log new.log
     → ((is_done : Bool) (f : ℕ) (image : List ℕ) → IsFileImage (after_call call is_done f (states old.log f)) image → IsFileImage (states old.log f) image)
-    → LeavesSame (snapshot_of old) (snapshot_of new)
-quiet_leaves call old new was same = leaves call ((snapshot_of old).images) old new was (λ image left. left) (λ is_done image left f. same is_done f (image f) (left f))
+    → LeavesSame (told_by old) (told_by new)
+quiet_leaves call old new was same = leaves call ((told_by old).images) old new was (λ image left. left) (λ is_done image left f. same is_done f (image f) (left f))
 
-pub query_leaves : (old new : MemStore) → Made Query old.log new.log → LeavesSame (snapshot_of old) (snapshot_of new)
+pub query_leaves : (old new : MemStore) → Made Query old.log new.log → LeavesSame (told_by old) (told_by new)
 query_leaves old new was = quiet_leaves Query old new was (λ is_done f image left. left)
 
 synced_before : (b is_done : Bool) (s : FileState) (image : List ℕ) → IsSound s → IsFileImage (if b then after_sync is_done s else s) image → IsFileImage s image
@@ -124,7 +124,7 @@ synced_before true true s image sound left = rw (image_at_rest s.now image left)
 synced_before true false s image sound left = left
 synced_before false is_done s image sound left = left
 
-pub sync_leaves : (file : ℕ) (old new : MemStore) → Made (Sync file) old.log new.log → LeavesSame (snapshot_of old) (snapshot_of new)
+pub sync_leaves : (file : ℕ) (old new : MemStore) → Made (Sync file) old.log new.log → LeavesSame (told_by old) (told_by new)
 sync_leaves file old new was = quiet_leaves (Sync file) old new was (λ is_done f image left. synced_before (nat_eq f file) is_done (states old.log f) image (sound_states old.log f) left)
 
 -- ---- a call that changes one file
@@ -168,17 +168,17 @@ pub scribbled_images : (at n file : ℕ) (images : Files → Type 0) (image : Fi
 scribbled_images at n file images image left = (image, left, record { changed = record { before = refl; after = refl; no_shorter = omega arith; no_longer = omega arith }; others = λ g ne. refl })
 
 pub write_leaves : (file at : ℕ) (bytes : Vec ℕ Global) (old new : MemStore) → at ≤ length (files_in old file) → Made (Write file at bytes) old.log new.log
-    → LeavesBy (ChangesFile file (Scribbled at (length bytes.items))) (snapshot_of old) (snapshot_of new)
-write_leaves file at bytes old new le was = leaves (Write file at bytes) (Follows (ChangesFile file (Scribbled at (length bytes.items))) ((snapshot_of old).images)) old new was
-    (scribbled_images at (length bytes.items) file ((snapshot_of old).images))
+    → LeavesBy (ChangesFile file (Scribbled at (length bytes.items))) (told_by old) (told_by new)
+write_leaves file at bytes old new le was = leaves (Write file at bytes) (Follows (ChangesFile file (Scribbled at (length bytes.items))) ((told_by old).images)) old new was
+    (scribbled_images at (length bytes.items) file ((told_by old).images))
     (λ is_done. one_follows file (states old.log) (λ f. after_call (Write file at bytes) is_done f (states old.log f)) (Scribbled at (length bytes.items))
     (λ f e. rw e refl)
     (λ image left. scribbled is_done at bytes.items (states old.log file) image le (sound_states old.log file)
     (here file (after_write is_done at bytes.items (states old.log file)) (states old.log file) image left)))
 
 pub cut_leaves : (file to : ℕ) (old new : MemStore) → Made (Cut file to) old.log new.log
-    → LeavesBy (ChangesFile file (PartlyCut to)) (snapshot_of old) (snapshot_of new)
-cut_leaves file to old new was = leaves (Cut file to) (Follows (ChangesFile file (PartlyCut to)) ((snapshot_of old).images)) old new was
+    → LeavesBy (ChangesFile file (PartlyCut to)) (told_by old) (told_by new)
+cut_leaves file to old new was = leaves (Cut file to) (Follows (ChangesFile file (PartlyCut to)) ((told_by old).images)) old new was
     (λ image left. (image, left, record { changed = record { no_shorter = omega arith; prefix = sym (take_all _ _ (omega arith)) }; others = λ g ne. refl }))
     (λ is_done. one_follows file (states old.log) (λ f. after_call (Cut file to) is_done f (states old.log f)) (PartlyCut to)
     (λ f e. rw e refl)
@@ -214,7 +214,7 @@ not_done_stays call old new (inl same) f = ap (λ (h : History). (states h f).no
 not_done_stays call old new (inr logs) f = files_logged call false old.log new.log logs f ∙ now_not_done call f (states old.log f)
 
 -- of a file sync that was done a stop leaves what a read gives
-pub sync_durable : (file : ℕ) (old new : MemStore) → Logs (Sync file) true old.log new.log → (image : Files) → (snapshot_of new).images image → image file ≡ files_in old file
+pub sync_durable : (file : ℕ) (old new : MemStore) → Logs (Sync file) true old.log new.log → (image : Files) → (told_by new).images image → image file ≡ files_in old file
 sync_durable file old new logs image left =
     image_at_rest (files_in old file) (image file)
     (here file (at_rest (files_in old file)) (states old.log file) (image file)
@@ -234,7 +234,12 @@ tells_change old new f step changes = (files_in new, refl, changes)
 
 pub scribbled_none : (at n f : ℕ) (old new : Files) → ((g : ℕ) → new g ≡ old g) → ChangesFile f (Scribbled at n) old new
 scribbled_none at n f old new same = record {
-  changed = record { before = ap (λ (xs : List ℕ). take at xs) (same f); after = ap (λ (xs : List ℕ). drop (at + n) xs) (same f); no_shorter = rw same (omega arith); no_longer = rw same (omega arith) };
+  changed = record {
+    before = ap (λ (xs : List ℕ). take at xs) (same f);
+    after = ap (λ (xs : List ℕ). drop (at + n) xs) (same f);
+    no_shorter = rw same (omega arith);
+    no_longer = rw same (omega arith);
+  };
   others = λ g ne. same g;
 }
 
@@ -248,7 +253,8 @@ pub same_told : (x y : Files) → Some x ≡ Some y → x ≡ y
 same_told x y e = cc
 
 -- ---- what a call makes of the states
-pub changes_state : (call : Call) (is_done : Bool) (file : ℕ) (step : FileState → FileState) (old new : History) → ((f : ℕ) (s : FileState) → after_call call is_done f s ≡ (if nat_eq f file then step s else s))
+pub changes_state : (call : Call) (is_done : Bool) (file : ℕ) (step : FileState → FileState) (old new : History)
+    → ((f : ℕ) (s : FileState) → after_call call is_done f s ≡ (if nat_eq f file then step s else s))
     → Logs call is_done old new → ChangesState file step old new
 changes_state call is_done file step old new is logs = record {
   changed = states_logged call is_done old new logs file ∙ is file (states old file) ∙ rw (one_number file) refl;
@@ -256,7 +262,8 @@ changes_state call is_done file step old new is logs = record {
 }
 
 -- a write that was made is logged
-pub write_logged : {T E : Type 0} (file at : ℕ) (kept : Vec ℕ Global) (bytes : List ℕ) (r : Result T E) (old new : History) → kept.items ≡ bytes → OnOk r (Logs (Write file at kept) true old new) → OnErr r ((new ≡ old) ⊎ Logs (Write file at kept) false old new) → IsLogged (device.Write file at bytes) (is_ok r) old new
+pub write_logged : {T E : Type 0} (file at : ℕ) (kept : Vec ℕ Global) (bytes : List ℕ) (r : Result T E) (old new : History) → kept.items ≡ bytes → OnOk r (Logs (Write file at kept) true old new)
+    → OnErr r ((new ≡ old) ⊎ Logs (Write file at kept) false old new) → IsLogged (device.Write file at bytes) (is_ok r) old new
 write_logged file at kept bytes (Ok value) old new same done failed = (kept, same, done)
 write_logged file at kept bytes (Err error) old new same done failed = ⊎_elim (λ e. inl e) (λ logs. inr (kept, same, logs)) failed
 

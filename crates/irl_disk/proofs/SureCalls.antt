@@ -9,8 +9,9 @@ use Rattle.irl_disk.specs.Sure.{Held, bytes_held, pieces, settled, sure_files}
 use Rattle.irl_disk.proofs.Pieces.{piece_long, pieces_total}
 
 -- a stop behind a step leaves what the step made
-pub leaves_step : (old new : Files) (step : Files → Files → Type 0) → step old new → LeavesBy step (settled old) (settled new)
-leaves_step old new step steps =
+pub leaves_step : (old new : Files) (taken taken_then : ℕ → ℕ) (faults faults_then : ℕ) (step : Files → Files → Type 0) → step old new
+    → LeavesBy step (settled old taken faults) (settled new taken_then faults_then)
+leaves_step old new taken taken_then faults faults_then step steps =
     let from : (image : Files) → image ≡ new → (was : Files) × (was ≡ old) × step was image = λ image left. (old, refl, subst (λ (now : Files). step old now) (sym left) steps) in
     record { later = omega arith; each = from; before = λ t image le left. inr (from image left) }
 

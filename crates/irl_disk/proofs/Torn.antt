@@ -24,7 +24,8 @@ get_or-inside at bytes old i le above below = rw append_assoc
     (get_or-append_right (take at old) (bytes ++ drop (at + length bytes) old) at i 0 (omega (arith, length-take at old)) above
     ∙ get_or_append_left bytes (drop (at + length bytes) old) 0 (i - at) (omega arith))
 
-combined : (b odd written : Bool) (x y : ℕ) → (b ≡ true → odd ≡ false → x ≡ y) → (b ≡ false → x ≡ (if odd && written then 165 else y)) → (if odd && b then 165 else x) ≡ (if odd && (b || written) then 165 else y)
+combined : (b odd written : Bool) (x y : ℕ) → (b ≡ true → odd ≡ false → x ≡ y) → (b ≡ false → x ≡ (if odd && written then 165 else y))
+    → (if odd && b then 165 else x) ≡ (if odd && (b || written) then 165 else y)
 combined true true written x y within out = refl
 combined true false written x y within out = within refl refl
 combined false true written x y within out = out refl
@@ -36,8 +37,10 @@ not_torn false written x e = refl
 
 -- a write's bytes over a torn file and over what a read gives
 module _ (bytes old : List ℕ) (s : FileState) (torn : IsTorn s old) (start i : ℕ) (le : start ≤ length s.now) where
-  within_range : (is_done : Bool) → i < length (if is_done then take start old ++ bytes ++ drop (start + length bytes) old else old) → is_in i (start, start + length bytes) ≡ true → nat_eq (i % 2) 1 ≡ false
-      → get_or (if is_done then take start old ++ bytes ++ drop (start + length bytes) old else old) i 0 ≡ get_or (if is_done then take start s.now ++ bytes ++ drop (start + length bytes) s.now else s.now) i 0
+  within_range : (is_done : Bool) → i < length (if is_done then take start old ++ bytes ++ drop (start + length bytes) old else old) → is_in i (start, start + length bytes) ≡ true
+      → nat_eq (i % 2) 1 ≡ false
+      → get_or (if is_done then take start old ++ bytes ++ drop (start + length bytes) old else old) i 0
+      ≡ get_or (if is_done then take start s.now ++ bytes ++ drop (start + length bytes) s.now else s.now) i 0
   within_range true l e even =
       let w = inside i start (start + length bytes) e in
       get_or-inside start bytes old i (omega (arith, torn.long)) w.0 w.1 ∙ sym (get_or-inside start bytes s.now i le w.0 w.1)

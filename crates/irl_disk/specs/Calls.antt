@@ -71,10 +71,11 @@ pub record Logs (call : Call) (is_done : Bool) (old new : History) : Type 0 wher
 
 -- one more write was made, of these bytes
 abbrev pub LogsWrite : ℕ → ℕ → List ℕ → Bool → History → History → Type 0
-LogsWrite file at bytes is_done old new = (kept : Vec ℕ Global) × (kept.items ≡ bytes) × Logs (Write file at kept) is_done old new
+LogsWrite file at bytes is_done old new = (kept : Vec ℕ Global) × (kept.items ≡ bytes)
+    × Logs (Write file at kept) is_done old new
 
--- A call was made and logged, as done where it answered Ok. One that found no memory to be logged was not made, and a read may
--- fail behind its call.
+-- A call was made and logged, as done where it answered Ok. One that found no memory to be logged was not made, and a
+-- read may fail behind its call.
 abbrev pub IsLogged : DeviceCall → Bool → History → History → Type 0
 IsLogged (device.Length file) true old new = Logs Query true old new
 IsLogged (device.Length file) false old new = (new ≡ old) ⊎ Logs Query false old new
@@ -105,4 +106,5 @@ IsPart Torn s bytes = IsTorn s bytes
 
 -- a part of each file goes on over one more entry, where `now` is what a read gave before it
 abbrev pub ShowsNext : Part → LoggedCall → Files → Files → Files → Type 0
-ShowsNext part entry now old new = (f : ℕ) (s : FileState) → now f ≡ s.now → IsPart part s (old f) → IsPart part (after_entry entry f s) (new f)
+ShowsNext part entry now old new = (f : ℕ) (s : FileState) → now f ≡ s.now → IsPart part s (old f)
+    → IsPart part (after_entry entry f s) (new f)

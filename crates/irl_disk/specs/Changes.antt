@@ -17,8 +17,10 @@ AllStay old new = (f : ℕ) → files_of new f ≡ files_of old f
 -- new has `A5` at the odd places of a range, and is old elsewhere
 pub record TearsRange (start end : ℕ) (old new : List ℕ) : Type 0 where
   pub long : length new ≡ length old
-  pub each : (i : ℕ) → i < length old → get_or new i 0 ≡ (if nat_eq (i % 2) 1 && is_in i (start, end) then 165 else get_or old i 0)
+  pub each : (i : ℕ) → i < length old → get_or new i 0
+      ≡ (if nat_eq (i % 2) 1 && is_in i (start, end) then 165 else get_or old i 0)
 
 -- a torn file after one more write
 abbrev pub TornNext : Bool → ℕ → List ℕ → List ℕ → List ℕ → Type 0
-TornNext is_done at bytes old new = TearsRange (min at (length old)) (min at (length old) + length bytes) (after_write is_done at bytes (at_rest old)).now new
+TornNext is_done at bytes old new = TearsRange (min at (length old)) (min at (length old) + length bytes)
+    (after_write is_done at bytes (at_rest old)).now new

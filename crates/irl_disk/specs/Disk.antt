@@ -35,12 +35,25 @@ pub record ChangesAmong (among : ℕ → Type 0) (step : ℕ → List ℕ → Li
   pub changed : (f : ℕ) → among f → step f (old f) (new f)
   pub others : (f : ℕ) → (among f → ⊥) → new f ≡ old f
 
--- the same of one file, and of what is told; a store that tells nothing goes on telling nothing
-abbrev pub Changes : ℕ → (List ℕ → List ℕ → Type 0) → Option Files → Option Files → Type 0
-Changes f step None new = new ≡ None
-Changes f step (Some old) new = (files : Files) × (new ≡ Some files) × ChangesFile f step old files
+-- What is told changes by a step. A store that tells nothing goes on telling nothing.
+abbrev pub TellsBy : (Files → Files → Type 0) → Option Files → Option Files → Type 0
+TellsBy step None new = new ≡ None
+TellsBy step (Some old) new = (files : Files) × (new ≡ Some files) × step old files
 
--- a read of a slice of this length from this place gave n bytes of the file: as many as there are, at most the slice's length
+-- only some files differ
+abbrev pub ChangesOnly : (ℕ → Type 0) → Files → Files → Type 0
+ChangesOnly among old new = (f : ℕ) → (among f → ⊥) → new f ≡ old f
+
+-- the same of what is told
+abbrev pub TellsOnly : (ℕ → Type 0) → Option Files → Option Files → Type 0
+TellsOnly among old new = TellsBy (ChangesOnly among) old new
+
+-- one file changes by a step, of what is told
+abbrev pub Changes : ℕ → (List ℕ → List ℕ → Type 0) → Option Files → Option Files → Type 0
+Changes f step old new = TellsBy (ChangesFile f step) old new
+
+-- a read of a slice of this length from this place gave n bytes of the file: as many as there are, at most the slice's
+-- length
 pub record Reads (at len n : ℕ) (into file : List ℕ) : Type 0 where
   pub count : n ≡ min len (length file - at)
   pub bytes : take n into ≡ take n (drop at file)

@@ -1,9 +1,9 @@
--- What a store tells at one moment, and what a stop then may leave. A joint image gives the bytes of every file as they stand
--- after a stop at one moment.
+-- What a store tells at one moment, and what a stop then may leave. A joint image gives the bytes of every file as they
+-- stand after a stop at one moment.
 use Rattle.std.specs.Prelude.{◌≡◌, ◌⊎◌, ℕ, ◌≤◌, Option, None, Some}
 use Rattle.irl_disk.specs.Disk.{Files}
 
-pub record Snapshot : Type 1 where
+pub record Told : Type 1 where
   -- the bytes of each file, where the store tells them: what a read gives
   pub files : Option Files
   -- the joint images that a stop now may leave
@@ -12,9 +12,13 @@ pub record Snapshot : Type 1 where
   pub moment : ℕ
   -- the joint images that a stop at some moment from that one on may have left, during a call or between two
   pub since : ℕ → Files → Type 0
+  -- how many bytes the reads of each file have given, where the store tells it
+  pub taken : Option (ℕ → ℕ)
+  -- how often the store has failed: a number that never falls, and stands still at 2 ^ 64 - 1
+  pub faults : ℕ
 
--- what holds of every snapshot
-pub record IsConsistent (now : Snapshot) : Type 0 where
+-- what holds of all that a store tells
+pub record IsConsistent (now : Told) : Type 0 where
   -- what a read gives is what a stop now may leave
   pub told : (files : Files) → now.files ≡ Some files → now.images files
   -- a store that tells nothing has no images
@@ -30,22 +34,29 @@ pub record IsConsistent (now : Snapshot) : Type 0 where
 abbrev pub Follows : (Files → Files → Type 0) → (Files → Type 0) → Files → Type 0
 Follows step images new = (old : Files) × images old × step old new
 
--- From one snapshot of a store to a later one, a stop at any moment leaves a joint image that has P; and of those since an
--- earlier moment each is one that could be left by then, or has P.
-pub record Leaves (old new : Snapshot) (P : Files → Type 0) : Type 0 where
+-- From what a store tells to what it tells later, a stop at any moment leaves a joint image that has P; and of those
+-- since an earlier moment each is one that could be left by then, or has P.
+pub record Leaves (old new : Told) (P : Files → Type 0) : Type 0 where
   -- the clock never goes back
   pub later : old.moment ≤ new.moment
   pub each : (image : Files) → new.since old.moment image → P image
   pub before : (t : ℕ) (image : Files) → t ≤ old.moment → new.since t image → old.since t image ⊎ P image
 
 -- a stop at any moment between two leaves what was left before the first, after this step
-abbrev pub LeavesBy : (Files → Files → Type 0) → Snapshot → Snapshot → Type 0
+abbrev pub LeavesBy : (Files → Files → Type 0) → Told → Told → Type 0
 LeavesBy step old new = Leaves old new (Follows step old.images)
 
 -- a stop at any moment between two leaves what was left before the first
-abbrev pub LeavesSame : Snapshot → Snapshot → Type 0
+abbrev pub LeavesSame : Told → Told → Type 0
 LeavesSame old new = Leaves old new old.images
 
--- what a store tells that tells nothing
-abbrev pub silent : Snapshot
-silent = record { files = None; images = λ image. ⊥; moment = 0; since = λ t image. ⊥ }
+-- what a store tells that tells only how often it has failed
+abbrev pub silent : ℕ → Told
+silent faults = record {
+  files = None;
+  images = λ image. ⊥;
+  moment = 0;
+  since = λ t image. ⊥;
+  taken = None;
+  faults = faults;
+}

@@ -2,6 +2,7 @@ pub mod Calls
 pub mod Changes
 pub mod DeviceCall
 pub mod Disk
+pub mod Effects
 pub mod Images
 pub mod Memory
 pub mod MemoryLaws

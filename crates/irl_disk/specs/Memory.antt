@@ -4,10 +4,10 @@ use Rattle.std.specs.List.{Contains}
 use Rattle.std.specs.Ordering.{nat_cmp}
 use Rattle.std.specs.BTreeMap.{BTreeMap, get}
 use Rattle.irl_disk.specs.declared.memory.MemStore.{MemStore}
-use Rattle.irl_offer.specs.Faults.{counted}
+use Rattle.irl_base.specs.Faults.{counted}
 use Rattle.irl_disk.specs.DeviceCall.{DeviceCall}
 use Rattle.irl_disk.specs.Disk.{Files}
-use Rattle.irl_disk.specs.Images.{Snapshot}
+use Rattle.irl_disk.specs.Images.{Told}
 use Rattle.irl_disk.specs.Calls.{states, ImagesSince, IsLogged}
 use Rattle.irl_disk.specs.Model.{AreImages}
 
@@ -28,8 +28,16 @@ abbrev pub counts_of : BTreeMap ℕ ℕ → ℕ → ℕ
 counts_of kept f = unwrap_or (get nat_cmp kept f) 0
 
 -- what it tells, and what a stop may leave, by the calls that it keeps; its moment is their number
-abbrev pub snapshot_of : MemStore → Snapshot
-snapshot_of store = record { files = Some (files_in store); images = AreImages (states store.log); moment = call_count store; since = ImagesSince store.log }
+abbrev pub told_by : MemStore → Told
+told_by store =
+    record {
+      files = Some (files_in store);
+      images = AreImages (states store.log);
+      moment = call_count store;
+      since = ImagesSince store.log;
+      taken = Some (counts_of store.taken);
+      faults = fault_count store;
+    }
 
 -- One call of a store in memory, by whether it answered Ok.
 pub record LogsCall (call : DeviceCall) (is_ok : Bool) (old new : MemStore) : Type 0 where

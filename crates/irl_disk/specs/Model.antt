@@ -1,8 +1,8 @@
 -- The disk model: what a disk has of a file after some calls, and what a stop then may leave.
 --
--- Between two syncs of a file, each range that was written and the part past the synced length may hold any bytes after a
--- stop. The length is then any number from the least to the greatest since the last sync. All other bytes stay. After a sync
--- that succeeds a stop leaves what a read gives. A stop takes one such image of every file at one moment.
+-- Between two syncs of a file, each range that was written and the part past the synced length may hold any bytes after
+-- a stop. The length is then any number from the least to the greatest since the last sync. All other bytes stay. After
+-- a sync that succeeds a stop leaves what a read gives. A stop takes one such image of every file at one moment.
 use Rattle.std.specs.Prelude.{◌≡◌, ℕ, ◌+◌, ◌%◌, ◌<◌, ◌≤◌, nat_eq, nat_lt, nat_le, min, max, Bool, false, ◌&&◌, ◌||◌, if◌then◌else◌, List, [], ◌∷◌, ◌++◌, length, take, drop, get_or}
 use Rattle.irl_disk.specs.Disk.{Files}
 
@@ -36,7 +36,13 @@ after_write is_done at bytes s =
 
 -- a cut to a length; one that failed changes nothing that a read gives
 abbrev pub after_cut : Bool → ℕ → FileState → FileState
-after_cut is_done to s = record { now = if is_done then take to s.now else s.now; synced = s.synced; unsynced = s.unsynced; least = min s.least to; greatest = s.greatest }
+after_cut is_done to s = record {
+  now = if is_done then take to s.now else s.now;
+  synced = s.synced;
+  unsynced = s.unsynced;
+  least = min s.least to;
+  greatest = s.greatest;
+}
 
 -- a sync; one that failed leaves unsynced what was
 abbrev pub after_sync : Bool → FileState → FileState

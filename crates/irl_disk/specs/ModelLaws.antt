@@ -12,18 +12,27 @@ pub record IsSound (s : FileState) : Type 0 where
   pub now : IsFileImage s s.now
 
 pub sound_at_rest : (bytes : List ℕ) → IsSound (at_rest bytes)
-sound_at_rest bytes = record { no_shorter = omega arith; no_longer = omega arith; now = record { no_shorter = omega arith; no_longer = omega arith; kept = λ i l h. refl } }
+sound_at_rest bytes = record {
+  no_shorter = omega arith;
+  no_longer = omega arith;
+  now = record { no_shorter = omega arith; no_longer = omega arith; kept = λ i l h. refl };
+}
 
 -- ---- bytes written over others
-pub length-written : (at : ℕ) (bytes old : List ℕ) → at ≤ length old → length (take at old ++ bytes ++ drop (at + length bytes) old) ≡ max (length old) (at + length bytes)
+pub length-written : (at : ℕ) (bytes old : List ℕ) → at ≤ length old
+    → length (take at old ++ bytes ++ drop (at + length bytes) old) ≡ max (length old) (at + length bytes)
 length-written at bytes old le = simp (length-append, length-take, length-drop) (omega arith)
 
-pub get_or-written : (at : ℕ) (bytes old : List ℕ) (i : ℕ) → at ≤ length old → (i < at) ⊎ (at + length bytes ≤ i) → get_or (take at old ++ bytes ++ drop (at + length bytes) old) i 0 ≡ get_or old i 0
-get_or-written at bytes old i le (inl below) = rw append_assoc (get_or_append_left (take at old) (bytes ++ drop (at + length bytes) old) 0 i (omega (arith, length-take at old)) ∙ get_or-take at old i 0 below)
+pub get_or-written : (at : ℕ) (bytes old : List ℕ) (i : ℕ) → at ≤ length old → (i < at) ⊎ (at + length bytes ≤ i)
+    → get_or (take at old ++ bytes ++ drop (at + length bytes) old) i 0 ≡ get_or old i 0
+get_or-written at bytes old i le (inl below) = rw append_assoc
+    (get_or_append_left (take at old) (bytes ++ drop (at + length bytes) old) 0 i (omega (arith, length-take at old))
+    ∙ get_or-take at old i 0 below)
 get_or-written at bytes old i le (inr above) =
     let e : at + length bytes + (i - at - length bytes) ≡ i = omega arith in
     rw append_assoc
-    (get_or-append_right (take at old) (bytes ++ drop (at + length bytes) old) at i 0 (omega (arith, length-take at old)) (omega arith)
+    (get_or-append_right (take at old) (bytes ++ drop (at + length bytes) old) at i 0
+    (omega (arith, length-take at old)) (omega arith)
     ∙ get_or-append_right bytes (drop (at + length bytes) old) (length bytes) (i - at) 0 refl (omega arith)
     ∙ get_or-drop (at + length bytes) old (i - at - length bytes) 0
     ∙ ap (λ j. get_or old j 0) e)
@@ -38,11 +47,13 @@ outside i a b h = grind (arith, nat_tests)
 pub not_free : (s : FileState) (i : ℕ) → is_free s i ≡ false → (i < length s.synced) × (is_written s.unsynced i ≡ false)
 not_free s i h = grind (arith, nat_tests)
 
-pub kept_from_write : (is_done : Bool) (at : ℕ) (bytes : List ℕ) (s : FileState) (i : ℕ) → is_free (after_write is_done at bytes s) i ≡ false
+pub kept_from_write : (is_done : Bool) (at : ℕ) (bytes : List ℕ) (s : FileState) (i : ℕ)
+    → is_free (after_write is_done at bytes s) i ≡ false
     → (is_free s i ≡ false) × ((i < min at (length s.now)) ⊎ (min at (length s.now) + length bytes ≤ i))
 kept_from_write is_done at bytes s i h = grind (arith, nat_tests, outside)
 
-pub sound_write : (is_done : Bool) (at : ℕ) (bytes : List ℕ) (s : FileState) → IsSound s → IsSound (after_write is_done at bytes s)
+pub sound_write : (is_done : Bool) (at : ℕ) (bytes : List ℕ) (s : FileState) → IsSound s
+    → IsSound (after_write is_done at bytes s)
 sound_write true at bytes s sound =
     let start = min at (length s.now) in
     let below : start ≤ length s.now = omega arith in

@@ -1,10 +1,10 @@
 -- What a store in memory holds that fails only where it must, and what each of its calls does.
 use Rattle.std.specs.Prelude.{◌≡◌, ℕ, ◌+◌, ◌-◌, ◌^◌, ◌<◌, ◌≤◌, ◌↔◌, min, Bool, false, if◌then◌else◌, List, [], ◌∷◌, length, take, drop, get_or, Some}
 use Rattle.std.specs.List.{sum_by}
-use Rattle.irl_offer.specs.Faults.{counted}
+use Rattle.irl_base.specs.Faults.{counted}
 use Rattle.irl_disk.specs.DeviceCall.{DeviceCall, Length, Read, Write, Cut, Sync}
 use Rattle.irl_disk.specs.Disk.{Files}
-use Rattle.irl_disk.specs.Images.{Snapshot}
+use Rattle.irl_disk.specs.Images.{Told}
 
 -- bytes cut into pieces of these lengths, one behind the other
 abbrev pub pieces : List ℕ → List ℕ → List (List ℕ)
@@ -44,14 +44,22 @@ abbrev pub bytes_held : Held → ℕ
 bytes_held store = sum_by (λ file. length file) store.files
 
 -- what a store tells of which a stop leaves what a read gives, and nothing earlier
-abbrev pub settled : Files → Snapshot
-settled files = record { files = Some files; images = λ image. image ≡ files; moment = 0; since = λ t image. image ≡ files }
+abbrev pub settled : Files → (ℕ → ℕ) → ℕ → Told
+settled files taken faults =
+    record {
+      files = Some files;
+      images = λ image. image ≡ files;
+      moment = 0;
+      since = λ t image. image ≡ files;
+      taken = Some taken;
+      faults = faults;
+    }
 
-abbrev pub sure_snapshot : Held → Snapshot
-sure_snapshot store = settled (sure_files store)
+abbrev pub told_surely : Held → Told
+told_surely store = settled (sure_files store) (sure_taken store) store.faults
 
--- The calls that fail: a read that would carry the count of bytes taken past the last `u64`, and a write that would carry the
--- lengths of the files together past the room.
+-- The calls that fail: a read that would carry the count of bytes taken past the last `u64`, and a write that would
+-- carry the lengths of the files together past the room.
 abbrev pub Overruns : DeviceCall → Held → Type 0
 Overruns (Length f) store = ⊥
 Overruns (Read f at len) store = 2 ^ 64 ≤ sure_taken store f + min len (length (sure_files store f) - at)

@@ -20,3 +20,8 @@ TakesAmong among (Some old) new = (counts : ℕ → ℕ) × (new ≡ Some counts
 -- only this file's bytes were read
 abbrev pub TakesOnly : ℕ → Option (ℕ → ℕ) → Option (ℕ → ℕ) → Type 0
 TakesOnly f old new = TakesAmong (λ g. g ≡ f) old new
+
+-- n bytes of this file were read, and any of others
+abbrev pub TakesOf : ℕ → ℕ → Option (ℕ → ℕ) → Option (ℕ → ℕ) → Type 0
+TakesOf f n None new = new ≡ None
+TakesOf f n (Some old) new = (counts : ℕ → ℕ) × (new ≡ Some counts) × (counts f ≡ old f + n)

@@ -1,8 +1,8 @@
 ghost use Rattle.std.specs.Prelude.{◌≡◌};
-ghost use Rattle.irl_offer.specs.declared.receipt.Fault.TheVariants.{Failed as FailedFault};
+ghost use Rattle.irl_base.specs.declared.fault.Fault.TheVariants.{Failed as FailedFault};
 
 use crate::Failed;
-use irl_offer::Fault;
+use irl_base::Fault;
 
 impl From<Failed> for Fault {
     ghost from_gives = { λ _ e. e ≡ FailedFault };

@@ -2,13 +2,13 @@ ghost use Rattle.std.specs.Prelude.{◌≡◌, ◌+◌, ◌^◌, ◌<◌, ◌≤
 ghost use Rattle.std.specs.Prelude.{length, is_ok, if◌then◌else◌, OnErr, OnOk, IfOk, IsErr};
 ghost use Rattle.std.specs.List.{Contains};
 ghost use Rattle.std.specs.declared.alloc.Global.{Global};
-ghost use Rattle.irl_offer.specs.Faults.{HasCause, Rose, counted};
+ghost use Rattle.irl_base.specs.Faults.{HasCause, Rose, counted};
 ghost use Rattle.irl_disk.specs.DeviceCall.{DeviceCall};
 ghost use Rattle.irl_disk.specs.Disk.{Files, Reads};
 ghost use Rattle.irl_disk.specs.Taken.{CountsBytes};
 ghost use Rattle.irl_disk.specs.Model.{AreImages, after_write, after_cut, after_sync};
 ghost use Rattle.irl_disk.specs.Calls.{History, ChangesState, ImagesSince, states, states_at, Logs, EndsWithin, IsPart};
-ghost use Rattle.irl_disk.specs.Memory.{files_in, fault_count, call_count, counts_of, snapshot_of, LogsCall};
+ghost use Rattle.irl_disk.specs.Memory.{files_in, fault_count, call_count, counts_of, told_by, LogsCall};
 ghost use Rattle.irl_disk.specs.MemoryLaws.{consistent};
 
 use crate::calls::{Call, Part};
@@ -126,12 +126,14 @@ impl MemStore {
 
 /// What a stop may leave of a store in memory is just what the disk model says of the calls that it keeps.
 pub fn images_are_the_models()
-    ensures files { (store : MemStore) → (⟦<MemStore as Store>⟧.snapshot store).files ≡ Some (files_in store) }
-    ensures moment { (store : MemStore) → (⟦<MemStore as Store>⟧.snapshot store).moment ≡ call_count store }
+    ensures files { (store : MemStore) → (⟦<MemStore as Store>⟧.told store).files ≡ Some (files_in store) }
+    ensures taken { (store : MemStore) → (⟦<MemStore as Store>⟧.told store).taken ≡ Some (counts_of store.taken) }
+    ensures faults { (store : MemStore) → (⟦<MemStore as Store>⟧.told store).faults ≡ fault_count store }
+    ensures moment { (store : MemStore) → (⟦<MemStore as Store>⟧.told store).moment ≡ call_count store }
     ensures now { (store : MemStore) (image : Files) →
-        (⟦<MemStore as Store>⟧.snapshot store).images image ↔ AreImages (states store.log) image }
+        (⟦<MemStore as Store>⟧.told store).images image ↔ AreImages (states store.log) image }
     ensures since { (store : MemStore) (t : ℕ) (image : Files) →
-        (⟦<MemStore as Store>⟧.snapshot store).since t image ↔ ImagesSince store.log t image }
+        (⟦<MemStore as Store>⟧.told store).since t image ↔ ImagesSince store.log t image }
     ensures logs { (call : DeviceCall) (is_ok : Bool) (old new : MemStore) →
         ⟦<MemStore as Store>⟧.logs call is_ok old new ↔ LogsCall call is_ok old new }
     ensures query { (old new : History) (is_done : Bool) → Logs Call.Query is_done old new →
@@ -158,11 +160,7 @@ fn copied(file: &[u8], at: usize, into: &mut [u8]) -> usize
 }
 
 impl Store for MemStore {
-    ghost snapshot = { snapshot_of };
-
-    ghost faults = { fault_count };
-
-    ghost taken = { λ s. Some (counts_of s.taken) };
+    ghost told = { told_by };
 
     ghost logs = { λ call is_ok old new. LogsCall call is_ok old new };
 

@@ -1,9 +1,9 @@
 ghost use Rattle.std.specs.Prelude.{◌≡◌, ◌+◌, ◌-◌, ◌^◌, ◌<◌, ◌≤◌, ℕ, [], Some};
 ghost use Rattle.std.specs.Prelude.{IfOk, IsOk, length, OnErr, OnOk, slice_index, slice_set, take};
 ghost use Rattle.std.specs.List.{sum};
-ghost use Rattle.irl_offer.specs.Faults.{Rose, counted};
+ghost use Rattle.irl_base.specs.Faults.{Rose, counted};
 ghost use Rattle.irl_disk.specs.Disk.{ChangesFile, Holds};
-ghost use Rattle.irl_disk.specs.Sure.{Resized, SureCall, bytes_held, files_cut, sure_files, sure_snapshot, sure_taken};
+ghost use Rattle.irl_disk.specs.Sure.{Resized, SureCall, bytes_held, files_cut, sure_files, told_surely, sure_taken};
 ghost use Rattle.irl_disk.specs.SureLaws.{sure_consistent};
 
 use crate::{Failed, Store};
@@ -164,11 +164,7 @@ fn write_into(
 }
 
 impl Store for SureStore {
-    ghost snapshot = { sure_snapshot };
-
-    ghost faults = { λ store. store.faults };
-
-    ghost taken = { λ store. Some (sure_taken store) };
+    ghost told = { told_surely };
 
     ghost logs = { λ call is_ok old new. SureCall call is_ok old new };
 

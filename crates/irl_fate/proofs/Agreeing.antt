@@ -6,8 +6,9 @@ use Rattle.std.proofs.lemmas.List.{append-nil, length-set, get_or-set_same, get_
 use Rattle.irl_offer.specs.declared.outcome.Outcome.{Outcome}
 use Rattle.irl_offer.specs.declared.place.Slot.{Slot}
 use Rattle.irl_offer.specs.declared.place.Slot.TheVariants.{Front as InFront, Queue as InQueue, Last as InLast}
-use Rattle.irl_model.specs.Queues.{list_at, put, FitsSlot}
-use Rattle.irl_model.specs.Events.{has_number, is_in_front}
+use Rattle.irl_base.specs.Lists.{list_at}
+use Rattle.irl_events.specs.Queues.{put, FitsSlot}
+use Rattle.irl_events.specs.Events.{has_number, is_in_front}
 use Rattle.irl_fate.specs.declared.fate.Fate.{Fate}
 use Rattle.irl_fate.specs.declared.fate.Fate.TheVariants.{Fresh, Queue, Last, Front, Done}
 use Rattle.irl_fate.specs.Fates.{done_by, waits_from}
@@ -95,7 +96,8 @@ waits_none k (list ∷ lists) n other h =
     cond-false (has_number list n) (cond (nat_eq k 64) Last (Queue (k + 1))) (waits_from (k + 1) lists n other) (h 0)
     ∙ waits_none (k + 1) lists n other (λ j. h (suc j))
 
-waits_at : (k : ℕ) (lists : List (List ℕ)) (n : ℕ) (other : Fate) (j at : ℕ) → j < length lists → at ≡ k + j → has_number (list_at lists j) n ≡ true → ((i : ℕ) → i < j → has_number (list_at lists i) n ≡ false) → waits_from k lists n other ≡ cond (nat_eq at 64) Last (Queue (at + 1))
+waits_at : (k : ℕ) (lists : List (List ℕ)) (n : ℕ) (other : Fate) (j at : ℕ) → j < length lists → at ≡ k + j → has_number (list_at lists j) n ≡ true
+    → ((i : ℕ) → i < j → has_number (list_at lists i) n ≡ false) → waits_from k lists n other ≡ cond (nat_eq at 64) Last (Queue (at + 1))
 waits_at k [] n other j at lt is h before = absurd (omega arith)
 waits_at k (list ∷ lists) n other zero at lt is h before =
     let same : at ≡ k = omega arith in
@@ -226,10 +228,12 @@ one_more : (b : Bool) → more_if b true ≡ one_if b
 one_more true = refl
 one_more false = refl
 
-count_at : (lists : List (List ℕ)) (at n k q : ℕ) (b : Bool) → at < length lists → ((k ≡ at) → b ≡ true) → ((k ≡ at → ⊥) → b ≡ false) → count q (list_at (set lists at (list_at lists at ++ n ∷ [])) k) ≡ count q (list_at lists k) + more_if (nat_eq n q) b
+count_at : (lists : List (List ℕ)) (at n k q : ℕ) (b : Bool) → at < length lists → ((k ≡ at) → b ≡ true) → ((k ≡ at → ⊥) → b ≡ false)
+    → count q (list_at (set lists at (list_at lists at ++ n ∷ [])) k) ≡ count q (list_at lists k) + more_if (nat_eq n q) b
 count_at lists at n k q b lt here there = elim (cases_eq k at) [
   | inl e ↦
-      let set_here : list_at (set lists at (list_at lists at ++ n ∷ [])) k ≡ list_at lists at ++ n ∷ [] = ap (list_at (set lists at (list_at lists at ++ n ∷ []))) e ∙ get_or-set_same lists at (list_at lists at ++ n ∷ []) [] lt in
+      let set_here : list_at (set lists at (list_at lists at ++ n ∷ [])) k ≡ list_at lists at ++ n ∷ [] = ap (list_at (set lists at (list_at lists at ++ n ∷ []))) e
+      ∙ get_or-set_same lists at (list_at lists at ++ n ∷ []) [] lt in
       ap (count q) set_here ∙ count_push q n (list_at lists at)
       ∙ ap (λ (m : ℕ). count q (list_at lists m) + one_if (nat_eq n q)) (sym e)
       ∙ ap (λ (m : ℕ). count q (list_at lists k) + m) (sym (one_more (nat_eq n q)) ∙ ap (more_if (nat_eq n q)) (sym (here e)))
@@ -238,7 +242,8 @@ count_at lists at n k q b lt here there = elim (cases_eq k at) [
       ∙ plus_none (count q (list_at lists k)) (more_if (nat_eq n q) b) (ap (more_if (nat_eq n q)) (there e) ∙ none_more (nat_eq n q))
 ]
 
-pub count_put : (lists : List (List ℕ)) (n : ℕ) (s : Slot) → length lists ≡ 65 → FitsSlot s → (k q : ℕ) → count q (list_at (put lists n s) k) ≡ count q (list_at lists k) + more_if (nat_eq n q) (is_listed k (fate_of_slot s))
+pub count_put : (lists : List (List ℕ)) (n : ℕ) (s : Slot) → length lists ≡ 65 → FitsSlot s → (k q : ℕ)
+    → count q (list_at (put lists n s) k) ≡ count q (list_at lists k) + more_if (nat_eq n q) (is_listed k (fate_of_slot s))
 count_put lists n InFront many fits k q = plus_none _ _ (none_more (nat_eq n q))
 count_put lists n (InQueue i) many fits k q =
     let least : 1 ≤ i = fits.0 in

@@ -4,8 +4,8 @@ use Rattle.std.specs.Prelude.{◌&&◌, ◌||◌, nat_eq}
 use Rattle.std.specs.List.{filter}
 use Rattle.std.proofs.lemmas.Bool.{cases_Bool, and_parts, or_parts, or_from, or_left, or_right, eq-eqb, ne_eqb, eqb-true, eqb-false, not-true, cond-true, cond-false, not_from_false, false≢true}
 use Rattle.std.proofs.lemmas.List.Filters.{length-filter_both}
-use Rattle.irl_model.specs.Events.{has_number}
-use Rattle.irl_model.specs.Legal.{are_distinct}
+use Rattle.irl_events.specs.Events.{has_number}
+use Rattle.irl_events.specs.Legal.{are_distinct}
 use Rattle.irl_fate.specs.Kept.{count, one_if}
 
 pub nat_eq_sym : (a b : ℕ) → nat_eq a b ≡ nat_eq b a

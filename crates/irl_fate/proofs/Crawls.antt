@@ -7,9 +7,9 @@ use Rattle.std.proofs.lemmas.List.{length-replicate}
 use Rattle.std.proofs.lemmas.List.Folds.{list_any-append}
 use Rattle.irl_offer.specs.declared.outcome.Outcome.{Outcome}
 use Rattle.irl_offer.specs.declared.place.Place.{Place}
-use Rattle.irl_model.specs.Events.{Event, Begin, Pairs, Pass, Robots, Settle, Happened, Progress, has_number, numbers_of, after_event, after_events, before_all, progress}
-use Rattle.irl_model.specs.Legal.{AreLegalAfter, are_read, are_rising, broken, begins_once, pairs_rise, passes_on, is_noted, settles, none_fell, one_rose, are_distinct}
-use Rattle.irl_model.specs.Queues.{list_at}
+use Rattle.irl_events.specs.Events.{Event, Begin, Pairs, Pass, Robots, Settle, Happened, Progress, has_number, numbers_of, after_event, after_events, before_all, progress}
+use Rattle.irl_events.specs.Legal.{AreLegalAfter, are_read, are_rising, broken, begins_once, pairs_rise, passes_on, is_noted, settles, none_fell, one_rose, are_distinct}
+use Rattle.irl_base.specs.Lists.{list_at}
 use Rattle.irl_fate.specs.declared.fate.Fate.TheVariants.{Fresh, Queue, Done}
 use Rattle.irl_fate.specs.Fates.{fate_of}
 use Rattle.irl_fate.specs.Reads.{reads, was_read, IsCrawl}
@@ -31,7 +31,8 @@ pub record Keeps (x : Progress) (event : Event) (places : List Place) : Type 0 w
 some_none : (n : ℕ) → Some n ≡ None → ⊥
 some_none n e = cc
 
-unbroken : (a b c d e : Bool) → ◌≡◌ {A = Option ℕ} (cond (not a) (Some 1) (cond (not b) (Some 2) (cond (not c) (Some 3) (cond (not d) (Some 4) (cond (not e) (Some 5) None))))) None → (b ≡ true) × (c ≡ true) × (e ≡ true)
+unbroken : (a b c d e : Bool) → ◌≡◌ {A = Option ℕ} (cond (not a) (Some 1) (cond (not b) (Some 2) (cond (not c) (Some 3) (cond (not d) (Some 4) (cond (not e) (Some 5) None))))) None → (b ≡ true)
+    × (c ≡ true) × (e ≡ true)
 unbroken false b c d e h = absurd (some_none 1 h)
 unbroken true false c d e h = absurd (some_none 2 h)
 unbroken true true false d e h = absurd (some_none 3 h)
@@ -165,7 +166,8 @@ module _ (buckets : ℕ) (read : ℕ → Bool) (x : Progress) (is : Stood bucket
         fronts = is.fronts;
       }
 
-  stood_settle : (fronts : List ℕ) (outcomes : List (ℕ × Outcome)) (places : List Place) → settles x (Settle fronts outcomes) ≡ true → Stood buckets read (after_event x (Settle fronts outcomes) places)
+  stood_settle : (fronts : List ℕ) (outcomes : List (ℕ × Outcome)) (places : List Place) → settles x (Settle fronts outcomes) ≡ true
+      → Stood buckets read (after_event x (Settle fronts outcomes) places)
   stood_settle fronts outcomes places h =
       let moves = nat_lt 0 (length outcomes) || one_rose x.fronts fronts in
       let front = list_all (λ d. has_number x.front d.0) outcomes in
@@ -186,7 +188,8 @@ module _ (buckets : ℕ) (read : ℕ → Bool) (x : Progress) (is : Stood bucket
       stood_same (λ n. sym (or_false (read n))) (record { waiting = is.waiting; once = is.once; above = is.above; sent = is.sent; fronts = is.fronts })
   stood_event (Pairs cuts judged pairs) places h =
       let k = keeps x (Pairs cuts judged pairs) places h in
-      let rise : x.sent ≤ judged = leb-true x.sent judged (and_parts (nat_le x.cuts cuts) (nat_le x.sent judged) (and_parts (nat_le x.cuts cuts && nat_le x.sent judged) (nat_le x.pairs pairs) k.pairs).0).1 in
+      let rise : x.sent ≤ judged = leb-true x.sent judged (and_parts (nat_le x.cuts cuts) (nat_le x.sent judged)
+      (and_parts (nat_le x.cuts cuts && nat_le x.sent judged) (nat_le x.pairs pairs) k.pairs).0).1 in
       let before : x.read ≤ x.sent = is.sent in
       stood_same (λ n. sym (or_false (read n))) (record { waiting = is.waiting; once = is.once; above = is.above; sent = omega arith; fronts = is.fronts })
   stood_event (Pass judged) places h = stood_pass judged places (keeps x (Pass judged) places h).passes
@@ -195,7 +198,8 @@ module _ (buckets : ℕ) (read : ℕ → Bool) (x : Progress) (is : Stood bucket
   stood_event (Settle fronts outcomes) places h =
       stood_same (λ n. sym (or_false (read n))) (stood_settle fronts outcomes places (keeps x (Settle fronts outcomes) places h).settled)
 
-stood_after : (buckets : ℕ) (read : ℕ → Bool) (x : Progress) (events : List Happened) → AreLegalAfter x events → Stood buckets read x → Stood buckets (λ n. read n || was_read events n) (after_events x events)
+stood_after : (buckets : ℕ) (read : ℕ → Bool) (x : Progress) (events : List Happened) → AreLegalAfter x events → Stood buckets read x
+    → Stood buckets (λ n. read n || was_read events n) (after_events x events)
 stood_after buckets read x [] legal is = stood_same (λ n. sym (or_false (read n))) is
 stood_after buckets read x (h ∷ hs) legal is =
     stood_same (λ n. or_all (read n) (reads h.0 h.1 n) (was_read hs n))
@@ -238,7 +242,8 @@ legal_front x (h ∷ hs) more legal = (legal.0, legal_front (after_event x h.0 h
 pub crawl_front : (queues buckets : ℕ) (events more : List Happened) → IsCrawl queues buckets (events ++ more) → IsCrawl queues buckets events
 crawl_front queues buckets events more is = (is.0, is.1, legal_front (before_all queues buckets) events more is.2)
 
-pub crawl_again : (queues buckets : ℕ) (events more : List Happened) (n : ℕ) → IsCrawl queues buckets (events ++ more) → fate_of (progress queues buckets events) n ≢ Fresh → fate_of (progress queues buckets (events ++ more)) n ≢ Fresh
+pub crawl_again : (queues buckets : ℕ) (events more : List Happened) (n : ℕ) → IsCrawl queues buckets (events ++ more) → fate_of (progress queues buckets events) n ≢ Fresh
+    → fate_of (progress queues buckets (events ++ more)) n ≢ Fresh
 crawl_again queues buckets events more n is old now =
     let none : (was_read events n || was_read more n) ≡ false = sym (list_any-append (λ h. reads h.0 h.1 n) events more) ∙ crawl_fresh queues buckets (events ++ more) n is now in
     old (crawl_unread queues buckets events n (crawl_front queues buckets events more is) (or_parts (was_read events n) (was_read more n) none).0)
@@ -252,7 +257,8 @@ crawl_below queues buckets events n is h = elim (cases_lt n (progress queues buc
 pub crawl_waiting : (queues buckets : ℕ) (events : List Happened) → IsCrawl queues buckets events → IsWaiting (progress queues buckets events).waiting
 crawl_waiting queues buckets events is = (stood queues buckets events is).waiting
 
-pub crawl_queue : (queues buckets : ℕ) (events : List Happened) (n i : ℕ) → IsCrawl queues buckets events → fate_of (progress queues buckets events) n ≡ Queue i → ((progress queues buckets events).waiting.passes < i) × (i ≤ (progress queues buckets events).waiting.queues)
+pub crawl_queue : (queues buckets : ℕ) (events : List Happened) (n i : ℕ) → IsCrawl queues buckets events → fate_of (progress queues buckets events) n ≡ Queue i
+    → ((progress queues buckets events).waiting.passes < i) × (i ≤ (progress queues buckets events).waiting.queues)
 crawl_queue queues buckets events n i is h =
     queue_within (progress queues buckets events) n i (crawl_waiting queues buckets events is) h
 
@@ -289,7 +295,8 @@ later_done x (h ∷ hs) =
     let rest = later_done (after_event x h.0 h.1) hs in
     record { more = one.more ++ rest.more; is = rest.is ∙ ap (λ (ds : List (ℕ × Outcome)). ds ++ rest.more) one.is ∙ append_assoc x.done one.more rest.more }
 
-pub crawl_done : (queues buckets : ℕ) (events more : List Happened) (n : ℕ) (outcome : Outcome) → IsCrawl queues buckets (events ++ more) → fate_of (progress queues buckets events) n ≡ Done outcome → fate_of (progress queues buckets (events ++ more)) n ≡ Done outcome
+pub crawl_done : (queues buckets : ℕ) (events more : List Happened) (n : ℕ) (outcome : Outcome) → IsCrawl queues buckets (events ++ more) → fate_of (progress queues buckets events) n ≡ Done outcome
+    → fate_of (progress queues buckets (events ++ more)) n ≡ Done outcome
 crawl_done queues buckets events more n outcome is h =
     let old = progress queues buckets events in
     let later = later_done old more in

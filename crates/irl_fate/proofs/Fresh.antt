@@ -4,8 +4,8 @@ use Rattle.std.proofs.Common.{◌≡◌, ◌≢◌, ◌∙◌, ℕ, zero, suc, �
 use Rattle.std.specs.Prelude.{nat_eq}
 use Rattle.std.proofs.lemmas.Bool.{cases_Bool, cases_lt, cond-true, cond-false, eqb-false, false≢true}
 use Rattle.irl_offer.specs.declared.outcome.Outcome.{Outcome}
-use Rattle.irl_model.specs.Events.{Progress, has_number}
-use Rattle.irl_model.specs.Queues.{list_at}
+use Rattle.irl_events.specs.Events.{Progress, has_number}
+use Rattle.irl_base.specs.Lists.{list_at}
 use Rattle.irl_fate.specs.declared.fate.Fate.{Fate}
 use Rattle.irl_fate.specs.declared.fate.Fate.TheVariants.{Fresh, Queue, Last, Front, Done}
 use Rattle.irl_fate.specs.Fates.{fate_of, waits_from, done_by}
@@ -127,7 +127,8 @@ queue_within p n i waits h =
       | inl there ↦
           absurd (front_not_queue i (sym (cond-true (has_number p.front n) Front (waits_from 0 p.waiting.lists n (done_by p.done n Fresh)) there) ∙ h))
       | inr none ↦
-          let at = queue_at 0 p.waiting.lists n i (done_by p.done n Fresh) (done_not_queue p.done n i) (sym (cond-false (has_number p.front n) Front (waits_from 0 p.waiting.lists n (done_by p.done n Fresh)) none) ∙ h) in
+          let at = queue_at 0 p.waiting.lists n i (done_by p.done n Fresh) (done_not_queue p.done n i)
+          (sym (cond-false (has_number p.front n) Front (waits_from 0 p.waiting.lists n (done_by p.done n Fresh)) none) ∙ h) in
           let is : 0 + at.place + 1 ≡ i = at.is in
           let empty : list_at p.waiting.lists at.place ≡ [] → ⊥ = λ e. false≢true (ap (λ (l : List ℕ). has_number l n) (sym e) ∙ at.there) in
           let short : at.place < 65 = within_lists p.waiting.lists at.place n at.there waits.lists in
@@ -174,7 +175,8 @@ fresh_not_done : (outcome : Outcome) → Fresh ≢ Done outcome
 fresh_not_done outcome e = cc
 
 -- more outcomes behind those in which it stands change nothing, and it stands in all of them
-done_longer : (done more : List (ℕ × Outcome)) (n : ℕ) (outcome : Outcome) → done_by done n Fresh ≡ Done outcome → (done_by (done ++ more) n Fresh ≡ Done outcome) × (1 ≤ count n (numbers_done (done ++ more)))
+done_longer : (done more : List (ℕ × Outcome)) (n : ℕ) (outcome : Outcome) → done_by done n Fresh ≡ Done outcome → (done_by (done ++ more) n Fresh ≡ Done outcome)
+    × (1 ≤ count n (numbers_done (done ++ more)))
 done_longer [] more n outcome h = absurd (fresh_not_done outcome h)
 done_longer (d ∷ done) more n outcome h = elim (cases_Bool (nat_eq d.0 n)) [
   | inl here ↦

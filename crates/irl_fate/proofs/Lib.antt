@@ -4,7 +4,6 @@ pub mod Counting
 pub mod Crawls
 pub mod Fresh
 pub mod Marking
-pub mod Placing
 pub mod Reading
 pub mod Rows
 pub mod RuleLemmas

@@ -10,8 +10,8 @@ use Rattle.std.proofs.lemmas.List.{take_more, get_or_default}
 use Rattle.std.proofs.lemmas.List.Folds.{list_any_more}
 use Rattle.irl_offer.specs.declared.outcome.Outcome.{Outcome}
 use Rattle.irl_offer.specs.declared.place.Place.{Place}
-use Rattle.irl_model.specs.Events.{has_number}
-use Rattle.irl_model.specs.Legal.{are_distinct}
+use Rattle.irl_events.specs.Events.{has_number}
+use Rattle.irl_events.specs.Legal.{are_distinct}
 use Rattle.irl_fate.specs.declared.fate.Fate.{Fate}
 use Rattle.irl_fate.specs.declared.fate.Fate.TheVariants.{Fresh, Queue, Last, Done}
 use Rattle.irl_fate.specs.Fates.{done_by}
@@ -36,7 +36,8 @@ front_fresh f h e = let g : is_front Fresh ≡ true = subst (λ (x : Fate). is_f
 
 -- ---- the last list
 -- a number of the list is last before, and in queue 1 after
-pub moved_entry : (entries old : List (ℕ × Fate)) (last : List ℕ) (i n : ℕ) → fate_in entries n ≡ cond (has_number (take i last) n) (Queue 1) (fate_in old n) → fate_in old n ≡ Last → HasEntry entries n
+pub moved_entry : (entries old : List (ℕ × Fate)) (last : List ℕ) (i n : ℕ) → fate_in entries n ≡ cond (has_number (take i last) n) (Queue 1) (fate_in old n) → fate_in old n ≡ Last
+    → HasEntry entries n
 moved_entry entries old last i n is before = entry_of entries n (λ e. elim (cases_Bool (has_number (take i last) n)) [
   | inl in_it ↦ queue_fresh 1 (sym (is ∙ ap (λ b. cond b (Queue 1) (fate_in old n)) in_it) ∙ e)
   | inr out_of_it ↦ last_fresh (sym (is ∙ ap (λ b. cond b (Queue 1) (fate_in old n)) out_of_it ∙ before) ∙ e)
@@ -48,7 +49,8 @@ two_conds true false x y = refl
 two_conds false true x y = refl
 two_conds false false x y = refl
 
-pub moved_more : (last : List ℕ) (i d q : ℕ) (f : Fate) → i < length last → cond (nat_eq (get_or last i d) q) (Queue 1) (cond (has_number (take i last) q) (Queue 1) f) ≡ cond (has_number (take (i + 1) last) q) (Queue 1) f
+pub moved_more : (last : List ℕ) (i d q : ℕ) (f : Fate) → i < length last → cond (nat_eq (get_or last i d) q) (Queue 1) (cond (has_number (take i last) q) (Queue 1) f)
+    ≡ cond (has_number (take (i + 1) last) q) (Queue 1) f
 moved_more last i d q f lt =
     two_conds (has_number (take i last) q) (nat_eq (get_or last i d) q) (Queue 1) f
     ∙ ap (λ b. cond b (Queue 1) f) (sym (list_any_more (λ m. nat_eq m q) last i d lt))
@@ -58,7 +60,8 @@ placed_last : (places : List Place) (x : Place) (q : ℕ) (f : Fate) → placed_
 placed_last [] x q f = refl
 placed_last (place ∷ places) x q f = placed_last places x q (cond (nat_eq place.number q) (fate_of_slot place.slot) f)
 
-pub placed_more : (places : List Place) (i : ℕ) (d : Place) (q : ℕ) (f : Fate) → i < length places → cond (nat_eq (get_or places i d).number q) (fate_of_slot (get_or places i d).slot) (placed_by (take i places) q f) ≡ placed_by (take (i + 1) places) q f
+pub placed_more : (places : List Place) (i : ℕ) (d : Place) (q : ℕ) (f : Fate) → i < length places
+    → cond (nat_eq (get_or places i d).number q) (fate_of_slot (get_or places i d).slot) (placed_by (take i places) q f) ≡ placed_by (take (i + 1) places) q f
 placed_more places i d q f lt =
     sym (placed_last (take i places) (get_or places i d) q f) ∙ ap (λ (t : List Place). placed_by t q f) (sym (take_more places i d lt))
 
@@ -94,7 +97,8 @@ distinct_at (n ∷ ns) (suc k) d h lt =
     (distinct_at ns k d parts.1 (omega arith))
 
 -- one more outcome of a number that none before it has
-pub done_more : (outcomes : List (ℕ × Outcome)) (i : ℕ) (d : ℕ × Outcome) (q : ℕ) (f : Fate) → i < length outcomes → has_number (numbers_done (take i outcomes)) (get_or outcomes i d).0 ≡ false → cond (nat_eq (get_or outcomes i d).0 q) (Done (get_or outcomes i d).1) (done_by (take i outcomes) q f) ≡ done_by (take (i + 1) outcomes) q f
+pub done_more : (outcomes : List (ℕ × Outcome)) (i : ℕ) (d : ℕ × Outcome) (q : ℕ) (f : Fate) → i < length outcomes → has_number (numbers_done (take i outcomes)) (get_or outcomes i d).0 ≡ false
+    → cond (nat_eq (get_or outcomes i d).0 q) (Done (get_or outcomes i d).1) (done_by (take i outcomes) q f) ≡ done_by (take (i + 1) outcomes) q f
 done_more outcomes i d q f lt none =
     let o = get_or outcomes i d in
     let so_far = take i outcomes in
@@ -116,7 +120,8 @@ each_at p (x ∷ xs) zero d h lt = (and_parts (p x) (list_all p xs) h).0
 each_at p (x ∷ xs) (suc i) d h lt = each_at p xs i d (and_parts (p x) (list_all p xs) h).1 (omega arith)
 
 -- the numbers of places have entries, one more after another
-pub entries_more : (old new : List (ℕ × Fate)) (places : List Place) (i : ℕ) (e : Place) → ((k : ℕ) (d : Place) → k < i → HasEntry old (get_or places k d).number) → ((q : ℕ) → HasEntry old q → HasEntry new q) → i < length places → HasEntry new (get_or places i e).number → (k : ℕ) (d : Place) → k < i + 1 → HasEntry new (get_or places k d).number
+pub entries_more : (old new : List (ℕ × Fate)) (places : List Place) (i : ℕ) (e : Place) → ((k : ℕ) (d : Place) → k < i → HasEntry old (get_or places k d).number)
+    → ((q : ℕ) → HasEntry old q → HasEntry new q) → i < length places → HasEntry new (get_or places i e).number → (k : ℕ) (d : Place) → k < i + 1 → HasEntry new (get_or places k d).number
 entries_more old new places i e before kept lt now k d below = elim (cases_eq k i) [
   | inl here ↦
       subst (λ (n : ℕ). HasEntry new (get_or places n d).number) (sym here)

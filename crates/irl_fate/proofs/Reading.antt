@@ -8,9 +8,10 @@ use Rattle.irl_offer.specs.declared.outcome.Outcome.{Outcome}
 use Rattle.irl_offer.specs.declared.place.Place.{Place}
 use Rattle.irl_offer.specs.declared.place.Slot.{Slot}
 use Rattle.irl_offer.specs.declared.place.Slot.TheVariants.{Front as InFront, Queue as InQueue, Last as InLast}
-use Rattle.irl_model.specs.Queues.{list_at, put, delivered, FitsSlot}
-use Rattle.irl_model.specs.Events.{has_number, is_in_front, numbers_of}
-use Rattle.irl_model.specs.Legal.{are_rising, are_read, is_slot_within}
+use Rattle.irl_base.specs.Lists.{list_at}
+use Rattle.irl_events.specs.Queues.{put, delivered, FitsSlot}
+use Rattle.irl_events.specs.Events.{has_number, is_in_front, numbers_of}
+use Rattle.irl_events.specs.Legal.{are_rising, are_read, is_slot_within}
 use Rattle.irl_fate.specs.declared.fate.Fate.{Fate}
 use Rattle.irl_fate.specs.declared.fate.Fate.TheVariants.{Fresh}
 use Rattle.irl_fate.specs.Kept.{count, one_if, Agree, fate_of_slot, placed_by}
@@ -27,7 +28,8 @@ slot_fits from to (InQueue i) least most h =
     (omega arith, omega arith)
 slot_fits from to InLast least most h = tt
 
-pub slots_fit : (from to : ℕ) (places : List Place) → 1 ≤ from → to ≤ 64 → list_all (λ p. is_slot_within from to p.slot) places ≡ true → (i : ℕ) (d : Place) → i < length places → FitsSlot (get_or places i d).slot
+pub slots_fit : (from to : ℕ) (places : List Place) → 1 ≤ from → to ≤ 64 → list_all (λ p. is_slot_within from to p.slot) places ≡ true → (i : ℕ) (d : Place) → i < length places
+    → FitsSlot (get_or places i d).slot
 slots_fit from to [] least most h i d lt = absurd (omega arith)
 slots_fit from to (place ∷ places) least most h zero d lt =
     slot_fits from to place.slot least most (and_parts (is_slot_within from to place.slot) (list_all (λ p. is_slot_within from to p.slot) places) h).0
@@ -94,7 +96,8 @@ module _ (low high : ℕ) (least : 1 ≤ low) (most : high ≤ 64) (f : ℕ → 
         clear_rising (m + 1) to places (λ n le. fresh n (omega arith)) parts.1 fit.1,
       )
 
-  pub clear_read : (queue : List ℕ) (from to : ℕ) (places : List Place) → ((n : ℕ) → count n queue ≤ 1) → ((n : ℕ) → has_number queue n ≡ true → n < from) → ((n : ℕ) → has_number queue n ≡ true → f n ≡ Fresh) → ((n : ℕ) → from ≤ n → f n ≡ Fresh) → are_read queue from to (numbers_of places) ≡ true → within places ≡ true → Clear f places
+  pub clear_read : (queue : List ℕ) (from to : ℕ) (places : List Place) → ((n : ℕ) → count n queue ≤ 1) → ((n : ℕ) → has_number queue n ≡ true → n < from)
+      → ((n : ℕ) → has_number queue n ≡ true → f n ≡ Fresh) → ((n : ℕ) → from ≤ n → f n ≡ Fresh) → are_read queue from to (numbers_of places) ≡ true → within places ≡ true → Clear f places
   clear_read [] from to places once below out fresh h slots = clear_rising from to places fresh h slots
   clear_read (q ∷ queue) from to [] once below out fresh h slots = tt
   clear_read (q ∷ queue) from to (place ∷ places) once below out fresh h slots =
@@ -141,7 +144,8 @@ front_more front place places = elim (cases_Bool (is_in_front place.slot)) [
       ∙ ap (λ b. front ++ numbers_of (cond b (place ∷ filter (λ p. is_in_front p.slot) places) (filter (λ p. is_in_front p.slot) places))) (sym e)
 ]
 
-pub put_places : (f : ℕ → Fate) (front : List ℕ) (lists : List (List ℕ)) (done : List (ℕ × Outcome)) (places : List Place) → Clear f places → Agree f front lists done → Agree (λ q. placed_by places q (f q)) (front ++ front_places places) (delivered lists (numbers_of places) places) done
+pub put_places : (f : ℕ → Fate) (front : List ℕ) (lists : List (List ℕ)) (done : List (ℕ × Outcome)) (places : List Place) → Clear f places → Agree f front lists done
+    → Agree (λ q. placed_by places q (f q)) (front ++ front_places places) (delivered lists (numbers_of places) places) done
 unfolding delivered
 put_places f front lists done [] clear a = subst (λ (t : List ℕ). Agree f t lists done) (sym (append-nil front)) a
 put_places f front lists done (place ∷ places) clear a =
@@ -180,7 +184,8 @@ put_before lists n (InQueue i) from to k h lt below =
     get_or-set_other lists (i - 1) k (list_at lists (i - 1) ++ n ∷ []) [] (λ e. omega arith)
 put_before lists n InLast from to k h lt below = get_or-set_other lists 64 k (list_at lists 64 ++ n ∷ []) [] (λ e. omega arith)
 
-pub delivered_before : (lists : List (List ℕ)) (places : List Place) (from to k : ℕ) → list_all (λ p. is_slot_within from to p.slot) places ≡ true → k + 1 < from → k < 64 → list_at (delivered lists (numbers_of places) places) k ≡ list_at lists k
+pub delivered_before : (lists : List (List ℕ)) (places : List Place) (from to k : ℕ) → list_all (λ p. is_slot_within from to p.slot) places ≡ true → k + 1 < from → k < 64
+    → list_at (delivered lists (numbers_of places) places) k ≡ list_at lists k
 unfolding delivered
 delivered_before lists [] from to k h lt below = refl
 delivered_before lists (place ∷ places) from to k h lt below =
@@ -198,7 +203,8 @@ put_after lists n (InQueue i) from to k least h le below =
     get_or-set_other lists (i - 1) k (list_at lists (i - 1) ++ n ∷ []) [] (λ e. omega arith)
 put_after lists n InLast from to k least h le below = get_or-set_other lists 64 k (list_at lists 64 ++ n ∷ []) [] (λ e. omega arith)
 
-pub delivered_after : (lists : List (List ℕ)) (places : List Place) (from to k : ℕ) → 1 ≤ from → list_all (λ p. is_slot_within from to p.slot) places ≡ true → to ≤ k → k < 64 → list_at (delivered lists (numbers_of places) places) k ≡ list_at lists k
+pub delivered_after : (lists : List (List ℕ)) (places : List Place) (from to k : ℕ) → 1 ≤ from → list_all (λ p. is_slot_within from to p.slot) places ≡ true → to ≤ k → k < 64
+    → list_at (delivered lists (numbers_of places) places) k ≡ list_at lists k
 unfolding delivered
 delivered_after lists [] from to k least h le below = refl
 delivered_after lists (place ∷ places) from to k least h le below =

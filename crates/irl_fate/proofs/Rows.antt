@@ -4,15 +4,16 @@ use Rattle.std.specs.Prelude.{None, Some}
 use Rattle.irl_offer.specs.declared.place.Place.{Place}
 use Rattle.irl_offer.specs.declared.place.Slot.TheVariants.{Front as InFront, Queue as InQueue, Last as InLast}
 use Rattle.irl_offer.specs.declared.outcome.Outcome.TheVariants.{Page}
-use Rattle.irl_model.specs.Queues.{delivered, queue_of, last_of}
-use Rattle.irl_model.specs.Events.{Begin, Pairs, Pass, Settle, Happened, progress}
-use Rattle.irl_model.specs.Legal.{broken}
+use Rattle.irl_events.specs.Queues.{delivered, queue_of, last_of}
+use Rattle.irl_events.specs.Events.{Begin, Pairs, Pass, Settle, Happened, progress}
+use Rattle.irl_events.specs.Legal.{broken}
 use Rattle.irl_fate.specs.declared.fate.Fate.TheVariants.{Fresh, Queue, Last, Front, Done}
 use Rattle.irl_fate.specs.Fates.{fate_of}
 
 abbrev places : List Place
 places =
-    (record { number = 0; slot = InFront }) ∷ (record { number = 1; slot = InQueue 2 }) ∷ (record { number = 2; slot = InLast }) ∷ (record { number = 3; slot = InLast }) ∷ (record { number = 4; slot = InLast }) ∷ []
+    (record { number = 0; slot = InFront }) ∷ (record { number = 1; slot = InQueue 2 }) ∷ (record { number = 2; slot = InLast }) ∷ (record { number = 3; slot = InLast })
+    ∷ (record { number = 4; slot = InLast }) ∷ []
 
 abbrev first : List Happened
 first = (Begin [], []) ∷ (Pairs 1 5 0, []) ∷ (Pass 5, places) ∷ []
@@ -29,7 +30,10 @@ second_row : map (fate_of (progress 2 1 second)) (0 ∷ 1 ∷ 2 ∷ 3 ∷ 4 ∷ 
 unfolding delivered
 second_row = refl
 
-round_row : ◌≡◌ {A = List ℕ × (List ℕ × (ℕ × ℕ))} (queue_of (progress 2 1 second).waiting 1, (last_of (progress 2 1 second).waiting, ((progress 2 1 second).waiting.queues, (progress 2 1 second).waiting.passes))) (2 ∷ 3 ∷ 4 ∷ [], ([], (4, 0)))
+round_row : ◌≡◌ {A = List ℕ × (List ℕ × (ℕ × ℕ))} (
+  queue_of (progress 2 1 second).waiting 1,
+  (last_of (progress 2 1 second).waiting, ((progress 2 1 second).waiting.queues, (progress 2 1 second).waiting.passes)),
+) (2 ∷ 3 ∷ 4 ∷ [], ([], (4, 0)))
 unfolding delivered
 round_row = refl
 

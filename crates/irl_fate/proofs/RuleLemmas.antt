@@ -6,8 +6,8 @@ use Rattle.std.specs.BTreeMap.{is_at}
 use Rattle.std.proofs.lemmas.Bool.{and_right}
 use Rattle.std.proofs.lemmas.List.{take_more}
 use Rattle.std.proofs.lemmas.List.Folds.{list_any-append, list_any_more}
-use Rattle.irl_model.specs.Events.{has_number}
-use Rattle.irl_model.specs.Legal.{are_read, are_distinct}
+use Rattle.irl_events.specs.Events.{has_number}
+use Rattle.irl_events.specs.Legal.{are_read, are_distinct}
 use Rattle.irl_fate.proofs.Counting.{nat_eq_sym}
 
 pub read_short : (queue : List ℕ) (from to : ℕ) (numbers : List ℕ) → length numbers < length queue → are_read queue from to numbers ≡ false
@@ -54,7 +54,8 @@ some_cond true (Some x) = refl
 some_cond false None = refl
 some_cond false (Some x) = refl
 
-pub seen_more : (ns : List ℕ) (i q : ℕ) (old new : Option Bool) → i < length ns → new ≡ cond (is_at (nat_cmp (get_or ns i 0)) q) (Some true) old → is_some old ≡ has_number (take i ns) q → is_some new ≡ has_number (take (i + 1) ns) q
+pub seen_more : (ns : List ℕ) (i q : ℕ) (old new : Option Bool) → i < length ns → new ≡ cond (is_at (nat_cmp (get_or ns i 0)) q) (Some true) old → is_some old ≡ has_number (take i ns) q
+    → is_some new ≡ has_number (take (i + 1) ns) q
 seen_more ns i q old new lt is before =
     ap (λ (o : Option Bool). is_some o) is ∙ some_cond (is_at (nat_cmp (get_or ns i 0)) q) old
     ∙ ap (λ b. b || is_at (nat_cmp (get_or ns i 0)) q) before

@@ -6,8 +6,8 @@ use Rattle.std.specs.List.{list_all}
 use Rattle.std.proofs.lemmas.Bool.{cases_Bool, and_parts, or_parts, or_cases, eqb-true, cond-true, cond-false, false≢true}
 use Rattle.std.proofs.lemmas.List.{length-map, map-append}
 use Rattle.irl_offer.specs.declared.outcome.Outcome.{Outcome}
-use Rattle.irl_model.specs.Events.{Progress, Settle, has_number, without}
-use Rattle.irl_model.specs.Legal.{are_distinct, none_fell, one_rose, settles}
+use Rattle.irl_events.specs.Events.{Progress, Settle, has_number, without}
+use Rattle.irl_events.specs.Legal.{are_distinct, none_fell, one_rose, settles}
 use Rattle.irl_fate.specs.declared.fate.Fate.{Fate}
 use Rattle.irl_fate.specs.declared.fate.Fate.TheVariants.{Fresh, Front, Done}
 use Rattle.irl_fate.specs.Fates.{done_by}
@@ -75,7 +75,8 @@ settled_at : (f : ℕ → Fate) (outcomes : List (ℕ × Outcome)) (n : ℕ) →
 settled_at f outcomes n all there = front_only (f n) (was_front f outcomes n all there)
 
 module _ {f : ℕ → Fate} {front : List ℕ} {lists : List (List ℕ)} {done : List (ℕ × Outcome)} (outcomes : List (ℕ × Outcome)) where
-  pub settle_agree : list_all (λ d. is_front (f d.0)) outcomes ≡ true → are_distinct (numbers_done outcomes) ≡ true → Agree f front lists done → Agree (λ n. done_by outcomes n (f n)) (without front outcomes) lists (done ++ outcomes)
+  pub settle_agree : list_all (λ d. is_front (f d.0)) outcomes ≡ true → are_distinct (numbers_done outcomes) ≡ true → Agree f front lists done
+      → Agree (λ n. done_by outcomes n (f n)) (without front outcomes) lists (done ++ outcomes)
   settle_agree all apart a =
       let has : ℕ → Bool = λ n. has_number (numbers_done outcomes) n in
       let now = λ (n : ℕ) (e : has_number (numbers_done outcomes) n ≡ true). came_of outcomes n (f n) e in
@@ -117,7 +118,8 @@ module _ {f : ℕ → Fate} {front : List ℕ} {lists : List (List ℕ)} {done :
         many = a.many;
       }
 
-  pub settle_left : list_all (λ d. is_front (f d.0)) outcomes ≡ true → are_distinct (numbers_done outcomes) ≡ true → Agree f front lists done → length (without front outcomes) + length outcomes ≡ length front
+  pub settle_left : list_all (λ d. is_front (f d.0)) outcomes ≡ true → are_distinct (numbers_done outcomes) ≡ true → Agree f front lists done
+      → length (without front outcomes) + length outcomes ≡ length front
   settle_left all apart a =
       let count_all = length_without (numbers_done outcomes) front apart (λ n there. a.front_is n ∙ one_true (is_front (f n)) (was_front f outcomes n all there)) in
       omega (arith, length-map outcomes (λ (d : ℕ × Outcome). d.0))
@@ -131,7 +133,8 @@ and_true true = refl
 and_true false = refl
 
 -- what is left of the front
-pub settle_front : (old new : List (ℕ × Fate)) (front : List ℕ) (outcomes : List (ℕ × Outcome)) → ((q : ℕ) → fate_in new q ≡ done_by outcomes q (fate_in old q)) → front_left new front ≡ without (front_left old front) outcomes
+pub settle_front : (old new : List (ℕ × Fate)) (front : List ℕ) (outcomes : List (ℕ × Outcome)) → ((q : ℕ) → fate_in new q ≡ done_by outcomes q (fate_in old q))
+    → front_left new front ≡ without (front_left old front) outcomes
 settle_front old new front outcomes h =
     filter_same (λ n. is_front (fate_in new n)) (λ n. is_front (fate_in old n) && not (has_number (numbers_done outcomes) n)) front (λ n.
     ap is_front (h n) ∙ elim (cases_Bool (has_number (numbers_done outcomes) n)) [

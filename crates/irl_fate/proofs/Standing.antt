@@ -2,7 +2,7 @@
 use Rattle.std.proofs.Common.{◌≡◌, ◌∙◌, ℕ, ◌+◌, ◌-◌, ◌<◌, ◌≤◌, zero, suc, List, [], ◌∷◌, map, length, ap, arith, refl, true, false, subst}
 use Rattle.std.proofs.lemmas.Bool.{eq-eqb, ne_eqb}
 use Rattle.irl_offer.specs.declared.outcome.Outcome.{Outcome}
-use Rattle.irl_model.specs.Queues.{list_at}
+use Rattle.irl_base.specs.Lists.{list_at}
 use Rattle.irl_fate.specs.declared.fate.Fate.{Fate}
 use Rattle.irl_fate.specs.declared.fate.Fate.TheVariants.{Fresh, Queue, Last, Front, Done}
 use Rattle.irl_fate.specs.Standing.{count_all, is_placed}

@@ -7,9 +7,10 @@ use Rattle.std.proofs.lemmas.List.Folds.{list_any_at}
 use Rattle.std.proofs.lemmas.List.{get_or-set_same, get_or-set_other, get_or-replicate, get_or_past}
 use Rattle.irl_offer.specs.declared.outcome.Outcome.{Outcome}
 use Rattle.irl_offer.specs.declared.place.Place.{Place}
-use Rattle.irl_model.specs.Queues.{list_at, delivered, empty_lists}
-use Rattle.irl_model.specs.Events.{Progress, Pass, has_number, numbers_of}
-use Rattle.irl_model.specs.Legal.{are_read, is_slot_within, passes_on}
+use Rattle.irl_base.specs.Lists.{list_at}
+use Rattle.irl_events.specs.Queues.{delivered, empty_lists}
+use Rattle.irl_events.specs.Events.{Progress, Pass, has_number, numbers_of}
+use Rattle.irl_events.specs.Legal.{are_read, is_slot_within, passes_on}
 use Rattle.irl_fate.specs.declared.fate.Fate.{Fate}
 use Rattle.irl_fate.specs.declared.fate.Fate.TheVariants.{Fresh, Queue, Last, Front, Done}
 use Rattle.irl_fate.specs.Kept.{fate_in, is_front, is_listed, is_done, FitsFate, count, one_if, outcome_of, outcome_at, Agree, front_left, placed_by}
@@ -150,10 +151,12 @@ at_last f front lists done n a there = last_only (f n) (a.fits n) (sym (in_list 
 has_at : (xs : List ℕ) (i : ℕ) → i < length xs → has_number xs (get_or xs i 0) ≡ true
 has_at xs i lt = list_any_at (λ m. nat_eq m (get_or xs i 0)) xs i 0 lt (eq-eqb (get_or xs i 0) (get_or xs i 0) refl)
 
-pub all_last : (f : ℕ → Fate) (front : List ℕ) (lists : List (List ℕ)) (done : List (ℕ × Outcome)) → Agree f front lists done → (i : ℕ) → i < length (list_at lists 64) → f (get_or (list_at lists 64) i 0) ≡ Last
+pub all_last : (f : ℕ → Fate) (front : List ℕ) (lists : List (List ℕ)) (done : List (ℕ × Outcome)) → Agree f front lists done → (i : ℕ) → i < length (list_at lists 64)
+    → f (get_or (list_at lists 64) i 0) ≡ Last
 all_last f front lists done a i lt = at_last f front lists done _ a (has_at (list_at lists 64) i lt)
 
-pub turned_left : (old new : List (ℕ × Fate)) (front kept : List ℕ) (lists : List (List ℕ)) (done : List (ℕ × Outcome)) → Agree (fate_in old) kept lists done → ((q : ℕ) → fate_in new q ≡ turned (fate_in old) (list_at lists 64) q) → front_left new front ≡ front_left old front
+pub turned_left : (old new : List (ℕ × Fate)) (front kept : List ℕ) (lists : List (List ℕ)) (done : List (ℕ × Outcome)) → Agree (fate_in old) kept lists done
+    → ((q : ℕ) → fate_in new q ≡ turned (fate_in old) (list_at lists 64) q) → front_left new front ≡ front_left old front
 turned_left old new front kept lists done a h =
     filter_same (λ n. is_front (fate_in new n)) (λ n. is_front (fate_in old n)) front (λ n. ap is_front (h n) ∙ turn_front a n)
 
@@ -171,7 +174,8 @@ empty_at k = elim (cases_lt k 65) [
   | inr le ↦ let many : length (empty_lists {X = ℕ}) ≡ 65 = refl in get_or_past empty_lists k [] (omega arith)
 ]
 
-pub none_agree : (entries : List (ℕ × Fate)) (front : List ℕ) (lists : List (List ℕ)) (done : List (ℕ × Outcome)) → entries ≡ [] → front ≡ [] → lists ≡ empty_lists → done ≡ [] → Agree (fate_in entries) (front_left entries front) lists done
+pub none_agree : (entries : List (ℕ × Fate)) (front : List ℕ) (lists : List (List ℕ)) (done : List (ℕ × Outcome)) → entries ≡ [] → front ≡ [] → lists ≡ empty_lists → done ≡ []
+    → Agree (fate_in entries) (front_left entries front) lists done
 none_agree entries front lists done none no_front no_lists no_done =
     let fresh = λ (n : ℕ). none_fresh entries none n (omega arith) in
     record {

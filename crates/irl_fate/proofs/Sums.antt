@@ -6,8 +6,8 @@ use Rattle.std.proofs.lemmas.Bool.{cases_Bool, or_left, or_right, eq-eqb, cond-t
 use Rattle.std.proofs.lemmas.List.{length-map}
 use Rattle.irl_offer.specs.declared.outcome.Outcome.{Outcome}
 use Rattle.irl_offer.specs.declared.outcome.Outcome.TheVariants.{Page, Moved, Status, Denied, Shut, Lost, Bad, Large, Coded}
-use Rattle.irl_model.specs.Events.{Happened, Progress, has_number, progress}
-use Rattle.irl_model.specs.Legal.{are_distinct}
+use Rattle.irl_events.specs.Events.{Happened, Progress, has_number, progress}
+use Rattle.irl_events.specs.Legal.{are_distinct}
 use Rattle.irl_fate.specs.Counting.{CountFates, count_fate, are_alike, came_to, is_fresh, is_queued, is_last}
 use Rattle.irl_fate.specs.declared.counts.Counts.{Counts}
 use Rattle.irl_fate.specs.declared.fate.Fate.{Fate}
@@ -45,7 +45,8 @@ all_kinds x [] = refl
 all_kinds x (n ∷ ns) =
     omega (arith, kinds (fate_of x n), all_kinds x ns, fate_more is_fresh x n ns, fate_more is_queued x n ns, fate_more is_last x n ns, fate_more is_front x n ns, fate_more is_done x n ns)
 
-outcomes_of : (o : Outcome) → one_if (are_alike Page o) + one_if (are_alike Moved o) + one_if (are_alike (Status 0) o) + one_if (are_alike (Denied 0) o) + one_if (are_alike Shut o) + one_if (are_alike Lost o) + one_if (are_alike Bad o) + one_if (are_alike Large o) + one_if (are_alike Coded o) ≡ 1
+outcomes_of : (o : Outcome) → one_if (are_alike Page o) + one_if (are_alike Moved o) + one_if (are_alike (Status 0) o) + one_if (are_alike (Denied 0) o) + one_if (are_alike Shut o) + one_if
+    (are_alike Lost o) + one_if (are_alike Bad o) + one_if (are_alike Large o) + one_if (are_alike Coded o) ≡ 1
 outcomes_of Page = refl
 outcomes_of Moved = refl
 outcomes_of (Status n) = refl
@@ -56,22 +57,39 @@ outcomes_of Bad = refl
 outcomes_of Large = refl
 outcomes_of Coded = refl
 
-outcome_kinds : (v : Fate) → one_if (came_to Page v) + one_if (came_to Moved v) + one_if (came_to (Status 0) v) + one_if (came_to (Denied 0) v) + one_if (came_to Shut v) + one_if (came_to Lost v) + one_if (came_to Bad v) + one_if (came_to Large v) + one_if (came_to Coded v) ≡ one_if (is_done v)
+outcome_kinds : (v : Fate) → one_if (came_to Page v) + one_if (came_to Moved v) + one_if (came_to (Status 0) v) + one_if (came_to (Denied 0) v) + one_if (came_to Shut v) + one_if
+    (came_to Lost v) + one_if (came_to Bad v) + one_if (came_to Large v) + one_if (came_to Coded v) ≡ one_if (is_done v)
 outcome_kinds Fresh = refl
 outcome_kinds (Queue i) = refl
 outcome_kinds Last = refl
 outcome_kinds Front = refl
 outcome_kinds (Done o) = outcomes_of o
 
-all_outcomes : (x : Progress) (ns : List ℕ) → count_fate (came_to Page) x ns + count_fate (came_to Moved) x ns + count_fate (came_to (Status 0)) x ns + count_fate (came_to (Denied 0)) x ns + count_fate (came_to Shut) x ns + count_fate (came_to Lost) x ns + count_fate (came_to Bad) x ns + count_fate (came_to Large) x ns + count_fate (came_to Coded) x ns ≡ count_fate is_done x ns
+all_outcomes : (x : Progress) (ns : List ℕ) → count_fate (came_to Page) x ns + count_fate (came_to Moved) x ns + count_fate (came_to (Status 0)) x ns + count_fate (came_to (Denied 0)) x
+    ns + count_fate (came_to Shut) x ns + count_fate (came_to Lost) x ns + count_fate (came_to Bad) x ns + count_fate (came_to Large) x ns + count_fate (came_to Coded) x ns ≡ count_fate is_done x ns
 all_outcomes x [] = refl
 all_outcomes x (n ∷ ns) =
-    omega (arith, outcome_kinds (fate_of x n), all_outcomes x ns, fate_more (came_to Page) x n ns, fate_more (came_to Moved) x n ns, fate_more (came_to (Status 0)) x n ns, fate_more (came_to (Denied 0)) x n ns, fate_more (came_to Shut) x n ns, fate_more (came_to Lost) x n ns, fate_more (came_to Bad) x n ns, fate_more (came_to Large) x n ns, fate_more (came_to Coded) x n ns, fate_more is_done x n ns)
+    omega (
+      arith,
+      outcome_kinds (fate_of x n),
+      all_outcomes x ns,
+      fate_more (came_to Page) x n ns,
+      fate_more (came_to Moved) x n ns,
+      fate_more (came_to (Status 0)) x n ns,
+      fate_more (came_to (Denied 0)) x n ns,
+      fate_more (came_to Shut) x n ns,
+      fate_more (came_to Lost) x n ns,
+      fate_more (came_to Bad) x n ns,
+      fate_more (came_to Large) x n ns,
+      fate_more (came_to Coded) x n ns,
+      fate_more is_done x n ns,
+    )
 
 pub fates_add_up : (counts : Counts) (x : Progress) (numbers : List ℕ) → CountFates counts x numbers → counts.fresh + counts.queued + counts.last + counts.front + counts.done ≡ counts.unique
 fates_add_up counts x numbers is = omega (arith, is.unique, is.fresh, is.queued, is.last, is.front, is.done, all_kinds x numbers)
 
-pub outcomes_add_up : (counts : Counts) (x : Progress) (numbers : List ℕ) → CountFates counts x numbers → counts.page + counts.moved + counts.status + counts.denied + counts.shut + counts.lost + counts.bad + counts.large + counts.coded ≡ counts.done
+pub outcomes_add_up : (counts : Counts) (x : Progress) (numbers : List ℕ) → CountFates counts x numbers
+    → counts.page + counts.moved + counts.status + counts.denied + counts.shut + counts.lost + counts.bad + counts.large + counts.coded ≡ counts.done
 outcomes_add_up counts x numbers is = omega (arith, is.page, is.moved, is.status, is.denied, is.shut, is.lost, is.bad, is.large, is.coded, is.done, all_outcomes x numbers)
 
 -- ---- lists
@@ -95,7 +113,8 @@ one_most true = omega arith
 one_most false = omega arith
 
 -- a list that has the numbers of which a test holds, each once, is as long as those of them among numbers that differ
-list_long : (p : ℕ → Bool) (xs numbers : List ℕ) → ((n : ℕ) → count n xs ≡ one_if (p n)) → are_distinct numbers ≡ true → ((n : ℕ) → p n ≡ true → has_number numbers n ≡ true) → length (filter p numbers) ≡ length xs
+list_long : (p : ℕ → Bool) (xs numbers : List ℕ) → ((n : ℕ) → count n xs ≡ one_if (p n)) → are_distinct numbers ≡ true → ((n : ℕ) → p n ≡ true → has_number numbers n ≡ true)
+    → length (filter p numbers) ≡ length xs
 list_long p xs numbers counts apart among =
     let kept : List ℕ = filter p numbers in
     let has = λ (n : ℕ). has_of_count xs n (p n) (counts n) in
@@ -113,7 +132,8 @@ list_long p xs numbers counts apart among =
     omega arith
 
 -- ---- the front, and what is done
-waits_kind : (test : Fate → Bool) (k : ℕ) (lists : List (List ℕ)) (n : ℕ) (other : Fate) → ((i : ℕ) → test (Queue i) ≡ false) → test Last ≡ false → test other ≡ false → test (waits_from k lists n other) ≡ false
+waits_kind : (test : Fate → Bool) (k : ℕ) (lists : List (List ℕ)) (n : ℕ) (other : Fate) → ((i : ℕ) → test (Queue i) ≡ false) → test Last ≡ false → test other ≡ false
+    → test (waits_from k lists n other) ≡ false
 waits_kind test k [] n other queues last h = h
 waits_kind test k (list ∷ lists) n other queues last h = by_test (has_number list n) (nat_eq k 64) (waits_kind test (k + 1) lists n other queues last h)
   where
@@ -142,7 +162,8 @@ done_has x n most = elim (cases_Bool (has_number (numbers_done x.done) n)) [
   | inl there ↦
       ap is_done (done_only x n most (present_count (numbers_done x.done) n there) ∙ (came_of x.done n Fresh there).fate) ∙ sym there
   | inr none ↦
-      let rest : is_done (waits_from 0 x.waiting.lists n (done_by x.done n Fresh)) ≡ false = waits_kind is_done 0 x.waiting.lists n (done_by x.done n Fresh) (λ i. refl) refl (ap is_done (done_absent x.done n Fresh none)) in
+      let rest : is_done (waits_from 0 x.waiting.lists n (done_by x.done n Fresh)) ≡ false =
+      waits_kind is_done 0 x.waiting.lists n (done_by x.done n Fresh) (λ i. refl) refl (ap is_done (done_absent x.done n Fresh none)) in
       by_test (has_number x.front n) rest ∙ sym none
 ]
   where
@@ -159,7 +180,8 @@ count_has xs n most = elim (cases_Bool (has_number xs n)) [
   | inr none ↦ absent_count xs n none ∙ sym (ap one_if none)
 ]
 
-module _ (queues buckets : ℕ) (events : List Happened) (numbers : List ℕ) (is : IsCrawl queues buckets events) (apart : are_distinct numbers ≡ true) (among : (n : ℕ) → was_read events n ≡ true → has_number numbers n ≡ true) where
+module _ (queues buckets : ℕ) (events : List Happened) (numbers : List ℕ) (is : IsCrawl queues buckets events) (apart : are_distinct numbers ≡ true) (among : (n : ℕ) → was_read events n ≡ true
+    → has_number numbers n ≡ true) where
   abbrev x : Progress
   x = progress queues buckets events
 

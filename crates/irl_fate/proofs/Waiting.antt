@@ -8,9 +8,10 @@ use Rattle.irl_offer.specs.declared.outcome.Outcome.{Outcome}
 use Rattle.irl_offer.specs.declared.place.Place.{Place}
 use Rattle.irl_offer.specs.declared.place.Slot.{Slot}
 use Rattle.irl_offer.specs.declared.place.Slot.TheVariants.{Front, Queue, Last}
-use Rattle.irl_model.specs.Queues.{Waiting, list_at, with_one, put, delivered, round_ended, next_queues, FitsSlot}
-use Rattle.irl_model.specs.Events.{Pass, Settle, Progress, has_number, is_in_front, numbers_of, without, after_event}
-use Rattle.irl_model.specs.Legal.{are_read, is_slot_within}
+use Rattle.irl_base.specs.Lists.{list_at, with_one}
+use Rattle.irl_events.specs.Queues.{Waiting, put, delivered, round_ended, next_queues, FitsSlot}
+use Rattle.irl_events.specs.Events.{Pass, Settle, Progress, has_number, is_in_front, numbers_of, without, after_event}
+use Rattle.irl_events.specs.Legal.{are_read, is_slot_within}
 use Rattle.irl_fate.specs.Standing.{count, count_all, one_if, stands, IsWaiting}
 use Rattle.irl_fate.proofs.Agreeing.{length-put}
 use Rattle.irl_fate.proofs.Counting.{one_true, count_push, count_append, count_filter, count_distinct, absent_count}
@@ -71,7 +72,8 @@ front_numbers places = numbers_of (filter (λ place. is_in_front place.slot) pla
 front_more : (n : ℕ) (place : Place) (places : List Place) → count n (front_numbers (place ∷ places)) ≡ in_front n place.number place.slot + count n (front_numbers places)
 front_more n place places = by_test (is_in_front place.slot)
   where
-    by_test : (b : Bool) → count n (numbers_of (cond b (place ∷ filter (λ p. is_in_front p.slot) places) (filter (λ p. is_in_front p.slot) places))) ≡ cond b (one_if (nat_eq place.number n)) 0 + count n (front_numbers places)
+    by_test : (b : Bool) → count n (numbers_of (cond b (place ∷ filter (λ p. is_in_front p.slot) places) (filter (λ p. is_in_front p.slot) places)))
+        ≡ cond b (one_if (nat_eq place.number n)) 0 + count n (front_numbers places)
     by_test true = refl
     by_test false = omega arith
 
@@ -88,7 +90,8 @@ delivered_count n from to lists [] many least most within = refl
 delivered_count n from to lists (place ∷ places) many least most within =
     let parts = and_parts (is_slot_within from to place.slot) (list_all (λ p. is_slot_within from to p.slot) places) within in
     let after = put lists place.number place.slot in
-    let rest : count_all n (delivered after (numbers_of places) places) + count n (front_numbers places) ≡ count_all n after + count n (numbers_of places) = delivered_count n from to after places (length-put lists place.number place.slot ∙ many) least most parts.1 in
+    let rest : count_all n (delivered after (numbers_of places) places) + count n (front_numbers places) ≡ count_all n after + count n (numbers_of places) =
+    delivered_count n from to after places (length-put lists place.number place.slot ∙ many) least most parts.1 in
     let one = put_count n place.number lists place.slot many (slot_fits from to place.slot least most parts.0) in
     let front = front_more n place places in
     omega arith
@@ -111,10 +114,12 @@ turned_count n lists many empty =
     let one : count_all n cut + count n (list_at lists 64) ≡ count_all n lists + 0 = count_all_set n lists 64 [] (omega arith) in
     let none : list_at cut 0 ≡ [] = get_or-set_other lists 64 0 [] [] (λ e. omega arith) ∙ empty in
     let nothing : count n (list_at cut 0) ≡ 0 = ap (count n) none in
-    let two : count_all n (set cut 0 (list_at lists 64)) + count n (list_at cut 0) ≡ count_all n cut + count n (list_at lists 64) = count_all_set n cut 0 (list_at lists 64) (omega (arith, length-set lists 64 [])) in
+    let two : count_all n (set cut 0 (list_at lists 64)) + count n (list_at cut 0) ≡ count_all n cut + count n (list_at lists 64) =
+    count_all_set n cut 0 (list_at lists 64) (omega (arith, length-set lists 64 [])) in
     omega arith
 
-ended_count : (n : ℕ) (lists : List (List ℕ)) (queues passes : ℕ) → length lists ≡ 65 → (queues ≤ passes → list_at lists 0 ≡ []) → count_all n (round_ended lists queues passes).lists ≡ count_all n lists
+ended_count : (n : ℕ) (lists : List (List ℕ)) (queues passes : ℕ) → length lists ≡ 65 → (queues ≤ passes → list_at lists 0 ≡ [])
+    → count_all n (round_ended lists queues passes).lists ≡ count_all n lists
 ended_count n lists queues passes many empty = by_test (nat_lt passes queues) refl
   where
     by_test : (b : Bool) → nat_lt passes queues ≡ b → count_all n (ended_by b lists queues passes).lists ≡ count_all n lists
@@ -142,7 +147,8 @@ next_grows queues n most = by_test (nat_eq n 0)
     by_test true = omega arith
     by_test false = omega arith
 
-pub ended_waiting : (lists : List (List ℕ)) (queues passes : ℕ) → length lists ≡ 65 → 1 ≤ queues → queues ≤ 64 → ((k : ℕ) → k < passes → list_at lists k ≡ []) → ((k : ℕ) → queues ≤ k → k < 64 → list_at lists k ≡ []) → IsWaiting (round_ended lists queues passes)
+pub ended_waiting : (lists : List (List ℕ)) (queues passes : ℕ) → length lists ≡ 65 → 1 ≤ queues → queues ≤ 64 → ((k : ℕ) → k < passes → list_at lists k ≡ [])
+    → ((k : ℕ) → queues ≤ k → k < 64 → list_at lists k ≡ []) → IsWaiting (round_ended lists queues passes)
 ended_waiting lists queues passes many least most spent unused = by_test (nat_lt passes queues) refl
   where
     by_test : (b : Bool) → nat_lt passes queues ≡ b → IsWaiting (ended_by b lists queues passes)
@@ -169,7 +175,8 @@ read_below (q ∷ queue) from to (m ∷ ns) n h lt =
     let rest : count n ns ≡ count n queue = read_below queue from to ns n parts.1 lt in
     omega arith
 
-read_count : (queue : List ℕ) (from to : ℕ) (ns : List ℕ) (n : ℕ) → are_read queue from to ns ≡ true → (from ≤ n → count n queue ≡ 0) → count n ns ≡ count n queue + count n (filter (λ m. nat_le from m) ns)
+read_count : (queue : List ℕ) (from to : ℕ) (ns : List ℕ) (n : ℕ) → are_read queue from to ns ≡ true → (from ≤ n → count n queue ≡ 0)
+    → count n ns ≡ count n queue + count n (filter (λ m. nat_le from m) ns)
 read_count queue from to ns n h none = elim (cases_lt n from) [
   | inl lt ↦
       let few : count n (filter (λ m. nat_le from m) ns) ≡ 0 = count_filter (λ m. nat_le from m) ns n ∙ cond-false (nat_le from n) (count n ns) 0 (lt-leb from n lt) in
@@ -227,7 +234,8 @@ module _ (x : Progress) (q : ℕ) (places : List Place) (is : IsWaiting x.waitin
   pass_stands n none =
       let queue = list_at lists p in
       let cut : count_all n cleared + count n queue ≡ count_all n lists + 0 = count_all_set n lists p [] within in
-      let given : count_all n after + count n (front_numbers places) ≡ count_all n cleared + count n (numbers_of places) = delivered_count n (p + 2) j cleared places many_cleared (omega arith) is.most parts.slots in
+      let given : count_all n after + count n (front_numbers places) ≡ count_all n cleared + count n (numbers_of places) =
+      delivered_count n (p + 2) j cleared places many_cleared (omega arith) is.most parts.slots in
       let unread : x.read ≤ n → count n queue ≡ 0 = λ le. (
       let nowhere : stands x n ≡ 0 = none le in
       let part = count_at_most n lists p in
@@ -251,11 +259,13 @@ all_in_front front (d ∷ outcomes) n all h =
       | inr there ↦ all_in_front front outcomes n parts.1 there
     ]
 
-pub settle_stands : (x : Progress) (fronts : List ℕ) (outcomes : List (ℕ × Outcome)) (n : ℕ) → SettleParts x outcomes → stands x n ≤ 1 → stands (after_event x (Settle fronts outcomes) []) n ≡ stands x n
+pub settle_stands : (x : Progress) (fronts : List ℕ) (outcomes : List (ℕ × Outcome)) (n : ℕ) → SettleParts x outcomes → stands x n ≤ 1
+    → stands (after_event x (Settle fronts outcomes) []) n ≡ stands x n
 settle_stands x fronts outcomes n parts once =
     let ns = numbers_done outcomes in
     let left : count n (without x.front outcomes) ≡ cond (not (has_number ns n)) (count n x.front) 0 = count_filter (λ k. not (has_number ns k)) x.front n in
-    let all : count n (numbers_done (x.done ++ outcomes)) ≡ count n (numbers_done x.done) + count n ns = ap (count n) (map-append (λ (d : ℕ × Outcome). d.0) x.done outcomes) ∙ count_append n (numbers_done x.done) ns in
+    let all : count n (numbers_done (x.done ++ outcomes)) ≡ count n (numbers_done x.done) + count n ns = ap (count n) (map-append (λ (d : ℕ × Outcome). d.0) x.done outcomes)
+    ∙ count_append n (numbers_done x.done) ns in
     elim (cases_Bool (has_number ns n)) [
       | inl there ↦
           let gone : count n (without x.front outcomes) ≡ 0 = left ∙ cond-false (not (has_number ns n)) (count n x.front) 0 (not_from_true (has_number ns n) there) in

@@ -1,7 +1,7 @@
 -- The fate of a number, by the lists in which it stands.
 use Rattle.std.specs.Prelude.{ℕ, ◌+◌, nat_eq, if◌then◌else◌, List, [], ◌∷◌}
 use Rattle.irl_offer.specs.declared.outcome.Outcome.{Outcome}
-use Rattle.irl_model.specs.Events.{Progress, has_number}
+use Rattle.irl_events.specs.Events.{Progress, has_number}
 use Rattle.irl_fate.specs.declared.fate.Fate.{Fate}
 use Rattle.irl_fate.specs.declared.fate.Fate.TheVariants.{Fresh, Queue, Last, Front, Done}
 
@@ -10,7 +10,8 @@ abbrev pub done_by : List (ℕ × Outcome) → ℕ → Fate → Fate
 done_by [] n other = other
 done_by (d ∷ outcomes) n other = if nat_eq d.0 n then Done d.1 else done_by outcomes n other
 
--- where a number waits in lists of which the first has this place, or else another fate: queue 1 is at 0, the last list at 64
+-- where a number waits in lists of which the first has this place, or else another fate: queue 1 is at 0, the last list
+-- at 64
 abbrev pub waits_from : ℕ → List (List ℕ) → ℕ → Fate → Fate
 waits_from k [] n other = other
 waits_from k (list ∷ lists) n other =

@@ -6,11 +6,10 @@ use Rattle.std.specs.BTreeMap.{is_at}
 use Rattle.std.specs.Map.{lookup}
 use Rattle.irl_offer.specs.declared.outcome.Outcome.{Outcome}
 use Rattle.irl_offer.specs.declared.place.Place.{Place}
-use Rattle.irl_model.specs.Plain.{items_of}
+use Rattle.irl_base.specs.Lists.{items_of, list_at}
 use Rattle.irl_offer.specs.declared.place.Slot.{Slot}
 use Rattle.irl_offer.specs.declared.place.Slot.TheVariants.{Front as InFront, Queue as InQueue, Last as InLast}
-use Rattle.irl_model.specs.Queues.{list_at}
-use Rattle.irl_model.specs.Events.{Progress}
+use Rattle.irl_events.specs.Events.{Progress}
 use Rattle.irl_fate.specs.declared.fate.Fate.{Fate}
 use Rattle.irl_fate.specs.declared.fate.Fate.TheVariants.{Fresh, Queue, Last, Front, Done}
 use Rattle.irl_fate.specs.declared.fates.Fates.TheInside.{Inside}
@@ -87,7 +86,8 @@ shown a = record {
 }
 
 pub record IsKept (a : Inside) : Type 0 where
-  pub agree : Agree (fate_in a.fates.entries) (front_left a.fates.entries a.front.items) (items_of a.lists.items) a.done.items
+  pub agree : Agree (fate_in a.fates.entries) (front_left a.fates.entries a.front.items) (items_of a.lists.items)
+      a.done.items
   -- a number that isn't below the last pass's is fresh
   pub fresh : (n : ℕ) → a.read ≤ n → fate_in a.fates.entries n ≡ Fresh
   pub sent : a.read ≤ a.sent

@@ -3,5 +3,4 @@ pub mod Fates
 pub mod Kept
 pub mod Passing
 pub mod Reads
-pub mod Seen
 pub mod Standing

@@ -2,8 +2,8 @@
 use Rattle.std.specs.Prelude.{ℕ, ◌≤◌, Bool, false, List}
 use Rattle.std.specs.List.{list_any}
 use Rattle.irl_offer.specs.declared.place.Place.{Place}
-use Rattle.irl_model.specs.Events.{Event, Begin, Pairs, Pass, Robots, Settle, Happened, has_number, numbers_of}
-use Rattle.irl_model.specs.Legal.{AreLegal}
+use Rattle.irl_events.specs.Events.{Event, Begin, Pairs, Pass, Robots, Settle, Happened, has_number, numbers_of}
+use Rattle.irl_events.specs.Legal.{AreLegal}
 
 -- whether an event with its places is a pass that reads a number
 abbrev pub reads : Event → List Place → ℕ → Bool

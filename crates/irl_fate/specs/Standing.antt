@@ -1,7 +1,8 @@
 -- How often a number stands in the lists of a crawl, and which of the lists are empty.
 use Rattle.std.specs.Prelude.{◌≡◌, ℕ, ◌+◌, ◌≤◌, ◌<◌, nat_eq, Bool, true, false, List, [], ◌∷◌, map, length}
-use Rattle.irl_model.specs.Events.{Progress}
-use Rattle.irl_model.specs.Queues.{Waiting, list_at}
+use Rattle.irl_events.specs.Events.{Progress}
+use Rattle.irl_base.specs.Lists.{list_at}
+use Rattle.irl_events.specs.Queues.{Waiting}
 use Rattle.irl_fate.specs.declared.fate.Fate.{Fate}
 use Rattle.irl_fate.specs.declared.fate.Fate.TheVariants.{Fresh, Queue, Last, Front, Done}
 

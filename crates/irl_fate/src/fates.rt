@@ -1,19 +1,22 @@
 ghost use Rattle.std.specs.Prelude.{◌≡◌, ◌≤◌, ◌<◌, ◌+◌, ◌*◌, ◌++◌, ◌∷◌, [], ℕ, List, length, min, nat_eq, if◌then◌else◌, IfOk, OnOk, OnErr, None, Some, true};
 ghost use Rattle.irl_offer.specs.Buckets.{IsBucketCount};
-ghost use Rattle.irl_model.specs.Events.{Happened, before_all, after_event, progress, Pass as SeenPass, Settle as SeenSettle};
-ghost use Rattle.irl_model.specs.Legal.{AreLegal, broken, begins_once, pairs_rise, passes_on, is_noted, settles};
-ghost use Rattle.irl_model.specs.Queues.{list_at, round_ended};
+ghost use Rattle.irl_events.specs.Events.{Happened, before_all, after_event, progress, Pass as SeenPass, Settle as SeenSettle};
+ghost use Rattle.irl_events.specs.Legal.{AreLegal, broken, begins_once, pairs_rise, passes_on, is_noted, settles};
+ghost use Rattle.irl_base.specs.Lists.{list_at};
+ghost use Rattle.irl_events.specs.Queues.{round_ended};
 ghost use Rattle.irl_fate.specs.Fates.{fate_of};
 ghost use Rattle.irl_fate.specs.Passing.{read_by, ended};
-ghost use Rattle.irl_fate.specs.Seen.{seen, HasFronts};
+ghost use Rattle.irl_events.specs.Seen.{seen, HasFronts};
 ghost use Rattle.irl_fate.specs.Standing.{one_if, is_placed, stands};
 ghost use Rattle.irl_fate.specs.declared.fate.Fate.TheVariants.{Fresh as FreshFate, Queue as QueueFate};
 ghost use Rattle.irl_fate.specs.declared.fate.FateFault.TheVariants.{Illegal as IllegalFault};
 
-use crate::lists::{LAST, deliver, no_numbers, replaced, taken};
+use crate::lists::{LAST, LISTS, deliver};
 use crate::numbers::{begin_round, enter, fate_at, front_of, place_all, settle_all};
 use crate::rules::{are_within, differ, has_lengths, reads_queue, settles_front};
-use crate::{Event, Fate, FateFault, Numbers, Settled};
+use crate::{Fate, FateFault};
+use irl_base::lists::{empty_lists, replace_at, take_out};
+use irl_events::{Event, Numbers, Settled};
 use irl_offer::{Outcome, Place};
 use std::alloc::{AllocError, Global};
 use std::collections::BTreeMap;
@@ -42,7 +45,7 @@ pub struct Fates {
 }
 
 impl Model for Fates {
-    ghost use Rattle.irl_model.specs.Events.{Progress};
+    ghost use Rattle.irl_events.specs.Events.{Progress};
 
     ghost Value = { Progress };
 
@@ -62,7 +65,7 @@ impl Fates {
         ensures { IfOk result (λ fates. fates ≡ before_all queues buckets) }
     {
         let fronts = vec![in alloc; 0; buckets as usize]?;
-        let lists = no_numbers(alloc)?;
+        let lists = empty_lists(alloc, LISTS)?;
         Ok(Fates {
             alloc,
             begun: false,
@@ -274,10 +277,10 @@ impl Fates {
             self.passes = passes;
             return;
         }
-        let last = taken(self.alloc, &mut self.lists, LAST);
+        let last = take_out(self.alloc, &mut self.lists, LAST);
         begin_round(&mut self.fates, &last);
         self.queues = queues_after(self.queues, last.len());
-        replaced(&mut self.lists, 0, last);
+        replace_at(&mut self.lists, 0, last);
         self.passes = 0;
     }
 

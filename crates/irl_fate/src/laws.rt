@@ -1,8 +1,8 @@
 ghost use Rattle.std.specs.Prelude.{◌≡◌, ◌≢◌, ◌↔◌, ◌<◌, ◌≤◌, ◌++◌, ◌+◌, ℕ, List, length, true, false};
 ghost use Rattle.irl_offer.specs.declared.outcome.Outcome.{Outcome};
-ghost use Rattle.irl_model.specs.Events.{Progress};
-ghost use Rattle.irl_model.specs.Events.{Happened, has_number, progress};
-ghost use Rattle.irl_model.specs.Legal.{are_distinct};
+ghost use Rattle.irl_events.specs.Events.{Progress};
+ghost use Rattle.irl_events.specs.Events.{Happened, has_number, progress};
+ghost use Rattle.irl_events.specs.Legal.{are_distinct};
 ghost use Rattle.irl_fate.specs.Counting.{CountFates, count_fate};
 ghost use Rattle.irl_fate.specs.Kept.{is_front, is_done};
 ghost use Rattle.irl_fate.specs.declared.counts.Counts.{Counts as CountsValue};

@@ -2,7 +2,6 @@
 #![tactic(auto)]
 
 mod counts;
-mod event;
 mod fate;
 mod fates;
 mod laws;
@@ -11,9 +10,9 @@ mod numbers;
 mod rules;
 
 pub use counts::Counts;
-pub use event::{Event, Numbers, Places, Settled};
 pub use fate::{Fate, FateFault};
 pub use fates::Fates;
+pub use irl_events::{Event, Numbers, Places, Settled};
 pub use laws::{
     counts_add_up, queues_wait_for_their_pass, what_is_done_stays_done, what_was_read_stands_once,
 };

@@ -1,8 +1,8 @@
 ghost use Rattle.std.specs.Prelude.{◌≡◌, ◌<◌, ℕ, List, map, length, nat_eq, slice_index_or, if◌then◌else◌, IfOk, OnOk, true};
 ghost use Rattle.std.specs.List.{list_all, filter};
 ghost use Rattle.irl_offer.specs.declared.place.Place.{Place as PlaceValue};
-ghost use Rattle.irl_model.specs.Events.{has_number, is_in_front, numbers_of};
-ghost use Rattle.irl_model.specs.Legal.{are_distinct};
+ghost use Rattle.irl_events.specs.Events.{has_number, is_in_front, numbers_of};
+ghost use Rattle.irl_events.specs.Legal.{are_distinct};
 ghost use Rattle.irl_fate.specs.Fates.{done_by};
 ghost use Rattle.irl_fate.specs.Kept.{fate_in, is_front, HasEntry, placed_by, fate_of_slot};
 ghost use Rattle.irl_fate.specs.declared.fate.Fate.TheVariants.{Queue as QueueFate, Last as LastFate};
@@ -22,7 +22,8 @@ pub fn fate_at(fates: &BTreeMap<u64, Fate>, number: u64) -> Fate
 // Gives a number that has an entry another fate. It takes no memory.
 fn relabel(fates: &mut BTreeMap<u64, Fate>, number: u64, fate: Fate)
     requires { HasEntry fates.old.entries number }
-    ensures fate { (q : ℕ) → fate_in fates.new.entries q ≡ (if nat_eq number q then fate else fate_in fates.old.entries q) }
+    ensures fate { (q : ℕ) → fate_in fates.new.entries q
+        ≡ (if nat_eq number q then fate else fate_in fates.old.entries q) }
     ensures entries { (q : ℕ) → HasEntry fates.old.entries q → HasEntry fates.new.entries q }
 {
     if let Some(old) = fates.get_mut(&number) {

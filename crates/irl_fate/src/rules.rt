@@ -1,7 +1,7 @@
 ghost use Rattle.std.specs.Prelude.{◌≡◌, ◌&&◌, ◌||◌, nat_lt, length, map, IfOk};
 ghost use Rattle.std.specs.List.{list_all};
-ghost use Rattle.irl_model.specs.Events.{numbers_of, Robots as SeenRobots};
-ghost use Rattle.irl_model.specs.Legal.{are_rising, are_read, is_slot_within, is_noted, none_fell, one_rose, are_distinct};
+ghost use Rattle.irl_events.specs.Events.{numbers_of, Robots as SeenRobots};
+ghost use Rattle.irl_events.specs.Legal.{are_rising, are_read, is_slot_within, is_noted, none_fell, one_rose, are_distinct};
 ghost use Rattle.irl_fate.specs.Kept.{fate_in, is_front};
 
 use crate::Fate;
@@ -127,7 +127,8 @@ pub fn settles_front(
 ) -> bool
     requires { length fronts.now ≡ length old.now }
     ensures { result ≡ ((nat_lt 0 (length done.now) || one_rose old.now fronts.now)
-        && list_all (λ d. is_front (fate_in fates.now.entries d.0)) done.now && differ && none_fell old.now fronts.now) }
+        && list_all (λ d. is_front (fate_in fates.now.entries d.0)) done.now && differ && none_fell old.now
+        fronts.now) }
 {
     if done.is_empty() && !rise(old, fronts) {
         return false;

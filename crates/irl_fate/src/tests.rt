@@ -1,4 +1,4 @@
-ghost use Rattle.irl_fate.specs.Seen.{HasFronts};
+ghost use Rattle.irl_events.specs.Seen.{HasFronts};
 ghost use Rattle.std.specs.Prelude.{◌≡◌, length, IfOk};
 
 use super::*;

@@ -1,3 +1,4 @@
+pub mod Failure
 pub mod FileStore
 pub mod Folder
 pub mod Lost

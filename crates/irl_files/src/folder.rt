@@ -2,6 +2,7 @@ ghost use Rattle.std.specs.Prelude.{◌≡◌, ◌+◌, ◌^◌, ◌<◌, ◌≤
 ghost use Rattle.irl_files.specs.Folder.{named_folder};
 ghost use Rattle.irl_files.specs.Lost.{is_lost, KeepsLost};
 
+use crate::hold::{Hold, Lockable, lock};
 use crate::opening::{Access, existing, make_folder, new_file, sync_name};
 use crate::paths::{named, path_of};
 use crate::place::{read_at, write_at};
@@ -20,12 +21,16 @@ pub(crate) struct Folder<R: Files> {
     rt: R,
     alloc: Global,
     path: String,
+    hold: Hold<R::File>,
     files: Table<R::File>,
     /// Whether the names of the files were made to last.
     is_synced: bool,
 }
 
-impl<R: Files + Drop> Folder<R> {
+impl<R: Files + Drop> Folder<R>
+where
+    R::File: Lockable,
+{
     /// The folder of this name; with no name the one that the program runs in.
     pub(crate) fn new(rt: R, alloc: Global, name: &str) -> Result<Folder<R>, AllocError>
         ensures path { IfOk result (λ folder. string_bytes folder.path ≡ named_folder name.now) }
@@ -36,9 +41,40 @@ impl<R: Files + Drop> Folder<R> {
             rt,
             alloc,
             path: String::from_str(alloc, named(name))?,
+            hold: Hold::Unseen,
             files: Table::new(alloc)?,
             is_synced: false,
         })
+    }
+
+    /// Whether the folder is there. The first look locks it.
+    fn is_there(&mut self) -> io::Result<bool>
+        ensures { KeepsLost self.old.files.lost self.new.files.lost }
+    {
+        match self.hold {
+            Hold::Held(_) => Ok(true),
+            Hold::Missing => Ok(false),
+            Hold::Unseen => match self.take() {
+                Err(error) if error.kind() == ErrorKind::NotFound => {
+                    self.hold = Hold::Missing;
+                    Ok(false)
+                }
+                answer => answer.map(|()| true),
+            },
+        }
+    }
+
+    /// Locks the folder. Its handle stays open, and is none of those that are closed where the system has no more.
+    fn take(&mut self) -> io::Result<()>
+        ensures { KeepsLost self.old.files.lost self.new.files.lost }
+    {
+        let path = self.path.as_str();
+        let handle = match self.files.open(&self.rt, &existing(Access::Read), path) {
+            Err(error) if is_unsupported(&error) => None,
+            answer => Some(lock(answer?)?),
+        };
+        self.hold = Hold::Held(handle);
+        Ok(())
     }
 
     /// Opens the file for this access, if it is there and isn't open for it yet.
@@ -46,6 +82,9 @@ impl<R: Files + Drop> Folder<R> {
         requires { f < 10000 }
         ensures { KeepsLost self.old.files.lost self.new.files.lost }
     {
+        if !self.is_there()? {
+            return Ok(());
+        }
         if !self.files.has(f, access) {
             let path = path_of(self.alloc, self.path.as_str(), f)?;
             match self.files.open(&self.rt, &existing(access), path.as_str()) {
@@ -58,21 +97,19 @@ impl<R: Files + Drop> Folder<R> {
         Ok(())
     }
 
-    /// Makes the file and the folder, where they aren't there.
+    /// Makes the file, and the folder where it wasn't there at the first look.
     fn make(&mut self, f: u16) -> io::Result<()>
         requires { f < 10000 }
         ensures unsynced { OnOk result (self.new.is_synced ≡ false) }
         ensures kept { KeepsLost self.old.files.lost self.new.files.lost }
     {
         let path = path_of(self.alloc, self.path.as_str(), f)?;
+        if !self.is_there()? {
+            make_folder(&self.rt, &mut self.files, self.path.as_str())?;
+            self.take()?;
+        }
         self.is_synced = false;
-        let file = match self.files.open(&self.rt, &new_file(), path.as_str()) {
-            Err(error) if error.kind() == ErrorKind::NotFound => {
-                make_folder(&self.rt, &mut self.files, self.path.as_str())?;
-                self.files.open(&self.rt, &new_file(), path.as_str())?
-            }
-            answer => answer?,
-        };
+        let file = self.files.open(&self.rt, &new_file(), path.as_str())?;
         self.files.put(f, file, Access::Write)?;
         self.files.touch(f);
         Ok(())

@@ -1,16 +1,19 @@
 //! A store over the files of a folder.
 #![tactic(auto)]
 
+mod failure;
+mod failures;
 mod file_store;
 mod folder;
+mod hold;
 mod lost;
 mod opening;
 mod paths;
 mod place;
-#[cfg(test)]
-mod stand_in;
 mod table;
 #[cfg(test)]
 mod tests;
 
+pub use failure::{Call, Failure};
 pub use file_store::FileStore;
+pub use hold::Lockable;

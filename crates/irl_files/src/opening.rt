@@ -3,7 +3,8 @@ ghost use Rattle.std.specs.Fs.{asks_read, asks_write, asks_append, asks_truncate
 ghost use Rattle.irl_files.specs.declared.opening.Access.TheVariants.{Write};
 ghost use Rattle.irl_files.specs.Lost.{KeepsLost};
 
-use crate::paths::folder_above;
+use crate::hold::in_use;
+use crate::paths::{folder_above, without_dots};
 use crate::table::Table;
 use std::fs::{self, OpenFile, OpenOptions};
 use std::io::{self, ErrorKind};
@@ -44,7 +45,8 @@ pub(crate) fn new_file() -> OpenOptions
     options
 }
 
-/// Makes a folder, and those that it lies in, where they aren't there.
+/// Makes a folder that isn't there, and those that it lies in where they aren't. One that is there by now was made by another
+/// program, which has it.
 pub(crate) fn make_folder<R: Files>(
     rt: &R,
     files: &mut Table<R::File>,
@@ -52,23 +54,37 @@ pub(crate) fn make_folder<R: Files>(
 ) -> io::Result<()>
     ensures { KeepsLost files.old.lost files.new.lost }
 {
+    let path = without_dots(path);
     'levels: for end in 1..path.len() {
         match path.split_at_checked(end) {
             Some((above, rest)) if rest.starts_with('/') => make_level(rt, files, above)?,
             _ => {}
         }
     }
-    make_level(rt, files, path)
+    match make_last(rt, files, path) {
+        Err(error) if error.kind() == ErrorKind::AlreadyExists => Err(in_use()),
+        answer => answer,
+    }
 }
 
-/// Makes a folder where it isn't there, once the name of the one that it lies in lasts. So of the folders that a
-/// stopped process made only the last one's name may be lost.
+/// Makes a folder where it isn't there. Another program may make it at the same time.
 fn make_level<R: Files>(rt: &R, files: &mut Table<R::File>, path: &str) -> io::Result<()>
     ensures { KeepsLost files.old.lost files.new.lost }
 {
     if is_folder(rt, path) {
         return Ok(());
     }
+    match make_last(rt, files, path) {
+        Err(error) if error.kind() == ErrorKind::AlreadyExists && is_folder(rt, path) => Ok(()),
+        answer => answer,
+    }
+}
+
+/// Makes a folder, once the name of the one that it lies in lasts. So of the folders that a stopped process made only the
+/// last one's name may be lost.
+fn make_last<R: Files>(rt: &R, files: &mut Table<R::File>, path: &str) -> io::Result<()>
+    ensures { KeepsLost files.old.lost files.new.lost }
+{
     if let Some(above) = folder_above(path) {
         sync_name(rt, files, above)?;
     }

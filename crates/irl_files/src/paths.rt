@@ -30,3 +30,15 @@ pub(crate) fn folder_above(folder: &str) -> Option<&str>
         None => None,
     }
 }
+
+/// A folder's path without what stands behind its name and names the same folder: `/`, and `/.`.
+pub(crate) fn without_dots(path: &str) -> &str {
+    let mut path = path.trim_end_matches('/');
+    'dots: for _ in 0..path.len() {
+        match path.strip_suffix("/.") {
+            Some(front) => path = front.trim_end_matches('/'),
+            None => break 'dots,
+        }
+    }
+    path
+}

@@ -1,7 +1,9 @@
 ghost use Rattle.std.specs.Prelude.{◌<◌};
 
+mod stand_in;
+
+use self::stand_in::{Fault, OnSystem, System};
 use crate::FileStore;
-use crate::stand_in::{Fault, OnSystem, System};
 use irl_disk::{Failed, Store};
 use std::alloc::Global;
 use std::io;
@@ -31,7 +33,7 @@ struct Case {
     log: &'static str,
 }
 
-const CASES: [Case; 13] = [
+const CASES: [Case; 15] = [
     // Bytes at places; a file that isn't there is empty, and a refused write reaches nothing.
     Case {
         folder: "d",
@@ -57,6 +59,8 @@ const CASES: [Case; 13] = [
             (8, Sync),
         ],
         log: "\
+            open d\n\
+            lock d\n\
             open d/0007\n\
             - 0\n\
             open d/0007\n\
@@ -105,16 +109,17 @@ const CASES: [Case; 13] = [
             - done\n\
         ",
     },
-    // A folder is made once the name of the one that it lies in lasts.
+    // A folder that isn't there is looked for once, and has no files. It is made once the name of the one that it lies in lasts.
     Case {
         folder: "a/b/c",
         there: &[(".", None)],
         most_open: 10,
         faults: &[],
-        calls: &[(7, Write(0, "x")), (7, Sync)],
+        calls: &[(7, Length), (8, Sync), (7, Write(0, "x")), (7, Sync)],
         log: "\
-            open to write a/b/c/0007\n\
-            make a/b/c/0007\n\
+            open a/b/c\n\
+            - 0\n\
+            - done\n\
             open .\n\
             sync .\n\
             close .\n\
@@ -127,6 +132,8 @@ const CASES: [Case; 13] = [
             sync a\n\
             close a\n\
             make folder a/b/c\n\
+            open a/b/c\n\
+            lock a/b/c\n\
             make a/b/c/0007\n\
             write a/b/c/0007 at 0: x\n\
             - done\n\
@@ -148,23 +155,28 @@ const CASES: [Case; 13] = [
         faults: &[],
         calls: &[(7, Write(0, "x"))],
         log: "\
-            open to write a/b/0007\n\
-            make a/b/0007\n\
+            open a/b\n\
             open .\n\
             sync .\n\
             close .\n\
             make folder a/b\n\
+            open a/b\n\
+            lock a/b\n\
             make a/b/0007\n\
             write a/b/0007 at 0: x\n\
             - done\n\
         ",
     },
-    // A system that syncs no folders.
+    // A system that syncs and locks no folders.
     Case {
         folder: "d",
         there: &[(".", None), ("d", None), ("d/0007", Some("abc"))],
         most_open: 10,
         faults: &[
+            Fault {
+                call: "lock d",
+                number: 95,
+            },
             Fault {
                 call: "sync d",
                 number: 95,
@@ -176,6 +188,8 @@ const CASES: [Case; 13] = [
         ],
         calls: &[(7, Sync), (7, Sync)],
         log: "\
+            open d\n\
+            lock d\n\
             open d/0007\n\
             sync read-only d/0007\n\
             open d\n\
@@ -200,6 +214,8 @@ const CASES: [Case; 13] = [
         }],
         calls: &[(7, Sync), (7, Sync)],
         log: "\
+            open d\n\
+            lock d\n\
             open d/0007\n\
             sync read-only d/0007\n\
             open d\n\
@@ -222,6 +238,8 @@ const CASES: [Case; 13] = [
         }],
         calls: &[(7, Sync), (8, Sync), (7, Read(0))],
         log: "\
+            open d\n\
+            lock d\n\
             open d/0007\n\
             sync read-only d/0007\n\
             open d\n\
@@ -251,6 +269,8 @@ const CASES: [Case; 13] = [
             (8, Sync),
         ],
         log: "\
+            open d\n\
+            lock d\n\
             open to write d/0007\n\
             make d/0007\n\
             write d/0007 at 0: x\n\
@@ -292,6 +312,8 @@ const CASES: [Case; 13] = [
             (7, Read(1)),
         ],
         log: "\
+            open d\n\
+            lock d\n\
             open d/0007\n\
             - 3\n\
             - [abc]\n\
@@ -313,6 +335,8 @@ const CASES: [Case; 13] = [
         }],
         calls: &[(7, Sync)],
         log: "\
+            open d\n\
+            lock d\n\
             open d/0007\n\
             sync read-only d/0007\n\
             open to write d/0007\n\
@@ -337,7 +361,7 @@ const CASES: [Case; 13] = [
             ("d/0002", Some("b")),
             ("d/0003", Some("c")),
         ],
-        most_open: 2,
+        most_open: 3,
         faults: &[],
         calls: &[
             (1, Write(0, "x")),
@@ -348,6 +372,8 @@ const CASES: [Case; 13] = [
             (1, Sync),
         ],
         log: "\
+            open d\n\
+            lock d\n\
             open to write d/0001\n\
             write d/0001 at 0: x\n\
             - done\n\
@@ -387,13 +413,15 @@ const CASES: [Case; 13] = [
             ("d/0001", Some("a")),
             ("d/0002", Some("b")),
         ],
-        most_open: 1,
+        most_open: 2,
         faults: &[Fault {
             call: "sync d/0001",
             number: 5,
         }],
         calls: &[(1, Cut(0)), (2, Read(0)), (1, Sync)],
         log: "\
+            open d\n\
+            lock d\n\
             open to write d/0001\n\
             cut d/0001 to 0\n\
             - done\n\
@@ -416,6 +444,8 @@ const CASES: [Case; 13] = [
         }],
         calls: &[(1, Write(0, "x")), (2, Read(0))],
         log: "\
+            open d\n\
+            lock d\n\
             open to write d/0001\n\
             write d/0001 at 0: x\n\
             - done\n\
@@ -434,8 +464,50 @@ const CASES: [Case; 13] = [
         faults: &[],
         calls: &[(7, Length)],
         log: "\
-            open d/0007\n\
+            open d\n\
             - failed\n\
+        ",
+    },
+    // Another program has the folder.
+    Case {
+        folder: "d",
+        there: &[(".", None), ("d", None), ("d/0007", Some("abc"))],
+        most_open: 10,
+        faults: &[Fault {
+            call: "lock d",
+            number: 11,
+        }],
+        calls: &[(7, Length), (8, Write(0, "x"))],
+        log: "\
+            open d\n\
+            lock d\n\
+            close d\n\
+            - failed\n\
+            open d\n\
+            lock d\n\
+            close d\n\
+            - failed\n\
+        ",
+    },
+    // Another program makes the folder between the first look and the first write.
+    Case {
+        folder: "d",
+        there: &[(".", None)],
+        most_open: 10,
+        faults: &[Fault {
+            call: "make folder d",
+            number: 17,
+        }],
+        calls: &[(7, Read(0)), (7, Write(0, "x")), (7, Read(0))],
+        log: "\
+            open d\n\
+            - []\n\
+            open .\n\
+            sync .\n\
+            close .\n\
+            make folder d\n\
+            - failed\n\
+            - []\n\
         ",
     },
 ];

@@ -4,7 +4,7 @@ use Rattle.std.proofs.lemmas.Bool.{cases_lt}
 use Rattle.std.proofs.lemmas.List.{take_all, take-append-le, take-take}
 use Rattle.std.proofs.Math.Seq.{take-append-add}
 use Rattle.httparse.specs.Grammar.{ResponseHead}
-use Rattle.irl_offer.specs.Limits.{max_page, max_robots}
+use Rattle.irl_base.specs.Limits.{max_page, max_robots}
 use Rattle.irl_offer.specs.Replies.{Received}
 use Rattle.irl_offer.specs.declared.reply.Want.{Want}
 use Rattle.irl_offer.specs.declared.reply.Want.TheVariants.{Page, Robots}
@@ -24,7 +24,8 @@ use Rattle.irl_http.proofs.HeadLemmas.{one_head, has_not_bad, has_not_long, has_
 pub from_ends : (bytes : List ℕ) (end : ℕ) (h : ResponseHead) → EndsHeads bytes end h → IsHeads (take end bytes) h
 from_ends bytes end h e = record {
   has = e.has;
-  quiet = λ want n a below s. e.quiet want n a (omega arith) (omega (arith, below, length-take end bytes)) (subst (λ l. Shows want l a) (take-take n end bytes (omega (arith, below, length-take end bytes))) s);
+  quiet = λ want n a below s. e.quiet want n a (omega arith) (omega (arith, below, length-take end bytes))
+      (subst (λ l. Shows want l a) (take-take n end bytes (omega (arith, below, length-take end bytes))) s);
 }
 
 has_behind : (front rest : List ℕ) (h : ResponseHead) → IsHeads front h → HasHead (front ++ rest) h rest
@@ -34,7 +35,8 @@ small : (front : List ℕ) (h : ResponseHead) → IsHeads front h → length fro
 small front h i = i.has.fits
 
 -- a body that is read, and shows nothing
-quiet_behind : (want : Want) (front rest : List ℕ) (h : ResponseHead) (a : Answer) → IsHeads front h → plan_of h ≢ plan.Coded → plan_of h ≢ plan.BadLength → QuietBody want (plan_of h) rest → ¬ Shows want (front ++ rest) a
+quiet_behind : (want : Want) (front rest : List ℕ) (h : ResponseHead) (a : Answer) → IsHeads front h → plan_of h ≢ plan.Coded → plan_of h ≢ plan.BadLength → QuietBody want (plan_of h) rest
+    → ¬ Shows want (front ++ rest) a
 quiet_behind want front rest h (Reply r) i coded bad quiet s =
     let same = one_head (front ++ rest) s.head h s.rest rest s.has (has_behind front rest h i) in
     quiet.no_reply s.body (subst (λ l. Takes want (plan_of h) l s.body) same.1 (subst (λ g. Takes want (plan_of g) s.rest s.body) same.0 s.takes))
@@ -60,7 +62,8 @@ quiet_behind want front rest h Coded i coded bad quiet s = coded (ap plan_of (on
 abbrev pub IsRead : Plan → Type 0
 IsRead how = (how ≢ plan.Coded) × (how ≢ plan.BadLength)
 
-quiet_prefix : (want : Want) (front rest : List ℕ) (h : ResponseHead) (m n : ℕ) (a : Answer) → IsHeads front h → IsRead (plan_of h) → QuietBelow want (plan_of h) rest m → n < length front + m → ¬ Shows want (take n (front ++ rest)) a
+quiet_prefix : (want : Want) (front rest : List ℕ) (h : ResponseHead) (m n : ℕ) (a : Answer) → IsHeads front h → IsRead (plan_of h) → QuietBelow want (plan_of h) rest m → n < length front + m
+    → ¬ Shows want (take n (front ++ rest)) a
 quiet_prefix want front rest h m n a i read quiet below s = elim (cases_lt n (length front)) [
   | inl less ↦ i.quiet want n a less (subst (λ l. Shows want l a) (take-append-le n front rest (omega arith)) s)
   | inr more ↦
@@ -69,10 +72,12 @@ quiet_prefix want front rest h m n a i read quiet below s = elim (cases_lt n (le
       quiet_behind want front (take (n - length front) rest) h a i read.0 read.1 (quiet (n - length front) (omega arith)) (subst (λ l. Shows want l a) same s)
 ]
 
-pub nothing_behind : (want : Want) (front rest : List ℕ) (h : ResponseHead) → IsHeads front h → IsRead (plan_of h) → QuietBelow want (plan_of h) rest (length rest + 1) → TellsNothing want (front ++ rest)
+pub nothing_behind : (want : Want) (front rest : List ℕ) (h : ResponseHead) → IsHeads front h → IsRead (plan_of h) → QuietBelow want (plan_of h) rest (length rest + 1)
+    → TellsNothing want (front ++ rest)
 nothing_behind want front rest h i read quiet n a within = quiet_prefix want front rest h (length rest + 1) n a i read quiet (omega (arith, length-append front rest))
 
-pub tells_behind : (want : Want) (front rest : List ℕ) (h : ResponseHead) (m : ℕ) (a : Answer) → IsHeads front h → IsRead (plan_of h) → QuietBelow want (plan_of h) rest m → m ≤ length rest → Shows want (front ++ take m rest) a → Tells want (front ++ rest) a
+pub tells_behind : (want : Want) (front rest : List ℕ) (h : ResponseHead) (m : ℕ) (a : Answer) → IsHeads front h → IsRead (plan_of h) → QuietBelow want (plan_of h) rest m → m ≤ length rest
+    → Shows want (front ++ take m rest) a → Tells want (front ++ rest) a
 tells_behind want front rest h m a i read quiet within shows = record {
   count = length front + m;
   within = omega (arith, length-append front rest);
@@ -109,14 +114,23 @@ shows_empty want front h i is = record {
 }
 
 -- a reply whose body is taken
-pub shows_body : (want : Want) (front rest body : List ℕ) (h : ResponseHead) → IsHeads front h → Takes want (plan_of h) rest body → length body ≤ max_page → Shows want (front ++ rest) (Reply (received h body))
+pub shows_body : (want : Want) (front rest body : List ℕ) (h : ResponseHead) → IsHeads front h → Takes want (plan_of h) rest body → length body ≤ max_page
+    → Shows want (front ++ rest) (Reply (received h body))
 shows_body want front rest body h i takes fits = record { head = h; rest = rest; body = body; has = has_behind front rest h i; takes = takes; fits = fits; reply_is = refl }
 
-pub shows_long : (want : Want) (front rest part : List ℕ) (h : ResponseHead) (n : ℕ) → IsHeads front h → want ≡ Page → EndsInBody (plan_of h) rest part → max_page < length part → n ≡ length front + length rest → Shows want (front ++ rest) (TooLarge n)
-shows_long want front rest part h n i page within long size = (size ∙ sym (length-append front rest), inr (page, record { head = h; rest = rest; part = part; has = has_behind front rest h i; within = within; long = long }))
+pub shows_long : (want : Want) (front rest part : List ℕ) (h : ResponseHead) (n : ℕ) → IsHeads front h → want ≡ Page → EndsInBody (plan_of h) rest part → max_page < length part
+    → n ≡ length front + length rest → Shows want (front ++ rest) (TooLarge n)
+shows_long want front rest part h n i page within long size = (
+  size ∙ sym (length-append front rest),
+  inr (page, record { head = h; rest = rest; part = part; has = has_behind front rest h i; within = within; long = long }),
+)
 
-pub shows_broken : (want : Want) (front rest : List ℕ) (h : ResponseHead) (n : ℕ) → IsHeads front h → plan_of h ≡ plan.Chunked → BreaksChunks rest → n ≡ length front + length rest → Shows want (front ++ rest) (BadReply n)
-shows_broken want front rest h n i chunked broken size = (size ∙ sym (length-append front rest), inr (inr (record { head = h; rest = rest; has = has_behind front rest h i; chunked = chunked; bad = broken })))
+pub shows_broken : (want : Want) (front rest : List ℕ) (h : ResponseHead) (n : ℕ) → IsHeads front h → plan_of h ≡ plan.Chunked → BreaksChunks rest → n ≡ length front + length rest
+    → Shows want (front ++ rest) (BadReply n)
+shows_broken want front rest h n i chunked broken size = (
+  size ∙ sym (length-append front rest),
+  inr (inr (record { head = h; rest = rest; has = has_behind front rest h i; chunked = chunked; bad = broken })),
+)
 
 pub until_close : (front rest : List ℕ) (h : ResponseHead) → IsHeads front h → plan_of h ≡ plan.UntilClose → IsUntilClose (front ++ rest) (received h rest)
 until_close front rest h i is = record { head = h; rest = rest; has = has_behind front rest h i; close = is; reply_is = refl }
@@ -157,8 +171,10 @@ target_read want false target how (n, is, least) = (λ e. let f : plan.Sized n �
 pub plain_quiet : (want : Want) (closes : Bool) (target : ℕ) (how : Plan) (rest : List ℕ) (m : ℕ) → IsTarget want closes target how → m ≤ target → QuietBelow want how rest m
 plain_quiet want closes target how rest m is fits k below = quiet_target want closes target how (take k rest) is (omega (arith, length-take k rest))
 
-pub plain_nothing : (want : Want) (closes : Bool) (target : ℕ) (front rest : List ℕ) (h : ResponseHead) → IsHeads front h → IsTarget want closes target (plan_of h) → length rest < target → TellsNothing want (front ++ rest)
-plain_nothing want closes target front rest h i is few = nothing_behind want front rest h i (target_read want closes target (plan_of h) is) (plain_quiet want closes target (plan_of h) rest (length rest + 1) is (omega arith))
+pub plain_nothing : (want : Want) (closes : Bool) (target : ℕ) (front rest : List ℕ) (h : ResponseHead) → IsHeads front h → IsTarget want closes target (plan_of h) → length rest < target
+    → TellsNothing want (front ++ rest)
+plain_nothing want closes target front rest h i is few = nothing_behind want front rest h i (target_read want closes target (plan_of h) is)
+    (plain_quiet want closes target (plan_of h) rest (length rest + 1) is (omega arith))
 
 page_only : (want : Want) (target : ℕ) → target ≤ most_of want → max_page < target → want ≡ Page
 page_only Page target fits long = refl
@@ -187,14 +203,17 @@ takes_target want false target how part (n, is, least) size fits = elim (cases_l
   | inr whole ↦ inl (subst (λ p. EndsBody p part part) (sym is) (omega (arith, size, least), refl))
 ]
 
-pub plain_long : (want : Want) (closes : Bool) (target : ℕ) (front rest : List ℕ) (h : ResponseHead) (n : ℕ) → IsHeads front h → IsTarget want closes target (plan_of h) → target ≤ length rest → max_page < target → n ≡ length front + target → Tells want (front ++ rest) (TooLarge n)
+pub plain_long : (want : Want) (closes : Bool) (target : ℕ) (front rest : List ℕ) (h : ResponseHead) (n : ℕ) → IsHeads front h → IsTarget want closes target (plan_of h) → target ≤ length rest
+    → max_page < target → n ≡ length front + target → Tells want (front ++ rest) (TooLarge n)
 plain_long want closes target front rest h n i is within long size =
     let part = take target rest in
     let part_size : length part ≡ target = omega (arith, length-take target rest) in
     tells_behind want front rest h target (TooLarge n) i (target_read want closes target (plan_of h) is) (plain_quiet want closes target (plan_of h) rest target is (omega arith)) within
-    (shows_long want front part part h n i (page_only want target (target_most want closes target (plan_of h) is) long) (in_target want closes target (plan_of h) part is part_size) (omega (arith, part_size)) (omega (arith, part_size, size)))
+    (shows_long want front part part h n i (page_only want target (target_most want closes target (plan_of h) is) long) (in_target want closes target (plan_of h) part is part_size)
+    (omega (arith, part_size)) (omega (arith, part_size, size)))
 
-pub plain_whole : (want : Want) (closes : Bool) (target : ℕ) (front rest : List ℕ) (h : ResponseHead) → IsHeads front h → IsTarget want closes target (plan_of h) → target ≤ length rest → target ≤ max_page → Tells want (front ++ rest) (Reply (received h (take target rest)))
+pub plain_whole : (want : Want) (closes : Bool) (target : ℕ) (front rest : List ℕ) (h : ResponseHead) → IsHeads front h → IsTarget want closes target (plan_of h) → target ≤ length rest
+    → target ≤ max_page → Tells want (front ++ rest) (Reply (received h (take target rest)))
 plain_whole want closes target front rest h i is within fits =
     let part_size : length (take target rest) ≡ target = omega (arith, length-take target rest) in
     tells_behind want front rest h target _ i (target_read want closes target (plan_of h) is) (plain_quiet want closes target (plan_of h) rest target is (omega arith)) within

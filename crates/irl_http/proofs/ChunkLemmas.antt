@@ -78,7 +78,8 @@ chunk_not_broken tail b (inr e) =
     let behind = (split_same e.part b.chunk.bytes _ _ size same.1).1 in
     no_break b.rest (subst BreaksLineEnd behind e.broken)
 
-pub quiet_tail : (want : Want) (cs : List Chunk) (tail : List ℕ) → AllByRecursion IsChunk cs → ¬ BeginsChunk tail → QuietTail want (content_of cs) tail → QuietBody want plan.Chunked (print_chunks cs ++ tail)
+pub quiet_tail : (want : Want) (cs : List Chunk) (tail : List ℕ) → AllByRecursion IsChunk cs → ¬ BeginsChunk tail → QuietTail want (content_of cs) tail
+    → QuietBody want plan.Chunked (print_chunks cs ++ tail)
 quiet_tail want cs tail vc none quiet = record {
   no_reply = λ body takes. elim takes [
     | inl ends ↦ elim (compared cs ends.chunks tail (print_chunk_line ends.last) vc ends.valid none ends.whole) [

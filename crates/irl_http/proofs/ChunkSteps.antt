@@ -42,7 +42,13 @@ line_empty_may never = never (print_chunk_line least) least [] (least_valid, sym
 
 pub line_long : (l : ChunkLine) → IsChunkLine l → 3 ≤ length (print_chunk_line l)
 unfolding print_chunk_line
-line_long l v = omega (arith, length-append (l.digits ++ l.pad ++ print_extension l.extension) crlf_bytes, length-append (l.digits ++ l.pad) (print_extension l.extension), length-append l.digits l.pad, v.digits.0)
+line_long l v = omega (
+  arith,
+  length-append (l.digits ++ l.pad ++ print_extension l.extension) crlf_bytes,
+  length-append (l.digits ++ l.pad) (print_extension l.extension),
+  length-append l.digits l.pad,
+  v.digits.0,
+)
 
 pub line_empty_none : HasNoChunkLine []
 line_empty_none l rest reads = omega (arith, ap length reads.1, length-append (print_chunk_line l) rest, line_long l reads.0)
@@ -53,17 +59,22 @@ line_some_bad (x ∷ xs) never = omega arith
 
 -- prefixes
 pub line_none_take : (n : ℕ) (front : List ℕ) → HasNoChunkLine front → HasNoChunkLine (take n front)
-line_none_take n front none l rest reads = none l (rest ++ drop n front) (subst (λ b. ReadsChunkLine b l (rest ++ drop n front)) (take-append-drop n front) (ReadsChunkLine-append (take n front) l rest (drop n front) reads))
+line_none_take n front none l rest reads = none l (rest ++ drop n front) (subst (λ b. ReadsChunkLine b l (rest ++ drop n front)) (take-append-drop n front)
+    (ReadsChunkLine-append (take n front) l rest (drop n front) reads))
 
 pub line_may_take : (n : ℕ) (front : List ℕ) → ¬ NeverHasChunkLine front → ¬ NeverHasChunkLine (take n front)
-line_may_take n front may never = may (λ more l rest reads. never (drop n front ++ more) l rest (subst (λ b. ReadsChunkLine b l rest) (ap (λ b. b ++ more) (sym (take-append-drop n front)) ∙ append_assoc (take n front) (drop n front) more) reads))
+line_may_take n front may never = may (λ more l rest reads. never (drop n front ++ more) l rest
+    (subst (λ b. ReadsChunkLine b l rest) (ap (λ b. b ++ more) (sym (take-append-drop n front)) ∙ append_assoc (take n front) (drop n front) more) reads))
 
 pub line_none_in_bad : (n : ℕ) (front : List ℕ) → NeverHasChunkLine front → HasNoChunkLine (take n front)
-line_none_in_bad n front never l rest reads = never [] l ((rest ++ drop n front) ++ []) (ReadsChunkLine-append front l (rest ++ drop n front) [] (subst (λ b. ReadsChunkLine b l (rest ++ drop n front)) (take-append-drop n front) (ReadsChunkLine-append (take n front) l rest (drop n front) reads)))
+line_none_in_bad n front never l rest reads = never [] l ((rest ++ drop n front) ++ [])
+    (ReadsChunkLine-append front l (rest ++ drop n front) [] (subst (λ b. ReadsChunkLine b l (rest ++ drop n front)) (take-append-drop n front)
+    (ReadsChunkLine-append (take n front) l rest (drop n front) reads)))
 
 line_none_inside : (l : ChunkLine) (front rest : List ℕ) (n : ℕ) → ReadsChunkLine front l rest → n < length (print_chunk_line l) → HasNoChunkLine (take n front)
 line_none_inside l front rest n reads below k q other =
-    let same = chunk_line_unique front l k rest (q ++ drop n front) reads (subst (λ b. ReadsChunkLine b k (q ++ drop n front)) (take-append-drop n front) (ReadsChunkLine-append (take n front) k q (drop n front) other)) in
+    let same = chunk_line_unique front l k rest (q ++ drop n front) reads (subst (λ b. ReadsChunkLine b k (q ++ drop n front)) (take-append-drop n front)
+    (ReadsChunkLine-append (take n front) k q (drop n front) other)) in
     omega (arith, ap (λ g. length (print_chunk_line g)) same.0, ap length other.1, length-append (print_chunk_line k) q, length-take n front, below)
 
 line_may_inside : (l : ChunkLine) (front rest : List ℕ) (n : ℕ) → ReadsChunkLine front l rest → ¬ NeverHasChunkLine (take n front)
@@ -71,15 +82,26 @@ line_may_inside l front rest n reads = line_may_take n front (λ never. never []
 
 -- behind whole chunks an open line shows nothing
 pub after_quiet : (want : Want) (body done x : List ℕ) → AfterChunks body done → HasNoChunkLine x → ¬ NeverHasChunkLine x → length x < max_chunk_line → QuietBody want plan.Chunked (done ++ x)
-after_quiet want body done x a none may few = subst (λ d. QuietBody want plan.Chunked (d ++ x)) (sym a.whole) (quiet_tail want a.chunks x a.valid (open_no_chunk x none) (open_quiet want (content_of a.chunks) x none may few))
+after_quiet want body done x a none may few = subst (λ d. QuietBody want plan.Chunked (d ++ x)) (sym a.whole)
+    (quiet_tail want a.chunks x a.valid (open_no_chunk x none) (open_quiet want (content_of a.chunks) x none may few))
 
 -- nor does a part of a chunk
-pub in_quiet : (want : Want) (left : ℕ) (behind body done : List ℕ) → InChunk left behind body done → (behind ≡ []) ⊎ ((behind ≡ 13 ∷ []) × (left ≡ 0)) → length body < most_of want → QuietBody want plan.Chunked done
+pub in_quiet : (want : Want) (left : ℕ) (behind body done : List ℕ) → InChunk left behind body done → (behind ≡ []) ⊎ ((behind ≡ 13 ∷ []) × (left ≡ 0)) → length body < most_of want
+    → QuietBody want plan.Chunked done
 in_quiet want left behind body done a is few =
     let fits : length a.part ≤ chunk_size a.line = omega (arith, a.size) in
     let ends : (behind ≡ []) ⊎ ((behind ≡ 13 ∷ []) × (length a.part ≡ chunk_size a.line)) = elim is [ inl e ↦ inl e | inr (e, z) ↦ inr (e, omega (arith, a.size, z)) ] in
-    let short : length (a.part ++ behind) < chunk_size a.line + 2 = elim is [ inl e ↦ omega (arith, length-append a.part behind, ap length e, fits) | inr (e, z) ↦ omega (arith, length-append a.part behind, ap length e, fits) ] in
-    subst (QuietBody want plan.Chunked) (sym a.whole) (quiet_tail want a.chunks _ a.valid (part_no_chunk a.line a.part behind a.short short) (part_quiet want (content_of a.chunks) a.line a.part behind a.short a.some fits ends (omega (arith, ap length a.body_is, few))))
+    let short : length (a.part ++ behind) < chunk_size a.line + 2 = elim is [
+      | inl e ↦ omega (arith, length-append a.part behind, ap length e, fits)
+      | inr (e, z) ↦ omega (
+        arith,
+        length-append a.part behind,
+        ap length e,
+        fits,
+      )
+    ] in
+    subst (QuietBody want plan.Chunked) (sym a.whole) (quiet_tail want a.chunks _ a.valid (part_no_chunk a.line a.part behind a.short short)
+    (part_quiet want (content_of a.chunks) a.line a.part behind a.short a.some fits ends (omega (arith, ap length a.body_is, few))))
 
 -- some bytes more of a chunk
 pub in_more : (left : ℕ) (body done t : List ℕ) → InChunk left [] body done → length t ≤ left → InChunk (left - length t) [] (body ++ t) (done ++ t)
@@ -170,13 +192,15 @@ quiet_both want done ahead here next m below = elim (cases_lt m 1) [
 ]
 
 -- bytes of a chunk, one after another
-pub part_ahead : (want : Want) (left : ℕ) (body done ahead : List ℕ) (n : ℕ) → InChunk left [] body done → n ≤ left + 1 → n ≤ length ahead + 1 → length body + n ≤ most_of want → QuietAhead want done ahead n
+pub part_ahead : (want : Want) (left : ℕ) (body done ahead : List ℕ) (n : ℕ) → InChunk left [] body done → n ≤ left + 1 → n ≤ length ahead + 1 → length body + n ≤ most_of want
+    → QuietAhead want done ahead n
 part_ahead want left body done ahead n a fits within few m below =
     let size : length (take m ahead) ≡ m = omega (arith, length-take m ahead) in
     in_quiet want _ [] (body ++ take m ahead) (done ++ take m ahead) (in_more left body done (take m ahead) a (omega arith)) (inl refl) (omega (arith, length-append body (take m ahead)))
 
 -- an open line, byte for byte
-pub line_ahead : (want : Want) (body done ahead : List ℕ) (n : ℕ) → AfterChunks body done → ((m : ℕ) → m < n → HasNoChunkLine (take m ahead)) → ((m : ℕ) → m < n → ¬ NeverHasChunkLine (take m ahead)) → n ≤ max_chunk_line → QuietAhead want done ahead n
+pub line_ahead : (want : Want) (body done ahead : List ℕ) (n : ℕ) → AfterChunks body done → ((m : ℕ) → m < n → HasNoChunkLine (take m ahead)) → ((m : ℕ) → m < n → ¬ NeverHasChunkLine (take m ahead))
+    → n ≤ max_chunk_line → QuietAhead want done ahead n
 line_ahead want body done ahead n a none may few m below = after_quiet want body done (take m ahead) a (none m below) (may m below) (omega (arith, length-take m ahead))
 
 -- a chunk line is whole
@@ -220,7 +244,8 @@ line_last body done ahead l n a i zero = record {
 }
 
 -- a line of which bytes of a chunk follow
-pub line_taken : (want : Want) (body done ahead : List ℕ) (l : ChunkLine) (n : ℕ) → AfterChunks body done → IsLineAhead l ahead n → 0 < chunk_size l → length body < most_of want → QuietAhead want done ahead (n + 1)
+pub line_taken : (want : Want) (body done ahead : List ℕ) (l : ChunkLine) (n : ℕ) → AfterChunks body done → IsLineAhead l ahead n → 0 < chunk_size l → length body < most_of want
+    → QuietAhead want done ahead (n + 1)
 line_taken want body done ahead l n a i some few m below = elim (cases_lt m n) [
   | inl less ↦ line_quiet want body done ahead l n a i m less
   | inr more ↦
@@ -237,7 +262,8 @@ quiet_shift want done ahead at n before behind m below = elim (cases_lt m at) [
   | inl less ↦ before m less
   | inr more ↦
       let split : m ≡ at + (m - at) = omega arith in
-      let same : done ++ take m ahead ≡ (done ++ take at ahead) ++ take (m - at) (drop at ahead) = ap (λ k. done ++ take k ahead) split ∙ ap (λ l. done ++ l) (take-add at (m - at) ahead) ∙ sym (append_assoc done (take at ahead) (take (m - at) (drop at ahead))) in
+      let same : done ++ take m ahead ≡ (done ++ take at ahead) ++ take (m - at) (drop at ahead) = ap (λ k. done ++ take k ahead) split ∙ ap (λ l. done ++ l) (take-add at (m - at) ahead)
+      ∙ sym (append_assoc done (take at ahead) (take (m - at) (drop at ahead))) in
       subst (QuietBody want plan.Chunked) (sym same) (behind (m - at) (omega arith))
 ]
 
@@ -263,7 +289,8 @@ line_whole bytes m len size small (l, at) =
     )
 
 pub line_too_long : (bytes : List ℕ) (m : ℕ) → m ≤ max_chunk_line → length (take m bytes) ≡ max_chunk_line → HasNoChunkLine (take m bytes) → MayBecomeChunkLine (take m bytes)
-    → (0 < max_chunk_line) × (max_chunk_line ≤ length bytes) × (max_chunk_line ≤ max_chunk_line) × (HasNoChunkLine (take (max_chunk_line - 1) bytes) × ¬ NeverHasChunkLine (take (max_chunk_line - 1) bytes)) × IsNoLine (take max_chunk_line bytes)
+    → (0 < max_chunk_line) × (max_chunk_line ≤ length bytes) × (max_chunk_line ≤ max_chunk_line)
+    × (HasNoChunkLine (take (max_chunk_line - 1) bytes) × ¬ NeverHasChunkLine (take (max_chunk_line - 1) bytes)) × IsNoLine (take max_chunk_line bytes)
 line_too_long bytes m small full none may =
     let all : m ≡ max_chunk_line = omega (arith, length-take m bytes, small, full) in
     let short : take (max_chunk_line - 1) (take m bytes) ≡ take (max_chunk_line - 1) bytes = take-take (max_chunk_line - 1) m bytes (omega (arith, all)) in (
@@ -277,7 +304,8 @@ line_too_long bytes m small full none may =
       subst (λ k. IsNoLine (take k bytes)) all (inr (omega (arith, full), none)),
     )
 
-pub line_is_bad : (bytes : List ℕ) (m n : ℕ) → m ≤ max_chunk_line → NeverHasChunkLine (take m bytes) → 0 < n → n ≤ length (take m bytes) → NeverHasChunkLine (take n (take m bytes)) → ¬ NeverHasChunkLine (take (n - 1) (take m bytes))
+pub line_is_bad : (bytes : List ℕ) (m n : ℕ) → m ≤ max_chunk_line → NeverHasChunkLine (take m bytes) → 0 < n → n ≤ length (take m bytes) → NeverHasChunkLine (take n (take m bytes))
+    → ¬ NeverHasChunkLine (take (n - 1) (take m bytes))
     → (0 < n) × (n ≤ length bytes) × (n ≤ max_chunk_line) × (HasNoChunkLine (take (n - 1) bytes) × ¬ NeverHasChunkLine (take (n - 1) bytes)) × IsNoLine (take n bytes)
 line_is_bad bytes m n small never some within bad good =
     let fits : n ≤ m = omega (arith, length-take m bytes, within) in
@@ -290,7 +318,8 @@ line_is_bad bytes m n small never some within bad good =
     )
 
 -- bytes before the one that breaks a line
-pub line_before : (want : Want) (body done ahead : List ℕ) (n : ℕ) → AfterChunks body done → n ≤ max_chunk_line → HasNoChunkLine (take (n - 1) ahead) → ¬ NeverHasChunkLine (take (n - 1) ahead) → QuietAhead want done ahead n
+pub line_before : (want : Want) (body done ahead : List ℕ) (n : ℕ) → AfterChunks body done → n ≤ max_chunk_line → HasNoChunkLine (take (n - 1) ahead) → ¬ NeverHasChunkLine (take (n - 1) ahead)
+    → QuietAhead want done ahead n
 line_before want body done ahead n a small none may =
     line_ahead want body done ahead n a
     (λ m below. subst HasNoChunkLine (take-take m (n - 1) ahead (omega arith)) (line_none_take m (take (n - 1) ahead) none))
@@ -306,7 +335,8 @@ due_next left count body done fits a = by_test (eqb left count) refl
     by_test false other = let apart : left ≢ count = eqb-false left count other in (omega (arith, apart), a)
 
 -- a step behind those that were taken
-pub moves_on : (want : Want) (bytes : List ℕ) (at body : ℕ) (p : Progress) → ((n : ℕ) → p ≢ progress.Taken n) → at ≤ length bytes → Moves want (length (drop at bytes)) body p → MovesOn want (length bytes) at body p
+pub moves_on : (want : Want) (bytes : List ℕ) (at body : ℕ) (p : Progress) → ((n : ℕ) → p ≢ progress.Taken n) → at ≤ length bytes → Moves want (length (drop at bytes)) body p
+    → MovesOn want (length bytes) at body p
 moves_on want bytes at body (progress.Taken n) other within moves = absurd (other n refl)
 moves_on want bytes at body progress.Open other within moves = (within, moves)
 moves_on want bytes at body (progress.Whole n) other within moves = (omega (arith, length-drop at bytes, moves.0), moves.1)

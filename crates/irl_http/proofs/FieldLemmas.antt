@@ -68,7 +68,9 @@ one_value name buf h hs false is = rw is refl
 
 pub value_next : (name buf : List ℕ) (headers : List HeaderSpan) (i : ℕ) (d : HeaderSpan) (named : Bool) → i < length headers → is_named name (header_bytes buf (get_or headers i d)) ≡ named
     → values name (map (header_bytes buf) (drop i headers)) ≡ cond named (span_bytes buf (get_or headers i d).value ∷ []) [] ++ values name (map (header_bytes buf) (drop (i + 1) headers))
-value_next name buf headers i d named below is = ap (λ hs. values name (map (header_bytes buf) hs)) (drop_more headers i d below) ∙ one_value name buf (get_or headers i d) (drop (i + 1) headers) named is
+value_next name buf headers i d named below is = ap (λ hs. values name (map (header_bytes buf) hs)) (drop_more headers i d below)
+    ∙ one_value name buf (get_or headers i d) (drop (i + 1) headers) named is
 
-pub value_pushed : (buf : List ℕ) (spans : List Span) (v : Span) (rest all : List (List ℕ)) → map (span_bytes buf) spans ++ (span_bytes buf v ∷ [] ++ rest) ≡ all → map (span_bytes buf) (spans ++ v ∷ []) ++ rest ≡ all
+pub value_pushed : (buf : List ℕ) (spans : List Span) (v : Span) (rest all : List (List ℕ)) → map (span_bytes buf) spans ++ (span_bytes buf v ∷ [] ++ rest) ≡ all
+    → map (span_bytes buf) (spans ++ v ∷ []) ++ rest ≡ all
 value_pushed buf spans v rest all told = ap (λ l. l ++ rest) (map_push (span_bytes buf) spans v) ∙ append_assoc (map (span_bytes buf) spans) (span_bytes buf v ∷ []) rest ∙ told

@@ -32,7 +32,15 @@ pub head_feeds : (h : ResponseHead) → length h.fields + 2 ≤ line_feeds (prin
 unfolding print_response
 head_feeds h =
     let start = print_blank h.blank ++ print_version h.minor ++ 32 ∷ h.digits ++ print_reason h.reason in
-    omega (arith, feeds-append (start ++ print_end h.line_end) (print_section h.fields h.last), feeds-append start (print_end h.line_end), one_feed h.line_end, feeds-append (flat_map print_field h.fields) (print_end h.last), one_feed h.last, fields_feeds h.fields)
+    omega (
+      arith,
+      feeds-append (start ++ print_end h.line_end) (print_section h.fields h.last),
+      feeds-append start (print_end h.line_end),
+      one_feed h.line_end,
+      feeds-append (flat_map print_field h.fields) (print_end h.last),
+      one_feed h.last,
+      fields_feeds h.fields,
+    )
 
 -- bytes with fewer line feeds before their last byte aren't reported for too many fields, unless an empty line makes them a head
 pub exceeds_open : (buf : List ℕ) → line_feeds (take (length buf - 1) buf) < max_fields + 2 → ResponseExceeds max_fields buf → ¬ NeverHasResponse buf
@@ -41,7 +49,8 @@ exceeds_open buf cut (front, [], whole, h, reads, long) never =
 exceeds_open buf cut (front, (x ∷ rest), whole, h, reads, long) never =
     let size : length buf ≡ length front + suc (length rest) = ap length whole ∙ length-append front (x ∷ rest) in
     let n : length buf - 1 ≡ length front + length rest = omega arith in
-    let part : take (length buf - 1) buf ≡ front ++ take (length rest) (x ∷ rest) = ap (λ k. take k buf) n ∙ ap (take (length front + length rest)) whole ∙ take-append-add front (x ∷ rest) (length rest) in
+    let part : take (length buf - 1) buf ≡ front ++ take (length rest) (x ∷ rest) = ap (λ k. take k buf) n ∙ ap (take (length front + length rest)) whole
+    ∙ take-append-add front (x ∷ rest) (length rest) in
     let text : front ++ 10 ∷ [] ≡ print_response h = reads.1 ∙ append-nil (print_response h) in
     absurd (omega (arith, ap line_feeds part, feeds-append front (take (length rest) (x ∷ rest)), ap line_feeds text, feeds-append front (10 ∷ []), head_feeds h))
 
@@ -75,7 +84,8 @@ pub record BeginsInterim (front : List ℕ) : Type 0 where
 interim_first : (h : ResponseHead) (hs : List ResponseHead) (x : List ℕ) → IsInterim h → ReadsHead (print_heads (h ∷ hs) ++ x) h (print_heads hs ++ x)
 interim_first h hs x valid = record { reads = (valid.valid, append_assoc (print_response h) (print_heads hs) x); short = valid.short }
 
-awaited : (hs ks : List ResponseHead) (x front : List ℕ) → AllByRecursion IsInterim hs → AllByRecursion IsInterim ks → ¬ BeginsInterim x → print_heads hs ++ x ≡ print_heads ks ++ front → (front ≡ x) ⊎ BeginsInterim front
+awaited : (hs ks : List ResponseHead) (x front : List ℕ) → AllByRecursion IsInterim hs → AllByRecursion IsInterim ks → ¬ BeginsInterim x → print_heads hs ++ x ≡ print_heads ks ++ front → (front ≡ x)
+    ⊎ BeginsInterim front
 awaited [] [] x front vh vk none e = inl (sym e)
 awaited [] (k ∷ ks) x front vh vk none e =
     absurd (none (record { head = k; rest = print_heads ks ++ front; reads = subst (λ l. ReadsHead l k (print_heads ks ++ front)) (sym e) (interim_first k ks front vk.0); interim = vk.0.interim }))
@@ -146,7 +156,13 @@ pub awaits_more : (p x more : List ℕ) → Awaits p x → Awaits (p ++ more) (x
 awaits_more p x more a = record { interim = a.interim; valid = a.valid; whole = ap (λ l. l ++ more) a.whole ∙ append_assoc (print_heads a.interim) x more }
 
 pub has_more : (p : List ℕ) (h : ResponseHead) (r more : List ℕ) → HasHead p h r → HasHead (p ++ more) h (r ++ more)
-has_more p h r more x = record { front = x.front ++ more; awaits = awaits_more p x.front more x.awaits; reads = head_more x.front h r more x.reads; final = x.final; fits = omega (arith, x.fits, length-append p more, length-append r more) }
+has_more p h r more x = record {
+  front = x.front ++ more;
+  awaits = awaits_more p x.front more x.awaits;
+  reads = head_more x.front h r more x.reads;
+  final = x.final;
+  fits = omega (arith, x.fits, length-append p more, length-append r more);
+}
 
 -- a head that ends early enough passes no limit
 pub has_not_far : (p rest : List ℕ) (h : ResponseHead) → HasHead p h [] → length p ≤ max_heads → ¬ PassesBytes (p ++ rest)
@@ -196,7 +212,8 @@ pub record LiesBehind (x front : List ℕ) : Type 0 where
   pub between : List ℕ
   pub reads : ReadsHead x head (between ++ front)
 
-compared : (hs ks : List ResponseHead) (x front : List ℕ) → AllByRecursion IsInterim hs → AllByRecursion IsInterim ks → print_heads hs ++ x ≡ print_heads ks ++ front → (front ≡ x) ⊎ BeginsInterim front ⊎ LiesBehind x front
+compared : (hs ks : List ResponseHead) (x front : List ℕ) → AllByRecursion IsInterim hs → AllByRecursion IsInterim ks → print_heads hs ++ x ≡ print_heads ks ++ front → (front ≡ x)
+    ⊎ BeginsInterim front ⊎ LiesBehind x front
 compared [] [] x front vh vk e = inl (sym e)
 compared [] (k ∷ ks) x front vh vk e = inr (inr (record { head = k; between = print_heads ks; reads = subst (λ l. ReadsHead l k (print_heads ks ++ front)) (sym e) (interim_first k ks front vk.0) }))
 compared (h ∷ hs) [] x front vh vk e =
@@ -212,7 +229,8 @@ shorter known r b k reads some =
     record {
       reads = (
         reads.reads.0,
-        sym (take_at known (b ∷ []) (length known) refl) ∙ ap (take (length known)) reads.reads.1 ∙ ap (λ j. take j (print_response k ++ r)) n ∙ take-append-add (print_response k) r (length known - length (print_response k)),
+        sym (take_at known (b ∷ []) (length known) refl) ∙ ap (take (length known)) reads.reads.1 ∙ ap (λ j. take j (print_response k ++ r)) n
+            ∙ take-append-add (print_response k) r (length known - length (print_response k)),
       );
       short = reads.short;
     }

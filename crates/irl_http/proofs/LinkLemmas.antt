@@ -7,30 +7,33 @@ use Rattle.irl_http.specs.declared.mem_link.Current.{Current}
 use Rattle.irl_http.specs.Memory.{as_made}
 use Rattle.irl_http.specs.Links.{written_on_last, HasExchange, WritesOnLast, StaySame}
 
-pub on_last : (piece : List ℕ) (old : List Connection) (c : Connection) → written_on_last piece (old ++ c ∷ []) ≡ old ++ record { gives = c.gives; written = c.written ++ piece } ∷ []
+pub on_last : (piece : List ℕ) (old : List Connection) (c : Connection) → written_on_last piece (old ++ c ∷ []) ≡ old ++ record c { written = c.written ++ piece } ∷ []
 on_last piece [] c = refl
 on_last piece (x ∷ []) c = refl
 on_last piece (x ∷ y ∷ xs) c = ap (λ l. x ∷ l) (on_last piece (y ∷ xs) c)
 
 pub none_on_last : (old : List Connection) → written_on_last [] old ≡ old
 none_on_last [] = refl
-none_on_last (x ∷ []) = ap (λ w. record { gives = x.gives; written = w } ∷ []) (append-nil x.written)
+none_on_last (x ∷ []) = ap (λ w. record x { written = w } ∷ []) (append-nil x.written)
 none_on_last (x ∷ y ∷ xs) = ap (λ l. x ∷ l) (none_on_last (y ∷ xs))
 
 -- a write on the connection that was made adds to its exchange
-pub exchange_written : (gives written piece : List ℕ) (before made after : Option (List Connection)) → HasExchange gives written before made → WritesOnLast piece made after → HasExchange gives (written ++ piece) before after
-exchange_written gives written piece None made after has writes = tt
-exchange_written gives written piece (Some old) None after has writes = absurd has
-exchange_written gives written piece (Some old) (Some new) None has writes = absurd writes
-exchange_written gives written piece (Some old) (Some new) (Some last) has writes = writes ∙ ap (written_on_last piece) has ∙ on_last piece old _
+pub exchange_written : (port : ℕ) (gives written piece : List ℕ) (before made after : Option (List Connection)) → HasExchange port gives written before made → WritesOnLast piece made after
+    → HasExchange port gives (written ++ piece) before after
+exchange_written port gives written piece None made after has writes = tt
+exchange_written port gives written piece (Some old) None after has writes = absurd has
+exchange_written port gives written piece (Some old) (Some new) None has writes = absurd writes
+exchange_written port gives written piece (Some old) (Some new) (Some last) has writes = writes ∙ ap (written_on_last piece) has ∙ on_last piece old _
 
-pub exchange_stays : (gives written : List ℕ) (before made after : Option (List Connection)) → HasExchange gives written before made → StaySame made after → HasExchange gives written before after
-exchange_stays gives written None made after has same = tt
-exchange_stays gives written (Some old) None after has same = absurd has
-exchange_stays gives written (Some old) (Some new) None has same = absurd same
-exchange_stays gives written (Some old) (Some new) (Some last) has same = same ∙ has
+pub exchange_stays : (port : ℕ) (gives written : List ℕ) (before made after : Option (List Connection)) → HasExchange port gives written before made → StaySame made after
+    → HasExchange port gives written before after
+exchange_stays port gives written None made after has same = tt
+exchange_stays port gives written (Some old) None after has same = absurd has
+exchange_stays port gives written (Some old) (Some new) None has same = absurd same
+exchange_stays port gives written (Some old) (Some new) (Some last) has same = same ∙ has
 
 -- the current connection is the last one, where there is one
-pub last_of_current : (piece : List ℕ) (past : List Connection) (current : Option Current) → is_some current ≡ true → written_on_last piece (past ++ as_made current) ≡ past ++ written_on_last piece (as_made current)
+pub last_of_current : (piece : List ℕ) (past : List Connection) (current : Option Current) → is_some current ≡ true
+    → written_on_last piece (past ++ as_made current) ≡ past ++ written_on_last piece (as_made current)
 last_of_current piece past None some = absurd (false≢true some)
 last_of_current piece past (Some c) some = on_last piece past _

@@ -4,7 +4,7 @@ use Rattle.std.proofs.lemmas.Result.{IfOk-from_err}
 use Rattle.std.specs.Io.KnownBytes.{IsAtEnd}
 use Rattle.std.specs.declared.alloc.AllocError.{AllocError}
 use Rattle.httparse.specs.Grammar.{ResponseHead}
-use Rattle.irl_offer.specs.Limits.{max_page}
+use Rattle.irl_base.specs.Limits.{max_page}
 use Rattle.irl_offer.specs.declared.reply.Want.{Want}
 use Rattle.irl_offer.specs.declared.reply.Answer.{Answer}
 use Rattle.irl_offer.specs.declared.reply.Answer.TheVariants.{Reply, NoReply, Short, TooLarge}
@@ -26,7 +26,8 @@ plain_gets want closes target front body got h l0 l1 r0 r1 i is gets =
     gets
 
 -- all that was taken, and an answer of it
-pub plain_body : (want : Want) (closes : Bool) (target : ℕ) (front body got now : List ℕ) (h : ResponseHead) (l0 l1 r0 r1 : Option (List ℕ)) (a : Answer) → IsHeads front h → IsTarget want closes target (plan_of h)
+pub plain_body : (want : Want) (closes : Bool) (target : ℕ) (front body got now : List ℕ) (h : ResponseHead) (l0 l1 r0 r1 : Option (List ℕ)) (a : Answer) → IsHeads front h
+    → IsTarget want closes target (plan_of h)
     → now ≡ body ++ got → Gets (λ early. length body + length early < target) l0 l1 r0 r1 got → length front + length now ≤ max_taken → AnswersTaken want (front ++ now) (IsAtEnd l1) a
     → BodyRead want (front ++ body) l0 l1 r0 r1 (Ok a)
 plain_body want closes target front body got now h l0 l1 r0 r1 a i is same gets few answers =
@@ -68,7 +69,14 @@ closes_whole want closes target front now h Ended i is few ended on =
 pub ends_short : (want : Want) (closes : Bool) (target : ℕ) (front now : List ℕ) (h : ResponseHead) (n : ℕ) (Ended : Type 0) → IsHeads front h → IsTarget want closes target (plan_of h)
     → length now < target → Ended → closes ≡ false → n ≡ length front + length now → AnswersTaken want (front ++ now) Ended (Short n)
 ends_short want closes target front now h n Ended i is few ended off size =
-    inr (ended, plain_nothing want closes target front now h i is few, (size ∙ sym (length-append front now), λ r. not_until_close front now h r i (counted_plan want closes target (plan_of h) off is)))
+    inr (
+      ended,
+      plain_nothing want closes target front now h i is few,
+      (
+        size ∙ sym (length-append front now),
+        λ r. not_until_close front now h r i (counted_plan want closes target (plan_of h) off is),
+      ),
+    )
 
 -- where the link failed
 pub fails : (want : Want) (closes : Bool) (target : ℕ) (front now : List ℕ) (h : ResponseHead) (Ended : Type 0) → IsHeads front h → IsTarget want closes target (plan_of h)
@@ -76,7 +84,8 @@ pub fails : (want : Want) (closes : Bool) (target : ℕ) (front now : List ℕ) 
 fails want closes target front now h Ended i is few = plain_nothing want closes target front now h i is few
 
 -- where there was no memory
-pub plain_memory : (want : Want) (closes : Bool) (target : ℕ) (front body got : List ℕ) (h : ResponseHead) (l0 l1 r0 r1 : Option (List ℕ)) (result : Result Answer AllocError) → IsHeads front h → IsTarget want closes target (plan_of h)
+pub plain_memory : (want : Want) (closes : Bool) (target : ℕ) (front body got : List ℕ) (h : ResponseHead) (l0 l1 r0 r1 : Option (List ℕ)) (result : Result Answer AllocError) → IsHeads front h
+    → IsTarget want closes target (plan_of h)
     → Gets (λ early. length body + length early < target) l0 l1 r0 r1 got → length front + (length body + length got) ≤ max_taken → IsErr result → BodyRead want (front ++ body) l0 l1 r0 r1 result
 plain_memory want closes target front body got h l0 l1 r0 r1 result i is gets few failed = (
   got,

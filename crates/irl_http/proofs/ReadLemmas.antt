@@ -30,7 +30,11 @@ pub calm_same : (w : Option (List ℕ)) (m : Option (List Connection)) (f : ℕ)
 calm_same w m f = record { written = keeps_same w; connections = stay_same m; faults = omega arith }
 
 pub calm_on : (w0 w1 w2 : Option (List ℕ)) (m0 m1 m2 : Option (List Connection)) (f0 f1 f2 : ℕ) → Undisturbed w0 w1 m0 m1 f0 f1 → Undisturbed w1 w2 m1 m2 f1 f2 → Undisturbed w0 w2 m0 m2 f0 f2
-calm_on w0 w1 w2 m0 m1 m2 f0 f1 f2 p q = record { written = keeps_on w0 w1 w2 p.written q.written; connections = stay_on m0 m1 m2 p.connections q.connections; faults = omega (arith, p.faults, q.faults) }
+calm_on w0 w1 w2 m0 m1 m2 f0 f1 f2 p q = record {
+  written = keeps_on w0 w1 w2 p.written q.written;
+  connections = stay_on m0 m1 m2 p.connections q.connections;
+  faults = omega (arith, p.faults, q.faults);
+}
 
 pub consumes_on : (a b c : Option (List ℕ)) (g h : List ℕ) → Consumes a b g → Consumes b c h → Consumes a c (g ++ h)
 consumes_on None b c g h p q = tt
@@ -65,10 +69,18 @@ gets_read P l0 l1 l2 r0 r1 r2 got more gets here took last = record {
 
 pub gets_as : (P Q : List ℕ → Type 0) (l0 l1 r0 r1 : Option (List ℕ)) (got : List ℕ) → ((early : List ℕ) → P early → Q early) → Gets P l0 l1 r0 r1 got → Gets Q l0 l1 r0 r1 got
 gets_as P Q l0 l1 r0 r1 got follows (inl none) = inl none
-gets_as P Q l0 l1 r0 r1 got follows (inr reads) = inr (record { early = reads.early; piece = reads.piece; bytes = reads.bytes; parts = reads.parts; last_read = reads.last_read; needed = follows reads.early reads.needed })
+gets_as P Q l0 l1 r0 r1 got follows (inr reads) = inr (record {
+  early = reads.early;
+  piece = reads.piece;
+  bytes = reads.bytes;
+  parts = reads.parts;
+  last_read = reads.last_read;
+  needed = follows reads.early reads.needed;
+})
 
 -- a stretch behind another
-pub reads_on : (P : List ℕ → Type 0) (l0 l1 l2 r0 r1 r2 : Option (List ℕ)) (first got : List ℕ) → Reads P l0 l1 r1 first → Gets (λ early. P (first ++ early)) l1 l2 r1 r2 got → Reads P l0 l2 r2 (first ++ got)
+pub reads_on : (P : List ℕ → Type 0) (l0 l1 l2 r0 r1 r2 : Option (List ℕ)) (first got : List ℕ) → Reads P l0 l1 r1 first → Gets (λ early. P (first ++ early)) l1 l2 r1 r2 got
+    → Reads P l0 l2 r2 (first ++ got)
 reads_on P l0 l1 l2 r0 r1 r2 first got reads (inl (none, kept, same)) = record {
   early = reads.early;
   piece = reads.piece;

@@ -71,7 +71,8 @@ none_in_head front rest h n reads below k q other =
 
 -- nothing bad begins with a head
 pub none_in_bad : (front : List ℕ) (n : ℕ) → NeverHasResponse front → HasNoHead (take n front)
-none_in_bad front n never k q reads = never_no_head front k (q ++ drop n front) (subst (λ l. ReadsHead l k (q ++ drop n front)) (take-append-drop n front) (head_more (take n front) k q (drop n front) reads)) never
+none_in_bad front n never k q reads = never_no_head front k (q ++ drop n front)
+    (subst (λ l. ReadsHead l k (q ++ drop n front)) (take-append-drop n front) (head_more (take n front) k q (drop n front) reads)) never
 
 pub few_take : (n : ℕ) (front : List ℕ) → n < length front → line_feeds (take (length front - 1) front) < max_fields + 2 → line_feeds (take n front) < max_fields + 2
 few_take n front below cut = omega (arith, feeds_take n (length front - 1) front (omega arith), cut)
@@ -110,7 +111,8 @@ pub record IsFront (bytes : List ℕ) (at : ℕ) (front : List ℕ) : Type 0 whe
   pub inside : at + length front ≤ length bytes
   pub cut : line_feeds (take (length front - 1) front) < max_fields + 2
 
-pub make_front : (bytes : List ℕ) (at m end : ℕ) → at ≤ m → m ≤ max_heads → m ≤ length bytes → end ≤ length (take (m - at) (drop at bytes)) → line_feeds (take (end - 1) (take (m - at) (drop at bytes))) < max_fields + 2
+pub make_front : (bytes : List ℕ) (at m end : ℕ) → at ≤ m → m ≤ max_heads → m ≤ length bytes → end ≤ length (take (m - at) (drop at bytes))
+    → line_feeds (take (end - 1) (take (m - at) (drop at bytes))) < max_fields + 2
     → IsFront bytes at (take end (take (m - at) (drop at bytes)))
 make_front bytes at m end le small within inside cut =
     let known = take (m - at) (drop at bytes) in
@@ -123,7 +125,8 @@ make_front bytes at m end le small within inside cut =
       cut = omega (arith, ap (λ n. line_feeds (take (n - 1) (take end known))) size, ap line_feeds (take-take (end - 1) end known (omega arith)), cut);
     }
 
-pub quiet_whole : (bytes : List ℕ) (at : ℕ) (front : List ℕ) (h : ResponseHead) (len : ℕ) → IsFront bytes at front → Awaits (take at bytes) [] → ReadsHead front h (drop len front) → len ≡ length (print_response h) → len ≤ length front
+pub quiet_whole : (bytes : List ℕ) (at : ℕ) (front : List ℕ) (h : ResponseHead) (len : ℕ) → IsFront bytes at front → Awaits (take at bytes) [] → ReadsHead front h (drop len front)
+    → len ≡ length (print_response h) → len ≤ length front
     → QuietBetween bytes at (at + len)
 quiet_whole bytes at front h len f aw reads is within =
     quiet_front bytes front at (at + len) aw f.is f.early (omega arith)
@@ -132,13 +135,15 @@ quiet_whole bytes at front h len f aw reads is within =
     (λ n below. few_take n front (omega arith) f.cut)
 
 -- the bytes with a whole front
-pub awaits_front : (bytes : List ℕ) (at : ℕ) (front : List ℕ) (m : ℕ) → front ≡ take (length front) (drop at bytes) → Awaits (take at bytes) [] → m ≤ length front → Awaits (take (at + m) bytes) (take m front)
+pub awaits_front : (bytes : List ℕ) (at : ℕ) (front : List ℕ) (m : ℕ) → front ≡ take (length front) (drop at bytes) → Awaits (take at bytes) [] → m ≤ length front
+    → Awaits (take (at + m) bytes) (take m front)
 awaits_front bytes at front m is aw le =
     let n : at + m - at ≡ m = omega arith in
     let same : take (at + m - at) (drop at bytes) ≡ take m front = ap (λ k. take k (drop at bytes)) n ∙ sym (ap (take m) is ∙ take-take m (length front) (drop at bytes) le) in
     subst (Awaits (take (at + m) bytes)) same (awaits_from bytes at (at + m) aw (omega arith))
 
-pub next_bad : (bytes : List ℕ) (at : ℕ) (front : List ℕ) (m : ℕ) → IsFront bytes at front → Awaits (take at bytes) [] → NeverHasResponse front → m ≤ length front → NeverHasResponse (take m front) → ¬ NeverHasResponse (take (m - 1) front)
+pub next_bad : (bytes : List ℕ) (at : ℕ) (front : List ℕ) (m : ℕ) → IsFront bytes at front → Awaits (take at bytes) [] → NeverHasResponse front → m ≤ length front → NeverHasResponse (take m front)
+    → ¬ NeverHasResponse (take (m - 1) front)
     → QuietBetween bytes at (at + m) × (at + m ≤ length bytes) × HasBadHead (take (at + m) bytes)
 next_bad bytes at front m f aw never within bad good = (
   quiet_front bytes front at (at + m) aw f.is f.early (omega arith)
@@ -149,7 +154,8 @@ next_bad bytes at front m f aw never within bad good = (
   record { front = take m front; awaits = awaits_front bytes at front m f.is aw within; bad = bad },
 )
 
-pub next_long : (bytes : List ℕ) (at : ℕ) (front : List ℕ) (m : ℕ) → IsFront bytes at front → Awaits (take at bytes) [] → HasNoHead front → ¬ NeverHasResponse front → line_feeds front ≡ max_fields + 2 → m ≡ length front
+pub next_long : (bytes : List ℕ) (at : ℕ) (front : List ℕ) (m : ℕ) → IsFront bytes at front → Awaits (take at bytes) [] → HasNoHead front → ¬ NeverHasResponse front → line_feeds front ≡ max_fields + 2
+    → m ≡ length front
     → QuietBetween bytes at (at + m) × (at + m ≤ length bytes) × (PassesBytes (take (at + m) bytes) ⊎ PassesLines (take (at + m) bytes)) × ¬ HasBadHead (take (at + m) bytes)
 next_long bytes at front m f aw none may feeds is =
     let a : Awaits (take (at + m) bytes) front = subst (Awaits (take (at + m) bytes)) (take_all m front (omega arith)) (awaits_front bytes at front m f.is aw (omega arith)) in (
@@ -171,7 +177,8 @@ next_open bytes at front f aw none may few =
     (λ n below. omega (arith, feeds_take n (length front) front (omega arith), ap line_feeds (take_all (length front) front (omega arith)), few))
 
 -- one byte more than heads may have
-pub past_front : (bytes : List ℕ) (at : ℕ) → max_heads < length bytes → at ≤ max_heads → Awaits (take at bytes) [] → HasNoHead (take (max_heads - at) (drop at bytes)) → ¬ NeverHasResponse (take (max_heads - at) (drop at bytes)) → line_feeds (take (max_heads - at) (drop at bytes)) < max_fields + 2
+pub past_front : (bytes : List ℕ) (at : ℕ) → max_heads < length bytes → at ≤ max_heads → Awaits (take at bytes) [] → HasNoHead (take (max_heads - at) (drop at bytes))
+    → ¬ NeverHasResponse (take (max_heads - at) (drop at bytes)) → line_feeds (take (max_heads - at) (drop at bytes)) < max_fields + 2
     → QuietBetween bytes at (max_heads + 1)
 past_front bytes at more early aw none may few =
     let front = take (max_heads - at) (drop at bytes) in
@@ -185,7 +192,8 @@ past_front bytes at more early aw none may few =
     let till : at + length front + 1 ≡ max_heads + 1 = omega (arith, size) in
     subst (QuietBetween bytes at) till (next_open bytes at front f aw none may few)
 
-pub past_long : (bytes : List ℕ) (at : ℕ) → max_heads < length bytes → at ≤ max_heads → Awaits (take at bytes) [] → HasNoHead (take (max_heads - at) (drop at bytes)) → PassesBytes (take (max_heads + 1) bytes)
+pub past_long : (bytes : List ℕ) (at : ℕ) → max_heads < length bytes → at ≤ max_heads → Awaits (take at bytes) [] → HasNoHead (take (max_heads - at) (drop at bytes))
+    → PassesBytes (take (max_heads + 1) bytes)
 past_long bytes at more early aw none =
     record {
       front = take (max_heads - at) (drop at bytes);
@@ -194,7 +202,8 @@ past_long bytes at more early aw none =
       open_head = none;
     }
 
-pub past_good : (bytes : List ℕ) (at : ℕ) → max_heads < length bytes → at ≤ max_heads → Awaits (take at bytes) [] → HasNoHead (take (max_heads - at) (drop at bytes)) → ¬ NeverHasResponse (take (max_heads + 1 - at) (drop at bytes)) → ¬ HasBadHead (take (max_heads + 1) bytes)
+pub past_good : (bytes : List ℕ) (at : ℕ) → max_heads < length bytes → at ≤ max_heads → Awaits (take at bytes) [] → HasNoHead (take (max_heads - at) (drop at bytes))
+    → ¬ NeverHasResponse (take (max_heads + 1 - at) (drop at bytes)) → ¬ HasBadHead (take (max_heads + 1) bytes)
 past_good bytes at more early aw none may =
     let known = take (max_heads - at) (drop at bytes) in
     let b = get_or (drop at bytes) (max_heads - at) 0 in
@@ -206,9 +215,18 @@ past_good bytes at more early aw none may =
     (subst (λ l. ¬ NeverHasResponse l) whole may)
 
 -- as many fields as spans were written
-pub fits_room : (front : List ℕ) (headers : List HeaderSpan) (spans : ResponseSpans) (h : ResponseHead) → IsResponseWithin front headers spans → AreFieldsAt front headers spans.headers h.fields → length headers ≡ max_fields → length h.fields ≤ max_fields
+pub fits_room : (front : List ℕ) (headers : List HeaderSpan) (spans : ResponseSpans) (h : ResponseHead) → IsResponseWithin front headers spans → AreFieldsAt front headers spans.headers h.fields
+    → length headers ≡ max_fields → length h.fields ≤ max_fields
 fits_room front headers spans h within fields room =
-    omega (arith, ap length fields, length-map (take spans.headers headers) (header_bytes front), length-map h.fields name_and_value, length-take spans.headers headers, within.section.count_fits, room)
+    omega (
+      arith,
+      ap length fields,
+      length-map (take spans.headers headers) (header_bytes front),
+      length-map h.fields name_and_value,
+      length-take spans.headers headers,
+      within.section.count_fits,
+      room,
+    )
 
 -- the bytes up to the end of a head that was parsed
 pub record IsParsed (bytes : List ℕ) (at : ℕ) (front : List ℕ) (h : ResponseHead) (len : ℕ) : Type 0 where
@@ -219,7 +237,8 @@ pub record IsParsed (bytes : List ℕ) (at : ℕ) (front : List ℕ) (h : Respon
   pub len_is : len ≡ length (print_response h)
   pub within : len ≤ length front
 
-pub parsed : (bytes : List ℕ) (at : ℕ) (headers : List HeaderSpan) (front : List ℕ) (spans : ResponseSpans) (p : ParsesHead bytes at headers front spans) → at ≤ length bytes → length headers ≡ max_fields → IsParsed bytes at front p.head.0 spans.len
+pub parsed : (bytes : List ℕ) (at : ℕ) (headers : List HeaderSpan) (front : List ℕ) (spans : ResponseSpans) (p : ParsesHead bytes at headers front spans) → at ≤ length bytes
+    → length headers ≡ max_fields → IsParsed bytes at front p.head.0 spans.len
 parsed bytes at headers front spans p start room = record {
   is = p.front_is;
   early = p.early;
@@ -235,7 +254,8 @@ inside bytes at front h len p = omega (arith, ap length p.is, length-take (lengt
 awaits_text : (bytes : List ℕ) (at : ℕ) (front : List ℕ) (h : ResponseHead) (len : ℕ) → IsParsed bytes at front h len → Awaits (take at bytes) [] → Awaits (take (at + len) bytes) (print_response h)
 awaits_text bytes at front h len p aw = subst (Awaits (take (at + len) bytes)) (head_text front h len p.reads p.len_is) (awaits_front bytes at front len p.is aw p.within)
 
-pub ends_heads : (bytes : List ℕ) (at : ℕ) (front : List ℕ) (h : ResponseHead) (len : ℕ) → IsParsed bytes at front h len → Awaits (take at bytes) [] → QuietBetween bytes 0 at → QuietBetween bytes at (at + len) → is_interim h ≡ false → EndsHeads bytes (at + len) h
+pub ends_heads : (bytes : List ℕ) (at : ℕ) (front : List ℕ) (h : ResponseHead) (len : ℕ) → IsParsed bytes at front h len → Awaits (take at bytes) [] → QuietBetween bytes 0 at
+    → QuietBetween bytes at (at + len) → is_interim h ≡ false → EndsHeads bytes (at + len) h
 ends_heads bytes at front h len p aw before behind final = record {
   within = inside bytes at front h len p;
   early = omega (arith, p.early, p.within);
@@ -249,8 +269,10 @@ ends_heads bytes at front h len p aw before behind final = record {
   quiet = quiet_on bytes at (at + len) before behind;
 }
 
-pub awaits_next : (bytes : List ℕ) (at : ℕ) (front : List ℕ) (h : ResponseHead) (len : ℕ) → IsParsed bytes at front h len → Awaits (take at bytes) [] → is_interim h ≡ true → Awaits (take (at + len) bytes) []
-awaits_next bytes at front h len p aw interim = awaits_push (take (at + len) bytes) h (awaits_text bytes at front h len p aw) (record { valid = p.reads.reads.0; short = p.reads.short; interim = interim })
+pub awaits_next : (bytes : List ℕ) (at : ℕ) (front : List ℕ) (h : ResponseHead) (len : ℕ) → IsParsed bytes at front h len → Awaits (take at bytes) [] → is_interim h ≡ true
+    → Awaits (take (at + len) bytes) []
+awaits_next bytes at front h len p aw interim = awaits_push (take (at + len) bytes) h (awaits_text bytes at front h len p aw)
+    (record { valid = p.reads.reads.0; short = p.reads.short; interim = interim })
 
 pub moves_on : (bytes : List ℕ) (at : ℕ) (front : List ℕ) (h : ResponseHead) (len : ℕ) → IsParsed bytes at front h len → (0 < len) × (at + len ≤ length bytes) × (at + len ≤ max_heads)
 moves_on bytes at front h len p = (omega (arith, p.len_is, head_long h), inside bytes at front h len p, omega (arith, p.early, p.within))
@@ -259,9 +281,11 @@ moves_on bytes at front h len p = (omega (arith, p.len_is, head_long h), inside 
 pub shown : (bytes : List ℕ) (end : ℕ) → end ≤ length bytes → end ≡ length (take end bytes)
 shown bytes end within = omega (arith, length-take end bytes)
 
-pub not_yet : (bytes : List ℕ) (at : ℕ) (front : List ℕ) → IsFront bytes at front → Awaits (take at bytes) [] → HasNoHead front → at + length front ≡ length bytes → (h : ResponseHead) (rest : List ℕ) → ¬ HasHead bytes h rest
+pub not_yet : (bytes : List ℕ) (at : ℕ) (front : List ℕ) → IsFront bytes at front → Awaits (take at bytes) [] → HasNoHead front → at + length front ≡ length bytes → (h : ResponseHead) (rest : List ℕ)
+    → ¬ HasHead bytes h rest
 not_yet bytes at front f aw none all h rest =
-    let a : Awaits (take (at + length front) bytes) front = subst (Awaits (take (at + length front) bytes)) (take_all (length front) front (omega arith)) (awaits_front bytes at front (length front) f.is aw (omega arith)) in
+    let a : Awaits (take (at + length front) bytes) front = subst (Awaits (take (at + length front) bytes)) (take_all (length front) front (omega arith))
+    (awaits_front bytes at front (length front) f.is aw (omega arith)) in
     open_no_head bytes front (subst (λ l. Awaits l front) (take_all (at + length front) bytes (omega (arith, all))) a) none h rest
 
 -- nothing was read, and nothing shows

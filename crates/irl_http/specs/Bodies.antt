@@ -2,7 +2,7 @@
 use Rattle.std.specs.Prelude.{◌≡◌, ℕ, ◌+◌, ◌<◌, ◌≤◌, List, [], ◌∷◌, ◌++◌, length, take, ◌-◌, ◌==◌, if◌then◌else◌}
 use Rattle.std.specs.List.{AllByRecursion}
 use Rattle.httparse.specs.Grammar.{ChunkLine, print_chunk_line, chunk_size, HasNoChunkLine, NeverHasChunkLine}
-use Rattle.irl_offer.specs.Limits.{max_page, max_robots}
+use Rattle.irl_base.specs.Limits.{max_page, max_robots}
 use Rattle.irl_offer.specs.declared.reply.Want.{Want}
 use Rattle.irl_offer.specs.declared.reply.Want.TheVariants.{Page, Robots}
 use Rattle.irl_http.specs.declared.chunks.Due.{Due}
@@ -75,11 +75,14 @@ Moves want ahead body (progress.Bad n) = n ≤ ahead
 
 -- what a step came to, by what is due and the body then
 abbrev pub StepAs : Want → List ℕ → List ℕ → Due → List ℕ → Progress → Type 0
-StepAs want done ahead next body (progress.Taken n) = QuietAhead want done ahead (n + 1) × IsDue next body (done ++ take n ahead)
+StepAs want done ahead next body (progress.Taken n) = QuietAhead want done ahead (n + 1)
+    × IsDue next body (done ++ take n ahead)
 StepAs want done ahead next body progress.Open =
     QuietAhead want done ahead (length ahead + 1) × IsDue next body done × (length ahead < max_chunk_line)
-StepAs want done ahead next body (progress.Whole n) = QuietAhead want done ahead n × EndsChunks (done ++ take n ahead) body
-StepAs want done ahead next body (progress.Full n) = QuietAhead want done ahead n × EndsInChunk (done ++ take n ahead) body
+StepAs want done ahead next body (progress.Whole n) = QuietAhead want done ahead n
+    × EndsChunks (done ++ take n ahead) body
+StepAs want done ahead next body (progress.Full n) = QuietAhead want done ahead n
+    × EndsInChunk (done ++ take n ahead) body
 StepAs want done ahead next body (progress.Bad n) = QuietAhead want done ahead n × BreaksChunks (done ++ take n ahead)
 
 -- how far it moved after so many bytes were taken
@@ -94,7 +97,8 @@ MovesOn want ahead at body (progress.Bad n) = at + n ≤ ahead
 abbrev pub AdvanceAs : Want → List ℕ → List ℕ → Due → List ℕ → ℕ → Progress → Type 0
 AdvanceAs want done ahead next body at (progress.Taken n) = ⊥
 AdvanceAs want done ahead next body at progress.Open =
-    QuietAhead want done ahead (length ahead + 1) × IsDue next body (done ++ take at ahead) × (length ahead < at + max_chunk_line)
+    QuietAhead want done ahead (length ahead + 1) × IsDue next body (done ++ take at ahead)
+    × (length ahead < at + max_chunk_line)
 AdvanceAs want done ahead next body at (progress.Whole n) = StepAs want done ahead next body (progress.Whole (at + n))
 AdvanceAs want done ahead next body at (progress.Full n) = StepAs want done ahead next body (progress.Full (at + n))
 AdvanceAs want done ahead next body at (progress.Bad n) = StepAs want done ahead next body (progress.Bad (at + n))
@@ -102,7 +106,8 @@ AdvanceAs want done ahead next body at (progress.Bad n) = StepAs want done ahead
 -- what a front of bytes is as a chunk line
 abbrev pub ParsesLine : List ℕ → Parsed → Type 0
 ParsesLine bytes (parsed.Whole length_of size) =
-    (line : ChunkLine) × IsShortLine line × (take length_of bytes ≡ print_chunk_line line) × (length_of ≡ length (print_chunk_line line)) × (length_of ≤ length bytes) × (size ≡ chunk_size line)
+    (line : ChunkLine) × IsShortLine line × (take length_of bytes ≡ print_chunk_line line)
+    × (length_of ≡ length (print_chunk_line line)) × (length_of ≤ length bytes) × (size ≡ chunk_size line)
 ParsesLine bytes parsed.Open = (length bytes < max_chunk_line) × HasNoChunkLine bytes × ¬ NeverHasChunkLine bytes
 ParsesLine bytes (parsed.Bad n) =
     (0 < n)

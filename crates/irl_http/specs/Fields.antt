@@ -4,8 +4,9 @@ use Rattle.std.specs.Char.{is_ascii_digit}
 use Rattle.std.specs.List.{filter, list_any, list_all, before_first}
 use Rattle.std.specs.Str.{str_eq_ignore_ascii_case}
 use Rattle.std.specs.Str.Parse.{digits_value}
-use Rattle.httparse.specs.Grammar.{ResponseHead, status_code, trim_ows}
+use Rattle.httparse.specs.Grammar.{ResponseHead, status_code}
 use Rattle.httparse.specs.Spans.{name_and_value}
+use Rattle.irl_base.specs.Blanks.{trim}
 use Rattle.irl_http.specs.declared.fields.Transfer.{Transfer}
 use Rattle.irl_http.specs.declared.fields.Transfer.TheVariants.{Plain, Chunked, Other}
 use Rattle.irl_http.specs.declared.fields.Claim.{Claim}
@@ -30,7 +31,8 @@ abbrev pub first_of : List (List ℕ) → Option (List ℕ)
 first_of [] = None
 first_of (value ∷ others) = Some value
 
--- The transfer coding that the Transfer-Encoding fields name: none, `chunked` alone, or any other, as that of two fields.
+-- The transfer coding that the Transfer-Encoding fields name: none, `chunked` alone, or any other, as that of two
+-- fields.
 abbrev pub transfer_of : List (List ℕ) → Transfer
 transfer_of [] = Plain
 transfer_of (value ∷ []) = if str_eq_ignore_ascii_case value (codes "chunked") then Chunked else Other
@@ -62,7 +64,7 @@ is_coding value = nat_lt 0 (length value) && not (str_eq_ignore_ascii_case value
 
 -- the media type of a Content-Type, without its parameters, is one of HTML
 abbrev pub media_type : List ℕ → List ℕ
-media_type value = trim_ows (before_first (λ b. b == 59) value)
+media_type value = trim (before_first (λ b. b == 59) value)
 
 abbrev pub is_html_type : List ℕ → Bool
 is_html_type value =

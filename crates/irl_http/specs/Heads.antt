@@ -1,5 +1,5 @@
--- The heads that a connection's bytes begin with (RFC 9112, sections 2 and 4; RFC 9110, section 15.2), and the limits on
--- them. What a head is, the grammar of `httparse` says.
+-- The heads that a connection's bytes begin with (RFC 9112, sections 2 and 4; RFC 9110, section 15.2), and the limits
+-- on them. What a head is, the grammar of `httparse` says.
 use Rattle.std.specs.Prelude.{◌≡◌, ℕ, ◌+◌, ◌<◌, ◌≤◌, List, ◌++◌, length, take, count_by, Bool, true, false, ◌&&◌, ◌==◌, nat_le}
 use Rattle.std.specs.List.{flat_map, AllByRecursion}
 use Rattle.httparse.specs.Ascii.{line_feed}

@@ -5,11 +5,12 @@ use Rattle.irl_http.specs.declared.link.Connection.{Connection}
 -- the last of the connections, after a piece was written on it
 abbrev pub written_on_last : List ℕ → List Connection → List Connection
 written_on_last piece [] = []
-written_on_last piece (c ∷ []) = record { gives = c.gives; written = c.written ++ piece } ∷ []
+written_on_last piece (c ∷ []) = record c { written = c.written ++ piece } ∷ []
 written_on_last piece (c ∷ d ∷ others) = c ∷ written_on_last piece (d ∷ others)
 
 -- P holds of known connections before and after: those that were known stay known
-abbrev pub OfKnown : (List Connection → List Connection → Type 0) → Option (List Connection) → Option (List Connection) → Type 0
+abbrev pub OfKnown : (List Connection → List Connection → Type 0) → Option (List Connection) → Option (List Connection)
+    → Type 0
 OfKnown P None after = ⊤
 OfKnown P (Some before) None = ⊥
 OfKnown P (Some before) (Some after) = P before after
@@ -26,10 +27,11 @@ WritesOnLast piece before after = OfKnown (λ old new. new ≡ written_on_last p
 abbrev pub WritesPart : List ℕ → Option (List Connection) → Option (List Connection) → Type 0
 WritesPart piece before after = (n : ℕ) × WritesOnLast (take n piece) before after
 
--- Behind the connections before stands this one alone: it gives these bytes, and this was written on it.
-abbrev pub HasExchange : List ℕ → List ℕ → Option (List Connection) → Option (List Connection) → Type 0
-HasExchange gives piece before after =
-    OfKnown (λ old new. new ≡ old ++ record { gives = gives; written = piece } ∷ []) before after
+-- Behind the connections before stands this one alone: it was made to this port, it gives these bytes, and this was
+-- written on it.
+abbrev pub HasExchange : ℕ → List ℕ → List ℕ → Option (List Connection) → Option (List Connection) → Type 0
+HasExchange port gives piece before after =
+    OfKnown (λ old new. new ≡ old ++ record { port = port; gives = gives; written = piece } ∷ []) before after
 
 -- the bytes are these where they are told, and they are told wherever the connections are
 abbrev pub IsTold : List ℕ → Option (List Connection) → Option (List ℕ) → Type 0
@@ -37,9 +39,9 @@ IsTold bytes connections (Some told) = told ≡ bytes
 IsTold bytes None None = ⊤
 IsTold bytes (Some made) None = ⊥
 
--- A connection was made, on which nothing was written or read.
-pub record Connects (before after : Option (List Connection)) (left written : Option (List ℕ)) : Type 0 where
+-- A connection was made to this port, on which nothing was written or read.
+pub record Connects (port : ℕ) (before after : Option (List Connection)) (left written : Option (List ℕ)) : Type 0 where
   pub gives : List ℕ
-  pub newest : HasExchange gives [] before after
+  pub newest : HasExchange port gives [] before after
   pub all_left : IsTold gives after left
   pub none_written : IsTold [] after written

@@ -1,5 +1,5 @@
 -- A link in memory, as contracts see it.
-use Rattle.std.specs.Prelude.{ℕ, List, [], ◌∷◌, drop, Option, None, Some, is_some, Bool, ◌≡◌, ◌≤◌, length, ⊤}
+use Rattle.std.specs.Prelude.{ℕ, ◌+◌, List, [], ◌∷◌, drop, Option, None, Some, is_some, Bool, true, ◌≡◌, ◌≤◌, length, ⊤, Vec, vec_len, vec_capacity}
 use Rattle.irl_http.specs.declared.link.Connection.{Connection}
 use Rattle.irl_http.specs.declared.mem_link.Current.{Current}
 
@@ -18,10 +18,14 @@ pub record Linking : Type 0 where
   pub faults : ℕ
   pub moment : ℕ
 
+-- a call of the clock: nothing but the moment may be another
+abbrev pub OnlyMoment : Linking → Linking → Type 0
+OnlyMoment old new = new ≡ record old { moment = new.moment }
+
 -- the current connection, where there is one
 abbrev pub as_made : Option Current → List Connection
 as_made None = []
-as_made (Some c) = record { gives = c.gives; written = c.written.items } ∷ []
+as_made (Some c) = record { port = c.port; gives = c.gives; written = c.written.items } ∷ []
 
 abbrev pub left_of : Option Current → List ℕ
 left_of None = []
@@ -39,6 +43,10 @@ written_of (Some c) = c.written.items
 abbrev pub at_within : Option Current → Type 0
 at_within None = ⊤
 at_within (Some c) = (c.read_at ≤ c.at) × (c.at ≤ length c.gives)
+
+-- once there is a connection, there is room for each that a later one takes the place of
+abbrev pub HasRoom : {A : Type 0} → Vec (List ℕ) A → Vec Connection A → Option Current → Type 0
+HasRoom ahead past current = is_some current ≡ true → vec_len past + vec_len ahead ≤ vec_capacity past
 
 -- a connection, or none, that is as it was
 pub record IsSameCurrent (old new : Option Current) : Type 0 where

@@ -30,14 +30,16 @@ ParsedAs front headers parsed.Bad = NeverHasResponse front
 
 -- no first bytes show an answer, so few as the second number says and no fewer than the first
 abbrev pub QuietBetween : List ℕ → ℕ → ℕ → Type 0
-QuietBetween bytes from till = (want : Want) (n : ℕ) (answer : Answer) → from ≤ n → n < till → ¬ Shows want (take n bytes) answer
+QuietBetween bytes from till = (want : Want) (n : ℕ) (answer : Answer) → from ≤ n → n < till
+    → ¬ Shows want (take n bytes) answer
 
 -- the head of the reply isn't there yet
 abbrev pub HasNoHeadYet : List ℕ → Type 0
 HasNoHeadYet bytes = (head : ResponseHead) (rest : List ℕ) → ¬ HasHead bytes head rest
 
 -- a head was parsed from a front of the bytes behind a place
-pub record ParsesHead (bytes : List ℕ) (at : ℕ) (headers : List HeaderSpan) (front : List ℕ) (spans : ResponseSpans) : Type 0 where
+pub record ParsesHead (bytes : List ℕ) (at : ℕ) (headers : List HeaderSpan) (front : List ℕ)
+    (spans : ResponseSpans) : Type 0 where
   pub front_is : front ≡ take (length front) (drop at bytes)
   pub early : at + length front ≤ max_heads
   pub within : IsResponseWithin front headers spans
@@ -47,7 +49,8 @@ pub record ParsesHead (bytes : List ℕ) (at : ℕ) (headers : List HeaderSpan) 
 -- the head at a place
 abbrev pub NextAs : List ℕ → ℕ → List HeaderSpan → Next → Type 0
 NextAs bytes at headers (next.Head front spans) = ParsesHead bytes at headers front.now spans
-NextAs bytes at headers next.Open = QuietBetween bytes at (length bytes + 1) × (length bytes ≤ max_heads) × HasNoHeadYet bytes
+NextAs bytes at headers next.Open = QuietBetween bytes at (length bytes + 1) × (length bytes ≤ max_heads)
+    × HasNoHeadYet bytes
 NextAs bytes at headers (next.Bad end) = QuietBetween bytes at end × (end ≤ length bytes) × HasBadHead (take end bytes)
 NextAs bytes at headers (next.TooLarge end) =
     QuietBetween bytes at end
@@ -86,6 +89,7 @@ TellsAlike bytes answer = (want : Want) → Tells want bytes answer
 
 abbrev pub TellsHeads : List ℕ → Told → Type 0
 TellsHeads bytes (told.Head said end) = (head : ResponseHead) × Says said head × EndsHeads bytes end head
-TellsHeads bytes told.Nothing = QuietBetween bytes 0 (length bytes + 1) × (length bytes ≤ max_heads) × HasNoHeadYet bytes
+TellsHeads bytes told.Nothing = QuietBetween bytes 0 (length bytes + 1) × (length bytes ≤ max_heads)
+    × HasNoHeadYet bytes
 TellsHeads bytes (told.Bad n) = TellsAlike bytes (BadReply n)
 TellsHeads bytes (told.TooLarge n) = TellsAlike bytes (Large n)

@@ -29,8 +29,8 @@ pub record Reads (P : List ℕ → Type 0) (before after last : Option (List ℕ
   pub last_read : Consumes before last early
   pub needed : P early
 
--- What was taken of a link for a reply. The last read was made where the bytes before it tell no answer; so was each before
--- that, since more bytes never untell one.
+-- What was taken of a link for a reply. The last read was made where the bytes before it tell no answer; so was each
+-- before that, since more bytes never untell one.
 pub record ReadsNeeded (want : Want) (before after last : Option (List ℕ)) (taken : List ℕ) : Type 0 where
   pub reads : Reads (TellsNothing want) before after last taken
   pub few : length taken ≤ max_taken

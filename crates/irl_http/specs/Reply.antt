@@ -1,11 +1,11 @@
 -- The reply that the bytes of a connection are (RFC 9112), within the limits of a crawler.
 --
--- First what a list of bytes shows just as it stands, with all of it looked at. An answer is then the one that the fewest
--- first bytes show, so more bytes never change it, and nothing behind those bytes is looked at. Where none show one, the
--- end of the connection gives the answer.
+-- First what a list of bytes shows just as it stands, with all of it looked at. An answer is then the one that the
+-- fewest first bytes show, so more bytes never change it, and nothing behind those bytes is looked at. Where none show
+-- one, the end of the connection gives the answer.
 use Rattle.std.specs.Prelude.{◌≡◌, ℕ, ◌<◌, ◌≤◌, ◌⊎◌, List, [], length, take}
 use Rattle.httparse.specs.Grammar.{ResponseHead, status_code}
-use Rattle.irl_offer.specs.Limits.{max_page, max_robots}
+use Rattle.irl_base.specs.Limits.{max_page, max_robots}
 use Rattle.irl_offer.specs.Replies.{Received}
 use Rattle.irl_offer.specs.declared.reply.Want.{Want}
 use Rattle.irl_offer.specs.declared.reply.Want.TheVariants.{Page, Robots}
@@ -86,7 +86,8 @@ abbrev pub Shows : Want → List ℕ → Answer → Type 0
 Shows want bytes (Reply reply) = ShowsReply want bytes reply
 Shows want bytes NoReply = ⊥
 Shows want bytes (Short n) = ⊥
-Shows want bytes (BadReply n) = (n ≡ length bytes) × (HasBadHead bytes ⊎ Refuses plan.BadLength bytes ⊎ HasBadChunk bytes)
+Shows want bytes (BadReply n) = (n ≡ length bytes)
+    × (HasBadHead bytes ⊎ Refuses plan.BadLength bytes ⊎ HasBadChunk bytes)
 Shows want bytes (TooLarge n) =
     (n ≡ length bytes)
     × (((PassesBytes bytes ⊎ PassesLines bytes) × ¬ HasBadHead bytes) ⊎ ((want ≡ Page) × PassesPage bytes))

@@ -20,13 +20,15 @@ use Rattle.irl_http.specs.Reading.{Reads, AnswersTaken, max_taken}
 use Rattle.irl_http.specs.Reply.{Shows, TellsNothing}
 
 -- reading leaves what was written and the connections as they were, and faults never fall
-pub record Undisturbed (written_before written_after : Option (List ℕ)) (made_before made_after : Option (List Connection)) (faults_before faults_after : ℕ) : Type 0 where
+pub record Undisturbed (written_before written_after : Option (List ℕ))
+    (made_before made_after : Option (List Connection)) (faults_before faults_after : ℕ) : Type 0 where
   pub written : Keeps written_before written_after
   pub connections : StaySame made_before made_after
   pub faults : faults_before ≤ faults_after
 
 -- reads gave these bytes, or none was made
-abbrev pub Gets : (List ℕ → Type 0) → Option (List ℕ) → Option (List ℕ) → Option (List ℕ) → Option (List ℕ) → List ℕ → Type 0
+abbrev pub Gets : (List ℕ → Type 0) → Option (List ℕ) → Option (List ℕ) → Option (List ℕ) → Option (List ℕ) → List ℕ
+    → Type 0
 Gets P before after last_before last_after got =
     ((got ≡ []) × Keeps before after × (last_after ≡ last_before)) ⊎ Reads P before after last_after got
 
@@ -65,14 +67,16 @@ pub record IsHeads (front : List ℕ) (head : ResponseHead) : Type 0 where
   pub quiet : (want : Want) (n : ℕ) (answer : Answer) → n < length front → ¬ Shows want (take n front) answer
 
 -- of a body: what was taken behind the bytes, and the answer
-abbrev pub BodyRead : Want → List ℕ → Option (List ℕ) → Option (List ℕ) → Option (List ℕ) → Option (List ℕ) → Result Answer AllocError → Type 0
+abbrev pub BodyRead : Want → List ℕ → Option (List ℕ) → Option (List ℕ) → Option (List ℕ) → Option (List ℕ)
+    → Result Answer AllocError → Type 0
 BodyRead want bytes before after last_before last_after result =
     (got : List ℕ)
     × Gets (λ early. TellsNothing want (bytes ++ early)) before after last_before last_after got
     × (length (bytes ++ got) ≤ max_taken)
     × IfOk result (AnswersTaken want (bytes ++ got) (IsAtEnd after))
 
--- a body that is read by its length: up to as many bytes, which end it or pass what is kept, or until the connection ends
+-- a body that is read by its length: up to as many bytes, which end it or pass what is kept, or until the connection
+-- ends
 abbrev pub IsTarget : Want → Bool → ℕ → Plan → Type 0
 IsTarget want true target how = (how ≡ plan.UntilClose) × (target ≡ most_of want)
 IsTarget want false target how = (n : ℕ) × (how ≡ plan.Sized n) × (target ≡ min n (most_of want))

@@ -1,12 +1,12 @@
-ghost use Rattle.std.specs.Prelude.{◌≡◌, ◌≤◌, ◌==◌, true, All, map, length, reverse, IfOk};
+ghost use Rattle.std.specs.Prelude.{◌≡◌, ◌≤◌, ◌==◌, true, All, map, length, IfOk};
 ghost use Rattle.std.specs.List.{list_any, list_all, position, before_first};
 ghost use Rattle.std.specs.Char.{is_ascii_digit};
 ghost use Rattle.std.specs.Str.Parse.{digits_value};
-ghost use Rattle.httparse.specs.Grammar.{is_ows, skip_ows};
 ghost use Rattle.httparse.specs.Spans.{IsWithin, IsHeaderWithin, span_bytes, header_bytes};
 ghost use Rattle.irl_http.specs.Fields.{is_named, values as values_by, transfer_of, claim_of, is_html as html_by, length_value as value_by, is_coding as coding_by, is_html_type as html_type_by, media_type as media_by, has_body as body_by, body_plan as plan_of_body, plan_by, location_of, html_of, first_of};
 
 use httparse::spans::{HeaderSpan, Span};
+use irl_base::trim;
 use irl_offer::Text;
 use std::alloc::{AllocError, Global};
 
@@ -189,11 +189,10 @@ fn is_html_type(value: &[u8]) -> bool
 }
 
 /// The media type of a Content-Type, without its parameters.
-#[tactic(auto, unfolding(httparse::specs::Grammar::trim_ows))]
 fn media_type(value: &[u8]) -> &[u8]
     ensures { result.now ≡ media_by value.now }
 {
-    trim_end(trim_start(before_semicolon(value)))
+    trim(before_semicolon(value))
 }
 
 /// The bytes before the first semicolon, or all where there is none.
@@ -211,41 +210,6 @@ fn semicolon(value: &[u8]) -> Option<usize>
     ensures { result ≡ position (λ b. b == 59) value.now }
 {
     value.iter().position(|b| *b == b';')
-}
-
-/// The bytes without the white space at their front.
-fn trim_start(bytes: &[u8]) -> &[u8]
-    ensures { result.now ≡ skip_ows bytes.now }
-{
-    let mut rest = bytes;
-    while let Some((first, others)) = rest.split_first() {
-        if !is_blank(*first) {
-            return rest;
-        }
-        rest = others;
-    }
-    rest
-}
-
-/// The bytes without the white space at their end.
-fn trim_end(bytes: &[u8]) -> &[u8]
-    ensures { result.now ≡ reverse (skip_ows (reverse bytes.now)) }
-{
-    let mut rest = bytes;
-    while let Some((last, others)) = rest.split_last() {
-        if !is_blank(*last) {
-            return rest;
-        }
-        rest = others;
-    }
-    rest
-}
-
-/// Whether a byte is a space or a tab.
-fn is_blank(byte: u8) -> bool
-    ensures { result ≡ is_ows byte }
-{
-    byte == b' ' || byte == b'\t'
 }
 
 /// The transfer coding that these values name.

@@ -1,25 +1,27 @@
 ghost use Rattle.std.specs.Prelude.{◌≡◌, List, ℕ, Option, OnOk, OnErr, IsErr};
 ghost use Rattle.std.specs.Io.{ReadsAtMost};
 ghost use Rattle.std.specs.Io.KnownBytes.{Appends, Keeps, ReadConsumes};
-ghost use Rattle.irl_offer.specs.Faults.{HasCause};
+ghost use Rattle.irl_base.specs.Faults.{HasCause};
 ghost use Rattle.irl_io.specs.Written.{AppendsPrefix};
 ghost use Rattle.irl_http.specs.declared.link.Connection.{Connection};
 ghost use Rattle.irl_http.specs.Links.{Connects, StaySame, WritesOnLast, WritesPart};
 
-use irl_io::Failed;
+use irl_io::{Clock, Failed};
 use irl_offer::Text;
 
 /// A connection.
 #[derive(Drop)]
 pub struct Connection {
+    /// The port that it was made to.
+    pub port: u16,
     /// All that its peer gives.
     pub gives: Text,
     /// What was written on it so far.
     pub written: Text,
 }
 
-/// A connection to a peer, which one after another takes the place of.
-pub trait Link {
+/// A connection to a peer, which one after another takes the place of. It tells the time as well.
+pub trait Link: Clock {
     /// The bytes that the peer of the connection will still give, where the link tells them.
     ghost left: { Self → Option (List ℕ) };
 
@@ -38,7 +40,7 @@ pub trait Link {
     /// Drops the connection and makes another, to this port.
     fn connect(&mut self, port: u16) -> Result<(), Failed>
         ensures ok { OnOk result
-            (Connects (connections self.old) (connections self.new) (left self.new) (written self.new)) }
+            (Connects port (connections self.old) (connections self.new) (left self.new) (written self.new)) }
         ensures err { OnErr result (StaySame (connections self.old) (connections self.new)) }
         ensures cause { HasCause (IsErr result) (faults self.old) (faults self.new) };
 
@@ -60,4 +62,9 @@ pub trait Link {
         ensures partly { OnErr result (WritesPart bytes.now (connections self.old) (connections self.new)) }
         ensures left { Keeps (left self.old) (left self.new) }
         ensures cause { HasCause (IsErr result) (faults self.old) (faults self.new) };
+
+    /// A call of the clock leaves the link as it was.
+    ghost clock_is_apart: { (x y : Self) → Self.apart x y →
+        (connections y ≡ connections x) × (faults y ≡ faults x) × (left y ≡ left x)
+        × (left_at_read y ≡ left_at_read x) × (written y ≡ written x) };
 }

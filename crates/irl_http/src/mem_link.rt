@@ -1,13 +1,14 @@
-ghost use Rattle.std.specs.Prelude.{◌≡◌, ◌+◌, ◌≤◌, ◌↔◌, ◌⊎◌, [], ◌∷◌, ◌++◌, min, max, length, take, drop, true, false};
+ghost use Rattle.std.specs.Prelude.{◌≡◌, ◌+◌, ◌<◌, ◌≤◌, ◌↔◌, ◌⊎◌, [], ◌∷◌, ◌++◌, min, max, length, take, drop, true, false};
 ghost use Rattle.std.specs.Prelude.{Some, None, IsErr, IsTrue, IsFalse, IfOk, OnOk, OnErr, IfSome, IfNone, Contains};
-ghost use Rattle.std.specs.Prelude.{is_ok, is_some, slice_get, option_map, if◌then◌else◌};
+ghost use Rattle.std.specs.Prelude.{vec_len, vec_capacity, is_ok, is_some, slice_get, option_map, if◌then◌else◌};
 ghost use Rattle.std.specs.Io.{ReadsAtMost};
 ghost use Rattle.std.specs.Io.KnownBytes.{Appends, Keeps, ReadConsumes};
-ghost use Rattle.irl_offer.specs.Faults.{HasCause, counted};
+ghost use Rattle.std.proofs.Common.{ap};
+ghost use Rattle.irl_base.specs.Faults.{HasCause, counted};
 ghost use Rattle.irl_io.specs.Written.{AppendsPrefix};
 ghost use Rattle.irl_http.specs.declared.link.Connection.{Connection};
 ghost use Rattle.irl_http.specs.Links.{Connects, StaySame, WritesOnLast, WritesPart, written_on_last};
-ghost use Rattle.irl_http.specs.Memory.{as_made, left_of, left_at_read_of, written_of, at_within, IsSameCurrent};
+ghost use Rattle.irl_http.specs.Memory.{Linking, as_made, left_of, left_at_read_of, written_of, at_within, HasRoom, IsSameCurrent, OnlyMoment};
 
 use crate::link::{Connection, Link};
 use irl_io::{Clock, Failed, JumpClock};
@@ -18,6 +19,7 @@ use std::marker::Model;
 /// The connection that is read and written.
 #[derive(Drop)]
 pub(crate) struct Current {
+    port: u16,
     gives: Text,
     written: Vec<u8>,
     at: usize,
@@ -40,7 +42,7 @@ pub struct MemLink {
 
 impl Model for MemLink {
     ghost use Rattle.std.specs.Prelude.{◌++◌, reverse, is_some};
-    ghost use Rattle.irl_http.specs.Memory.{Linking, as_made, left_of, left_at_read_of, written_of, at_within};
+    ghost use Rattle.irl_http.specs.Memory.{Linking, as_made, left_of, left_at_read_of, written_of, at_within, HasRoom};
 
     ghost Value = { Linking };
 
@@ -57,7 +59,7 @@ impl Model for MemLink {
       moment = s.clock;
     } };
 
-    ghost invariant = { λ s. at_within s.current };
+    ghost invariant = { λ s. at_within s.current × HasRoom s.ahead s.past s.current };
 }
 
 impl MemLink {
@@ -140,9 +142,17 @@ impl Link for MemLink {
 
     ghost faults = { λ s. s.faults };
 
-    fn connect(&mut self, _port: u16) -> Result<(), Failed>
+    ghost clock_is_apart = { λ x y same. (
+      ap (λ (s : Linking). Some s.made) same,
+      ap (λ (s : Linking). s.faults) same,
+      ap (λ (s : Linking). Some s.left) same,
+      ap (λ (s : Linking). Some s.left_at_read) same,
+      ap (λ (s : Linking). Some s.written) same,
+    ) };
+
+    fn connect(&mut self, port: u16) -> Result<(), Failed>
         ensures ok { OnOk result
-            (Connects (Some self.old.made) (Some self.new.made) (Some self.new.left) (Some self.new.written)) }
+            (Connects port (Some self.old.made) (Some self.new.made) (Some self.new.left) (Some self.new.written)) }
         ensures err { OnErr result (StaySame (Some self.old.made) (Some self.new.made)) }
         ensures cause { HasCause (IsErr result) self.old.faults self.new.faults }
 
@@ -150,6 +160,9 @@ impl Link for MemLink {
         ensures next { OnOk result (self.old.ahead ≡ self.new.left ∷ self.new.ahead) }
         ensures connected { OnOk result (self.new.connected ≡ true) }
         ensures listed { Contains self.old.failing self.old.calls → IsErr result }
+        // The first takes room for all: a later one fails only where it is listed, and past the last connection.
+        ensures fails { self.old.connected ≡ true → IsErr result →
+            Contains self.old.failing self.old.calls ⊎ (self.old.ahead ≡ []) }
         ensures rest { OnOk result ((self.new.failing ≡ self.old.failing) × (self.new.moment ≡ self.old.moment)
             × (self.new.calls ≡ counted self.old.calls) × (self.new.faults ≡ self.old.faults)) }
         ensures same { OnErr result (self.new
@@ -160,6 +173,7 @@ impl Link for MemLink {
         }
         match next_connection(
             self.alloc,
+            port,
             &mut self.ahead,
             &mut self.past,
             &mut self.current,
@@ -229,6 +243,8 @@ impl Link for MemLink {
 impl Clock for MemLink {
     ghost last = { λ s. s.moment };
 
+    ghost apart = { OnlyMoment };
+
     fn now(&mut self) -> u64
         ensures value { result ≡ self.old.moment }
         ensures same { self.new ≡ self.old }
@@ -246,26 +262,33 @@ impl Clock for MemLink {
 /// Takes the next connection in place of the current one, which becomes a past one. Where it fails nothing has changed.
 fn next_connection(
     alloc: Global,
+    port: u16,
     ahead: &mut Vec<Text>,
     past: &mut Vec<Connection>,
     current: &mut Option<Current>,
 ) -> Result<(), Failed>
+    requires { HasRoom ahead.old past.old current.old }
     ensures next { OnOk result (ahead.old.items ≡ ahead.new.items ++ left_of current.new ∷ []) }
     ensures past { OnOk result (past.new.items ≡ past.old.items ++ as_made current.old) }
-    ensures made { OnOk result (as_made current.new ≡ record { gives = left_of current.new; written = [] } ∷ []) }
+    ensures made { OnOk result
+        (as_made current.new ≡ record { port = port; gives = left_of current.new; written = [] } ∷ []) }
     ensures some { OnOk result (is_some current.new ≡ true) }
     ensures written { OnOk result (written_of current.new ≡ []) }
     ensures within { at_within current.old → at_within current.new }
+    ensures room { HasRoom ahead.new past.new current.new }
+    ensures fails { OnErr result (is_some current.old ≡ true → ahead.old.items ≡ []) }
     ensures same { OnErr result ((ahead.new.items ≡ ahead.old.items) × (past.new.items ≡ past.old.items)
-        × IsSameCurrent current.old current.new) }
+        × (current.new ≡ current.old)) }
 {
-    if ahead.is_empty() || !retire(past, current) {
+    if current.is_none() && past.reserve(ahead.len()).is_err() {
         return Err(Failed);
     }
     let Some(gives) = ahead.pop() else {
         return Err(Failed);
     };
+    retire(past, current);
     *current = Some(Current {
+        port,
         gives,
         written: Vec::new(alloc),
         at: 0,
@@ -274,37 +297,20 @@ fn next_connection(
     Ok(())
 }
 
-/// Makes the current connection a past one, and says whether there was memory for it.
-fn retire(past: &mut Vec<Connection>, current: &mut Option<Current>) -> bool
-    ensures past { IsTrue result → past.new.items ≡ past.old.items ++ as_made current.old }
-    ensures within { at_within current.old → at_within current.new }
-    ensures same { IsFalse result → (past.new.items ≡ past.old.items) × IsSameCurrent current.old current.new }
+/// Makes the current connection a past one, if there is one.
+fn retire(past: &mut Vec<Connection>, current: &mut Option<Current>)
+    requires { is_some current.old ≡ true → vec_len past.old < vec_capacity past.old }
+    ensures past { past.new.items ≡ past.old.items ++ as_made current.old }
+    ensures len { vec_len past.new ≤ vec_len past.old + 1 }
+    ensures none { is_some current.old ≡ false → vec_len past.new ≡ vec_len past.old }
+    ensures capacity { vec_capacity past.new ≡ vec_capacity past.old }
 {
-    let Some(old) = current.take() else {
-        return true;
-    };
-    let Current {
-        gives,
-        written,
-        at,
-        read_at,
-    } = old;
-    let connection = Connection {
-        gives,
-        written: Text::from_vec(written),
-    };
-    match past.push(connection) {
-        Ok(()) => true,
-        Err(failed) => {
-            let Connection { gives, written } = failed.value;
-            *current = Some(Current {
-                gives,
-                written: written.into_vec(),
-                at,
-                read_at,
-            });
-            false
-        }
+    if let Some(old) = current.take() {
+        past.push_reserved(Connection {
+            port: old.port,
+            gives: old.gives,
+            written: Text::from_vec(old.written),
+        });
     }
 }
 
@@ -358,6 +364,7 @@ fn write_current(current: &mut Option<Current>, bytes: &[u8]) -> bool
         return false;
     };
     let Current {
+        port,
         gives,
         mut written,
         at,
@@ -365,6 +372,7 @@ fn write_current(current: &mut Option<Current>, bytes: &[u8]) -> bool
     } = old;
     let result = written.extend_from_slice(bytes);
     *current = Some(Current {
+        port,
         gives,
         written,
         at,

@@ -1,8 +1,8 @@
 ghost use Rattle.std.specs.Prelude.{◌≡◌, ◌+◌, ◌<◌, ◌≤◌, ◌++◌, List, ℕ, Ok, length, drop, IfOk, IsErr};
 ghost use Rattle.std.specs.Io.KnownBytes.{Keeps};
 ghost use Rattle.httparse.specs.Grammar.{ResponseHead};
-ghost use Rattle.irl_offer.specs.Faults.{HasCause};
-ghost use Rattle.irl_offer.specs.Limits.{max_page};
+ghost use Rattle.irl_base.specs.Faults.{HasCause};
+ghost use Rattle.irl_base.specs.Limits.{max_page};
 ghost use Rattle.irl_http.specs.Bodies.{most_of};
 ghost use Rattle.irl_http.specs.Fields.{plan_of};
 ghost use Rattle.irl_http.specs.Links.{StaySame};

@@ -1,4 +1,6 @@
-ghost use Rattle.std.specs.Prelude.{None};
+ghost use Rattle.std.specs.Prelude.{◌≡◌, None, refl};
+ghost use Rattle.std.proofs.Common.{ap};
+ghost use Rattle.irl_http.specs.declared.tests.Pieces.{Pieces};
 
 mod chunks;
 
@@ -34,6 +36,8 @@ impl Link for Pieces {
 
     ghost faults = { λ s. s.faults };
 
+    ghost clock_is_apart = { λ _ _ same. (refl, ap (λ (s : Pieces). s.faults) same, refl, refl, refl) };
+
     fn connect(&mut self, _port: u16) -> Result<(), Failed> {
         Ok(())
     }
@@ -59,6 +63,19 @@ impl Link for Pieces {
     fn write(&mut self, _: &[u8]) -> Result<(), Failed> {
         Ok(())
     }
+}
+
+// Its clock stands still.
+impl Clock for Pieces {
+    ghost last = { λ _. 0 };
+
+    ghost apart = { λ old new. new ≡ old };
+
+    fn now(&mut self) -> u64 {
+        0
+    }
+
+    fn wait_till(&mut self, _moment: u64) {}
 }
 
 /// Bytes of a connection or of a body, and what is answered.

@@ -6,15 +6,14 @@ use Rattle.irl_offer.specs.Buckets.{bucket_of}
 use Rattle.irl_offer.specs.Tuple.{Tuple}
 use Rattle.irl_array.specs.Waiting.{Waiting}
 use Rattle.irl_model.specs.Book.{Book, judged_cut, last_cut, part}
-use Rattle.irl_model.specs.State.{State, AreFronts}
-use Rattle.irl_model.proofs.FrontLaws.{front_same, front_both}
-use Rattle.irl_disk.specs.Disk.{Files}
-use Rattle.irl_disk.specs.Images.{Snapshot, IsConsistent, Leaves, LeavesBy, LeavesSame}
+use Rattle.irl_events.specs.State.{State, AreFronts}
+use Rattle.irl_model.proofs.FrontLaws.{prefix_same, prefix_both, front_same, front_both}
+use Rattle.irl_disk.specs.Disk.{Files, TellsOnly, ChangesOnly}
+use Rattle.irl_disk.specs.Images.{Told, IsConsistent, Leaves, LeavesBy, LeavesSame}
 use Rattle.irl_disk.proofs.Stretches.{stays, widens, joins, left_now}
 use Rattle.irl_bay.specs.BayFiles.{IsFileOf}
 use Rattle.irl_bay.specs.Commits.{HasLiveRecords}
 use Rattle.irl_bay.specs.Drum.{Drum, IsDrum, pending_at}
-use Rattle.irl_bay.specs.Holding.{TellsOnly, ChangesOnly}
 use Rattle.irl_bay.proofs.Staying.{only_wider, tells_same, tells_both, leaves_same, leaves_both}
 use Rattle.irl_yard.specs.Holding.{HoldsUrls, HoldsState}
 use Rattle.irl_yard.proofs.Holding.{held_has}
@@ -24,13 +23,14 @@ use Rattle.irl_intake.specs.Feeding.{list_at, length_at, handed_in, IsStateOf, F
 
 -- ---- fronts
 pub same_fronts : (x : State) → AreFronts x x
-same_fronts x = record { settings = refl; urls = front_same x.urls; pairs = front_same x.pairs }
+same_fronts x = record { settings = refl; urls = front_same x.urls; pairs = front_same x.pairs; events = prefix_same x.events }
 
 pub both_fronts : (x y z : State) → AreFronts x y → AreFronts y z → AreFronts x z
 both_fronts x y z first second = record {
   settings = second.settings ∙ first.settings;
   urls = front_both x.urls y.urls z.urls first.urls second.urls;
   pairs = front_both x.pairs y.pairs z.pairs first.pairs second.pairs;
+  events = prefix_both x.events y.events z.events first.events second.events;
 }
 
 -- ---- a later state
@@ -76,7 +76,14 @@ pub grows_same : (settings : Settings) (x : State) → Grows settings 0 x x
 grows_same settings x = record { front = same_fronts x; fits = λ b within. inl refl; cuts = []; cuts_are = sym (append-nil x.urls.cuts); early_are = omega arith; waits = few_same settings x }
 
 pub grows_more : (settings : Settings) (e d : ℕ) (x y : State) → e ≤ d → Grows settings e x y → Grows settings d x y
-grows_more settings e d x y le grows = record { front = grows.front; fits = grows.fits; cuts = grows.cuts; cuts_are = grows.cuts_are; early_are = omega (arith, le, grows.early_are); waits = grows.waits }
+grows_more settings e d x y le grows = record {
+  front = grows.front;
+  fits = grows.fits;
+  cuts = grows.cuts;
+  cuts_are = grows.cuts_are;
+  early_are = omega (arith, le, grows.early_are);
+  waits = grows.waits;
+}
 
 -- ---- offers that were handed in
 joined : {X : Type 0} (a b c p q r : List X) → b ≡ a ++ p → c ≡ b ++ q → r ≡ p ++ q → c ≡ a ++ r
@@ -85,14 +92,16 @@ joined a b c p q r first second both = second ∙ ap (λ l. l ++ q) first ∙ ap
 part_both : (buckets b : ℕ) (xs ys : List Tuple) → part buckets b (xs ++ ys) ≡ part buckets b xs ++ part buckets b ys
 part_both buckets b xs ys = filter-append (λ (offer : Tuple). nat_eq (bucket_of buckets offer.key) b) xs ys
 
-pub keeps_both : (settings : Settings) (x y z : State) (was mid now : List Waiting) (xs ys : List Tuple) → Keeps settings x was y mid xs → Keeps settings y mid z now ys → Keeps settings x was z now (xs ++ ys)
+pub keeps_both : (settings : Settings) (x y z : State) (was mid now : List Waiting) (xs ys : List Tuple) → Keeps settings x was y mid xs → Keeps settings y mid z now ys
+    → Keeps settings x was z now (xs ++ ys)
 keeps_both settings x y z was mid now xs ys first second = λ b within.
     joined (handed_in x.urls was b) (handed_in y.urls mid b) (handed_in z.urls now b) _ _ _ (first b within) (second b within) (part_both settings.buckets b xs ys)
 
 pub keeps_same : (settings : Settings) (x : State) (was : List Waiting) → Keeps settings x was x was []
 keeps_same settings x was = λ b within. sym (append-nil (handed_in x.urls was b))
 
-pub takes_both : (settings : Settings) (x y z : State) (was mid : List Waiting) (xs ys : List Tuple) → Keeps settings x was y mid xs → TakesWaiting settings y mid z ys → TakesWaiting settings x was z (xs ++ ys)
+pub takes_both : (settings : Settings) (x y z : State) (was mid : List Waiting) (xs ys : List Tuple) → Keeps settings x was y mid xs → TakesWaiting settings y mid z ys
+    → TakesWaiting settings x was z (xs ++ ys)
 takes_both settings x y z was mid xs ys first second = λ b within.
     let more = part settings.buckets b ys in
     let whole : handed_in y.urls mid b ++ more ≡ handed_in x.urls was b ++ part settings.buckets b (xs ++ ys) =
@@ -100,9 +109,11 @@ takes_both settings x y z was mid xs ys first second = λ b within.
     ((second b within).0, sym whole ∙ (second b within).1)
 
 -- ---- stops
-pub stops_both : (settings : Settings) (old mid new : Snapshot) (x y z : State) → AreFronts x y → FewUnjudged settings x y → AreFronts y z → Leaves old mid (HasBetween settings x y) → Leaves mid new (HasBetween settings y z) → Leaves old new (HasBetween settings x z)
+pub stops_both : (settings : Settings) (old mid new : Told) (x y z : State) → AreFronts x y → FewUnjudged settings x y → AreFronts y z → Leaves old mid (HasBetween settings x y)
+    → Leaves mid new (HasBetween settings y z) → Leaves old new (HasBetween settings x z)
 stops_both settings old mid new x y z first few second before after =
-    joins old mid new (HasBetween settings x z) (widens old mid (HasBetween settings x y) (HasBetween settings x z) before (λ image has. (has.0, has.1, has.2, both_fronts has.0 y z has.3 second, has.4)))
+    joins old mid new (HasBetween settings x z) (widens old mid (HasBetween settings x y) (HasBetween settings x z) before (λ image has.
+    (has.0, has.1, has.2, both_fronts has.0 y z has.3 second, has.4)))
     (widens mid new (HasBetween settings y z) (HasBetween settings x z) after (λ image has. (has.0, has.1, both_fronts x y has.0 first has.2, has.3, few_both settings x y has.0 few has.4)))
 
 -- ---- records
@@ -121,8 +132,9 @@ uneven_before u v old mid was between image settings base adds left = (
 uneven_longer : (u v : ℕ → ℕ) (old : Drum) (was : ℕ → List (List ℕ)) (image : Files) → ((b : ℕ) → u b ≤ v b) → LeavesUneven u old was image → LeavesUneven v old was image
 uneven_longer u v old was image more left = (left.0, left.1, λ b within. omega (arith, more b, left.2 b within))
 
-pub records_stop_both : (u v : ℕ → ℕ) (old mid new : Snapshot) (urls later : Drum) (was between : ℕ → List (List ℕ)) → later.settings ≡ urls.settings → later.base ≡ urls.base
-    → AddsUneven u urls.settings.buckets urls.settings.array was between → Leaves old mid (LeavesUneven u urls was) → Leaves mid new (LeavesUneven v later between) → Leaves old new (LeavesUneven (λ b. u b + v b) urls was)
+pub records_stop_both : (u v : ℕ → ℕ) (old mid new : Told) (urls later : Drum) (was between : ℕ → List (List ℕ)) → later.settings ≡ urls.settings → later.base ≡ urls.base
+    → AddsUneven u urls.settings.buckets urls.settings.array was between → Leaves old mid (LeavesUneven u urls was) → Leaves mid new (LeavesUneven v later between)
+    → Leaves old new (LeavesUneven (λ b. u b + v b) urls was)
 records_stop_both u v old mid new urls later was between settings base adds before after =
     joins old mid new _ (widens old mid (LeavesUneven u urls was) _ before (λ image left. uneven_longer u (λ b. u b + v b) urls was image (λ b. omega arith) left))
     (widens mid new (LeavesUneven v later between) _ after (λ image left. uneven_before u v urls later was between image settings base adds left))
@@ -145,7 +157,8 @@ stays_both old mid new consistent first second =
       base = second.base ∙ first.base;
       others = tells_both _ _ _ _ first.others (subst (λ (n : ℕ). TellsOnly (IsFileOf n old.parts.urls.settings.buckets) mid.store.files new.store.files) first.base
           (subst (λ (n : ℕ). TellsOnly (IsFileOf mid.parts.urls.base n) mid.store.files new.store.files) buckets second.others));
-      others_stop = leaves_both _ old.store mid.store new.store consistent first.others_stop (subst (λ (n : ℕ). LeavesBy (ChangesOnly (IsFileOf n old.parts.urls.settings.buckets)) mid.store new.store) first.base
+      others_stop = leaves_both _ old.store mid.store new.store consistent first.others_stop
+          (subst (λ (n : ℕ). LeavesBy (ChangesOnly (IsFileOf n old.parts.urls.settings.buckets)) mid.store new.store) first.base
           (subst (λ (n : ℕ). LeavesBy (ChangesOnly (IsFileOf mid.parts.urls.base n)) mid.store new.store) buckets second.others_stop));
       bound = λ b within.
           let later = subst (λ (s : Settings). b < s.buckets → pending_at new.parts.urls b ≤ max (s.trigger + s.array - 1) (pending_at mid.parts.urls b)) first.settings (second.bound b) within in
@@ -157,14 +170,15 @@ pub stays_same : (old new : Moment) → IsConsistent old.store → new.store ≡
 stays_same old new consistent store urls = record {
   settings = ap (λ (d : Drum). d.settings) urls;
   base = ap (λ (d : Drum). d.base) urls;
-  others = tells_same _ _ _ (ap (λ (s : Snapshot). s.files) store);
-  others_stop = subst (λ (s : Snapshot). LeavesBy (ChangesOnly (IsFileOf old.parts.urls.base old.parts.urls.settings.buckets)) old.store s) (sym store)
+  others = tells_same _ _ _ (ap (λ (s : Told). s.files) store);
+  others_stop = subst (λ (s : Told). LeavesBy (ChangesOnly (IsFileOf old.parts.urls.base old.parts.urls.settings.buckets)) old.store s) (sym store)
       (leaves_same _ old.store old.store (stays old.store old.store.images consistent (λ image left. left)));
   bound = λ b within. subst (λ (d : Drum). pending_at d b ≤ max (old.parts.urls.settings.trigger + old.parts.urls.settings.array - 1) (pending_at old.parts.urls b)) (sym urls) (omega arith);
 }
 
 -- ---- a state that is fed
-unfoldable pub fed_both : (e d : ℕ) (u v : ℕ → ℕ) (xs ys : List Tuple) (old mid new : Moment) (x : State) → Stays old mid → (first : Fed e u xs old mid x) → Fed d v ys mid new first.state → Fed (e + d) (λ b. u b + v b) (xs ++ ys) old new x
+unfoldable pub fed_both : (e d : ℕ) (u v : ℕ → ℕ) (xs ys : List Tuple) (old mid new : Moment) (x : State) → Stays old mid → (first : Fed e u xs old mid x) → Fed d v ys mid new first.state
+    → Fed (e + d) (λ b. u b + v b) (xs ++ ys) old new x
 fed_both e d u v xs ys old mid new x still first second =
     let y = first.state in
     let z = second.state in
@@ -188,10 +202,12 @@ fed_both e d u v xs ys old mid new x still first second =
           );
       records_stop = λ was have.
           let between = first.records was have in
-          records_stop_both u v old.store mid.store new.store old.parts.urls mid.parts.urls was between.0 still.settings still.base between.2 (first.records_stop was have) (second.records_stop between.0 between.1);
+          records_stop_both u v old.store mid.store new.store old.parts.urls mid.parts.urls was between.0 still.settings still.base between.2 (first.records_stop was have)
+          (second.records_stop between.0 between.1);
     }
 
-unfoldable pub stranded_after : (e d : ℕ) (u v : ℕ → ℕ) (xs ys : List Tuple) (old mid new : Moment) (x : State) → Stays old mid → (first : Fed e u xs old mid x) → Stranded d v ys mid new first.state → Stranded (e + d) (λ b. u b + v b) (xs ++ ys) old new x
+unfoldable pub stranded_after : (e d : ℕ) (u v : ℕ → ℕ) (xs ys : List Tuple) (old mid new : Moment) (x : State) → Stays old mid → (first : Fed e u xs old mid x) → Stranded d v ys mid new first.state
+    → Stranded (e + d) (λ b. u b + v b) (xs ++ ys) old new x
 stranded_after e d u v xs ys old mid new x still first second =
     let y = first.state in
     let grows = subst (λ (s : Settings). Grows s d y second.state) still.settings second.grows in
@@ -210,13 +226,15 @@ stranded_after e d u v xs ys old mid new x still first second =
       kept_grows = grows_both old.parts.urls.settings e d x y second.kept first.grows (subst (λ (s : Settings). Grows s d y second.kept) still.settings second.kept_grows);
       kept_front = second.kept_front;
       kept_legal = subst (λ (s : Settings). IsStateOf s second.kept) still.settings second.kept_legal;
-      keeps = keeps_both old.parts.urls.settings x y second.kept old.arrays mid.arrays new.arrays xs ys first.keeps (subst (λ (s : Settings). Keeps s y mid.arrays second.kept new.arrays ys) still.settings second.keeps);
+      keeps = keeps_both old.parts.urls.settings x y second.kept old.arrays mid.arrays new.arrays xs ys first.keeps
+          (subst (λ (s : Settings). Keeps s y mid.arrays second.kept new.arrays ys) still.settings second.keeps);
       now = λ image left. subst (λ (s : Settings). HasBetween s second.kept second.most image) still.settings (second.now image left);
       takes = takes_both old.parts.urls.settings x y second.most old.arrays mid.arrays xs ys first.keeps takes;
       stops = stops_both old.parts.urls.settings old.store mid.store new.store x y second.most first.grows.front first.grows.waits second.may_grow.front first.stops stops;
       records_stop = λ was have.
           let between = first.records was have in
-          records_stop_both u v old.store mid.store new.store old.parts.urls mid.parts.urls was between.0 still.settings still.base between.2 (first.records_stop was have) (second.records_stop between.0 between.1);
+          records_stop_both u v old.store mid.store new.store old.parts.urls mid.parts.urls was between.0 still.settings still.base between.2 (first.records_stop was have)
+          (second.records_stop between.0 between.1);
     }
 
 -- it may be said with greater numbers
@@ -260,7 +278,8 @@ feeds_both e d u v xs ys old mid new still first second = λ files told x holds.
     let after = tells_on _ old.store.files mid.store.files files still.others told in
     fed_both e d u v xs ys old mid new x still one (second after.0 after.1 one.state one.holds)
 
-pub strands_after : (e d : ℕ) (u v : ℕ → ℕ) (xs ys : List Tuple) (old mid new : Moment) → Stays old mid → Feeds e u xs old mid → Strands d v ys mid new → Strands (e + d) (λ b. u b + v b) (xs ++ ys) old new
+pub strands_after : (e d : ℕ) (u v : ℕ → ℕ) (xs ys : List Tuple) (old mid new : Moment) → Stays old mid → Feeds e u xs old mid → Strands d v ys mid new
+    → Strands (e + d) (λ b. u b + v b) (xs ++ ys) old new
 strands_after e d u v xs ys old mid new still first second = λ files told x holds.
     let one = first files told x holds in
     let after = tells_on _ old.store.files mid.store.files files still.others told in
@@ -273,11 +292,13 @@ pub strands_more : (e d : ℕ) (u v : ℕ → ℕ) (xs : List Tuple) (old new : 
 strands_more e d u v xs old new le more strands = λ files told x holds. stranded_more e d u v xs old new x le more (strands files told x holds)
 
 -- ---- where the store wasn't called
-journals_same : (old new : Moment) (was : ℕ → List (List ℕ)) → new.store ≡ old.store → new.parts.urls ≡ old.parts.urls → HaveRecords old.store.images old.parts.urls was → HaveRecords new.store.images new.parts.urls was
+journals_same : (old new : Moment) (was : ℕ → List (List ℕ)) → new.store ≡ old.store → new.parts.urls ≡ old.parts.urls → HaveRecords old.store.images old.parts.urls was
+    → HaveRecords new.store.images new.parts.urls was
 journals_same old new was store urls have =
-    subst (λ (s : Snapshot). HaveRecords s.images new.parts.urls was) (sym store) (subst (λ (d : Drum). HaveRecords old.store.images d was) (sym urls) have)
+    subst (λ (s : Told). HaveRecords s.images new.parts.urls was) (sym store) (subst (λ (d : Drum). HaveRecords old.store.images d was) (sym urls) have)
 
-journals_left : (now : Snapshot) (urls : Drum) (x : State) (was : ℕ → List (List ℕ)) → IsDrum urls → IsConsistent now → HoldsUrls now.images urls x → HaveRecords now.images urls was → Leaves now now (LeavesUneven none_more urls was)
+journals_left : (now : Told) (urls : Drum) (x : State) (was : ℕ → List (List ℕ)) → IsDrum urls → IsConsistent now → HoldsUrls now.images urls x → HaveRecords now.images urls was
+    → Leaves now now (LeavesUneven none_more urls was)
 journals_left now urls x was law consistent holds have = stays now _ consistent (λ image left. (
   was,
   λ b within. left_records now.images urls x.urls law holds.urls_hold b (was b) image within (have b within) left,
@@ -288,19 +309,21 @@ pub fed_still : (xs : List Tuple) (old new : Moment) (x : State) → IsConsisten
     → Keeps old.parts.urls.settings x old.arrays x new.arrays xs → HoldsState old.store.images old.parts x → Fed 0 none_more xs old new x
 fed_still xs old new x consistent law store urls keeps holds = record {
   state = x;
-  holds = subst (λ (s : Snapshot). HoldsUrls s.images new.parts.urls x) (sym store) (subst (λ (d : Drum). HoldsUrls old.store.images d x) (sym urls) holds);
+  holds = subst (λ (s : Told). HoldsUrls s.images new.parts.urls x) (sym store) (subst (λ (d : Drum). HoldsUrls old.store.images d x) (sym urls) holds);
   grows = grows_same old.parts.urls.settings x;
   keeps = keeps;
-  stops = subst (λ (s : Snapshot). Leaves old.store s (HasBetween old.parts.urls.settings x x)) (sym store)
-      (stays old.store (HasBetween old.parts.urls.settings x x) consistent (λ image left. (x, held_has old.store.images old.parts.urls x image law holds left, same_fronts x, same_fronts x, few_same old.parts.urls.settings x)));
+  stops = subst (λ (s : Told). Leaves old.store s (HasBetween old.parts.urls.settings x x)) (sym store)
+      (stays old.store (HasBetween old.parts.urls.settings x x) consistent (λ image left.
+      (x, held_has old.store.images old.parts.urls x image law holds left, same_fronts x, same_fronts x, few_same old.parts.urls.settings x)));
   records = λ was have. (was, journals_same old new was store urls have, λ b within. omega arith);
-  records_stop = λ was have. subst (λ (s : Snapshot). Leaves old.store s (LeavesUneven none_more old.parts.urls was)) (sym store) (journals_left old.store old.parts.urls x was law consistent holds have);
+  records_stop = λ was have. subst (λ (s : Told). Leaves old.store s (LeavesUneven none_more old.parts.urls was)) (sym store) (journals_left old.store old.parts.urls x was law consistent holds have);
 }
 
 -- nothing was done
 pub feeds_none : (old new : Moment) → IsConsistent old.store → IsDrum old.parts.urls → new.store ≡ old.store → new.parts.urls ≡ old.parts.urls → new.arrays ≡ old.arrays → Feeds 0 none_more [] old new
 feeds_none old new consistent law store urls arrays = λ files told x holds.
-    fed_still [] old new x consistent law store urls (subst (λ (l : List Waiting). Keeps old.parts.urls.settings x old.arrays x l []) (sym arrays) (keeps_same old.parts.urls.settings x old.arrays)) holds
+    fed_still [] old new x consistent law store urls (subst (λ (l : List Waiting). Keeps old.parts.urls.settings x old.arrays x l []) (sym arrays) (keeps_same old.parts.urls.settings x old.arrays))
+    holds
 
 -- ---- where the store was only read
 pub fed_read : (old new : Moment) (x : State) → IsConsistent new.store → IsDrum old.parts.urls → LeavesSame old.store new.store → new.parts.urls ≡ old.parts.urls → new.arrays ≡ old.arrays
@@ -310,7 +333,8 @@ fed_read old new x consistent law same urls arrays holds after = record {
   holds = after;
   grows = grows_same old.parts.urls.settings x;
   keeps = subst (λ (l : List Waiting). Keeps old.parts.urls.settings x old.arrays x l []) (sym arrays) (keeps_same old.parts.urls.settings x old.arrays);
-  stops = widens old.store new.store old.store.images (HasBetween old.parts.urls.settings x x) same (λ image left. (x, held_has old.store.images old.parts.urls x image law holds left, same_fronts x, same_fronts x, few_same old.parts.urls.settings x));
+  stops = widens old.store new.store old.store.images (HasBetween old.parts.urls.settings x x) same (λ image left.
+      (x, held_has old.store.images old.parts.urls x image law holds left, same_fronts x, same_fronts x, few_same old.parts.urls.settings x));
   records = λ was have. (
     was,
     subst (λ (d : Drum). HaveRecords new.store.images d was) (sym urls) (λ b within image left. have b within image (left_now old.store new.store old.store.images consistent same image left)),

@@ -9,7 +9,7 @@ use Rattle.irl_offer.specs.Buckets.{bucket_of}
 use Rattle.irl_offer.specs.Tuple.{Tuple}
 use Rattle.irl_array.specs.Waiting.{Waiting}
 use Rattle.irl_model.specs.Book.{part}
-use Rattle.irl_model.specs.State.{State}
+use Rattle.irl_events.specs.State.{State}
 use Rattle.irl_bay.specs.declared.bucket.Bucket.{Bucket}
 use Rattle.irl_bay.specs.Commits.{Commit}
 use Rattle.irl_bay.specs.Drum.{Drum, IsDrum, no_bucket, durables, durable_at, pending_at, KeepsCounts, CountsFlush, CountsMerge}
@@ -109,7 +109,8 @@ moves_on old mid new b (inl same) waits durable = inl (waits ∙ same.0, durable
 moves_on old mid new b (inr moved) waits durable = inr (waits ∙ moved.0, durable ∙ moved.1)
 
 -- one bucket moves, or none
-pub moves_all : (old new : Moment) (b : ℕ) → ((c : ℕ) → c ≢ b → (waiting_at new.arrays c ≡ waiting_at old.arrays c) × (pending_at new.parts.urls c ≡ pending_at old.parts.urls c) × (durable_at new.parts.urls c ≡ durable_at old.parts.urls c)) → Moves old new b → (c : ℕ) → Moves old new c
+pub moves_all : (old new : Moment) (b : ℕ) → ((c : ℕ) → c ≢ b → (waiting_at new.arrays c ≡ waiting_at old.arrays c) × (pending_at new.parts.urls c ≡ pending_at old.parts.urls c)
+    × (durable_at new.parts.urls c ≡ durable_at old.parts.urls c)) → Moves old new b → (c : ℕ) → Moves old new c
 moves_all old new b others here = λ c. ⊎_elim
     (λ same. subst (λ (n : ℕ). Moves old new n) (sym same.1) here)
     (λ other. let kept = others c other.1 in moves_none old new c kept.0 kept.2)

@@ -22,7 +22,8 @@ pub record SoFar (b : ℕ) (old new : Moment) : Type 0 where
   pub fed : Feeds 0 (below b) [] old new
   pub before : (c : ℕ) → c < b → waiting_at new.arrays c ≡ []
   pub last : new.parts.urls.last ≡ old.parts.urls.last
-  pub behind : (c : ℕ) → b ≤ c → (waiting_at new.arrays c ≡ waiting_at old.arrays c) × (pending_at new.parts.urls c ≡ pending_at old.parts.urls c) × (durable_at new.parts.urls c ≡ durable_at old.parts.urls c)
+  pub behind : (c : ℕ) → b ≤ c → (waiting_at new.arrays c ≡ waiting_at old.arrays c) × (pending_at new.parts.urls c ≡ pending_at old.parts.urls c)
+      × (durable_at new.parts.urls c ≡ durable_at old.parts.urls c)
   pub moves : (c : ℕ) → Moves old new c
 
 below_one : (b c : ℕ) → below b c + one_more_at b c ≤ below (b + 1) c
@@ -46,15 +47,18 @@ begins old consistent law sound = record {
 }
 
 -- what has moved with one bucket more
-pub all_moves : (b : ℕ) (old mid new : Moment) → SoFar b old mid → ((c : ℕ) → c ≢ b → (waiting_at new.arrays c ≡ waiting_at mid.arrays c) × (pending_at new.parts.urls c ≡ pending_at mid.parts.urls c) × (durable_at new.parts.urls c ≡ durable_at mid.parts.urls c)) → Moves mid new b → (c : ℕ) → Moves old new c
+pub all_moves : (b : ℕ) (old mid new : Moment) → SoFar b old mid → ((c : ℕ) → c ≢ b → (waiting_at new.arrays c ≡ waiting_at mid.arrays c) × (pending_at new.parts.urls c ≡ pending_at mid.parts.urls c)
+    × (durable_at new.parts.urls c ≡ durable_at mid.parts.urls c)) → Moves mid new b → (c : ℕ) → Moves old new c
 all_moves b old mid new far others moves = λ c. ⊎_elim
     (λ same. let was = far.behind b (omega arith) in subst (λ (n : ℕ). Moves old new n) (sym same.1) (moves_after old mid new b was.0 was.2 moves))
     (λ other. let kept = others c other.1 in moves_on old mid new c (far.moves c) kept.0 kept.2)
     (eqb_tells c b)
 
 -- one bucket more
-pub goes_on : (b : ℕ) (old mid new : Moment) → IsConsistent mid.store → SoFar b old mid → IsSound new.parts → Stays mid new → Feeds 0 (one_more_at b) [] mid new → new.parts.urls.last ≡ mid.parts.urls.last → waiting_at new.arrays b ≡ []
-    → ((c : ℕ) → c ≢ b → (waiting_at new.arrays c ≡ waiting_at mid.arrays c) × (pending_at new.parts.urls c ≡ pending_at mid.parts.urls c) × (durable_at new.parts.urls c ≡ durable_at mid.parts.urls c)) → Moves mid new b → SoFar (b + 1) old new
+pub goes_on : (b : ℕ) (old mid new : Moment) → IsConsistent mid.store → SoFar b old mid → IsSound new.parts → Stays mid new → Feeds 0 (one_more_at b) [] mid new
+    → new.parts.urls.last ≡ mid.parts.urls.last → waiting_at new.arrays b ≡ []
+    → ((c : ℕ) → c ≢ b → (waiting_at new.arrays c ≡ waiting_at mid.arrays c) × (pending_at new.parts.urls c ≡ pending_at mid.parts.urls c)
+    × (durable_at new.parts.urls c ≡ durable_at mid.parts.urls c)) → Moves mid new b → SoFar (b + 1) old new
 goes_on b old mid new consistent far sound stays fed last emptied others moves = record {
   sound = sound;
   stays = stays_both old mid new consistent far.stays stays;

@@ -8,16 +8,15 @@ use Rattle.irl_offer.specs.declared.settings.Settings.{Settings}
 use Rattle.irl_offer.specs.Tuple.{Tuple}
 use Rattle.irl_array.specs.Waiting.{Waiting}
 use Rattle.irl_model.specs.Book.{lengths_of, judged_cut, last_cut}
-use Rattle.irl_model.specs.State.{State, AreFronts}
-use Rattle.irl_model.proofs.FrontLaws.{front_same, merged_front, merged_book}
-use Rattle.irl_disk.specs.Disk.{Files}
+use Rattle.irl_events.specs.State.{State, AreFronts}
+use Rattle.irl_model.proofs.FrontLaws.{prefix_same, front_same, merged_front, merged_book}
+use Rattle.irl_disk.specs.Disk.{Files, TellsBy}
 use Rattle.irl_disk.specs.Images.{IsConsistent, Follows, Leaves, LeavesBy}
 use Rattle.irl_disk.proofs.Stretches.{widens, left_now}
 use Rattle.irl_bay.specs.declared.bucket.Bucket.{Bucket}
 use Rattle.irl_bay.specs.Commits.{HasLiveRecords}
 use Rattle.irl_bay.specs.Drum.{Drum, IsDrum, bucket_at, durables, pending_at, SomePending}
 use Rattle.irl_bay.specs.Merging.{KeepsCommitted, IsBatchFile}
-use Rattle.irl_bay.specs.Holding.{TellsBy}
 use Rattle.irl_bay.specs.Pending.{IsSpoiltBucket, HasEntries, HasRunsTo}
 use Rattle.irl_bay.specs.Spoilt.{IsSpoiltAt, FallsAt}
 use Rattle.irl_bay.proofs.Apart.{batch_files}
@@ -41,7 +40,8 @@ enough trigger (first ∷ from) [] b within inside le = absurd (omega (arith, in
 enough trigger (first ∷ from) (last ∷ to) zero within inside le =
     let here : nat_le (first + trigger) last ≡ true = grind (arith, nat_tests) in
     ap (λ (t : Bool). t || has_enough trigger from to) here
-enough trigger (first ∷ from) (last ∷ to) (suc b) within inside le = or_true (nat_le (first + trigger) last) (has_enough trigger from to) (enough trigger from to b (omega (arith, within)) (omega (arith, inside)) le)
+enough trigger (first ∷ from) (last ∷ to) (suc b) within inside le = or_true (nat_le (first + trigger) last) (has_enough trigger from to)
+    (enough trigger from to b (omega (arith, within)) (omega (arith, inside)) le)
 
 due_enough : (images : Files → Type 0) (urls : Drum) (x : State) → IsDrum urls → HoldsUrls images urls x → IsDue urls → has_enough urls.settings.trigger (judged_cut x.urls) (lengths_of x.urls) ≡ true
 due_enough images urls x law holds due =
@@ -59,7 +59,7 @@ one_cut trigger early from to false is (inl due) = let no : ⊥ = cc in absurd n
 one_cut trigger early from to false is (inr le) = let one : early_cuts trigger from (to ∷ []) ≡ 1 = ap (λ (t : Bool). cond t 0 1 + 0) is in omega (arith, one, le)
 
 cut_front : (x : State) → AreFronts x (with_cut x)
-cut_front x = record { settings = refl; urls = merged_front x.urls; pairs = front_same x.pairs }
+cut_front x = record { settings = refl; urls = merged_front x.urls; pairs = front_same x.pairs; events = prefix_same x.events }
 
 -- and all is judged
 numbers_same : (images : Files → Type 0) (urls : Drum) (x : State) (b : ℕ) → HoldsUrls images urls x → b < urls.settings.buckets → slice_index (lengths_of x.urls) b ≡ length_at x.urls b
@@ -94,6 +94,7 @@ cut_legal images urls x law holds some =
       kind = holds.kind;
       book_is = record { is_book = merged_book x.urls is.is_book (differs images urls x holds some); buckets = is.buckets; rule = is.rule; dropped = is.dropped };
       pairs_are = holds.pairs_are;
+      events_are = holds.events_are;
     }
 
 cut_grows : (early : ℕ) (images : Files → Type 0) (urls : Drum) (x : State) → IsDrum urls → HoldsUrls images urls x → IsDue urls ⊎ (1 ≤ early) → Grows urls.settings early x (with_cut x)
@@ -113,26 +114,32 @@ pub record Merging (old new : Moment) : Type 0 where
   pub pending : SomePending old.parts.urls
   pub waiting : new.arrays ≡ old.arrays
   pub stops : (state : State) → HoldsState old.store.images old.parts state → Leaves old.store new.store (HasOneOf state (with_cut state))
-  pub records_stop : (state : State) (b : ℕ) (payloads : List (List ℕ)) → b < old.parts.urls.settings.buckets → HoldsState old.store.images old.parts state → HasJournal old.store.images old.parts.urls b payloads
-      → Leaves old.store new.store (λ image. HasLiveRecords old.parts.urls.base old.parts.urls.settings.buckets b payloads image ⊎ HasLiveRecords old.parts.urls.base old.parts.urls.settings.buckets b [] image)
+  pub records_stop : (state : State) (b : ℕ) (payloads : List (List ℕ)) → b < old.parts.urls.settings.buckets → HoldsState old.store.images old.parts state
+      → HasJournal old.store.images old.parts.urls b payloads
+      → Leaves old.store new.store (λ image. HasLiveRecords old.parts.urls.base old.parts.urls.settings.buckets b payloads image
+      ⊎ HasLiveRecords old.parts.urls.base old.parts.urls.settings.buckets b [] image)
 
 -- the records of a live journal in an image, which are no more uneven than those before
 abbrev AreFewer : Drum → (ℕ → List (List ℕ)) → Files → ℕ → List (List ℕ) → Type 0
 AreFewer urls was image b payloads = HasLiveRecords urls.base urls.settings.buckets b payloads image × (uneven_records urls.settings.array payloads ≤ uneven_records urls.settings.array (was b))
 
-same_or_empty : (urls : Drum) (was : ℕ → List (List ℕ)) (image : Files) (b : ℕ) → HasLiveRecords urls.base urls.settings.buckets b (was b) image ⊎ HasLiveRecords urls.base urls.settings.buckets b [] image → (payloads : List (List ℕ)) × AreFewer urls was image b payloads
+same_or_empty : (urls : Drum) (was : ℕ → List (List ℕ)) (image : Files) (b : ℕ) → HasLiveRecords urls.base urls.settings.buckets b (was b) image
+    ⊎ HasLiveRecords urls.base urls.settings.buckets b [] image → (payloads : List (List ℕ)) × AreFewer urls was image b payloads
 same_or_empty urls was image b (inl same) = (was b, (same, omega arith))
 same_or_empty urls was image b (inr empty) = ([], (empty, omega arith))
 
-fewer_uneven : (urls : Drum) (was : ℕ → List (List ℕ)) (image : Files) → ((b : ℕ) → b < urls.settings.buckets → (payloads : List (List ℕ)) × AreFewer urls was image b payloads) → LeavesUneven none_more urls was image
+fewer_uneven : (urls : Drum) (was : ℕ → List (List ℕ)) (image : Files) → ((b : ℕ) → b < urls.settings.buckets → (payloads : List (List ℕ)) × AreFewer urls was image b payloads)
+    → LeavesUneven none_more urls was image
 fewer_uneven urls was image each =
     let chosen = choose urls.settings.buckets (AreFewer urls was image) each in
     (chosen.0, λ b within. (chosen.1 b within).0, λ b within. omega (arith, (chosen.1 b within).1))
 
-merge_records_stop : (old new : Moment) (x : State) (was : ℕ → List (List ℕ)) → Merging old new → HoldsState old.store.images old.parts x → HaveRecords old.store.images old.parts.urls was → Leaves old.store new.store (LeavesUneven none_more old.parts.urls was)
+merge_records_stop : (old new : Moment) (x : State) (was : ℕ → List (List ℕ)) → Merging old new → HoldsState old.store.images old.parts x → HaveRecords old.store.images old.parts.urls was
+    → Leaves old.store new.store (LeavesUneven none_more old.parts.urls was)
 merge_records_stop old new x was merge holds have =
     let urls = old.parts.urls in
-    widens old.store new.store _ _ (leaves_all urls.settings.buckets old.store new.store (λ b image. HasLiveRecords urls.base urls.settings.buckets b (was b) image ⊎ HasLiveRecords urls.base urls.settings.buckets b [] image) merge.later
+    widens old.store new.store _ _ (leaves_all urls.settings.buckets old.store new.store (λ b image. HasLiveRecords urls.base urls.settings.buckets b (was b) image
+    ⊎ HasLiveRecords urls.base urls.settings.buckets b [] image) merge.later
     (λ b within. merge.records_stop x b (was b) within holds (have b within)))
     (λ image has. fewer_uneven urls was image (λ b within. same_or_empty urls was image b (has b within)))
 
@@ -154,12 +161,14 @@ KeepsJournals old new = (was : ℕ → List (List ℕ)) → HaveRecords old.stor
     × AddsUneven none_more old.parts.urls.settings.buckets old.parts.urls.settings.array was now
 
 -- they are empty,
-pub emptied_journals : (old new : Moment) → new.parts.urls.settings ≡ old.parts.urls.settings → ((b : ℕ) → b < old.parts.urls.settings.buckets → HasJournal new.store.images new.parts.urls b []) → KeepsJournals old new
+pub emptied_journals : (old new : Moment) → new.parts.urls.settings ≡ old.parts.urls.settings → ((b : ℕ) → b < old.parts.urls.settings.buckets → HasJournal new.store.images new.parts.urls b [])
+    → KeepsJournals old new
 emptied_journals old new settings empty = λ was have. (λ b. [], λ b within. empty b (subst (λ (s : Settings). b < s.buckets) settings within), λ b within. omega arith)
 
 -- or they keep their records
 pub kept_journals : (old new : Moment) (x : State) → new.parts.urls.settings ≡ old.parts.urls.settings → HoldsState old.store.images old.parts x
-    → ((state : State) (b : ℕ) (payloads : List (List ℕ)) → b < old.parts.urls.settings.buckets → HoldsState old.store.images old.parts state → HasJournal old.store.images old.parts.urls b payloads → HasJournal new.store.images new.parts.urls b payloads)
+    → ((state : State) (b : ℕ) (payloads : List (List ℕ)) → b < old.parts.urls.settings.buckets → HoldsState old.store.images old.parts state → HasJournal old.store.images old.parts.urls b payloads
+    → HasJournal new.store.images new.parts.urls b payloads)
     → KeepsJournals old new
 kept_journals old new x settings holds kept = λ was have. (
   was,
@@ -169,7 +178,8 @@ kept_journals old new x settings holds kept = λ was have. (
 
 -- a later state
 fed_to : (early : ℕ) (old new : Moment) (x y : State) → Merging old new → HoldsState old.store.images old.parts x → HoldsState new.store.images new.parts y
-    → Grows old.parts.urls.settings early x y → ((b : ℕ) → list_at y.urls b ≡ list_at x.urls b) → Leaves old.store new.store (HasBetween old.parts.urls.settings x y) → KeepsJournals old new → Fed early none_more [] old new x
+    → Grows old.parts.urls.settings early x y → ((b : ℕ) → list_at y.urls b ≡ list_at x.urls b) → Leaves old.store new.store (HasBetween old.parts.urls.settings x y) → KeepsJournals old new
+    → Fed early none_more [] old new x
 fed_to early old new x y merge holds after grows lists stops kept = record {
   state = y;
   holds = after;
@@ -186,7 +196,8 @@ merge_fed early old new x law merge why holds after kept =
     fed_to early old new x (with_cut x) merge holds after (cut_grows early old.store.images old.parts.urls x law holds why) (λ b. refl) (merge_between old new x merge holds) kept
 
 -- where it adds no cut, each image has the state
-written_has : (old new : Moment) (x : State) → IsDrum old.parts.urls → HoldsState old.store.images old.parts x → LeavesBy (KeepsCommitted old.parts.urls) old.store new.store → Leaves old.store new.store (HasBetween old.parts.urls.settings x x)
+written_has : (old new : Moment) (x : State) → IsDrum old.parts.urls → HoldsState old.store.images old.parts x → LeavesBy (KeepsCommitted old.parts.urls) old.store new.store
+    → Leaves old.store new.store (HasBetween old.parts.urls.settings x x)
 written_has old new x law holds stops =
     let urls = old.parts.urls in
     widens old.store new.store (Follows (KeepsCommitted urls) old.store.images) (HasBetween urls.settings x x) stops (λ image from.
@@ -199,6 +210,7 @@ written_has old new x law holds stops =
       kind = holds.kind;
       urls_hold = holds_written old.store.images (Follows (KeepsCommitted old.parts.urls) old.store.images) old.parts.urls x.urls law (λ image from. from) holds.urls_hold;
       pairs_are = holds.pairs_are;
+      events_are = holds.events_are;
       rest = λ image from. rest_kept (IsBatchFile old.parts.urls) old.parts.urls from.0 image law holds.base (batch_files old.parts.urls) from.2.others (holds.rest from.0 from.1);
     }
 
@@ -211,7 +223,8 @@ unmerged_fed early old new x law merge stops holds after kept =
     fed_to early old new x x merge holds after (grows_any early old.parts.urls.settings x) (λ b. refl) (written_has old new x law holds stops) kept
 
 -- ---- where the store failed
-merge_strand : (early : ℕ) (old new : Moment) (x s : State) → IsConsistent new.store → IsDrum old.parts.urls → Merging old new → IsDue old.parts.urls ⊎ (1 ≤ early) → HoldsState old.store.images old.parts x → ForSome new.store.files (HasState s)
+merge_strand : (early : ℕ) (old new : Moment) (x s : State) → IsConsistent new.store → IsDrum old.parts.urls → Merging old new → IsDue old.parts.urls ⊎ (1 ≤ early)
+    → HoldsState old.store.images old.parts x → ForSome new.store.files (HasState s)
     → Grows old.parts.urls.settings early x s → AreFronts s (with_cut x) → Stranded early none_more [] old new x
 merge_strand early old new x s consistent law merge why holds told grows front = record {
   state = s;
@@ -232,7 +245,8 @@ merge_strand early old new x s consistent law merge why holds told grows front =
   records_stop = λ was have. merge_records_stop old new x was merge holds have;
 }
 
-pub merge_stranded : (early : ℕ) (old new : Moment) (x : State) → IsConsistent new.store → IsDrum old.parts.urls → Merging old new → IsDue old.parts.urls ⊎ (1 ≤ early) → HoldsState old.store.images old.parts x
+pub merge_stranded : (early : ℕ) (old new : Moment) (x : State) → IsConsistent new.store → IsDrum old.parts.urls → Merging old new → IsDue old.parts.urls ⊎ (1 ≤ early)
+    → HoldsState old.store.images old.parts x
     → Stranded early none_more [] old new x
 merge_stranded early old new x consistent law merge why holds = by_told new.store.files refl
   where
@@ -249,14 +263,25 @@ merge_stranded early old new x consistent law merge why holds = by_told new.stor
 
 -- ---- damage
 -- it is still there
-runs_kept : (settings : Settings) (b from : ℕ) (old new : List ℕ) (runs : List (List Entry)) (at : ℕ) (behind : List ℕ) → new ≡ old → HasRunsTo settings b from old runs at behind → HasRunsTo settings b from new runs at behind
+runs_kept : (settings : Settings) (b from : ℕ) (old new : List ℕ) (runs : List (List Entry)) (at : ℕ) (behind : List ℕ) → new ≡ old → HasRunsTo settings b from old runs at behind
+    → HasRunsTo settings b from new runs at behind
 runs_kept settings b from old new runs at behind same has = subst (λ (file : List ℕ). HasRunsTo settings b from file runs at behind) (sym same) has
 
-entries_kept : (settings : Settings) (b : ℕ) (bucket : Bucket) (old new : Files) (entries : List Entry) → new bucket.journal.file ≡ old bucket.journal.file → HasEntries settings b bucket old entries → HasEntries settings b bucket new entries
-entries_kept settings b bucket old new entries same has = record { runs = has.runs; behind = has.behind; has = runs_kept settings b bucket.gate _ _ has.runs bucket.journal.end has.behind same has.has; joined = has.joined }
+entries_kept : (settings : Settings) (b : ℕ) (bucket : Bucket) (old new : Files) (entries : List Entry) → new bucket.journal.file ≡ old bucket.journal.file → HasEntries settings b bucket old entries
+    → HasEntries settings b bucket new entries
+entries_kept settings b bucket old new entries same has = record {
+  runs = has.runs;
+  behind = has.behind;
+  has = runs_kept settings b bucket.gate _ _ has.runs bucket.journal.end has.behind same has.has;
+  joined = has.joined;
+}
 
-bucket_spoilt : (settings : Settings) (b : ℕ) (bucket : Bucket) (pending : ℕ) (old new : Files) (f at : ℕ) → new bucket.journal.file ≡ old bucket.journal.file → IsSpoiltBucket settings b bucket pending old f at → IsSpoiltBucket settings b bucket pending new f at
-bucket_spoilt settings b bucket pending old new f at same (inl journal) = inl (journal.0, record { runs = journal.1.runs; behind = journal.1.behind; has = runs_kept settings b bucket.gate _ _ journal.1.runs at journal.1.behind same journal.1.has; why = journal.1.why })
+bucket_spoilt : (settings : Settings) (b : ℕ) (bucket : Bucket) (pending : ℕ) (old new : Files) (f at : ℕ) → new bucket.journal.file ≡ old bucket.journal.file
+    → IsSpoiltBucket settings b bucket pending old f at → IsSpoiltBucket settings b bucket pending new f at
+bucket_spoilt settings b bucket pending old new f at same (inl journal) = inl (
+  journal.0,
+  record { runs = journal.1.runs; behind = journal.1.behind; has = runs_kept settings b bucket.gate _ _ journal.1.runs at journal.1.behind same journal.1.has; why = journal.1.why },
+)
 bucket_spoilt settings b bucket pending old new f at same (inr (inl counts)) =
     inr (inl (counts.0, counts.1, record { entries = counts.2.entries; has = entries_kept settings b bucket old new counts.2.entries same counts.2.has; other = counts.2.other }))
 bucket_spoilt settings b bucket pending old new f at same (inr (inr text)) =
@@ -266,10 +291,16 @@ pub spoilt_kept : (urls : Drum) (old new : Files) (f at : ℕ) → IsDrum urls �
 spoilt_kept urls old new f at law keeps (inl cache) =
     inl (cache.0, subst (λ (file : List ℕ). FallsAt urls.last.entries file at) (ap old cache.0 ∙ sym (batch_stays urls old new law keeps).cache ∙ ap new (sym cache.0)) cache.1)
 spoilt_kept urls old new f at law keeps (inr bucket) =
-    inr (bucket.0, bucket.1, bucket_spoilt urls.settings bucket.0 (bucket_at urls bucket.0) (pending_at urls bucket.0) old new f at ((batch_stays urls old new law keeps).journals bucket.0 bucket.1) bucket.2)
+    inr (
+      bucket.0,
+      bucket.1,
+      bucket_spoilt urls.settings bucket.0 (bucket_at urls bucket.0) (pending_at urls bucket.0) old new f at ((batch_stays urls old new law keeps).journals bucket.0 bucket.1)
+          bucket.2,
+    )
 
 -- what is told of it
-pub spoilt_told : (urls : Drum) (old new : Option Files) (f at : ℕ) → IsDrum urls → TellsBy (KeepsCommitted urls) old new → ForSome old (λ files. IsSpoiltAt urls files f at) → ForSome new (λ files. IsSpoiltAt urls files f at)
+pub spoilt_told : (urls : Drum) (old new : Option Files) (f at : ℕ) → IsDrum urls → TellsBy (KeepsCommitted urls) old new → ForSome old (λ files. IsSpoiltAt urls files f at)
+    → ForSome new (λ files. IsSpoiltAt urls files f at)
 spoilt_told urls None new f at law tells spoilt = λ files told. let no : ⊥ = cc in absurd no
 spoilt_told urls (Some before) new f at law tells spoilt = λ files told.
     let same : tells.0 ≡ files = some_same _ _ (sym tells.1 ∙ told) in

@@ -1,7 +1,7 @@
 -- What an answer of the store gives.
 use Rattle.std.proofs.Common.{ℕ, ◌<◌, ◌≤◌, Result, Ok, Err, OnOk, OnErr, IsErrOf, arith}
-use Rattle.irl_offer.specs.declared.receipt.Fault.{Fault}
-use Rattle.irl_offer.specs.declared.receipt.Fault.TheVariants.{Failed, Full}
+use Rattle.irl_base.specs.declared.fault.Fault.{Fault}
+use Rattle.irl_base.specs.declared.fault.Fault.TheVariants.{Failed, Full}
 
 -- of both kinds of answer
 pub by_answer : {T A B P : Type 0} (result : Result T Fault) → OnOk result A → OnErr result B → (A → P) → (B → P) → P

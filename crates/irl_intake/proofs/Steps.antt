@@ -11,11 +11,11 @@ use Rattle.irl_offer.specs.Buckets.{bucket_of}
 use Rattle.irl_offer.specs.Settings.{AreValid}
 use Rattle.irl_offer.specs.Tuple.{Tuple}
 use Rattle.irl_model.specs.Book.{flushed}
-use Rattle.irl_model.specs.State.{State, AreFronts}
+use Rattle.irl_events.specs.State.{State, AreFronts}
 use Rattle.irl_model.proofs.Flushes.{flushed_here, flushed_elsewhere, flushed_book}
-use Rattle.irl_model.proofs.FrontLaws.{front_same, flushed_front}
+use Rattle.irl_model.proofs.FrontLaws.{prefix_same, front_same, flushed_front}
 use Rattle.irl_disk.specs.Disk.{Files}
-use Rattle.irl_disk.specs.Images.{Snapshot, IsConsistent, Leaves}
+use Rattle.irl_disk.specs.Images.{Told, IsConsistent, Leaves}
 use Rattle.irl_disk.proofs.Stretches.{widens, left_now}
 use Rattle.irl_bay.specs.Commits.{HasLiveRecords}
 use Rattle.irl_bay.specs.Drum.{Drum, durable_at, pending_at}
@@ -41,7 +41,7 @@ all_or (suc n) A Q each =
     (each n (omega arith)))
     (all_or n A Q (λ c within. each c (omega (arith, within))))
 
-pub leaves_all : (n : ℕ) (old new : Snapshot) (P : ℕ → Files → Type 0) → old.moment ≤ new.moment → ((c : ℕ) → c < n → Leaves old new (P c)) → Leaves old new (λ image. (c : ℕ) → c < n → P c image)
+pub leaves_all : (n : ℕ) (old new : Told) (P : ℕ → Files → Type 0) → old.moment ≤ new.moment → ((c : ℕ) → c < n → Leaves old new (P c)) → Leaves old new (λ image. (c : ℕ) → c < n → P c image)
 leaves_all n old new P later each = record {
   later = later;
   each = λ image left. λ c within. (each c within).each image left;
@@ -112,8 +112,10 @@ pub record Flushing (b : ℕ) (items : List Tuple) (old new : Moment) : Type 0 w
   pub pending : pending_at old.parts.urls b < old.parts.urls.settings.trigger
   pub stops : (state : State) → HoldsState old.store.images old.parts state → Leaves old.store new.store (HasOneOf state (with_offers b items state))
   pub gains_stop : (state : State) (payloads : List (List ℕ)) → HoldsState old.store.images old.parts state → HasJournal old.store.images old.parts.urls b payloads
-      → Leaves old.store new.store (λ image. HasLiveRecords old.parts.urls.base old.parts.urls.settings.buckets b payloads image ⊎ HasLiveRecords old.parts.urls.base old.parts.urls.settings.buckets b (payloads ++ run_bytes items ∷ []) image)
-  pub records_stop : (state : State) (c : ℕ) (payloads : List (List ℕ)) → c ≢ b → c < old.parts.urls.settings.buckets → HoldsState old.store.images old.parts state → HasJournal old.store.images old.parts.urls c payloads
+      → Leaves old.store new.store (λ image. HasLiveRecords old.parts.urls.base old.parts.urls.settings.buckets b payloads image
+      ⊎ HasLiveRecords old.parts.urls.base old.parts.urls.settings.buckets b (payloads ++ run_bytes items ∷ []) image)
+  pub records_stop : (state : State) (c : ℕ) (payloads : List (List ℕ)) → c ≢ b → c < old.parts.urls.settings.buckets → HoldsState old.store.images old.parts state
+      → HasJournal old.store.images old.parts.urls c payloads
       → Leaves old.store new.store (HasLiveRecords old.parts.urls.base old.parts.urls.settings.buckets c payloads)
 
 -- the records with those of a flush
@@ -131,10 +133,12 @@ gains_uneven array buckets b items was = λ c within. ⊎_elim
     (λ same. subst (λ (l : List (List ℕ)). uneven_records array l ≤ uneven_records array (was c) + uneven_flush array b items c) (sym (gained_here b (run_bytes items) was c same.0))
     (subst (λ (n : ℕ). uneven_records array (was c ++ run_bytes items ∷ []) ≤ uneven_records array (was c) + uneven_flush array b items n) (sym same.1)
     (omega (arith, more_uneven array (was c) (run_bytes items), run_uneven array b items))))
-    (λ other. subst (λ (l : List (List ℕ)). uneven_records array l ≤ uneven_records array (was c) + uneven_flush array b items c) (sym (gained_elsewhere b (run_bytes items) was c other.0)) (omega arith))
+    (λ other. subst (λ (l : List (List ℕ)). uneven_records array l ≤ uneven_records array (was c) + uneven_flush array b items c) (sym (gained_elsewhere b (run_bytes items) was c other.0))
+    (omega arith))
     (eqb_tells c b)
 
-flush_records_stop : (b : ℕ) (items : List Tuple) (old new : Moment) (x : State) (was : ℕ → List (List ℕ)) → Flushing b items old new → HoldsState old.store.images old.parts x → HaveRecords old.store.images old.parts.urls was
+flush_records_stop : (b : ℕ) (items : List Tuple) (old new : Moment) (x : State) (was : ℕ → List (List ℕ)) → Flushing b items old new → HoldsState old.store.images old.parts x
+    → HaveRecords old.store.images old.parts.urls was
     → Leaves old.store new.store (LeavesUneven (uneven_flush old.parts.urls.settings.array b items) old.parts.urls was)
 flush_records_stop b items old new x was flush holds have =
     let base = old.parts.urls.base in
@@ -143,7 +147,8 @@ flush_records_stop b items old new x was flush holds have =
     let here = flush.gains_stop x (was b) holds (have b flush.within) in
     let others = leaves_all buckets old.store new.store (λ c image. c ≢ b → HasLiveRecords base buckets c (was c) image) here.later (λ c within.
     ⊎_elim (λ same. widens old.store new.store _ (λ image. c ≢ b → HasLiveRecords base buckets c (was c) image) here (λ image has other. absurd (other same.1)))
-    (λ other. widens old.store new.store (HasLiveRecords base buckets c (was c)) (λ image. c ≢ b → HasLiveRecords base buckets c (was c) image) (flush.records_stop x c (was c) other.1 within holds (have c within)) (λ image has not. has))
+    (λ other. widens old.store new.store (HasLiveRecords base buckets c (was c)) (λ image. c ≢ b
+    → HasLiveRecords base buckets c (was c) image) (flush.records_stop x c (was c) other.1 within holds (have c within)) (λ image has not. has))
     (eqb_tells c b)) in
     widens old.store new.store _ _ (leaves_pair old.store new.store _ _ here others) (λ image has. ⊎_elim
     (λ same. (
@@ -154,7 +159,8 @@ flush_records_stop b items old new x was flush holds have =
     (λ more. (
       gained b (run_bytes items) was,
       λ c within. ⊎_elim
-          (λ is. subst (λ (l : List (List ℕ)). HasLiveRecords base buckets c l image) (sym (gained_here b (run_bytes items) was c is.0)) (subst (λ (n : ℕ). HasLiveRecords base buckets n (was n ++ run_bytes items ∷ []) image) (sym is.1) more))
+          (λ is. subst (λ (l : List (List ℕ)). HasLiveRecords base buckets c l image) (sym (gained_here b (run_bytes items) was c is.0))
+          (subst (λ (n : ℕ). HasLiveRecords base buckets n (was n ++ run_bytes items ∷ []) image) (sym is.1) more))
           (λ other. subst (λ (l : List (List ℕ)). HasLiveRecords base buckets c l image) (sym (gained_elsewhere b (run_bytes items) was c other.0)) (has.1 c within other.1))
           (eqb_tells c b),
       gains_uneven array buckets b items was,
@@ -185,7 +191,8 @@ pub durable_held : (images : Files → Type 0) (urls : Drum) (x : State) (b : �
 durable_held images urls x b holds =
     sym (durable_is urls b) ∙ ap (λ (l : List ℕ). get_or l b 0) (holds.urls_hold.numbers.offers ∙ lengths_are urls.settings x.urls holds.urls_hold.book_is) ∙ length-at x.urls.lists b
 
-list_here : (images : Files → Type 0) (urls : Drum) (x : State) (b : ℕ) (items : List Tuple) → HoldsUrls images urls x → b < urls.settings.buckets → list_at (flushed b items x.urls) b ≡ list_at x.urls b ++ items
+list_here : (images : Files → Type 0) (urls : Drum) (x : State) (b : ℕ) (items : List Tuple) → HoldsUrls images urls x → b < urls.settings.buckets
+    → list_at (flushed b items x.urls) b ≡ list_at x.urls b ++ items
 list_here images urls x b items holds within = flushed_here b items x.urls (omega (arith, list_within images urls x b holds within, holds.urls_hold.book_is.is_book.lists))
 
 -- how many offers of a state are unjudged
@@ -197,12 +204,20 @@ unjudged_pending images urls x b holds within =
 
 -- a state that is held is one that files may stand for
 pub held_state : (images : Files → Type 0) (urls : Drum) (x : State) → AreValid urls.settings → HoldsUrls images urls x → IsStateOf urls.settings x
-held_state images urls x valid holds = record { settings_are = holds.settings; valid = valid; kind = holds.kind; book_is = holds.urls_hold.book_is; pairs_are = holds.pairs_are }
+held_state images urls x valid holds = record {
+  settings_are = holds.settings;
+  valid = valid;
+  kind = holds.kind;
+  book_is = holds.urls_hold.book_is;
+  pairs_are = holds.pairs_are;
+  events_are = holds.events_are;
+}
 
 flush_front : (b : ℕ) (items : List Tuple) (x : State) → AreFronts x (with_offers b items x)
-flush_front b items x = record { settings = refl; urls = flushed_front b items x.urls; pairs = front_same x.pairs }
+flush_front b items x = record { settings = refl; urls = flushed_front b items x.urls; pairs = front_same x.pairs; events = prefix_same x.events }
 
-flush_waits : (b : ℕ) (items : List Tuple) (old new : Moment) (x : State) → Flushing b items old new → HoldsState old.store.images old.parts x → FewUnjudged old.parts.urls.settings x (with_offers b items x)
+flush_waits : (b : ℕ) (items : List Tuple) (old new : Moment) (x : State) → Flushing b items old new → HoldsState old.store.images old.parts x
+    → FewUnjudged old.parts.urls.settings x (with_offers b items x)
 flush_waits b items old new x flush holds = λ c within. ⊎_elim (λ same. here c same.1) (λ other. elsewhere c other.1) (eqb_tells c b)
   where
     here : (c : ℕ) → c ≡ b → unjudged_at (flushed b items x.urls) c ≤ max (old.parts.urls.settings.trigger + old.parts.urls.settings.array - 1) (unjudged_at x.urls c)
@@ -216,7 +231,8 @@ flush_waits b items old new x flush holds = λ c within. ⊎_elim (λ same. here
     elsewhere c other = let list = ap (λ (l : List Tuple). length l) (flushed_elsewhere b items x.urls c other) in omega (arith, list)
 
 -- the state with them is one that files may stand for
-flush_legal : (b : ℕ) (items : List Tuple) (old new : Moment) (x : State) → Flushing b items old new → HoldsState old.store.images old.parts x → IsStateOf old.parts.urls.settings (with_offers b items x)
+flush_legal : (b : ℕ) (items : List Tuple) (old new : Moment) (x : State) → Flushing b items old new → HoldsState old.store.images old.parts x
+    → IsStateOf old.parts.urls.settings (with_offers b items x)
 flush_legal b items old new x flush holds =
     let is = holds.urls_hold.book_is in
     let offers = recursion_from_All (λ (offer : Tuple). bucket_of old.parts.urls.settings.buckets offer.key ≡ b) items flush.offers in
@@ -231,9 +247,11 @@ flush_legal b items old new x flush holds =
         dropped = is.dropped;
       };
       pairs_are = holds.pairs_are;
+      events_are = holds.events_are;
     }
 
-flush_grows : (b : ℕ) (items : List Tuple) (old new : Moment) (x : State) → Flushing b items old new → HoldsState old.store.images old.parts x → Grows old.parts.urls.settings 0 x (with_offers b items x)
+flush_grows : (b : ℕ) (items : List Tuple) (old new : Moment) (x : State) → Flushing b items old new → HoldsState old.store.images old.parts x
+    → Grows old.parts.urls.settings 0 x (with_offers b items x)
 flush_grows b items old new x flush holds =
     let urls = old.parts.urls in
     let images = old.store.images in
@@ -243,7 +261,14 @@ flush_grows b items old new x flush holds =
       fits = λ c within. ⊎_elim
           (λ same. inr (subst (λ (n : ℕ). length_at y.urls n ≤ urls.settings.cap) (sym same.1) (
           let durable = durable_held images urls x b holds in
-          omega (arith, no_first images urls x b holds, ap (λ (l : List Tuple). length l) (list_here images urls x b items holds flush.within), length-append (list_at x.urls b) items, durable, flush.fits)
+          omega (
+            arith,
+            no_first images urls x b holds,
+            ap (λ (l : List Tuple). length l) (list_here images urls x b items holds flush.within),
+            length-append (list_at x.urls b) items,
+            durable,
+            flush.fits,
+          )
           )))
           (λ other. inl (flushed_elsewhere b items x.urls c other.1))
           (eqb_tells c b);
@@ -253,14 +278,17 @@ flush_grows b items old new x flush holds =
       waits = flush_waits b items old new x flush holds;
     }
 
-flush_between : (b : ℕ) (items : List Tuple) (old new : Moment) (x : State) → Flushing b items old new → HoldsState old.store.images old.parts x → Leaves old.store new.store (HasBetween old.parts.urls.settings x (with_offers b items x))
+flush_between : (b : ℕ) (items : List Tuple) (old new : Moment) (x : State) → Flushing b items old new → HoldsState old.store.images old.parts x
+    → Leaves old.store new.store (HasBetween old.parts.urls.settings x (with_offers b items x))
 flush_between b items old new x flush holds =
     let settings = old.parts.urls.settings in
     let y = with_offers b items x in
     widens old.store new.store (HasOneOf x y) (HasBetween settings x y) (flush.stops x holds)
-    (λ image has. ⊎_elim (λ was. (x, was, same_fronts x, flush_front b items x, few_same settings x)) (λ now. (y, now, flush_front b items x, same_fronts y, flush_waits b items old new x flush holds)) has)
+    (λ image has. ⊎_elim (λ was. (x, was, same_fronts x, flush_front b items x, few_same settings x)) (λ now. (y, now, flush_front b items x, same_fronts y, flush_waits b items old new x flush holds))
+    has)
 
-flush_takes : (b : ℕ) (items : List Tuple) (old new : Moment) (x : State) → Flushing b items old new → HoldsState old.store.images old.parts x → TakesWaiting old.parts.urls.settings x old.arrays (with_offers b items x) []
+flush_takes : (b : ℕ) (items : List Tuple) (old new : Moment) (x : State) → Flushing b items old new → HoldsState old.store.images old.parts x
+    → TakesWaiting old.parts.urls.settings x old.arrays (with_offers b items x) []
 flush_takes b items old new x flush holds = λ c within. ⊎_elim
     (λ same. (
       [],
@@ -288,7 +316,8 @@ flush_keeps : (b : ℕ) (items : List Tuple) (old new : Moment) (x : State) → 
     → Keeps old.parts.urls.settings x old.arrays (with_offers b items x) new.arrays []
 flush_keeps b items old new x flush done holds = λ c within. ⊎_elim
     (λ same. subst (λ (n : ℕ). handed_in (flushed b items x.urls) new.arrays n ≡ handed_in x.urls old.arrays n ++ []) (sym same.1)
-    (ap (λ (l : List Tuple). list_at (flushed b items x.urls) b ++ l) done.emptied ∙ append-nil (list_at (flushed b items x.urls) b) ∙ list_here old.store.images old.parts.urls x b items holds flush.within
+    (ap (λ (l : List Tuple). list_at (flushed b items x.urls) b ++ l) done.emptied ∙ append-nil (list_at (flushed b items x.urls) b)
+    ∙ list_here old.store.images old.parts.urls x b items holds flush.within
     ∙ ap (λ (l : List Tuple). list_at x.urls b ++ l) flush.waits ∙ sym (append-nil (handed_in x.urls old.arrays b))))
     (λ other. ap (λ (l : List Tuple). l ++ waiting_at new.arrays c) (flushed_elsewhere b items x.urls c other.1) ∙ ap (λ (l : List Tuple). list_at x.urls c ++ l) (done.others c other.1)
     ∙ sym (append-nil (handed_in x.urls old.arrays c)))
@@ -311,7 +340,8 @@ flush_fed b items old new x flush done holds =
             ⊎_elim
             (λ same. subst (λ (l : List (List ℕ)). HasJournal new.store.images new.parts.urls c l) (sym (gained_here b run was c same.0))
             (subst (λ (n : ℕ). HasJournal new.store.images new.parts.urls n (was n ++ run ∷ [])) (sym same.1) (done.gains (was b) (have b flush.within))))
-            (λ other. subst (λ (l : List (List ℕ)). HasJournal new.store.images new.parts.urls c l) (sym (gained_elsewhere b run was c other.0)) (done.records_kept x c (was c) other.1 inside holds (have c inside)))
+            (λ other. subst (λ (l : List (List ℕ)). HasJournal new.store.images new.parts.urls c l) (sym (gained_elsewhere b run was c other.0))
+            (done.records_kept x c (was c) other.1 inside holds (have c inside)))
             (eqb_tells c b),
         gains_uneven old.parts.urls.settings.array old.parts.urls.settings.buckets b items was,
       );
@@ -319,10 +349,11 @@ flush_fed b items old new x flush done holds =
     }
 
 -- what the store tells has one of the states
-pub told_one : (x y : State) (old new : Snapshot) (files : Files) → IsConsistent new → Leaves old new (HasOneOf x y) → new.files ≡ Some files → HasOneOf x y files
+pub told_one : (x y : State) (old new : Told) (files : Files) → IsConsistent new → Leaves old new (HasOneOf x y) → new.files ≡ Some files → HasOneOf x y files
 told_one x y old new files law stops told = left_now old new (HasOneOf x y) law stops files (law.told files told)
 
-flush_strand : (b : ℕ) (items : List Tuple) (old new : Moment) (x s : State) → IsConsistent new.store → Keeps old.parts.urls.settings x old.arrays x new.arrays [] → Flushing b items old new → HoldsState old.store.images old.parts x → ForSome new.store.files (HasState s) → Grows old.parts.urls.settings 0 x s → AreFronts s (with_offers b items x)
+flush_strand : (b : ℕ) (items : List Tuple) (old new : Moment) (x s : State) → IsConsistent new.store → Keeps old.parts.urls.settings x old.arrays x new.arrays [] → Flushing b items old new
+    → HoldsState old.store.images old.parts x → ForSome new.store.files (HasState s) → Grows old.parts.urls.settings 0 x s → AreFronts s (with_offers b items x)
     → Stranded 0 (uneven_flush old.parts.urls.settings.array b items) [] old new x
 flush_strand b items old new x s consistent keeps flush holds told grows front = record {
   state = s;
@@ -350,7 +381,8 @@ told_these told files s is has = λ other also. let same : files ≡ other = cc 
 pub told_none : (told : Option Files) (s : State) → told ≡ None → ForSome told (HasState s)
 told_none told s is = λ other also. let no : ⊥ = cc in absurd no
 
-pub flush_stranded : (b : ℕ) (items : List Tuple) (old new : Moment) (x : State) → IsConsistent new.store → Keeps old.parts.urls.settings x old.arrays x new.arrays [] → Flushing b items old new → HoldsState old.store.images old.parts x
+pub flush_stranded : (b : ℕ) (items : List Tuple) (old new : Moment) (x : State) → IsConsistent new.store → Keeps old.parts.urls.settings x old.arrays x new.arrays [] → Flushing b items old new
+    → HoldsState old.store.images old.parts x
     → Stranded 0 (uneven_flush old.parts.urls.settings.array b items) [] old new x
 flush_stranded b items old new x consistent keeps flush holds = by_told new.store.files refl
   where

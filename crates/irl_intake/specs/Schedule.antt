@@ -1,5 +1,6 @@
--- When arrays are flushed and when a merge runs (Lee, Leonard, Wang, Loguinov, "IRLbot: Scaling to 6 Billion Pages and Beyond", WWW 2008,
--- section 4): a merge waits for a bucket with enough offers, and a record of a bucket's journal has a whole array.
+-- When arrays are flushed and when a merge runs (Lee, Leonard, Wang, Loguinov, "IRLbot: Scaling to 6 Billion Pages and
+-- Beyond", WWW 2008, section 4): a merge waits for a bucket with enough offers, and a record of a bucket's journal has
+-- a whole array.
 use Rattle.std.specs.Prelude.{ℕ, ◌+◌, ◌*◌, ◌<◌, ◌≤◌, nat_eq, nat_le, ◌||◌, not, Bool, false, if◌then◌else◌, List, [], ◌∷◌, length, filter}
 use Rattle.irl_disk.specs.Disk.{Files}
 use Rattle.irl_bay.specs.Commits.{HasLiveRecords}
@@ -36,11 +37,14 @@ HaveRecords images urls records = (b : ℕ) → b < urls.settings.buckets → Ha
 
 -- each bucket has at most so many uneven records more than before; a merge empties its live journal
 abbrev pub AddsUneven : (ℕ → ℕ) → ℕ → ℕ → (ℕ → List (List ℕ)) → (ℕ → List (List ℕ)) → Type 0
-AddsUneven more buckets array old new = (b : ℕ) → b < buckets → uneven_records array (new b) ≤ uneven_records array (old b) + more b
+AddsUneven more buckets array old new = (b : ℕ) → b < buckets
+    → uneven_records array (new b) ≤ uneven_records array (old b) + more b
 
 -- a joint image has such records in its live journals
 abbrev pub LeavesUneven : (ℕ → ℕ) → Drum → (ℕ → List (List ℕ)) → Files → Type 0
-LeavesUneven more urls old image = (records : ℕ → List (List ℕ)) × ((b : ℕ) → b < urls.settings.buckets → HasLiveRecords urls.base urls.settings.buckets b (records b) image) × AddsUneven more urls.settings.buckets urls.settings.array old records
+LeavesUneven more urls old image = (records : ℕ → List (List ℕ))
+    × ((b : ℕ) → b < urls.settings.buckets → HasLiveRecords urls.base urls.settings.buckets b (records b) image)
+    × AddsUneven more urls.settings.buckets urls.settings.array old records
 
 -- no record more that is uneven, or one in each bucket
 abbrev pub none_more : ℕ → ℕ

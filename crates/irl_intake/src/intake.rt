@@ -2,12 +2,12 @@ ghost use Rattle.std.specs.Prelude.{◌≡◌, ◌≢◌, ◌⊎◌, ◌↔◌, 
 ghost use Rattle.std.specs.Prelude.{IfOk, IfErr, OnOk, OnErr, IsErrOf};
 ghost use Rattle.std.specs.Option.{ForSome};
 ghost use Rattle.irl_offer.specs.Buckets.{bucket_of as bucket_of_key};
-ghost use Rattle.irl_offer.specs.Faults.{HasCause};
+ghost use Rattle.irl_base.specs.Faults.{HasCause};
 ghost use Rattle.irl_offer.specs.Settings.{AreValid};
-ghost use Rattle.irl_offer.specs.declared.receipt.Fault.TheVariants.{Failed as FailedFault, Memory as MemoryFault};
-ghost use Rattle.irl_offer.specs.declared.receipt.Fault.TheVariants.{Full as FullFault, Damaged as DamagedFault};
+ghost use Rattle.irl_base.specs.declared.fault.Fault.TheVariants.{Failed as FailedFault, Memory as MemoryFault};
+ghost use Rattle.irl_base.specs.declared.fault.Fault.TheVariants.{Full as FullFault, Damaged as DamagedFault};
 ghost use Rattle.irl_model.specs.Book.{Book, gone, judged as judged_of};
-ghost use Rattle.irl_model.specs.State.{State};
+ghost use Rattle.irl_events.specs.State.{State};
 ghost use Rattle.irl_disk.specs.Images.{LeavesSame};
 ghost use Rattle.irl_bay.specs.Drum.{IsDrum, HasNumbers, durable_at, pending_at, SomePending};
 ghost use Rattle.irl_bay.specs.Spoilt.{IsSpoiltAt};
@@ -74,7 +74,8 @@ impl<S: Store> Intake<S> {
     /// Whether a bucket's array has no room for an offer.
     pub fn is_full(&self, b: u32) -> bool
         requires { b < self.now.yard.parts.urls.settings.buckets }
-        ensures { (result ≡ true) ↔ (self.now.yard.parts.urls.settings.array ≤ length (waiting_at self.now.arrays.items b)) }
+        ensures { (result ≡ true) ↔ (self.now.yard.parts.urls.settings.array
+            ≤ length (waiting_at self.now.arrays.items b)) }
     {
         self.arrays[b as usize].is_full()
     }
@@ -103,7 +104,8 @@ impl<S: Store> Intake<S> {
         // With room in the array nothing changes; else no merge is due before the flush from then on.
         ensures idle { length (waiting_at self.old.arrays.items b) < self.old.yard.parts.urls.settings.array →
             (self.new.yard ≡ self.old.yard) }
-        ensures ready { OnOk result (self.old.yard.parts.urls.settings.array ≤ length (waiting_at self.old.arrays.items b) →
+        ensures ready { OnOk result (self.old.yard.parts.urls.settings.array
+            ≤ length (waiting_at self.old.arrays.items b) →
             IsDue self.new.yard.parts.urls → ⊥) }
         ensures waiting { self.new.arrays ≡ self.old.arrays }
         ensures durable { (c : ℕ) → durable_at self.new.yard.parts.urls c ≡ durable_at self.old.yard.parts.urls c }
@@ -119,13 +121,13 @@ impl<S: Store> Intake<S> {
             (moment_of self.old.yard self.old.arrays.items) (moment_of self.new.yard self.new.arrays.items) }
         ensures full { (n : ℕ) → IsErrOf result (Fault.Full n) → ⊥ }
         ensures damaged { (f at : ℕ) → IsErrOf result (Fault.Damaged f at) →
-            ForSome (S.snapshot self.new.yard.store).files (λ files. IsSpoiltAt self.new.yard.parts.urls files f at) }
+            ForSome (S.told self.new.yard.store).files (λ files. IsSpoiltAt self.new.yard.parts.urls files f at) }
         ensures whole { (f at : ℕ) → IsErrOf result (Fault.Damaged f at) → HeldNone
             (moment_of self.old.yard self.old.arrays.items) }
         // A refused call has judged nothing.
         ensures judged_kept { OnErr result (self.new.yard.parts.urls.last ≡ self.old.yard.parts.urls.last) }
         ensures cause { HasCause (IsErrOf result Fault.Failed)
-            (S.faults self.old.yard.store) (S.faults self.new.yard.store) }
+            (S.told self.old.yard.store).faults (S.told self.new.yard.store).faults }
     {
         let _is_sound = self.yard.is_sound();
         if !self.is_full(b) {
@@ -140,11 +142,13 @@ impl<S: Store> Intake<S> {
         requires bucket { b < self.old.yard.parts.urls.settings.buckets }
         requires ready { self.old.yard.parts.urls.settings.array ≤ length (waiting_at self.old.arrays.items b) →
             IsDue self.old.yard.parts.urls → ⊥ }
-        ensures room { OnOk result (length (waiting_at self.new.arrays.items b) < self.old.yard.parts.urls.settings.array) }
+        ensures room { OnOk result (length (waiting_at self.new.arrays.items b)
+            < self.old.yard.parts.urls.settings.array) }
         // With room in the array nothing changes; else no merge is due from then on, and the other arrays wait.
         ensures idle { length (waiting_at self.old.arrays.items b) < self.old.yard.parts.urls.settings.array →
             (self.new.yard ≡ self.old.yard) × (self.new.arrays ≡ self.old.arrays) }
-        ensures ready { OnOk result (self.old.yard.parts.urls.settings.array ≤ length (waiting_at self.old.arrays.items b) →
+        ensures ready { OnOk result (self.old.yard.parts.urls.settings.array
+            ≤ length (waiting_at self.old.arrays.items b) →
             IsDue self.new.yard.parts.urls → ⊥) }
         ensures waiting { (c : ℕ) → c ≢ b → waiting_at self.new.arrays.items c ≡ waiting_at self.old.arrays.items c }
         // Whatever is answered, a bucket's offers wait as they did, or its count of durable ones has risen by theirs.
@@ -165,13 +169,13 @@ impl<S: Store> Intake<S> {
             × (1 ≤ length (waiting_at self.new.arrays.items b)) × (self.old.yard.parts.urls.settings.cap <
             durable_at self.new.yard.parts.urls b + length (waiting_at self.new.arrays.items b)) }
         ensures damaged { (f at : ℕ) → IsErrOf result (Fault.Damaged f at) →
-            ForSome (S.snapshot self.new.yard.store).files (λ files. IsSpoiltAt self.new.yard.parts.urls files f at) }
+            ForSome (S.told self.new.yard.store).files (λ files. IsSpoiltAt self.new.yard.parts.urls files f at) }
         ensures whole { (f at : ℕ) → IsErrOf result (Fault.Damaged f at) → HeldNone
             (moment_of self.old.yard self.old.arrays.items) }
         // A refused call has judged nothing.
         ensures judged_kept { OnErr result (self.new.yard.parts.urls.last ≡ self.old.yard.parts.urls.last) }
         ensures cause { HasCause (IsErrOf result Fault.Failed)
-            (S.faults self.old.yard.store) (S.faults self.new.yard.store) }
+            (S.told self.old.yard.store).faults (S.told self.new.yard.store).faults }
     {
         let _is_sound = self.yard.is_sound();
         if !self.is_full(b) {
@@ -203,13 +207,13 @@ impl<S: Store> Intake<S> {
             (moment_of self.old.yard self.old.arrays.items) (moment_of self.new.yard self.new.arrays.items) }
         ensures full { (n : ℕ) → IsErrOf result (Fault.Full n) → ⊥ }
         ensures damaged { (f at : ℕ) → IsErrOf result (Fault.Damaged f at) →
-            ForSome (S.snapshot self.new.yard.store).files (λ files. IsSpoiltAt self.new.yard.parts.urls files f at) }
+            ForSome (S.told self.new.yard.store).files (λ files. IsSpoiltAt self.new.yard.parts.urls files f at) }
         ensures whole { (f at : ℕ) → IsErrOf result (Fault.Damaged f at) → HeldNone
             (moment_of self.old.yard self.old.arrays.items) }
         // A refused call has judged nothing.
         ensures judged_kept { OnErr result (self.new.yard.parts.urls.last ≡ self.old.yard.parts.urls.last) }
         ensures cause { HasCause (IsErrOf result Fault.Failed)
-            (S.faults self.old.yard.store) (S.faults self.new.yard.store) }
+            (S.told self.old.yard.store).faults (S.told self.new.yard.store).faults }
     {
         let _is_sound = self.yard.is_sound();
         if !self.has_waiting() {
@@ -245,13 +249,13 @@ impl<S: Store> Intake<S> {
             durable_at self.new.yard.parts.urls n + length (waiting_at self.new.arrays.items n))
             × ((c : ℕ) → c < n → waiting_at self.new.arrays.items c ≡ []) }
         ensures damaged { (f at : ℕ) → IsErrOf result (Fault.Damaged f at) →
-            ForSome (S.snapshot self.new.yard.store).files (λ files. IsSpoiltAt self.new.yard.parts.urls files f at) }
+            ForSome (S.told self.new.yard.store).files (λ files. IsSpoiltAt self.new.yard.parts.urls files f at) }
         ensures whole { (f at : ℕ) → IsErrOf result (Fault.Damaged f at) → HeldNone
             (moment_of self.old.yard self.old.arrays.items) }
         // A refused call has judged nothing.
         ensures judged_kept { OnErr result (self.new.yard.parts.urls.last ≡ self.old.yard.parts.urls.last) }
         ensures cause { HasCause (IsErrOf result Fault.Failed)
-            (S.faults self.old.yard.store) (S.faults self.new.yard.store) }
+            (S.told self.old.yard.store).faults (S.told self.new.yard.store).faults }
     {
         let _is_sound = self.yard.is_sound();
         self.flush_all()?;
@@ -277,12 +281,12 @@ impl<S: Store> Intake<S> {
             (moment_of self.old.yard self.old.arrays.items) (moment_of self.new.yard self.new.arrays.items) }
         ensures full { (n : ℕ) → IsErrOf result (Fault.Full n) → ⊥ }
         ensures damaged { (f at : ℕ) → IsErrOf result (Fault.Damaged f at) →
-            ForSome (S.snapshot self.new.yard.store).files (λ files. IsSpoiltAt self.new.yard.parts.urls files f at) }
+            ForSome (S.told self.new.yard.store).files (λ files. IsSpoiltAt self.new.yard.parts.urls files f at) }
         ensures whole { (f at : ℕ) → IsErrOf result (Fault.Damaged f at) → HeldNone
             (moment_of self.old.yard self.old.arrays.items) }
         ensures judged_kept { OnErr result (self.new.yard.parts.urls.last ≡ self.old.yard.parts.urls.last) }
         ensures cause { HasCause (IsErrOf result Fault.Failed)
-            (S.faults self.old.yard.store) (S.faults self.new.yard.store) }
+            (S.told self.old.yard.store).faults (S.told self.new.yard.store).faults }
     {
         let _is_sound = self.yard.is_sound();
         if !self.is_due() {
@@ -310,12 +314,12 @@ impl<S: Store> Intake<S> {
             (moment_of self.old.yard self.old.arrays.items) (moment_of self.new.yard self.new.arrays.items) }
         ensures full { (n : ℕ) → IsErrOf result (Fault.Full n) → ⊥ }
         ensures damaged { (f at : ℕ) → IsErrOf result (Fault.Damaged f at) →
-            ForSome (S.snapshot self.new.yard.store).files (λ files. IsSpoiltAt self.new.yard.parts.urls files f at) }
+            ForSome (S.told self.new.yard.store).files (λ files. IsSpoiltAt self.new.yard.parts.urls files f at) }
         ensures whole { (f at : ℕ) → IsErrOf result (Fault.Damaged f at) → HeldNone
             (moment_of self.old.yard self.old.arrays.items) }
         ensures judged_kept { OnErr result (self.new.yard.parts.urls.last ≡ self.old.yard.parts.urls.last) }
         ensures cause { HasCause (IsErrOf result Fault.Failed)
-            (S.faults self.old.yard.store) (S.faults self.new.yard.store) }
+            (S.told self.old.yard.store).faults (S.told self.new.yard.store).faults }
     {
         let _is_sound = self.yard.is_sound();
         match self.yard.merge() {
@@ -353,7 +357,7 @@ impl<S: Store> Intake<S> {
         ensures damaged { (f at : ℕ) → IsErrOf result (Fault.Damaged f at) → ⊥ }
         ensures judged_kept { self.new.yard.parts.urls.last ≡ self.old.yard.parts.urls.last }
         ensures cause { HasCause (IsErrOf result Fault.Failed)
-            (S.faults self.old.yard.store) (S.faults self.new.yard.store) }
+            (S.told self.old.yard.store).faults (S.told self.new.yard.store).faults }
     {
         let _is_sound = self.yard.is_sound();
         self.yard.flush(b, &mut self.arrays[b as usize])
@@ -385,7 +389,7 @@ impl<S: Store> Intake<S> {
         ensures damaged { (f at : ℕ) → IsErrOf result (Fault.Damaged f at) → ⊥ }
         ensures judged_kept { self.new.yard.parts.urls.last ≡ self.old.yard.parts.urls.last }
         ensures cause { HasCause (IsErrOf result Fault.Failed)
-            (S.faults self.old.yard.store) (S.faults self.new.yard.store) }
+            (S.told self.old.yard.store).faults (S.told self.new.yard.store).faults }
     {
         let _is_sound = self.yard.is_sound();
         if self.arrays[b as usize].len() == 0 {
@@ -417,7 +421,7 @@ impl<S: Store> Intake<S> {
         ensures damaged { (f at : ℕ) → IsErrOf result (Fault.Damaged f at) → ⊥ }
         ensures judged_kept { self.new.yard.parts.urls.last ≡ self.old.yard.parts.urls.last }
         ensures cause { HasCause (IsErrOf result Fault.Failed)
-            (S.faults self.old.yard.store) (S.faults self.new.yard.store) }
+            (S.told self.old.yard.store).faults (S.told self.new.yard.store).faults }
     {
         let _is_sound = self.yard.is_sound();
         for b in 0..self.yard.settings().buckets {
@@ -478,11 +482,11 @@ impl<S: Store> Intake<S> {
         requires place { i < self.old.yard.parts.urls.last.judged }
         ensures count { IfOk result (λ found. length found ≡ min most (self.old.yard.parts.urls.last.judged - i)) }
         // They are those of the state.
-        ensures value { IfOk result (λ found. ForSome (S.snapshot self.old.yard.store).files (λ _. (state : State) →
-            HoldsState (S.snapshot self.old.yard.store).images self.old.yard.parts state →
+        ensures value { IfOk result (λ found. ForSome (S.told self.old.yard.store).files (λ _. (state : State) →
+            HoldsState (S.told self.old.yard.store).images self.old.yard.parts state →
             found ≡ take most (drop (i - gone state.urls) (judged_of state.urls)))) }
-        ensures holds { (state : State) → HoldsState (S.snapshot self.old.yard.store).images self.old.yard.parts state →
-            HoldsState (S.snapshot self.new.yard.store).images self.new.yard.parts state }
+        ensures holds { (state : State) → HoldsState (S.told self.old.yard.store).images self.old.yard.parts state →
+            HoldsState (S.told self.new.yard.store).images self.new.yard.parts state }
         ensures fed { Feeds 0 none_more []
             (moment_of self.old.yard self.old.arrays.items) (moment_of self.new.yard self.new.arrays.items) }
         ensures stays { Stays
@@ -492,14 +496,14 @@ impl<S: Store> Intake<S> {
         ensures sound { (IsErrOf result Fault.Failed → ⊥) → IsSound self.new.yard.parts }
         ensures unsound { IsErrOf result Fault.Failed → IsSound self.new.yard.parts → ⊥ }
         ensures damaged { (f at : ℕ) → IsErrOf result (Fault.Damaged f at) →
-            ForSome (S.snapshot self.new.yard.store).files (λ files. IsJudgedSpoiltAt self.new.yard.parts.urls files f at) }
+            ForSome (S.told self.new.yard.store).files (λ files. IsJudgedSpoiltAt self.new.yard.parts.urls files f at) }
         ensures whole { (f at : ℕ) → IsErrOf result (Fault.Damaged f at) → HeldNone
             (moment_of self.old.yard self.old.arrays.items) }
         ensures full { (n : ℕ) → IsErrOf result (Fault.Full n) → ⊥ }
-        ensures same { (S.snapshot self.new.yard.store).files ≡ (S.snapshot self.old.yard.store).files }
-        ensures same_stops { LeavesSame (S.snapshot self.old.yard.store) (S.snapshot self.new.yard.store) }
+        ensures same { (S.told self.new.yard.store).files ≡ (S.told self.old.yard.store).files }
+        ensures same_stops { LeavesSame (S.told self.old.yard.store) (S.told self.new.yard.store) }
         ensures cause { HasCause (IsErrOf result Fault.Failed)
-            (S.faults self.old.yard.store) (S.faults self.new.yard.store) }
+            (S.told self.old.yard.store).faults (S.told self.new.yard.store).faults }
     {
         let _is_sound = self.yard.is_sound();
         self.yard.judged_from(i, most)

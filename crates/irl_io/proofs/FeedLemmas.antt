@@ -9,7 +9,7 @@ use Rattle.std.proofs.lemmas.List.Folds.{prefix_len-append, length-prefix_len}
 use Rattle.std.proofs.lemmas.List.Sums.{position_or_len_is, passes_at_first, prefix_len-le-length}
 use Rattle.std.specs.List.{slice_range, AllByRecursion, position_or_len, before_first, after_first}
 use Rattle.memchr.specs.Find.{IsFirstByte, is_byte}
-use Rattle.irl_offer.specs.Limits.{max_text}
+use Rattle.irl_base.specs.Limits.{max_text}
 use Rattle.irl_io.specs.Lines.{lines, is_line_feed, IsLine}
 use Rattle.irl_io.specs.Steps.{TakesLine, RefusesLine, OfKnown}
 use Rattle.irl_io.specs.Lookahead.{HasLine}
@@ -20,7 +20,8 @@ pub found_first : (bytes : List ℕ) (m n : ℕ) → m ≤ length bytes → IsFi
 found_first bytes m n within found =
     let long : length (take m bytes) ≡ m = length-take-le m bytes within in
     let here : n < m = omega (arith, found.0.high) in
-    let before : (k : ℕ) → k < n → eqb (get_or bytes k 0) 10 ≡ false = λ k below. false_from_ne_true _ (λ is. found.0.before k (omega arith) below (ap (λ x. eqb x 10) (get_or-take m bytes k 0 (omega arith)) ∙ is)) in
+    let before : (k : ℕ) → k < n → eqb (get_or bytes k 0) 10 ≡ false = λ k below.
+    false_from_ne_true _ (λ is. found.0.before k (omega arith) below (ap (λ x. eqb x 10) (get_or-take m bytes k 0 (omega arith)) ∙ is)) in
     let at : eqb (get_or bytes n 0) 10 ≡ true = ap (λ x. eqb x 10) (sym (get_or-take m bytes n 0 here)) ∙ found.1 in
     (here, sym (position_or_len_is is_line_feed bytes n 0 (omega arith) before (λ _. at)))
 
@@ -61,7 +62,8 @@ takes_ended ahead left line new n first there line_is new_is =
     let some : ahead ++ left ≢ [] = not_nil ahead left (omega arith) in
     let same : position_or_len is_line_feed (ahead ++ left) ≡ n = first-append ahead left (omega arith) ∙ sym first in
     let first_is : line ≡ before_first is_line_feed (ahead ++ left) = line_is ∙ sym (take-append-le n ahead left (omega arith)) ∙ ap (λ k. take k (ahead ++ left)) (sym same) in
-    let back : new ++ left ≡ after_first is_line_feed (ahead ++ left) = ap (λ l. l ++ left) new_is ∙ sym (drop-append-le (n + 1) ahead left (omega arith)) ∙ ap (λ k. drop (k + 1) (ahead ++ left)) (sym same) in
+    let back : new ++ left ≡ after_first is_line_feed (ahead ++ left) = ap (λ l. l ++ left) new_is ∙ sym (drop-append-le (n + 1) ahead left (omega arith))
+    ∙ ap (λ k. drop (k + 1) (ahead ++ left)) (sym same) in
     takes line (ahead ++ left) (new ++ left) some first_is back
 
 -- the last line was taken: all that was read ahead
@@ -72,7 +74,8 @@ takes_last ahead left line new n first all some end line_is new_is =
     let none : new ++ left ≡ [] = ap (λ l. l ++ left) (new_is ∙ drop_all n ahead (omega arith)) ∙ end in
     let back : drop (position_or_len is_line_feed ahead + 1) ahead ≡ [] = drop_all _ ahead (omega arith) in
     let first_is : line ≡ before_first is_line_feed ahead = line_is ∙ ap (λ k. take k ahead) first in
-    takes line (ahead ++ left) (new ++ left) (not_nil ahead left (omega arith)) (subst (λ l. line ≡ before_first is_line_feed l) (sym whole) first_is) (subst (λ l. new ++ left ≡ after_first is_line_feed l) (sym whole) (none ∙ sym back))
+    takes line (ahead ++ left) (new ++ left) (not_nil ahead left (omega arith)) (subst (λ l. line ≡ before_first is_line_feed l) (sym whole) first_is)
+    (subst (λ l. new ++ left ≡ after_first is_line_feed l) (sym whole) (none ∙ sym back))
 
 whole_before : (feed : Bool) (b p : ℕ) (bytes : List ℕ) → eqb b 10 ≡ feed → AllByRecursion (λ x. x ≢ 10) (take p bytes) → AllByRecursion (λ x. x ≢ 10) (take (cond (not feed) (1 + p) 0) (b ∷ bytes))
 whole_before true b p bytes test later = tt
@@ -141,11 +144,13 @@ at_end (Some x) left is end = (cc)
 
 -- a step that gave a line
 pub takes_line : (b a : Option (List ℕ)) (old ahead shown items : List ℕ) (start end size whole : ℕ) → Keeps (prepend_known old b) (prepend_known ahead a) → shown ≡ items
-    → slice_range items start end ≡ ahead → HasLine size whole ahead a → OfKnown (TakesLine (take (start + size - start) (drop start shown))) (prepend_known old b) (prepend_known (slice_range items (start + whole) end) a)
+    → slice_range items start end ≡ ahead → HasLine size whole ahead a → OfKnown (TakesLine (take (start + size - start) (drop start shown))) (prepend_known old b)
+    (prepend_known (slice_range items (start + whole) end) a)
 takes_line b a old ahead shown items start end size whole kept same view has =
     let fits : length ahead ≤ end - start = omega (arith, ap length view, length-take (end - start) (drop start items)) in
     let size_fits : size ≤ end - start = elim has.ended [ inl e ↦ omega (arith, has.within) | inr e ↦ omega (arith, has.within, e.0) ] in
-    let line_is : take (start + size - start) (drop start shown) ≡ take size ahead = ap (λ l. take (start + size - start) (drop start l)) same ∙ slice_first items start end size size_fits ∙ ap (take size) view in
+    let line_is : take (start + size - start) (drop start shown) ≡ take size ahead = ap (λ l. take (start + size - start) (drop start l)) same ∙ slice_first items start end size size_fits
+    ∙ ap (take size) view in
     let new_is : slice_range items (start + whole) end ≡ drop whole ahead = slice_back items start end whole (omega (arith, has.within)) ∙ ap (drop whole) view in
     of_left _ b a old ahead _ kept (λ left known. elim has.ended [
       | inl e ↦ takes_ended ahead left _ _ size has.first (omega (arith, has.within, e)) line_is (new_is ∙ ap (λ k. drop k ahead) e)
@@ -153,7 +158,8 @@ takes_line b a old ahead shown items start end size whole kept same view has =
     ])
 
 -- what such a step gave
-pub gives_line : (a : Option (List ℕ)) (ahead shown items : List ℕ) (start end size whole : ℕ) → shown ≡ items → slice_range items start end ≡ ahead → HasLine size whole ahead a → IsLine (take (start + size - start) (drop start shown))
+pub gives_line : (a : Option (List ℕ)) (ahead shown items : List ℕ) (start end size whole : ℕ) → shown ≡ items → slice_range items start end ≡ ahead → HasLine size whole ahead a
+    → IsLine (take (start + size - start) (drop start shown))
 gives_line a ahead shown items start end size whole same view has =
     let fits : length ahead ≤ end - start = omega (arith, ap length view, length-take (end - start) (drop start items)) in
     let size_fits : size ≤ end - start = elim has.ended [ inl e ↦ omega (arith, has.within) | inr e ↦ omega (arith, has.within, e.0) ] in

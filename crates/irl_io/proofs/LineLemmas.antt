@@ -46,7 +46,8 @@ whole_onto : (b : ℕ) (ls : List (List ℕ)) → b ≢ 10 → AllByRecursion (A
 whole_onto b [] other later = ((other, tt), tt)
 whole_onto b (line ∷ ls) other later = ((other, later.0), later.1)
 
-whole_next : (feed : Bool) (b : ℕ) (ls : List (List ℕ)) → eqb b 10 ≡ feed → AllByRecursion (AllByRecursion (λ x. x ≢ 10)) ls → AllByRecursion (AllByRecursion (λ x. x ≢ 10)) (cond feed ([] ∷ ls) (onto_first b ls))
+whole_next : (feed : Bool) (b : ℕ) (ls : List (List ℕ)) → eqb b 10 ≡ feed → AllByRecursion (AllByRecursion (λ x. x ≢ 10)) ls
+    → AllByRecursion (AllByRecursion (λ x. x ≢ 10)) (cond feed ([] ∷ ls) (onto_first b ls))
 whole_next true b ls test later = (tt, later)
 whole_next false b ls test later = whole_onto b ls (eqb-false b 10 test) later
 

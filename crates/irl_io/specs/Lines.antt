@@ -1,7 +1,7 @@
 -- The lines of some bytes.
 use Rattle.std.specs.Prelude.{◌≡◌, ℕ, ◌≤◌, ◌≢◌, Bool, ◌==◌, List, [], ◌∷◌, ◌++◌, length, if◌then◌else◌}
 use Rattle.std.specs.List.{onto_first, flat_map, AllByRecursion}
-use Rattle.irl_offer.specs.Limits.{max_text}
+use Rattle.irl_base.specs.Limits.{max_text}
 
 -- a line feed, at which a line ends
 abbrev pub is_line_feed : ℕ → Bool

@@ -2,7 +2,7 @@
 use Rattle.std.specs.Prelude.{◌≡◌, ℕ, ◌+◌, ◌<◌, ◌≤◌, ⊤, ◌⊎◌, List, [], length, Option}
 use Rattle.std.specs.List.{position_or_len}
 use Rattle.std.specs.Io.KnownBytes.{IsAtEnd}
-use Rattle.irl_offer.specs.Limits.{max_text}
+use Rattle.irl_base.specs.Limits.{max_text}
 use Rattle.irl_io.specs.Lines.{is_line_feed}
 use Rattle.irl_io.specs.declared.lines.Lookahead.{Lookahead}
 use Rattle.irl_io.specs.declared.lines.Lookahead.TheVariants.{Line, Long, End, Failed}

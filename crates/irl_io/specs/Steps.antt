@@ -2,7 +2,7 @@
 use Rattle.std.specs.Prelude.{◌≡◌, ◌≢◌, ℕ, ◌+◌, ◌<◌, ⊤, ◌⊎◌, List, [], ◌∷◌, length, Option, None, Some}
 use Rattle.std.specs.List.{before_first, after_first}
 use Rattle.std.specs.Io.KnownBytes.{prepend_known}
-use Rattle.irl_offer.specs.Limits.{max_text}
+use Rattle.irl_base.specs.Limits.{max_text}
 use Rattle.irl_io.specs.Lines.{lines, is_line_feed, most_lines, IsLine}
 use Rattle.irl_io.specs.declared.lines.Step.{Step}
 use Rattle.irl_io.specs.declared.lines.Step.TheVariants.{Line, End, LongLine, Failed}

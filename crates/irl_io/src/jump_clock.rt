@@ -29,6 +29,9 @@ impl JumpClock {
 impl Clock for JumpClock {
     ghost last = { λ c. c };
 
+    // It is its moment and nothing else, which no call makes less.
+    ghost apart = { λ old new. old ≤ new };
+
     fn now(&mut self) -> u64
         ensures value { result ≡ self.old }
         ensures same { self.new ≡ self.old }

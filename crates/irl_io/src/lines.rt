@@ -4,15 +4,15 @@ ghost use Rattle.std.specs.Borrow.{sem};
 ghost use Rattle.std.specs.Io.BufRead.{Rests};
 ghost use Rattle.std.specs.Io.KnownBytes.{Keeps, ReadConsumes, IsAtEnd, prepend_known};
 ghost use Rattle.std.specs.List.{position_or_len};
-ghost use Rattle.irl_offer.specs.Faults.{HasCause};
-ghost use Rattle.irl_offer.specs.Limits.{max_text};
+ghost use Rattle.irl_base.specs.Faults.{HasCause};
+ghost use Rattle.irl_base.specs.Limits.{max_text};
 ghost use Rattle.irl_io.specs.Lines.{is_line_feed};
 ghost use Rattle.irl_io.specs.Steps.{Stepped, KeepsLimits};
 ghost use Rattle.irl_io.specs.Lookahead.{Stands};
 ghost use Rattle.irl_io.specs.contracts.lines.Lines.{the_row};
 
 use crate::source::{self, Source};
-use irl_offer::MAX_TEXT;
+use irl_base::MAX_TEXT;
 use memchr::memchr;
 use std::alloc::{AllocError, Global};
 use std::marker::Model;

@@ -1,6 +1,6 @@
 ghost use Rattle.std.specs.Prelude.{◌≡◌, [], Some, IsErr, OnOk, OnErr, Contains, is_ok, if◌then◌else◌};
 ghost use Rattle.std.specs.Io.KnownBytes.{Appends};
-ghost use Rattle.irl_offer.specs.Faults.{HasCause, counted};
+ghost use Rattle.irl_base.specs.Faults.{HasCause, counted};
 ghost use Rattle.irl_io.specs.Written.{AppendsPrefix};
 
 use crate::sink::Sink;

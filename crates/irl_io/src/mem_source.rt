@@ -2,7 +2,7 @@ ghost use Rattle.std.specs.Prelude.{◌≡◌, ◌+◌, ◌≤◌, ◌↔◌, mi
 ghost use Rattle.std.specs.Prelude.{Some, IsErr, IfOk, Contains, is_ok, if◌then◌else◌};
 ghost use Rattle.std.specs.Io.{ReadsAtMost};
 ghost use Rattle.std.specs.Io.KnownBytes.{ReadConsumes};
-ghost use Rattle.irl_offer.specs.Faults.{HasCause, counted};
+ghost use Rattle.irl_base.specs.Faults.{HasCause, counted};
 
 use crate::source::{Failed, Source};
 use std::marker::Model;

@@ -1,7 +1,7 @@
 ghost use Rattle.std.specs.Prelude.{List, ℕ, Option, IsErr};
 ghost use Rattle.std.specs.Io.{ReadsAtMost};
 ghost use Rattle.std.specs.Io.KnownBytes.{ReadConsumes};
-ghost use Rattle.irl_offer.specs.Faults.{HasCause};
+ghost use Rattle.irl_base.specs.Faults.{HasCause};
 
 /// A source or a sink failed; its count of faults rose.
 #[derive(Clone, Copy, Debug, PartialEq, Eq)]

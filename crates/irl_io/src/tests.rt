@@ -41,11 +41,12 @@ impl io::Read for Shaky {
     }
 }
 
-/// Takes at most three bytes at a time, and nothing once it holds ten.
+/// Takes at most three bytes at a time, and nothing once it holds ten. A flush fails once it holds eight, and else tells
+/// how many it holds.
 #[derive(Drop)]
 struct Narrow {
     bytes: Vec<u8>,
-    flushes: u32,
+    flushed: usize,
 }
 
 impl io::Write for Narrow {
@@ -59,7 +60,10 @@ impl io::Write for Narrow {
     }
 
     fn flush(&mut self) -> io::Result<()> {
-        self.flushes = self.flushes.saturating_add(1);
+        if self.bytes.len() >= 8 {
+            return Err(io::Error::from(io::ErrorKind::Other));
+        }
+        self.flushed = self.bytes.len();
         Ok(())
     }
 }
@@ -273,12 +277,21 @@ fn writers_of_std_are_passed_on(rt: HostRuntime) {
 
     let mut narrow = Narrow {
         bytes: Vec::new(rt.alloc()),
-        flushes: 0,
+        flushed: 0,
     };
-    let pieces: [(&[u8], bool); 2] = [(b"0123456", false), (b"789abc", true)];
-    check_writes(&rt, &mut WriteSink::new(&mut narrow), &pieces);
-    assert_eq!(rt; narrow.bytes.as_slice(), b"0123456789".as_slice());
-    assert_eq!(rt; narrow.flushes, 1);
+    // Whether the write fails, and how many bytes were flushed by then.
+    let pieces: [(&[u8], bool, usize); 4] = [
+        (b"01234", false, 5),
+        (b"56", false, 7),
+        (b"7", true, 7),
+        (b"89abc", true, 7),
+    ];
+    for (piece, fails, flushed) in pieces {
+        let result = WriteSink::new(&mut narrow).write(piece);
+        assert_eq!(rt; result.is_err(), fails);
+        assert_eq!(rt; narrow.flushed, flushed);
+    }
+    assert_eq!(rt; narrow.bytes.as_slice(), b"0123456789a".as_slice());
 }
 
 // What is waited for, and the moment then. The clock is used as any clock is.

@@ -1,5 +1,5 @@
 ghost use Rattle.std.specs.Prelude.{◌≡◌, List, ℕ, Option};
-ghost use Rattle.irl_offer.specs.Faults.{counted};
+ghost use Rattle.irl_base.specs.Faults.{counted};
 ghost use Rattle.irl_io.specs.Adapter.{writer_of, write_faults};
 
 use crate::read_source::TRIES;

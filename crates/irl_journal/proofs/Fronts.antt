@@ -3,7 +3,7 @@ use Rattle.std.proofs.Common.{◌≡◌, ◌∙◌, ℕ, ◌+◌, ◌≤◌, Lis
 use Rattle.std.proofs.lemmas.List.{take_at, take-take, take-append-le, drop-append-le}
 use Rattle.std.specs.Option.{ForSome}
 use Rattle.irl_disk.specs.Disk.{Files, Changes, ChangesFile, Holds, Scribbled, PartlyCut}
-use Rattle.irl_disk.specs.Images.{Snapshot, IsConsistent, Leaves, LeavesBy, LeavesSame}
+use Rattle.irl_disk.specs.Images.{Told, IsConsistent, Leaves, LeavesBy, LeavesSame}
 use Rattle.irl_disk.proofs.Frames.{told_from}
 use Rattle.irl_disk.proofs.Stretches.{widens, widens_by, reads_on, left_now}
 use Rattle.irl_journal.specs.Blob.{Front, BeginsWith, KeepsFront, IsCommitted}
@@ -70,22 +70,24 @@ grows n held bytes old new size begins holds =
 
 -- ---- what stops leave
 -- a write behind the front
-pub front_wrote : (f n count : ℕ) (old new : Snapshot) → LeavesBy (ChangesFile f (Scribbled n count)) old new → LeavesBy (ChangesFile f (KeepsFront n)) old new
+pub front_wrote : (f n count : ℕ) (old new : Told) → LeavesBy (ChangesFile f (Scribbled n count)) old new → LeavesBy (ChangesFile f (KeepsFront n)) old new
 front_wrote f n count old new call = widens_by old new _ _ call
     (λ before image step. record { changed = scribbled_past n n count (before f) (image f) (omega arith) step.changed; others = step.others })
 
 -- and the sync behind it
-pub front_synced : (f n : ℕ) (old mid new : Snapshot) → IsConsistent mid → LeavesBy (ChangesFile f (KeepsFront n)) old mid → LeavesSame mid new → LeavesBy (ChangesFile f (KeepsFront n)) old new
+pub front_synced : (f n : ℕ) (old mid new : Told) → IsConsistent mid → LeavesBy (ChangesFile f (KeepsFront n)) old mid → LeavesSame mid new → LeavesBy (ChangesFile f (KeepsFront n)) old new
 front_synced f n old mid new law so_far call = reads_on old mid new _ law so_far call
 
 -- what is told changes so too
-pub told_keeps : (f n : ℕ) (step : List ℕ → List ℕ → Type 0) (old new : Option Files) → ((before : Files) (after : List ℕ) → old ≡ Some before → step (before f) after → KeepsFront n (before f) after) → Changes f step old new → Changes f (KeepsFront n) old new
+pub told_keeps : (f n : ℕ) (step : List ℕ → List ℕ → Type 0) (old new : Option Files) → ((before : Files) (after : List ℕ) → old ≡ Some before → step (before f) after → KeepsFront n (before f) after)
+    → Changes f step old new → Changes f (KeepsFront n) old new
 told_keeps f n step None new keeps changes = changes
 told_keeps f n step (Some old) new keeps changes = (changes.0, changes.1, record { changed = keeps old (changes.0 f) refl changes.2.changed; others = changes.2.others })
 
 -- once the bytes are synced, each image has them
-pub all_grow : (f n : ℕ) (held bytes : List ℕ) (old mid new : Snapshot) → IsConsistent old → IsConsistent new → length held ≡ n → ((image : Files) → old.images image → BeginsWith (image f) held)
-    → Changes f (Holds n bytes) old.files mid.files → new.files ≡ mid.files → ForSome mid.files (λ files. (image : Files) → new.images image → image f ≡ files f) → (image : Files) → new.images image → BeginsWith (image f) (held ++ bytes)
+pub all_grow : (f n : ℕ) (held bytes : List ℕ) (old mid new : Told) → IsConsistent old → IsConsistent new → length held ≡ n → ((image : Files) → old.images image → BeginsWith (image f) held)
+    → Changes f (Holds n bytes) old.files mid.files → new.files ≡ mid.files → ForSome mid.files (λ files. (image : Files) → new.images image → image f ≡ files f) → (image : Files) → new.images image
+    → BeginsWith (image f) (held ++ bytes)
 all_grow f n held bytes old mid new law_old law_new size each written same durable image left =
     let told = law_new.tells image left in
     let told_mid : mid.files ≡ Some told.0 = sym same ∙ told.1 in
@@ -95,7 +97,8 @@ all_grow f n held bytes old mid new law_old law_new size each written same durab
 
 -- ---- for callers
 -- what is committed stays so through calls that keep the front
-pub stays_committed : (blob : Front) (held : List ℕ) (old new : Snapshot) → IsConsistent new → LeavesBy (ChangesFile blob.file (KeepsFront blob.length)) old new → IsCommitted old.images blob held → IsCommitted new.images blob held
+pub stays_committed : (blob : Front) (held : List ℕ) (old new : Told) → IsConsistent new → LeavesBy (ChangesFile blob.file (KeepsFront blob.length)) old new → IsCommitted old.images blob held
+    → IsCommitted new.images blob held
 stays_committed blob held old new law stops committed = record {
   size = committed.size;
   each = λ image left.
@@ -104,17 +107,18 @@ stays_committed blob held old new law stops committed = record {
 }
 
 -- and so it does at every moment of them
-pub stops_committed : (blob : Front) (held : List ℕ) (old new : Snapshot) → LeavesBy (ChangesFile blob.file (KeepsFront blob.length)) old new → IsCommitted old.images blob held → Leaves old new (λ image. BeginsWith (image blob.file) held)
+pub stops_committed : (blob : Front) (held : List ℕ) (old new : Told) → LeavesBy (ChangesFile blob.file (KeepsFront blob.length)) old new → IsCommitted old.images blob held
+    → Leaves old new (λ image. BeginsWith (image blob.file) held)
 stops_committed blob held old new stops committed =
     widens old new _ (λ image. BeginsWith (image blob.file) held) stops (λ image from. from.2.changed held committed.size (committed.each from.0 from.1))
 
 -- the file has as many bytes, so that more can be appended
-pub committed_within : (blob : Front) (held : List ℕ) (now : Snapshot) → IsConsistent now → IsCommitted now.images blob held → ForSome now.files (λ files. blob.length ≤ length (files blob.file))
+pub committed_within : (blob : Front) (held : List ℕ) (now : Told) → IsConsistent now → IsCommitted now.images blob held → ForSome now.files (λ files. blob.length ≤ length (files blob.file))
 committed_within blob held now law committed = λ files told.
     omega (arith, committed.size, begins_long (files blob.file) held (committed.each files (law.told files told)))
 
 -- opening commits whatever the file begins with, of that length
-pub opened_committed : (f n : ℕ) (held : List ℕ) (blob : Front) (old new : Snapshot) → IsConsistent new → blob ≡ record { file = f; length = n } → new.files ≡ old.files
+pub opened_committed : (f n : ℕ) (held : List ℕ) (blob : Front) (old new : Told) → IsConsistent new → blob ≡ record { file = f; length = n } → new.files ≡ old.files
     → ForSome old.files (λ files. IsCommitted new.images blob (take n (files f))) → ForSome old.files (λ files. BeginsWith (files f) held) → length held ≡ n → IsCommitted new.images blob held
 opened_committed f n held blob old new law is same committed begins size = record {
   size = size ∙ sym (ap (λ (front : Front). front.length) is);
@@ -126,15 +130,17 @@ opened_committed f n held blob old new law is same committed begins size = recor
 }
 
 -- where each image has the file's bytes, those up to a length are committed
-pub synced_committed : (f n : ℕ) (file : List ℕ) (blob : Front) (images : Files → Type 0) → blob ≡ record { file = f; length = n } → n ≤ length file → ((image : Files) → images image → image f ≡ file) → IsCommitted images blob (take n file)
+pub synced_committed : (f n : ℕ) (file : List ℕ) (blob : Front) (images : Files → Type 0) → blob ≡ record { file = f; length = n } → n ≤ length file → ((image : Files) → images image → image f ≡ file)
+    → IsCommitted images blob (take n file)
 synced_committed f n file blob images is within durable = subst (λ (front : Front). IsCommitted images front (take n file)) (sym is) record {
   size = length-take-le n file within;
   each = λ image left. (drop n file, durable image left ∙ sym (take-append-drop n file));
 }
 
 -- so some bytes are committed after an append, whether it failed or not
-pub committed_after : {T E : Type 0} (result : Result T E) (blob after : Front) (held bytes : List ℕ) (old new : Snapshot) → IsConsistent new → IsCommitted old.images blob held
-    → OnOk result ((held : List ℕ) → IsCommitted old.images blob held → IsCommitted new.images after (held ++ bytes)) → OnErr result (after ≡ blob) → LeavesBy (ChangesFile blob.file (KeepsFront blob.length)) old new
+pub committed_after : {T E : Type 0} (result : Result T E) (blob after : Front) (held bytes : List ℕ) (old new : Told) → IsConsistent new → IsCommitted old.images blob held
+    → OnOk result ((held : List ℕ) → IsCommitted old.images blob held → IsCommitted new.images after (held ++ bytes)) → OnErr result (after ≡ blob)
+    → LeavesBy (ChangesFile blob.file (KeepsFront blob.length)) old new
     → (held : List ℕ) × IsCommitted new.images after held
 committed_after (Ok value) blob after held bytes old new law committed ok err stops = (held ++ bytes, ok held committed)
 committed_after (Err error) blob after held bytes old new law committed ok err stops =
@@ -145,7 +151,8 @@ pub none_committed : (images : Files → Type 0) (file : ℕ) → IsCommitted im
 none_committed images file = record { size = refl; each = λ image left. (image file, refl) }
 
 -- a rewind commits fewer of the bytes
-pub rewinds : (images : Files → Type 0) (blob : Front) (held : List ℕ) (n : ℕ) → n ≤ blob.length → IsCommitted images blob held → IsCommitted images (record { file = blob.file; length = n }) (take n held)
+pub rewinds : (images : Files → Type 0) (blob : Front) (held : List ℕ) (n : ℕ) → n ≤ blob.length → IsCommitted images blob held
+    → IsCommitted images (record { file = blob.file; length = n }) (take n held)
 rewinds images blob held n less committed = record {
   size = length-take-le n held (omega (arith, committed.size));
   each = λ image left.

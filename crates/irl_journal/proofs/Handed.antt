@@ -65,7 +65,8 @@ module _ {V : Type 0} (takes : V → ℕ → List ℕ → V → Type 0) where
       }
 
   -- with no gate that is closed there, an open one stands behind them where there are bytes
-  open_handed : (old new : V) (from n : ℕ) (bytes : List ℕ) → 1 ≤ length bytes → (handed : HandsOver takes old new from n false bytes) → (rest : List ℕ) × (bytes ≡ records_text handed.payloads ++ open_gate ∷ rest) × HasNoRecord (open_gate ∷ rest)
+  open_handed : (old new : V) (from n : ℕ) (bytes : List ℕ) → 1 ≤ length bytes → (handed : HandsOver takes old new from n false bytes) → (rest : List ℕ)
+      × (bytes ≡ records_text handed.payloads ++ open_gate ∷ rest) × HasNoRecord (open_gate ∷ rest)
   open_handed old new from n bytes some handed =
       let cut = handed.cut_short refl in
       ⊎_elim
@@ -85,7 +86,8 @@ module _ {V : Type 0} (takes : V → ℕ → List ℕ → V → Type 0) where
 
   -- ---- from a file's first byte on
   -- the visitor took the file's records
-  pub ends_handed : (old new : V) (file : List ℕ) (end : ℕ) → StopsAt takes old new 0 true file end → (payloads : List (List ℕ)) × Ends end file payloads × TakesAll takes old (placed_from 0 payloads) new
+  pub ends_handed : (old new : V) (file : List ℕ) (end : ℕ) → StopsAt takes old new 0 true file end → (payloads : List (List ℕ)) × Ends end file payloads
+      × TakesAll takes old (placed_from 0 payloads) new
   ends_handed old new file end stops =
       let handed = stops.handed in (
         handed.payloads,
@@ -115,7 +117,8 @@ module _ {V : Type 0} (takes : V → ℕ → List ℕ → V → Type 0) where
       }
 
   -- it refuses one
-  refused_handed : (refuses : V → ℕ → List ℕ → V → Type 0) (visitor after : V) (file : List ℕ) (at : ℕ) → RefusesAt takes refuses visitor after 0 file at → IsRefusedAt takes refuses visitor after file at
+  refused_handed : (refuses : V → ℕ → List ℕ → V → Type 0) (visitor after : V) (file : List ℕ) (at : ℕ) → RefusesAt takes refuses visitor after 0 file at
+      → IsRefusedAt takes refuses visitor after file at
   refused_handed refuses visitor after file at refusal =
       let gated = next_gate refusal.behind refusal.more in
       record {
@@ -133,20 +136,24 @@ module _ {V : Type 0} (takes : V → ℕ → List ℕ → V → Type 0) where
       }
 
   -- what stops a visitor there
-  pub damage_handed : (refuses : V → ℕ → List ℕ → V → Type 0) (visitor after : V) (file : List ℕ) (at : ℕ) → 1 < length file → StopsAt takes visitor after 0 false file at ⊎ RefusesAt takes refuses visitor after 0 file at → IsBrokenFor takes visitor after file at ⊎ IsRefusedAt takes refuses visitor after file at
+  pub damage_handed : (refuses : V → ℕ → List ℕ → V → Type 0) (visitor after : V) (file : List ℕ) (at : ℕ) → 1 < length file → StopsAt takes visitor after 0 false file at
+      ⊎ RefusesAt takes refuses visitor after 0 file at → IsBrokenFor takes visitor after file at ⊎ IsRefusedAt takes refuses visitor after file at
   damage_handed refuses visitor after file at long (inl stops) = inl (broken_handed visitor after file at long stops)
   damage_handed refuses visitor after file at long (inr refusal) = inr (refused_handed refuses visitor after file at refusal)
 
   -- ---- from the gate of one of a file's records on
   -- the visitor took those from there on
-  pub takes_rest : (old new : V) (file : List ℕ) (first more : List (List ℕ)) (end at place : ℕ) → Ends end file (first ++ more) → at ≡ length (records_text first) → StopsAt takes old new at true (drop at file) place → TakesAll takes old (placed_from at more) new
+  pub takes_rest : (old new : V) (file : List ℕ) (first more : List (List ℕ)) (end at place : ℕ) → Ends end file (first ++ more) → at ≡ length (records_text first)
+      → StopsAt takes old new at true (drop at file) place → TakesAll takes old (placed_from at more) new
   takes_rest old new file first more end at place ends here stops =
       let same = same_handed old new at stops.count (drop at file) more (has_rest file first more end at ends here) stops.handed in
       subst (λ (ps : List (List ℕ)). TakesAll takes old (placed_from at ps) new) same stops.handed.took
 
   -- and where they don't end at the journal's end, it refuses one of them
-  pub refuses_rest : (refuses : V → ℕ → List ℕ → V → Type 0) (visitor after : V) (file : List ℕ) (first more : List (List ℕ)) (end at place : ℕ) → Ends end file (first ++ more) → at ≡ length (records_text first)
-      → StopsAt takes visitor after at false (drop at file) place ⊎ ((StopsAt takes visitor after at true (drop at file) place × (place ≢ end)) ⊎ RefusesAt takes refuses visitor after at (drop at file) place) → RefusesOneFrom takes refuses visitor after at more place
+  pub refuses_rest : (refuses : V → ℕ → List ℕ → V → Type 0) (visitor after : V) (file : List ℕ) (first more : List (List ℕ)) (end at place : ℕ) → Ends end file (first ++ more) → at
+      ≡ length (records_text first)
+      → StopsAt takes visitor after at false (drop at file) place ⊎ ((StopsAt takes visitor after at true (drop at file) place × (place ≢ end))
+      ⊎ RefusesAt takes refuses visitor after at (drop at file) place) → RefusesOneFrom takes refuses visitor after at more place
   refuses_rest refuses visitor after file first more end at place ends here (inl stops) =
       let bytes = drop at file in
       let has = has_rest file first more end at ends here in
@@ -163,4 +170,14 @@ module _ {V : Type 0} (takes : V → ℕ → List ℕ → V → Type 0) where
       let has = has_rest file first more end at ends here in
       let behind = record_of more refusal.payloads refusal.payload has.rest refusal.behind has.gate has.closed has.each refusal.each refusal.fits
       (sym has.bytes ∙ refusal.bytes_are ∙ append_assoc (records_text refusal.payloads) (open_gate ∷ body_text refusal.payload) refusal.behind) in
-      record { first = refusal.payloads; payload = refusal.payload; more = behind.0; among = behind.1; place = refusal.place_is; reached = refusal.reached; took = refusal.took; refused = refusal.refused }
+      record {
+        first = refusal.payloads;
+        payload = refusal.payload;
+        more = behind.0;
+        among = behind.1;
+        place = refusal.place_is;
+        reached = refusal.reached;
+        took = refusal.took;
+        refused =
+            refusal.refused;
+      }

@@ -1,8 +1,10 @@
 pub mod Appended
 pub mod Fronts
 pub mod Gates
+pub mod Growing
 pub mod Handed
 pub mod Lists
 pub mod Opened
+pub mod Placed
 pub mod Reading
 pub mod Writing

@@ -33,7 +33,8 @@ pub records-cons : (x : List ℕ) (xs : List (List ℕ)) (rest : List ℕ) → r
 records-cons x xs rest = append_assoc (open_gate ∷ body_text x) (records_text xs) rest
 
 -- what stands behind the first of two equal first records
-same_firsts : (x y : List ℕ) (xs ys : List (List ℕ)) (r s : List ℕ) → IsPayload x → IsPayload y → records_text (x ∷ xs) ++ r ≡ records_text (y ∷ ys) ++ s → (x ≡ y) × (records_text xs ++ r ≡ records_text ys ++ s)
+same_firsts : (x y : List ℕ) (xs ys : List (List ℕ)) (r s : List ℕ) → IsPayload x → IsPayload y → records_text (x ∷ xs) ++ r ≡ records_text (y ∷ ys) ++ s → (x ≡ y)
+    × (records_text xs ++ r ≡ records_text ys ++ s)
 same_firsts x y xs ys r s fits_x fits_y same =
     let apart : open_gate ∷ body_text x ++ (records_text xs ++ r) ≡ open_gate ∷ body_text y ++ (records_text ys ++ s) = sym (records-cons x xs r) ∙ same ∙ records-cons y ys s in
     same_bodies x y (records_text xs ++ r) (records_text ys ++ s) fits_x fits_y (ap (drop 1) apart)
@@ -43,7 +44,8 @@ first_of_two : (a b : ℕ) (xs ys : List ℕ) → a ∷ xs ≡ b ∷ ys → a �
 first_of_two a b xs ys same = cc
 
 -- two lists of records, each with a closed gate behind it
-pub same_lists : (xs ys : List (List ℕ)) (a b : ℕ) (r s : List ℕ) → a ≢ open_gate → b ≢ open_gate → AllByRecursion IsPayload xs → AllByRecursion IsPayload ys → records_text xs ++ a ∷ r ≡ records_text ys ++ b ∷ s → xs ≡ ys
+pub same_lists : (xs ys : List (List ℕ)) (a b : ℕ) (r s : List ℕ) → a ≢ open_gate → b ≢ open_gate → AllByRecursion IsPayload xs → AllByRecursion IsPayload ys → records_text xs ++ a ∷ r
+    ≡ records_text ys ++ b ∷ s → xs ≡ ys
 same_lists [] [] a b r s no_a no_b each_x each_y same = refl
 same_lists [] (y ∷ ys) a b r s no_a no_b each_x each_y same = absurd (no_a (first_of_two a open_gate r _ (same ∙ records-cons y ys (b ∷ s))))
 same_lists (x ∷ xs) [] a b r s no_a no_b each_x each_y same = absurd (no_b (first_of_two b open_gate s _ (sym same ∙ records-cons x xs (a ∷ r))))
@@ -59,7 +61,8 @@ begins bytes x (y ∷ ys) a r none fits is = none x (body_text y ++ (records_tex
     (is ∙ records-cons x (y ∷ ys) (a ∷ r) ∙ ap (λ (rest : List ℕ). open_gate ∷ body_text x ++ rest) (records-cons y ys (a ∷ r)))
 
 -- records with a closed gate behind them, and records with an open gate whose record is not whole
-pub not_broken : (xs ys : List (List ℕ)) (a : ℕ) (r s : List ℕ) → a ≢ open_gate → AllByRecursion IsPayload xs → AllByRecursion IsPayload ys → HasNoRecord (open_gate ∷ s) → records_text xs ++ a ∷ r ≡ records_text ys ++ open_gate ∷ s → ⊥
+pub not_broken : (xs ys : List (List ℕ)) (a : ℕ) (r s : List ℕ) → a ≢ open_gate → AllByRecursion IsPayload xs → AllByRecursion IsPayload ys → HasNoRecord (open_gate ∷ s) → records_text xs ++ a ∷ r
+    ≡ records_text ys ++ open_gate ∷ s → ⊥
 not_broken [] [] a r s no_a each_x each_y none same = no_a (first_of_two a open_gate r s same)
 not_broken [] (y ∷ ys) a r s no_a each_x each_y none same = no_a (first_of_two a open_gate r _ (same ∙ records-cons y ys (open_gate ∷ s)))
 not_broken (x ∷ xs) [] a r s no_a each_x each_y none same = begins (open_gate ∷ s) x xs a r none each_x.0 (sym same)
@@ -104,13 +107,15 @@ record_of (x ∷ xs) [] p r s a closed each_x each_p fits same =
     (xs, ap (λ (l : List ℕ). l ∷ xs) parts.0)
 record_of (x ∷ xs) (q ∷ ps) p r s a closed each_x each_p fits same =
     let rest : List ℕ = records_text ps ++ (open_gate ∷ (body_text p ++ s)) in
-    let apart : open_gate ∷ (body_text x ++ (records_text xs ++ a ∷ r)) ≡ open_gate ∷ (body_text q ++ rest) = sym (records-cons x xs (a ∷ r)) ∙ same ∙ records-cons q ps (open_gate ∷ (body_text p ++ s)) in
+    let apart : open_gate ∷ (body_text x ++ (records_text xs ++ a ∷ r)) ≡ open_gate ∷ (body_text q ++ rest) = sym (records-cons x xs (a ∷ r)) ∙ same
+    ∙ records-cons q ps (open_gate ∷ (body_text p ++ s)) in
     let parts = same_bodies x q (records_text xs ++ a ∷ r) rest each_x.0 each_p.0 (ap (drop 1) apart) in
     let behind = record_of xs ps p r s a closed each_x.1 each_p.1 fits parts.1 in
     (behind.0, ap (λ (l : List ℕ). l ∷ xs) parts.0 ∙ ap (λ (ls : List (List ℕ)). q ∷ ls) behind.1)
 
 -- an open, whole record behind records of a file that stands for a list is one of that list
-pub record_behind : (file : List ℕ) (xs ps : List (List ℕ)) (p rest : List ℕ) (gate : ℕ) → StandsFor file xs → AllByRecursion IsPayload ps → IsPayload p → file ≡ records_text ps ++ (open_gate ∷ (body_text p ++ (gate ∷ rest)))
+pub record_behind : (file : List ℕ) (xs ps : List (List ℕ)) (p rest : List ℕ) (gate : ℕ) → StandsFor file xs → AllByRecursion IsPayload ps → IsPayload p → file
+    ≡ records_text ps ++ (open_gate ∷ (body_text p ++ (gate ∷ rest)))
     → (more : List (List ℕ)) × (xs ≡ ps ++ p ∷ more)
 record_behind file xs ps p rest gate for_x each fits is = ⊎_elim
     (λ few.
@@ -121,10 +126,12 @@ record_behind file xs ps p rest gate for_x each fits is = ⊎_elim
     for_x
 
 -- where a file stands for a list, a visitor that refuses a record refuses one of the list
-pub refuses_one : {V : Type 0} (takes refuses : V → ℕ → List ℕ → V → Type 0) (visitor after : V) (file : List ℕ) (xs : List (List ℕ)) (at : ℕ) → StandsFor file xs → IsBrokenFor takes visitor after file at ⊎ IsRefusedAt takes refuses visitor after file at → RefusesOneOf takes refuses visitor after xs at
+pub refuses_one : {V : Type 0} (takes refuses : V → ℕ → List ℕ → V → Type 0) (visitor after : V) (file : List ℕ) (xs : List (List ℕ)) (at : ℕ) → StandsFor file xs
+    → IsBrokenFor takes visitor after file at ⊎ IsRefusedAt takes refuses visitor after file at → RefusesOneOf takes refuses visitor after xs at
 refuses_one takes refuses visitor after file xs at for_x (inl broken) = absurd (whole_list file xs at for_x broken.broken)
 refuses_one takes refuses visitor after file xs at for_x (inr refused) =
-    let behind = record_behind file xs refused.payloads refused.payload refused.rest refused.gate for_x refused.each refused.fits (refused.bytes ∙ append_assoc (records_text refused.payloads) (open_gate ∷ body_text refused.payload) (refused.gate ∷ refused.rest)) in
+    let behind = record_behind file xs refused.payloads refused.payload refused.rest refused.gate for_x refused.each refused.fits
+    (refused.bytes ∙ append_assoc (records_text refused.payloads) (open_gate ∷ body_text refused.payload) (refused.gate ∷ refused.rest)) in
     record { first = refused.payloads; payload = refused.payload; more = behind.0; among = behind.1; place = refused.place; reached = refused.reached; took = refused.took; refused = refused.refused }
 
 -- what a visitor took of the list that was found, it took of any that the file stands for

@@ -2,22 +2,23 @@
 use Rattle.std.proofs.Common.{◌≡◌, ◌≢◌, ◌∙◌, ℕ, ◌≤◌, List, [], ◌∷◌, length, Some, inl, inr, sym, subst, refl, arith}
 use Rattle.std.specs.Option.{ForSome}
 use Rattle.irl_disk.specs.Disk.{Files, ChangesFile, Scribbled}
-use Rattle.irl_disk.specs.Images.{Snapshot, IsConsistent, Follows, LeavesBy, LeavesSame}
+use Rattle.irl_disk.specs.Images.{Told, IsConsistent, Follows, LeavesBy, LeavesSame}
 use Rattle.irl_disk.proofs.Stretches.{joins, widens, left_now, reads_on, same_by}
 use Rattle.irl_journal.specs.Format.{StandsFor}
 use Rattle.irl_journal.specs.Visiting.{IsOpened}
 use Rattle.irl_journal.proofs.Lists.{few_bytes}
 
 -- two stretches that change nothing
-pub stays_so : (old mid new : Snapshot) → IsConsistent mid → LeavesSame old mid → LeavesSame mid new → LeavesSame old new
+pub stays_so : (old mid new : Told) → IsConsistent mid → LeavesSame old mid → LeavesSame mid new → LeavesSame old new
 stays_so old mid new law first second = reads_on old mid new old.images law first second
 
 -- a stretch that changes nothing is one that opens a journal
-pub opens_none : (f : ℕ) (old new : Snapshot) → LeavesSame old new → LeavesBy (ChangesFile f IsOpened) old new
+pub opens_none : (f : ℕ) (old new : Told) → LeavesSame old new → LeavesBy (ChangesFile f IsOpened) old new
 opens_none f old new leaves = same_by old new (ChangesFile f IsOpened) (λ image. record { changed = inl refl; others = λ g other. refl }) leaves
 
 -- a stretch that changes nothing, and one that writes the first byte of a file of at most one that is no closed gate
-pub opens : (f : ℕ) (old mid new : Snapshot) → IsConsistent mid → LeavesSame old mid → ((image : Files) → mid.images image → (length (image f) ≤ 1) × (image f ≢ 0 ∷ [])) → LeavesBy (ChangesFile f (Scribbled 0 1)) mid new → LeavesBy (ChangesFile f IsOpened) old new
+pub opens : (f : ℕ) (old mid new : Told) → IsConsistent mid → LeavesSame old mid → ((image : Files) → mid.images image → (length (image f) ≤ 1) × (image f ≢ 0 ∷ []))
+    → LeavesBy (ChangesFile f (Scribbled 0 1)) mid new → LeavesBy (ChangesFile f IsOpened) old new
 opens f old mid new law first short second =
     let opened = Follows (ChangesFile f IsOpened) old.images in
     joins old mid new opened
@@ -30,11 +31,13 @@ opens f old mid new law first short second =
     )))
 
 -- after a sync, and calls that change nothing, each image has what the file had
-pub stays_synced : (f : ℕ) (synced new : Snapshot) (files : Files) → IsConsistent new → ((image : Files) → synced.images image → image f ≡ files f) → LeavesSame synced new → (image : Files) → new.images image → image f ≡ files f
+pub stays_synced : (f : ℕ) (synced new : Told) (files : Files) → IsConsistent new → ((image : Files) → synced.images image → image f ≡ files f) → LeavesSame synced new → (image : Files)
+    → new.images image → image f ≡ files f
 stays_synced f synced new files law durable leaves image left = durable image (left_now synced new synced.images law leaves image left)
 
 -- the same, whatever is told
-pub as_synced : (f : ℕ) (old synced new : Snapshot) → IsConsistent synced → IsConsistent new → synced.files ≡ old.files → ForSome old.files (λ files. (image : Files) → synced.images image → image f ≡ files f) → LeavesSame synced new
+pub as_synced : (f : ℕ) (old synced new : Told) → IsConsistent synced → IsConsistent new → synced.files ≡ old.files
+    → ForSome old.files (λ files. (image : Files) → synced.images image → image f ≡ files f) → LeavesSame synced new
     → (image : Files) → new.images image → (files : Files) × (synced.files ≡ Some files) × (image f ≡ files f)
 as_synced f old synced new law law_new same durable leaves image left =
     let was = left_now synced new synced.images law_new leaves image left in

@@ -35,7 +35,8 @@ pub record IsPiece (bytes chunk : List ℕ) (n count : ℕ) : Type 0 where
 
 module _ {V : Type 0} (takes : V → ℕ → List ℕ → V → Type 0) where
   -- records, and behind them more
-  pub takes-append : (at next : ℕ) (old mid new : V) (xs ys : List (List ℕ)) → TakesAll takes old (placed_from at xs) mid → next ≡ at + length (records_text xs) → TakesAll takes mid (placed_from next ys) new → TakesAll takes old (placed_from at (xs ++ ys)) new
+  pub takes-append : (at next : ℕ) (old mid new : V) (xs ys : List (List ℕ)) → TakesAll takes old (placed_from at xs) mid → next ≡ at + length (records_text xs)
+      → TakesAll takes mid (placed_from next ys) new → TakesAll takes old (placed_from at (xs ++ ys)) new
   takes-append at next old mid new [] ys front is behind =
       let same : next ≡ at = omega arith in
       subst (λ (v : V). TakesAll takes v (placed_from at ys) new) front (subst (λ (n : ℕ). TakesAll takes mid (placed_from n ys) new) same behind)
@@ -55,18 +56,23 @@ module _ {V : Type 0} (takes : V → ℕ → List ℕ → V → Type 0) where
   length-taken old now at bytes rest payloads so_far = ap length so_far.text ∙ length-append (records_text payloads) rest
 
   -- one record more
-  pub takes-record : (old now next : V) (at place : ℕ) (bytes rest payload behind : List ℕ) (payloads : List (List ℕ)) → AreTaken old now at bytes rest payloads → IsPayload payload → rest ≡ open_gate ∷ body_text payload ++ behind → 1 ≤ length behind → place ≡ at + (length bytes - length rest) → takes now place payload next → AreTaken old next at bytes behind (payloads ++ payload ∷ [])
+  pub takes-record : (old now next : V) (at place : ℕ) (bytes rest payload behind : List ℕ) (payloads : List (List ℕ)) → AreTaken old now at bytes rest payloads → IsPayload payload → rest
+      ≡ open_gate ∷ body_text payload ++ behind → 1 ≤ length behind → place ≡ at + (length bytes - length rest) → takes now place payload next
+      → AreTaken old next at bytes behind (payloads ++ payload ∷ [])
   takes-record old now next at place bytes rest payload behind payloads so_far fits begins more is took =
       let one : records_text (payload ∷ []) ++ behind ≡ rest = records-cons payload [] behind ∙ sym begins in
       record {
         each = each-append payloads (payload ∷ []) so_far.each (fits, tt);
-        text = so_far.text ∙ ap (λ (bs : List ℕ). records_text payloads ++ bs) (sym one) ∙ sym (append_assoc (records_text payloads) (records_text (payload ∷ [])) behind) ∙ ap (λ (bs : List ℕ). bs ++ behind) (sym (records-append payloads (payload ∷ [])));
+        text = so_far.text ∙ ap (λ (bs : List ℕ). records_text payloads ++ bs) (sym one) ∙ sym (append_assoc (records_text payloads) (records_text (payload ∷ [])) behind)
+            ∙ ap (λ (bs : List ℕ). bs ++ behind) (sym (records-append payloads (payload ∷ [])));
         took = takes-append at place old now next payloads (payload ∷ []) so_far.took (omega (arith, is, length-taken old now at bytes rest payloads so_far)) (next, took, refl);
         more = λ some. more;
       }
 
   -- no record more
-  pub hands-over : (old now : V) (at n : ℕ) (is_closed : Bool) (bytes rest : List ℕ) (payloads : List (List ℕ)) → AreTaken old now at bytes rest payloads → HasNoRecord rest → n ≡ length bytes - length rest → (is_closed ≡ true → (gate : ℕ) × (tail : List ℕ) × (rest ≡ gate ∷ tail) × (gate ≢ open_gate)) → (is_closed ≡ false → (rest ≡ []) ⊎ ((tail : List ℕ) × (rest ≡ open_gate ∷ tail))) → HandsOver takes old now at n is_closed bytes
+  pub hands-over : (old now : V) (at n : ℕ) (is_closed : Bool) (bytes rest : List ℕ) (payloads : List (List ℕ)) → AreTaken old now at bytes rest payloads → HasNoRecord rest → n
+      ≡ length bytes - length rest → (is_closed ≡ true → (gate : ℕ) × (tail : List ℕ) × (rest ≡ gate ∷ tail) × (gate ≢ open_gate))
+      → (is_closed ≡ false → (rest ≡ []) ⊎ ((tail : List ℕ) × (rest ≡ open_gate ∷ tail))) → HandsOver takes old now at n is_closed bytes
   hands-over old now at n is_closed bytes rest payloads so_far none is closed open_ =
       let long = length-taken old now at bytes rest payloads so_far in
       let front : n ≡ length (records_text payloads) = omega arith in
@@ -101,7 +107,8 @@ module _ {V : Type 0} (takes : V → ℕ → List ℕ → V → Type 0) where
   pub took-none : (visitor : V) (from : ℕ) → TookUpTo takes visitor visitor from from
   took-none visitor from = record { payloads = []; place = omega arith; took = refl }
 
-  pub took-on : (old now next : V) (from at k : ℕ) (is_closed : Bool) (chunk : List ℕ) → TookUpTo takes old now from at → HandsOver takes now next at k is_closed chunk → TookUpTo takes old next from (at + k)
+  pub took-on : (old now next : V) (from at k : ℕ) (is_closed : Bool) (chunk : List ℕ) → TookUpTo takes old now from at → HandsOver takes now next at k is_closed chunk
+      → TookUpTo takes old next from (at + k)
   took-on old now next from at k is_closed chunk so_far handed =
       let long : k ≡ length (records_text handed.payloads) = sym (length-take-le k chunk handed.within) ∙ ap length handed.front in
       let both = length-append (records_text so_far.payloads) (records_text handed.payloads) in
@@ -124,7 +131,8 @@ module _ {V : Type 0} (takes : V → ℕ → List ℕ → V → Type 0) where
   rest_of bytes chunk n count is = sym (take-append-drop count (drop n bytes)) ∙ ap (λ (bs : List ℕ). bs ++ drop count (drop n bytes)) (sym is)
 
   -- what stands behind the records of a piece too
-  behind_of : (bytes chunk : List ℕ) (n count k : ℕ) → chunk ≡ take count (drop n bytes) → k ≤ length chunk → (take k (drop n bytes) ≡ take k chunk) × (drop k (drop n bytes) ≡ drop k chunk ++ drop count (drop n bytes))
+  behind_of : (bytes chunk : List ℕ) (n count k : ℕ) → chunk ≡ take count (drop n bytes) → k ≤ length chunk → (take k (drop n bytes) ≡ take k chunk)
+      × (drop k (drop n bytes) ≡ drop k chunk ++ drop count (drop n bytes))
   behind_of bytes chunk n count k is within =
       let whole = rest_of bytes chunk n count is in (
         ap (take k) whole ∙ take-append-le k chunk (drop count (drop n bytes)) within,
@@ -132,7 +140,8 @@ module _ {V : Type 0} (takes : V → ℕ → List ℕ → V → Type 0) where
       )
 
   -- the records of one piece more
-  pub reads-on : (old now next : V) (from at : ℕ) (bytes chunk : List ℕ) (count k : ℕ) (is_closed : Bool) (so_far : HasRead old now from at bytes) → HandsOver takes now next at k is_closed chunk → IsPiece bytes chunk so_far.count count → HasRead old next from (at + k) bytes
+  pub reads-on : (old now next : V) (from at : ℕ) (bytes chunk : List ℕ) (count k : ℕ) (is_closed : Bool) (so_far : HasRead old now from at bytes) → HandsOver takes now next at k is_closed chunk
+      → IsPiece bytes chunk so_far.count count → HasRead old next from (at + k) bytes
   reads-on old now next from at bytes chunk count k is_closed so_far handed piece =
       let n = so_far.count in
       let parts = behind_of bytes chunk n count k piece.is handed.within in
@@ -145,12 +154,14 @@ module _ {V : Type 0} (takes : V → ℕ → List ℕ → V → Type 0) where
         each = each-append so_far.payloads handed.payloads so_far.each handed.each;
         within = omega arith;
         more = λ some. below;
-        front = take-add n k bytes ∙ ap (λ (bs : List ℕ). bs ++ take k (drop n bytes)) so_far.front ∙ ap (λ (bs : List ℕ). records_text so_far.payloads ++ bs) (parts.0 ∙ handed.front) ∙ sym (records-append so_far.payloads handed.payloads);
+        front = take-add n k bytes ∙ ap (λ (bs : List ℕ). bs ++ take k (drop n bytes)) so_far.front ∙ ap (λ (bs : List ℕ). records_text so_far.payloads ++ bs) (parts.0 ∙ handed.front)
+            ∙ sym (records-append so_far.payloads handed.payloads);
         took = takes-append from at old now next so_far.payloads handed.payloads so_far.took (omega (arith, so_far.place, length-read old now from at bytes so_far)) handed.took;
       }
 
   -- a piece with a closed gate behind its records
-  pub ends-there : (old now next : V) (from at : ℕ) (bytes chunk : List ℕ) (count k : ℕ) (so_far : HasRead old now from at bytes) → HandsOver takes now next at k true chunk → IsPiece bytes chunk so_far.count count → StopsAt takes old next from true bytes (at + k)
+  pub ends-there : (old now next : V) (from at : ℕ) (bytes chunk : List ℕ) (count k : ℕ) (so_far : HasRead old now from at bytes) → HandsOver takes now next at k true chunk
+      → IsPiece bytes chunk so_far.count count → StopsAt takes old next from true bytes (at + k)
   unfolding reads-on
   ends-there old now next from at bytes chunk count k so_far handed piece =
       let n = so_far.count in
@@ -174,7 +185,8 @@ module _ {V : Type 0} (takes : V → ℕ → List ℕ → V → Type 0) where
       }
 
   -- where no whole record stands, records that were read stop
-  stops-cut : (old now : V) (from at : ℕ) (bytes : List ℕ) (so_far : HasRead old now from at bytes) → HasNoRecord (drop so_far.count bytes) → (drop so_far.count bytes ≡ []) ⊎ ((rest : List ℕ) × (drop so_far.count bytes ≡ open_gate ∷ rest)) → StopsAt takes old now from false bytes at
+  stops-cut : (old now : V) (from at : ℕ) (bytes : List ℕ) (so_far : HasRead old now from at bytes) → HasNoRecord (drop so_far.count bytes) → (drop so_far.count bytes ≡ [])
+      ⊎ ((rest : List ℕ) × (drop so_far.count bytes ≡ open_gate ∷ rest)) → StopsAt takes old now from false bytes at
   stops-cut old now from at bytes so_far none open_ = record {
     count = so_far.count;
     place = so_far.place;
@@ -191,7 +203,8 @@ module _ {V : Type 0} (takes : V → ℕ → List ℕ → V → Type 0) where
   }
 
   -- a piece that begins with no closed gate and no whole record
-  pub breaks-there : (old now next : V) (from at : ℕ) (bytes chunk : List ℕ) (count : ℕ) (so_far : HasRead old now from at bytes) → HandsOver takes now next at 0 false chunk → IsPiece bytes chunk so_far.count count → StopsAt takes old next from false bytes at
+  pub breaks-there : (old now next : V) (from at : ℕ) (bytes chunk : List ℕ) (count : ℕ) (so_far : HasRead old now from at bytes) → HandsOver takes now next at 0 false chunk
+      → IsPiece bytes chunk so_far.count count → StopsAt takes old next from false bytes at
   breaks-there old now next from at bytes chunk count so_far handed piece =
       let n = so_far.count in
       let rest = drop n bytes in
@@ -217,7 +230,8 @@ module _ {V : Type 0} (takes : V → ℕ → List ℕ → V → Type 0) where
       cut.1
 
   -- a piece whose records the visitor refuses
-  pub refuses-there : (refuses : V → ℕ → List ℕ → V → Type 0) (old now next : V) (from at : ℕ) (bytes chunk : List ℕ) (count place : ℕ) (so_far : HasRead old now from at bytes) → RefusesAt takes refuses now next at chunk place → IsPiece bytes chunk so_far.count count → RefusesAt takes refuses old next from bytes place
+  pub refuses-there : (refuses : V → ℕ → List ℕ → V → Type 0) (old now next : V) (from at : ℕ) (bytes chunk : List ℕ) (count place : ℕ) (so_far : HasRead old now from at bytes)
+      → RefusesAt takes refuses now next at chunk place → IsPiece bytes chunk so_far.count count → RefusesAt takes refuses old next from bytes place
   refuses-there refuses old now next from at bytes chunk count place so_far refusal piece =
       let n = so_far.count in
       let here = length-read old now from at bytes so_far in
@@ -227,7 +241,8 @@ module _ {V : Type 0} (takes : V → ℕ → List ℕ → V → Type 0) where
       let whole : bytes ≡ front ++ ((records_text refusal.payloads ++ record_ ++ refusal.behind) ++ more) =
       sym (take-append-drop n bytes) ∙ ap (λ (bs : List ℕ). bs ++ drop n bytes) so_far.front
       ∙ ap (λ (bs : List ℕ). front ++ bs) (rest_of bytes chunk n count piece.is ∙ ap (λ (bs : List ℕ). bs ++ more) refusal.bytes_are) in
-      let apart : front ++ ((records_text refusal.payloads ++ record_ ++ refusal.behind) ++ more) ≡ (front ++ records_text refusal.payloads) ++ record_ ++ (refusal.behind ++ more) = simp append_assoc in
+      let apart : front ++ ((records_text refusal.payloads ++ record_ ++ refusal.behind) ++ more) ≡ (front ++ records_text refusal.payloads) ++ record_ ++ (refusal.behind ++ more) =
+      simp append_assoc in
       record {
         payloads = so_far.payloads ++ refusal.payloads;
         payload = refusal.payload;
@@ -247,7 +262,8 @@ chunk_of : (into more buffer : List ℕ) (len count : ℕ) → buffer ≡ take l
 chunk_of into more buffer len count is fits = ap (take count) (is ∙ ap (λ (k : ℕ). take k (into ++ more)) (sym fits) ∙ take-append_seam into more)
 
 -- a read into a buffer's front gave a piece
-pub piece_read : (into more buffer file : List ℕ) (len from at n count : ℕ) → buffer ≡ take len (into ++ more) → length into ≡ len → Reads at (length into) count into file → len ≡ min (length file - from) 16777222 → at < length file → at ≡ from + n → IsPiece (drop from file) (take count buffer) n count
+pub piece_read : (into more buffer file : List ℕ) (len from at n count : ℕ) → buffer ≡ take len (into ++ more) → length into ≡ len → Reads at (length into) count into file → len
+    ≡ min (length file - from) 16777222 → at < length file → at ≡ from + n → IsPiece (drop from file) (take count buffer) n count
 piece_read into more buffer file len from at n count is fits read room within place =
     let bytes = drop from file in
     let size : length bytes ≡ length file - from = length-drop from file in

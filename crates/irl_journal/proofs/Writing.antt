@@ -2,30 +2,27 @@
 use Rattle.std.proofs.Common.{◌≡◌, ◌∙◌, ℕ, ◌+◌, ◌≤◌, ◌<◌, List, [], ◌∷◌, ◌++◌, length, take, drop, Option, None, Some, refl, sym, ap, subst, arith, append_assoc, length-append, length-take-le}
 use Rattle.std.proofs.lemmas.List.{take-take, take-append-le, drop_at}
 use Rattle.std.specs.Option.{ForSome}
-use Rattle.irl_disk.specs.Disk.{Files, Changes, ChangesFile, Holds, Scribbled}
-use Rattle.irl_disk.specs.Images.{Snapshot, IsConsistent, LeavesBy, LeavesSame}
+use Rattle.irl_disk.specs.Disk.{Files, Changes, Holds}
 use Rattle.irl_disk.proofs.Frames.{told_from}
-use Rattle.irl_disk.proofs.Stretches.{widens_by, reads_on, goes_on}
-use Rattle.irl_journal.specs.Format.{body_text, open_gate, record_text}
+use Rattle.irl_journal.specs.Format.{open_gate, records_text}
+use Rattle.irl_journal.specs.Appending.{HasAppended}
+use Rattle.irl_journal.proofs.Gates.{IsTail, length-record}
 
--- every other file of an image is as before
-abbrev pub OthersStand : ℕ → Files → Files → Type 0
-OthersStand f old new = ChangesFile f (λ before after. Unit {0}) old new
-
--- the record's bytes behind a byte of the file, and then the open gate over that byte
-pub both_writes : (end : ℕ) (bytes payload old mid new : List ℕ) → bytes ≡ body_text payload ++ 0 ∷ [] → end < length old → Holds (end + 1) bytes old mid → Holds end (open_gate ∷ []) mid new
-    → new ≡ take end old ++ (record_text payload ++ (0 ∷ drop (end + length (record_text payload) + 1) old))
-both_writes end bytes payload old mid new are within first second =
-    let rest = drop (end + length (record_text payload) + 1) old in
-    let tail = body_text payload ++ (0 ∷ rest) in
-    let size : length bytes ≡ length (record_text payload) = rw are (simp length-append (omega arith)) in
-    let further : end + 1 + length bytes ≡ end + length (record_text payload) + 1 = omega (arith, size) in
+-- the records' bytes behind a byte of the file, and then the open gate over that byte
+pub both_writes : (end : ℕ) (bytes more_tail : List ℕ) (more : List (List ℕ)) (old mid new : List ℕ) → IsTail more more_tail → bytes ≡ more_tail ++ 0 ∷ [] → end < length old
+    → Holds (end + 1) bytes old mid → Holds end (open_gate ∷ []) mid new
+    → HasAppended end more old new
+both_writes end bytes more_tail more old mid new is are within first second =
+    let rest = drop (end + length (records_text more) + 1) old in
+    let tail = more_tail ++ (0 ∷ rest) in
+    let size : length bytes ≡ length (records_text more) = length-record more more_tail bytes is are in
+    let further : end + 1 + length bytes ≡ end + length (records_text more) + 1 = omega (arith, size) in
     let is_mid : mid ≡ take (end + 1) old ++ tail =
     first
     ∙ ap (λ (n : ℕ). take (end + 1) old ++ bytes ++ drop n old) further
     ∙ append_assoc (take (end + 1) old) bytes rest
     ∙ ap (λ (bs : List ℕ). take (end + 1) old ++ (bs ++ rest)) are
-    ∙ ap (λ (bs : List ℕ). take (end + 1) old ++ bs) (append_assoc (body_text payload) (0 ∷ []) rest) in
+    ∙ ap (λ (bs : List ℕ). take (end + 1) old ++ bs) (append_assoc more_tail (0 ∷ []) rest) in
     let long : length (take (end + 1) old) ≡ end + 1 = length-take-le (end + 1) old (omega (arith, within)) in
     let front : take end mid ≡ take end old =
     ap (λ (bs : List ℕ). take end bs) is_mid ∙ take-append-le end (take (end + 1) old) tail (omega (arith, long)) ∙ take-take end (end + 1) old (omega arith) in
@@ -34,44 +31,30 @@ both_writes end bytes payload old mid new are within first second =
     ∙ append_assoc (take end mid) (open_gate ∷ []) (drop (end + 1) mid)
     ∙ ap (λ (bs : List ℕ). bs ++ (open_gate ∷ drop (end + 1) mid)) front
     ∙ ap (λ (bs : List ℕ). take end old ++ (open_gate ∷ bs)) behind
+    ∙ ap (λ (bs : List ℕ). take end old ++ (bs ++ (0 ∷ rest))) (sym is.text)
 
 -- the same of what is told, with the syncs between
-pub told_bytes : (f end : ℕ) (bytes payload : List ℕ) (old mid synced new last : Option Files) → bytes ≡ body_text payload ++ 0 ∷ [] → ForSome old (λ files. end < length (files f)) → Changes f (Holds (end + 1) bytes) old mid → synced ≡ mid → Changes f (Holds end (open_gate ∷ [])) synced new → last ≡ new
-    → Changes f (λ before after. after ≡ take end before ++ (record_text payload ++ (0 ∷ drop (end + length (record_text payload) + 1) before))) old last
-told_bytes f end bytes payload None mid synced new last are within first same second same_last =
+pub told_bytes : (f end : ℕ) (bytes tail : List ℕ) (more : List (List ℕ)) (old mid synced new last : Option Files) → IsTail more tail → bytes ≡ tail ++ 0 ∷ []
+    → ForSome old (λ files. end < length (files f)) → Changes f (Holds (end + 1) bytes) old mid → synced ≡ mid
+    → Changes f (Holds end (open_gate ∷ [])) synced new → last ≡ new → Changes f (HasAppended end more) old last
+told_bytes f end bytes tail more None mid synced new last is are within first same second same_last =
     same_last ∙ subst (λ (told : Option Files). Changes f (Holds end (open_gate ∷ [])) told new) (same ∙ first) second
-told_bytes f end bytes payload (Some old) mid synced new last are within first same second same_last =
+told_bytes f end bytes tail more (Some old) mid synced new last is are within first same second same_last =
     let then_ = subst (λ (told : Option Files). Changes f (Holds end (open_gate ∷ [])) told new) (same ∙ first.1) second in (
       then_.0,
       same_last ∙ then_.1,
       record {
-        changed = both_writes end bytes payload (old f) (first.0 f) (then_.0 f) are (within old refl) first.2.changed then_.2.changed;
+        changed = both_writes end bytes tail more (old f) (first.0 f) (then_.0 f) is are (within old refl) first.2.changed then_.2.changed;
         others = λ g other. then_.2.others g other ∙ first.2.others g other;
       },
     )
 
 -- the gate's place is still within the file
-pub still_within : (f end : ℕ) (bytes : List ℕ) (old mid synced : Option Files) → ForSome old (λ files. end < length (files f)) → Changes f (Holds (end + 1) bytes) old mid → synced ≡ mid → ForSome synced (λ files. end ≤ length (files f))
+pub still_within : (f end : ℕ) (bytes : List ℕ) (old mid synced : Option Files) → ForSome old (λ files. end < length (files f)) → Changes f (Holds (end + 1) bytes) old mid → synced ≡ mid
+    → ForSome synced (λ files. end ≤ length (files f))
 still_within f end bytes old mid synced within written same = λ files told.
     let from = told_from f (Holds (end + 1) bytes) old mid files written (sym same ∙ told) in
     let before = from.0 f in
     let front : length (take (end + 1) before) ≡ end + 1 = length-take-le (end + 1) before (omega (arith, within from.0 from.1)) in
     let rest = drop (end + 1 + length bytes) before in
     omega (arith, front, ap length from.2.changed, length-append (take (end + 1) before ++ bytes) rest, length-append (take (end + 1) before) bytes)
-
--- every stop from one snapshot to a later one leaves every other file as it was
-abbrev pub OthersLeft : ℕ → Snapshot → Snapshot → Type 0
-OthersLeft f old new = LeavesBy (OthersStand f) old new
-
--- a write
-pub others_wrote : (f at n : ℕ) (old new : Snapshot) → LeavesBy (ChangesFile f (Scribbled at n)) old new → OthersLeft f old new
-others_wrote f at n old new call = widens_by old new _ _ call (λ before image step. record { changed = tt; others = step.others })
-
--- and a sync
-pub others_synced : (f : ℕ) (old mid new : Snapshot) → IsConsistent mid → OthersLeft f old mid → LeavesSame mid new → OthersLeft f old new
-others_synced f old mid new law so_far call = reads_on old mid new _ law so_far call
-
--- and one more write
-pub others_on : (f at n : ℕ) (old mid new : Snapshot) → IsConsistent mid → OthersLeft f old mid → LeavesBy (ChangesFile f (Scribbled at n)) mid new → OthersLeft f old new
-others_on f at n old mid new law so_far call = goes_on old mid new _ (ChangesFile f (Scribbled at n)) law so_far call
-    (λ before image from step. (from.0, from.1, record { changed = tt; others = λ g other. step.others g other ∙ from.2.others g other }))

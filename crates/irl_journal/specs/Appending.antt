@@ -1,6 +1,8 @@
 -- A journal that is open, and what an append leaves.
-use Rattle.std.specs.Prelude.{◌≡◌, ◌⊎◌, ℕ, Bool, List, [], ◌∷◌, ◌++◌, length}
-use Rattle.irl_disk.specs.Disk.{Files}
+use Rattle.std.specs.Prelude.{◌≡◌, ◌⊎◌, ⊤, ℕ, ◌+◌, Bool, List, [], ◌∷◌, ◌++◌, length, take, drop, Result, OnOk, OnErr}
+use Rattle.irl_disk.specs.Disk.{Files, Changes, ChangesFile}
+use Rattle.irl_disk.specs.Effects.{OnlyChanges}
+use Rattle.irl_disk.specs.Images.{Told}
 use Rattle.irl_journal.specs.Format.{HasRecords, records_text}
 
 -- a journal as contracts see it: its file, the place of the closed gate, and whether no append failed
@@ -23,6 +25,33 @@ pub record Ends (end : ℕ) (file : List ℕ) (payloads : List (List ℕ)) : Typ
 abbrev pub IsOpen : (Files → Type 0) → Tail → List (List ℕ) → Type 0
 IsOpen images tail payloads = (image : Files) → images image → Ends tail.end (image tail.file) payloads
 
--- the file has these records, or these and one more
+-- the file has these records, or these and more behind them
+abbrev pub HasOrGainsAll : List (List ℕ) → List (List ℕ) → List ℕ → List ℕ → Type 0
+HasOrGainsAll payloads more old new = HasRecords new payloads ⊎ HasRecords new (payloads ++ more)
+
+-- the same of one more
 abbrev pub HasOrGains : List (List ℕ) → List ℕ → List ℕ → List ℕ → Type 0
-HasOrGains payloads payload old new = HasRecords new payloads ⊎ HasRecords new (payloads ++ payload ∷ [])
+HasOrGains payloads payload old new = HasOrGainsAll payloads (payload ∷ []) old new
+
+-- from its old end on the file has these records and the next gate, and the rest is as it was
+abbrev pub HasAppended : ℕ → List (List ℕ) → List ℕ → List ℕ → Type 0
+HasAppended end more old new = new ≡ take end old ++ (records_text more ++
+    (0 ∷ drop (end + length (records_text more) + 1) old))
+
+-- An append of these payloads, by its answer: what it leaves of the journal, and of its store. `failed` is that it
+-- answered a fault of the store.
+pub record Appends {E : Type 0} (result : Result Unit E) (failed : Type 0) (more : List (List ℕ)) (old new : Tail)
+    (before after : Told) : Type 0 where
+  -- each stop from then on leaves the records
+  pub acknowledged : OnOk result ((payloads : List (List ℕ)) → IsOpen before.images old payloads
+      → IsOpen after.images new (payloads ++ more))
+  pub end : OnOk result (new.end ≡ old.end + length (records_text more))
+  pub end_kept : OnErr result (new.end ≡ old.end)
+  pub file : new.file ≡ old.file
+  -- a stop at any moment leaves the records from before, with the new ones or without any of them, and every other file
+  -- as it was
+  pub changes : (payloads : List (List ℕ)) → IsOpen before.images old payloads
+      → OnlyChanges (ChangesFile old.file (HasOrGainsAll payloads more)) failed before after
+  pub bytes : OnOk result (Changes old.file (HasAppended old.end more) before.files after.files)
+  -- every other file stays, whatever this one has
+  pub others : OnlyChanges (ChangesFile old.file (λ _ _. ⊤)) failed before after

@@ -1,5 +1,5 @@
--- Bytes at the front of a file that only grow. What lies past the committed ones means nothing: each predicate on a file is
--- "begins with".
+-- Bytes at the front of a file that only grow. What lies past the committed ones means nothing: each predicate on a
+-- file is "begins with".
 use Rattle.std.specs.Prelude.{◌≡◌, ℕ, List, ◌++◌, length}
 use Rattle.irl_disk.specs.Disk.{Files}
 

@@ -1,7 +1,7 @@
--- A journal's file. A record is a gate byte, the length of its payload as a little-endian u32, the payload, and the next
--- gate. A gate of `A5` is open, any other is closed, and a record counts where its gate is open. What lies past the first
--- closed gate means nothing. A file of at most one byte is an empty journal, whatever the byte is.
-use Rattle.std.specs.Prelude.{◌≡◌, ◌≢◌, ◌⊎◌, ℕ, ◌+◌, ◌<◌, ◌≤◌, List, [], ◌∷◌, ◌++◌, length}
+-- A journal's file. A record is a gate byte, the length of its payload as a little-endian u32, the payload, and the
+-- next gate. A gate of `A5` is open, any other is closed, and a record counts where its gate is open. What lies past
+-- the first closed gate means nothing. A file of at most one byte is an empty journal, whatever the byte is.
+use Rattle.std.specs.Prelude.{◌≡◌, ◌≢◌, ◌⊎◌, ℕ, ◌+◌, ◌<◌, ◌≤◌, List, [], ◌∷◌, ◌++◌, length, drop}
 use Rattle.std.specs.List.{flat_map, AllByRecursion}
 use Rattle.std.specs.Int.{w32, to_le_bytes}
 
@@ -43,7 +43,15 @@ StandsFor file payloads = ((length file ≤ 1) × (payloads ≡ [])) ⊎ HasReco
 
 -- no whole record, with the gate behind it, begins the bytes
 abbrev pub HasNoRecord : List ℕ → Type 0
-HasNoRecord bytes = (payload rest : List ℕ) (gate : ℕ) → IsPayload payload → bytes ≡ open_gate ∷ body_text payload ++ gate ∷ rest → ⊥
+HasNoRecord bytes = (payload rest : List ℕ) (gate : ℕ) → IsPayload payload → bytes
+    ≡ open_gate ∷ body_text payload ++ gate ∷ rest → ⊥
+
+-- A whole open record of this payload stands at this place, and ends where the journal does or before.
+pub record StandsAt (at end : ℕ) (file payload : List ℕ) : Type 0 where
+  pub fits : IsPayload payload
+  pub within : at + length (record_text payload) ≤ end
+  pub rest : List ℕ
+  pub bytes : drop at file ≡ record_text payload ++ rest
 
 -- Behind open records a gate at this place is open, and its record passes the file's end or the limit of a payload.
 pub record IsBrokenAt (file : List ℕ) (at : ℕ) : Type 0 where

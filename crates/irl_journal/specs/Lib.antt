@@ -1,4 +1,5 @@
 pub mod Appending
 pub mod Blob
 pub mod Format
+pub mod Growing
 pub mod Visiting

@@ -1,10 +1,9 @@
 ghost use Rattle.std.specs.Prelude.{◌≡◌, ◌↔◌, ◌+◌, ◌≤◌, ◌<◌, ◌++◌, List, ℕ, true};
 ghost use Rattle.std.specs.Prelude.{length as len, take, drop, IfOk, IfSome, IsNone, OnOk, OnErr, IsErr};
 ghost use Rattle.std.specs.Option.{ForSome};
-ghost use Rattle.irl_offer.specs.Faults.{HasCause};
+ghost use Rattle.irl_base.specs.Faults.{HasCause};
 ghost use Rattle.irl_disk.specs.Disk.{Files, Changes, ChangesFile, Holds};
-ghost use Rattle.irl_disk.specs.Images.{LeavesBy, LeavesSame};
-ghost use Rattle.irl_disk.specs.Taken.{TakesOnly};
+ghost use Rattle.irl_disk.specs.Effects.{OnlyReads, OnlyChanges};
 ghost use Rattle.irl_journal.specs.Blob.{KeepsFront, IsCommitted};
 
 use irl_disk::{Failed, Store};
@@ -43,19 +42,17 @@ impl Blob {
     pub fn open<S: Store>(store: &mut S, f: u16, length: u64) -> Result<Option<Blob>, Failed>
         requires { f < 10000 }
         // There is none exactly where the file is shorter.
-        ensures short { IfOk result (λ found. ForSome (S.snapshot store.old).files (λ files.
+        ensures short { IfOk result (λ found. ForSome (S.told store.old).files (λ files.
             IsNone found ↔ (len (files f) < length))) }
         ensures blob { IfOk result (λ found. IfSome found (λ blob. blob ≡ record { file = f; length = length })) }
         // The bytes that the file has up to there are committed.
-        ensures committed { IfOk result (λ found. IfSome found (λ blob. ForSome (S.snapshot store.old).files (λ files.
-            IsCommitted (S.snapshot store.new).images blob (take length (files f))))) }
+        ensures committed { IfOk result (λ found. IfSome found (λ blob. ForSome (S.told store.old).files (λ files.
+            IsCommitted (S.told store.new).images blob (take length (files f))))) }
         // Each stop from then on leaves what a read gives.
-        ensures durable { OnOk result (ForSome (S.snapshot store.old).files (λ files.
-            (image : Files) → (S.snapshot store.new).images image → image f ≡ files f)) }
-        ensures same { (S.snapshot store.new).files ≡ (S.snapshot store.old).files }
-        ensures stops { LeavesSame (S.snapshot store.old) (S.snapshot store.new) }
-        ensures taken { S.taken store.new ≡ S.taken store.old }
-        ensures cause { HasCause (IsErr result) (S.faults store.old) (S.faults store.new) }
+        ensures durable { OnOk result (ForSome (S.told store.old).files (λ files.
+            (image : Files) → (S.told store.new).images image → image f ≡ files f)) }
+        ensures reads { OnlyReads (λ _. ⊥) (IsErr result) (S.told store.old) (S.told store.new) }
+        ensures taken { (S.told store.new).taken ≡ (S.told store.old).taken }
     {
         store.sync(f)?;
         if store.length(f)? < length {
@@ -67,24 +64,20 @@ impl Blob {
     /// Appends bytes behind the committed ones, in two calls of the store: it writes them over whatever lies there, and
     /// syncs. At `Ok` they are committed. A refusal leaves the blob as it was, to be appended to again. It takes no memory.
     pub fn append<S: Store>(&mut self, store: &mut S, bytes: &[u8]) -> Result<(), Failed>
-        requires { ForSome (S.snapshot store.old).files (λ files. self.old.length ≤ len (files self.old.file)) }
+        requires { ForSome (S.told store.old).files (λ files. self.old.length ≤ len (files self.old.file)) }
         // Each stop from then on leaves what was committed and these bytes behind it.
         ensures committed { OnOk result ((held : List ℕ) →
-            IsCommitted (S.snapshot store.old).images self.old held →
-            IsCommitted (S.snapshot store.new).images self.new (held ++ bytes.now)) }
+            IsCommitted (S.told store.old).images self.old held →
+            IsCommitted (S.told store.new).images self.new (held ++ bytes.now)) }
         ensures length { OnOk result (self.new.length ≡ self.old.length + len bytes.now) }
         ensures kept { OnErr result (self.new ≡ self.old) }
         ensures file { self.new.file ≡ self.old.file }
         // What a read gives has the bytes there.
         ensures bytes { OnOk result (Changes self.old.file (Holds self.old.length bytes.now)
-            (S.snapshot store.old).files (S.snapshot store.new).files) }
-        ensures changes { Changes self.old.file (KeepsFront self.old.length)
-            (S.snapshot store.old).files (S.snapshot store.new).files }
+            (S.told store.old).files (S.told store.new).files) }
         // A stop at any moment leaves what was committed, and every other file as it was.
-        ensures stops { LeavesBy (ChangesFile self.old.file (KeepsFront self.old.length))
-            (S.snapshot store.old) (S.snapshot store.new) }
-        ensures taken { S.taken store.new ≡ S.taken store.old }
-        ensures cause { HasCause (IsErr result) (S.faults store.old) (S.faults store.new) }
+        ensures changes { OnlyChanges (ChangesFile self.old.file (KeepsFront self.old.length)) (IsErr result)
+            (S.told store.old) (S.told store.new) }
     {
         store.write(self.file, self.length, bytes)?;
         store.sync(self.file)?;
@@ -117,14 +110,11 @@ impl Blob {
 
     /// Fills a slice with the file's bytes from a place on, and answers whether the file has as many.
     pub fn read<S: Store>(&self, store: &mut S, at: u64, into: &mut [u8]) -> Result<bool, Failed>
-        ensures long { IfOk result (λ is_filled. ForSome (S.snapshot store.old).files (λ files.
+        ensures long { IfOk result (λ is_filled. ForSome (S.told store.old).files (λ files.
             (is_filled ≡ true) ↔ (at + len into.new ≤ len (files self.now.file)))) }
-        ensures bytes { IfOk result (λ is_filled. is_filled ≡ true → ForSome (S.snapshot store.old).files (λ files.
+        ensures bytes { IfOk result (λ is_filled. is_filled ≡ true → ForSome (S.told store.old).files (λ files.
             into.new ≡ take (len into.new) (drop at (files self.now.file)))) }
-        ensures same { (S.snapshot store.new).files ≡ (S.snapshot store.old).files }
-        ensures stops { LeavesSame (S.snapshot store.old) (S.snapshot store.new) }
-        ensures taken { TakesOnly self.now.file (S.taken store.old) (S.taken store.new) }
-        ensures cause { HasCause (IsErr result) (S.faults store.old) (S.faults store.new) }
+        ensures reads { OnlyReads (λ f. f ≡ self.now.file) (IsErr result) (S.told store.old) (S.told store.new) }
     {
         let length = store.length(self.file)?;
         if at > length || into.len() as u64 > length - at {

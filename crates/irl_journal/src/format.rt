@@ -1,6 +1,7 @@
 ghost use Rattle.std.specs.Prelude.{◌≡◌, ◌≢◌, ◌⊎◌, ◌≤◌, ◌++◌, [], ◌∷◌, List, ℕ, length as len};
 ghost use Rattle.std.specs.Prelude.{true, false, IfSome, IfNone};
-ghost use Rattle.irl_journal.specs.Format.{open_gate, body_text, IsPayload, HasNoRecord};
+ghost use Rattle.std.specs.Int.{w32, to_le_bytes};
+ghost use Rattle.irl_journal.specs.Format.{open_gate, max_payload, body_text, IsPayload, HasNoRecord};
 
 /// The greatest length of a payload, in bytes.
 pub const MAX_PAYLOAD: u32 = 16_777_216;
@@ -42,4 +43,20 @@ pub fn split_record(bytes: &[u8]) -> Option<(&[u8], &[u8])>
         return None;
     }
     Some(rest.split_at(length as usize))
+}
+
+// The length of a payload, where these five bytes are an open gate and a length that a payload may have.
+pub fn payload_length(front: &[u8]) -> Option<u32>
+    requires { len front.now ≡ 5 }
+    ensures found { IfSome result (λ n. (n ≤ MAX_PAYLOAD) × (front.now ≡ open_gate ∷ to_le_bytes w32 n)) }
+    ensures none { IfNone result ((n : ℕ) → n ≤ max_payload → front.now ≡ open_gate ∷ to_le_bytes w32 n → ⊥) }
+{
+    let [OPEN, a, b, c, d] = front else {
+        return None;
+    };
+    let length = u32::from_le_bytes([*a, *b, *c, *d]);
+    if length > MAX_PAYLOAD {
+        return None;
+    }
+    Some(length)
 }

@@ -1,14 +1,12 @@
-ghost use Rattle.std.specs.Prelude.{◌≡◌, ◌≢◌, ◌⊎◌, ◌<◌, ◌≤◌, ◌+◌, ◌^◌, ◌++◌, [], ◌∷◌, List, ℕ, Some, true, false};
+ghost use Rattle.std.specs.Prelude.{◌≡◌, ◌≢◌, ◌⊎◌, ◌<◌, ◌≤◌, ◌+◌, ◌^◌, [], ◌∷◌, List, ℕ, Some, true, false};
 ghost use Rattle.std.specs.Prelude.{length, length as len, drop, IfOk, OnOk, IsOk, IsErr, IsErrOf, vec_len};
 ghost use Rattle.std.specs.Option.{ForSome};
-ghost use Rattle.irl_offer.specs.Faults.{HasCause};
-ghost use Rattle.irl_disk.specs.Disk.{Files, Changes, ChangesFile};
-ghost use Rattle.irl_disk.specs.Images.{LeavesBy, LeavesSame};
-ghost use Rattle.irl_disk.specs.Taken.{TakesOnly};
-ghost use Rattle.irl_journal.specs.Format.{records_text, placed_from, StandsFor};
-ghost use Rattle.irl_journal.specs.Visiting.{TakesAll, IsBrokenFor, IsRefusedAt, RefusesOneOf, RefusesAt};
-ghost use Rattle.irl_journal.specs.Visiting.{RefusesOneFrom, HandsOver, StopsAt, TookUpTo, IsOpened};
-ghost use Rattle.irl_journal.specs.Appending.{Ends, IsOpen};
+ghost use Rattle.irl_base.specs.Faults.{HasCause};
+ghost use Rattle.irl_disk.specs.Disk.{Files, ChangesFile};
+ghost use Rattle.irl_disk.specs.Effects.{OnlyReads, ReadsAndChanges};
+ghost use Rattle.irl_journal.specs.Format.{placed_from};
+ghost use Rattle.irl_journal.specs.Visiting.{TakesAll, IsBrokenFor, IsRefusedAt, RefusesAt, HandsOver, StopsAt, TookUpTo, IsOpened, IsVisited, IsRevisited, IsDamaged, IsDamagedFrom};
+ghost use Rattle.irl_journal.specs.Appending.{Ends};
 
 use crate::fault::JournalFault;
 use crate::format::{CLOSED, LONGEST, OPEN, begins_closed, split_record};
@@ -28,40 +26,23 @@ impl Journal {
     ) -> Result<Journal, JournalFault>
         requires { f < 10000 }
         ensures journal { IfOk result (λ journal. (journal.file ≡ f) × (journal.is_sound ≡ true)) }
-        // The file stands for a list of records,
-        ensures found { OnOk result (ForSome (S.snapshot store.old).files (λ files.
-            (payloads : List (List ℕ)) × StandsFor (files f) payloads)) }
-        // and the visitor took just these, on which the journal is open.
-        ensures records { IfOk result (λ journal. ForSome (S.snapshot store.old).files (λ files.
-            (payloads : List (List ℕ)) → StandsFor (files f) payloads → (journal.end ≡ length (records_text payloads))
-            × TakesAll V.takes visitor.old (placed_from 0 payloads) visitor.new
-            × IsOpen (S.snapshot store.new).images journal payloads)) }
+        // The file stands for a list of records, just these the visitor took, and the journal is open on them.
+        ensures visited { IfOk result (λ journal. ForSome (S.told store.old).files (λ files.
+            IsVisited V.takes visitor.old visitor.new (S.told store.new).images (files f) journal)) }
         // Whatever the store tells, the visitor took records up to the journal's end.
         ensures took { IfOk result (λ journal. TookUpTo V.takes visitor.old visitor.new 0 journal.end) }
-        ensures damaged { (at : ℕ) → IsErrOf result (JournalFault.Damaged at) →
-            ForSome (S.snapshot store.old).files (λ files.
-            IsBrokenFor V.takes visitor.old visitor.new (files f) at
-            ⊎ IsRefusedAt V.takes V.refuses visitor.old visitor.new (files f) at) }
-        // Where the file stands for a list of records, only the visitor can refuse it: one of the list.
-        ensures refused { (at : ℕ) → IsErrOf result (JournalFault.Damaged at) →
-            ForSome (S.snapshot store.old).files (λ files. (payloads : List (List ℕ)) → StandsFor (files f) payloads →
-            RefusesOneOf V.takes V.refuses visitor.old visitor.new payloads at) }
-        ensures same { (at : ℕ) → IsErrOf result (JournalFault.Damaged at) →
-            (S.snapshot store.new).files ≡ (S.snapshot store.old).files }
-        ensures memory_same { IsErrOf result JournalFault.Memory →
-            (S.snapshot store.new).files ≡ (S.snapshot store.old).files }
+        ensures damaged { (at : ℕ) → IsErrOf result (JournalFault.Damaged at) → ForSome (S.told store.old).files
+            (λ files. IsDamaged V.takes V.refuses visitor.old visitor.new (files f) at) }
         // A file of at most one byte is then the closed gate.
-        ensures short { OnOk result (ForSome (S.snapshot store.old).files (λ files. length (files f) ≤ 1 →
-            (new : Files) × ((S.snapshot store.new).files ≡ Some new) × (new f ≡ 0 ∷ []))) }
-        ensures changes { Changes f IsOpened (S.snapshot store.old).files (S.snapshot store.new).files }
+        ensures short { OnOk result (ForSome (S.told store.old).files (λ files. length (files f) ≤ 1 →
+            (new : Files) × ((S.told store.new).files ≡ Some new) × (new f ≡ 0 ∷ []))) }
         // A stop at any moment leaves each file as it was, but that a file of at most one byte which is no closed gate
         // has at most one.
-        ensures stops { LeavesBy (ChangesFile f IsOpened) (S.snapshot store.old) (S.snapshot store.new) }
-        // Where memory runs out or the file is damaged, it leaves what a stop left before.
+        ensures changes { ReadsAndChanges (λ g. g ≡ f) (ChangesFile f IsOpened) (IsErrOf result JournalFault.Failed)
+            (S.told store.old) (S.told store.new) }
+        // Where memory runs out or the file is damaged, it changes nothing.
         ensures quiet { (IsErrOf result JournalFault.Memory) ⊎ ((at : ℕ) × IsErrOf result (JournalFault.Damaged at)) →
-            LeavesSame (S.snapshot store.old) (S.snapshot store.new) }
-        ensures taken { TakesOnly f (S.taken store.old) (S.taken store.new) }
-        ensures cause { HasCause (IsErrOf result JournalFault.Failed) (S.faults store.old) (S.faults store.new) }
+            OnlyReads (λ g. g ≡ f) ⊥ (S.told store.old) (S.told store.new) }
     {
         store.sync(f)?; // From here on each stop leaves what is read.
         let length = store.length(f)?;
@@ -85,31 +66,13 @@ impl Journal {
         visitor: &mut V,
     ) -> Result<(), JournalFault>
         requires { at ≤ self.now.end }
-        // Where the file has these records, the visitor took just those from there on.
-        ensures records { OnOk result (ForSome (S.snapshot store.old).files (λ files. (first more : List (List ℕ)) →
-            Ends self.now.end (files self.now.file) (first ++ more) → at ≡ length (records_text first) →
-            TakesAll V.takes visitor.old (placed_from at more) visitor.new)) }
-        // Whatever the file has, it took whole open records up to the journal's end, where a closed gate stands.
-        ensures found { OnOk result (ForSome (S.snapshot store.old).files (λ files. at < self.now.end →
-            StopsAt V.takes visitor.old visitor.new at true (drop at (files self.now.file)) self.now.end)) }
-        // Where the file has these records, only the visitor can refuse: one of them.
-        ensures refused { (place : ℕ) → IsErrOf result (JournalFault.Damaged place) →
-            ForSome (S.snapshot store.old).files (λ files. (first more : List (List ℕ)) →
-            Ends self.now.end (files self.now.file) (first ++ more) → at ≡ length (records_text first) →
-            RefusesOneFrom V.takes V.refuses visitor.old visitor.new at more place) }
-        // Damage is named only behind whole open records that the visitor took: where no whole record stands, where a
-        // closed gate stands that isn't the journal's end, or at a record that the visitor refuses.
-        ensures damaged { (place : ℕ) → IsErrOf result (JournalFault.Damaged place) →
-            ForSome (S.snapshot store.old).files (λ files.
-            StopsAt V.takes visitor.old visitor.new at false (drop at (files self.now.file)) place
-            ⊎ (StopsAt V.takes visitor.old visitor.new at true (drop at (files self.now.file)) place
-            × (place ≢ self.now.end))
-            ⊎ RefusesAt V.takes V.refuses visitor.old visitor.new at (drop at (files self.now.file)) place) }
+        ensures revisited { OnOk result (ForSome (S.told store.old).files (λ files.
+            IsRevisited V.takes visitor.old visitor.new self.now at (files self.now.file))) }
+        ensures damaged { (place : ℕ) → IsErrOf result (JournalFault.Damaged place) → ForSome (S.told store.old).files
+            (λ files. IsDamagedFrom V.takes V.refuses visitor.old visitor.new self.now at (files self.now.file) place) }
         ensures idle { at ≡ self.now.end → IsOk result × (store.new ≡ store.old) × (visitor.new ≡ visitor.old) }
-        ensures same { (S.snapshot store.new).files ≡ (S.snapshot store.old).files }
-        ensures stops { LeavesSame (S.snapshot store.old) (S.snapshot store.new) }
-        ensures taken { TakesOnly self.now.file (S.taken store.old) (S.taken store.new) }
-        ensures cause { HasCause (IsErrOf result JournalFault.Failed) (S.faults store.old) (S.faults store.new) }
+        ensures reads { OnlyReads (λ f. f ≡ self.now.file) (IsErrOf result JournalFault.Failed)
+            (S.told store.old) (S.told store.new) }
     {
         if at == self.end() {
             return Ok(());
@@ -126,15 +89,12 @@ impl Journal {
 // Whether a file of at most one byte is a closed gate.
 fn is_closed_gate<S: Store>(store: &mut S, f: u16) -> Result<bool, Failed>
     requires file { f < 10000 }
-    requires short { ForSome (S.snapshot store.old).files (λ files. length (files f) ≤ 1) }
+    requires short { ForSome (S.told store.old).files (λ files. length (files f) ≤ 1) }
     ensures closed { IfOk result (λ is_closed. is_closed ≡ true →
-        ForSome (S.snapshot store.old).files (λ files. files f ≡ 0 ∷ [])) }
+        ForSome (S.told store.old).files (λ files. files f ≡ 0 ∷ [])) }
     ensures other { IfOk result (λ is_closed. is_closed ≡ false →
-        ForSome (S.snapshot store.old).files (λ files. files f ≢ 0 ∷ [])) }
-    ensures same { (S.snapshot store.new).files ≡ (S.snapshot store.old).files }
-    ensures stops { LeavesSame (S.snapshot store.old) (S.snapshot store.new) }
-    ensures taken { TakesOnly f (S.taken store.old) (S.taken store.new) }
-    ensures cause { HasCause (IsErr result) (S.faults store.old) (S.faults store.new) }
+        ForSome (S.told store.old).files (λ files. files f ≢ 0 ∷ [])) }
+    ensures reads { OnlyReads (λ g. g ≡ f) (IsErr result) (S.told store.old) (S.told store.new) }
 {
     let mut gate = [OPEN];
     let count = store.read(f, 0, &mut gate)?;
@@ -157,19 +117,16 @@ fn read_records<S: Store, V: Visit>(
     visitor: &mut V,
 ) -> Result<u64, JournalFault>
     requires file { f < 10000 }
-    requires long { ForSome (S.snapshot store.old).files (λ files. (length ≡ len (files f)) × (1 < length)) }
+    requires long { ForSome (S.told store.old).files (λ files. (length ≡ len (files f)) × (1 < length)) }
     ensures within { IfOk result (λ end. end + 1 < 2 ^ 64) }
-    ensures records { IfOk result (λ end. ForSome (S.snapshot store.old).files (λ files. (payloads : List (List ℕ))
+    ensures records { IfOk result (λ end. ForSome (S.told store.old).files (λ files. (payloads : List (List ℕ))
         × Ends end (files f) payloads × TakesAll V.takes visitor.old (placed_from 0 payloads) visitor.new)) }
     ensures took { IfOk result (λ end. TookUpTo V.takes visitor.old visitor.new 0 end) }
     ensures damaged { (at : ℕ) → IsErrOf result (JournalFault.Damaged at) →
-        ForSome (S.snapshot store.old).files (λ files.
+        ForSome (S.told store.old).files (λ files.
         IsBrokenFor V.takes visitor.old visitor.new (files f) at
         ⊎ IsRefusedAt V.takes V.refuses visitor.old visitor.new (files f) at) }
-    ensures same { (S.snapshot store.new).files ≡ (S.snapshot store.old).files }
-    ensures stops { LeavesSame (S.snapshot store.old) (S.snapshot store.new) }
-    ensures taken { TakesOnly f (S.taken store.old) (S.taken store.new) }
-    ensures cause { HasCause (IsErrOf result JournalFault.Failed) (S.faults store.old) (S.faults store.new) }
+    ensures reads { OnlyReads (λ g. g ≡ f) (IsErrOf result JournalFault.Failed) (S.told store.old) (S.told store.new) }
 {
     read_from(alloc, store, f, 0, length, visitor)
 }
@@ -185,19 +142,16 @@ fn read_from<S: Store, V: Visit>(
     visitor: &mut V,
 ) -> Result<u64, JournalFault>
     requires file { f < 10000 }
-    requires long { ForSome (S.snapshot store.old).files (λ files. length ≡ len (files f)) }
+    requires long { ForSome (S.told store.old).files (λ files. length ≡ len (files f)) }
     ensures within { IfOk result (λ end. end + 1 < 2 ^ 64) }
-    ensures records { IfOk result (λ end. ForSome (S.snapshot store.old).files (λ files.
+    ensures records { IfOk result (λ end. ForSome (S.told store.old).files (λ files.
         StopsAt V.takes visitor.old visitor.new from true (drop from (files f)) end)) }
     ensures took { IfOk result (λ end. TookUpTo V.takes visitor.old visitor.new from end) }
     ensures damaged { (at : ℕ) → IsErrOf result (JournalFault.Damaged at) →
-        ForSome (S.snapshot store.old).files (λ files.
+        ForSome (S.told store.old).files (λ files.
         StopsAt V.takes visitor.old visitor.new from false (drop from (files f)) at
         ⊎ RefusesAt V.takes V.refuses visitor.old visitor.new from (drop from (files f)) at) }
-    ensures same { (S.snapshot store.new).files ≡ (S.snapshot store.old).files }
-    ensures stops { LeavesSame (S.snapshot store.old) (S.snapshot store.new) }
-    ensures taken { TakesOnly f (S.taken store.old) (S.taken store.new) }
-    ensures cause { HasCause (IsErrOf result JournalFault.Failed) (S.faults store.old) (S.faults store.new) }
+    ensures reads { OnlyReads (λ g. g ≡ f) (IsErrOf result JournalFault.Failed) (S.told store.old) (S.told store.new) }
 {
     let left = length.saturating_sub(from);
     let mut piece = zeros(alloc, left.min(LONGEST as u64) as usize)?;

@@ -1,5 +1,5 @@
 ghost use Rattle.std.specs.Prelude.{◌≡◌, ◌≤◌, ⊤, List, ℕ, length, true, IfOk, OnOk};
-ghost use Rattle.irl_disk.specs.Memory.{snapshot_of};
+ghost use Rattle.irl_disk.specs.Memory.{told_by};
 ghost use Rattle.irl_journal.specs.Appending.{IsOpen};
 
 use super::*;
@@ -65,7 +65,7 @@ struct Kept {
 fn append_first(alloc: Global, failing: Vec<u64>) -> Result<Kept, Fail>
     ensures sound { IfOk result (λ kept. kept.journal.is_sound ≡ true) }
     ensures open { IfOk result (λ kept. (payloads : List (List ℕ)) ×
-        IsOpen (snapshot_of kept.store).images kept.journal payloads) }
+        IsOpen (told_by kept.store).images kept.journal payloads) }
     ensures room { IfOk result (λ kept. kept.frame.room ≡ 8) }
 {
     let mut store = MemStore::new(alloc, failing);
@@ -83,12 +83,12 @@ fn append_first(alloc: Global, failing: Vec<u64>) -> Result<Kept, Fail>
 // Appends a record of this payload, in calls 6 to 9 where it is the second.
 fn append_next(kept: &mut Kept, payload: &[u8]) -> Result<(), Failed>
     requires sound { kept.old.journal.is_sound ≡ true }
-    requires open { (payloads : List (List ℕ)) × IsOpen (snapshot_of kept.old.store).images kept.old.journal payloads }
+    requires open { (payloads : List (List ℕ)) × IsOpen (told_by kept.old.store).images kept.old.journal payloads }
     requires room { kept.old.frame.room ≡ 8 }
     requires short { length payload.now ≤ 8 }
     ensures sound { OnOk result (kept.new.journal.is_sound ≡ true) }
     ensures open { OnOk result ((payloads : List (List ℕ)) ×
-        IsOpen (snapshot_of kept.new.store).images kept.new.journal payloads) }
+        IsOpen (told_by kept.new.store).images kept.new.journal payloads) }
     ensures room { kept.new.frame.room ≡ 8 }
 {
     kept.frame.clear();
@@ -115,6 +115,14 @@ fn revisited(
         return Err(JournalFault::Failed);
     }
     kept.journal.revisit(alloc, &mut kept.store, at, keeping)
+}
+
+// The payload of the record at a place. None stands at the journal's end or behind it.
+fn record_at(alloc: Global, kept: &mut Kept, at: u64) -> Result<Vec<u8>, JournalFault> {
+    if at >= kept.journal.end() {
+        return Err(JournalFault::Failed);
+    }
+    kept.journal.record(alloc, &mut kept.store, at)
 }
 
 // Writes a byte within file 7.
@@ -307,6 +315,24 @@ fn damage_is_named_where_it_stands(rt: HostRuntime) -> Result<(), Fail> {
             "at {at}"
         );
         assert_eq!(rt; keeping.places.as_slice(), places, "at {at}");
+    }
+    Ok(())
+}
+
+#[test]
+fn a_record_is_read_by_its_place(rt: HostRuntime) -> Result<(), Fail> {
+    let alloc = rt.alloc();
+    let mut kept = three_records(alloc)?;
+    for (at, want) in [(0, b"ab".as_slice()), (7, b"cde"), (15, b"f")] {
+        assert_eq!(rt; record_at(alloc, &mut kept, at)?.as_slice(), want);
+    }
+    // No gate stands at 1 and 16, and then the length of the record at 7 passes the journal's end.
+    tear(&mut kept.store, 8, 20)?;
+    for at in [1, 7, 16] {
+        assert_eq!(rt;
+            record_at(alloc, &mut kept, at).err(),
+            Some(JournalFault::Damaged(at))
+        );
     }
     Ok(())
 }

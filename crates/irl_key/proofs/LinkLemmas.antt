@@ -10,13 +10,14 @@ use Rattle.url.specs.Input.{is_empty}
 use Rattle.url.specs.Parts.{Parts, has_credentials, serialize}
 use Rattle.irl_key.specs.declared.canon.Canon.{Canon}
 use Rattle.irl_key.specs.declared.canon.Canon.TheVariants.{Web, NotHttp, Bad, TooLong}
-use Rattle.irl_offer.specs.Limits.{max_text}
+use Rattle.irl_base.specs.Limits.{max_text}
 use Rattle.irl_key.specs.Web.{url_against, url_of, IsWeb, IsWebText}
 use Rattle.irl_key.specs.Links.{link_of, canonical_text, canon_of_link, canon_of, own_canon, IsPlainHttp, IsCause, IsCanonicalText}
 use Rattle.irl_key.proofs.WebLemmas.{url_against-serialize}
 
 -- the cause, by what the three tests say of the URL
-cause_by : (url : Parts) (http named long : Bool) → bytes_eq url.scheme (codes "http") ≡ http → has_credentials url ≡ named → nat_lt max_text (length (canonical_text url)) ≡ long → IsCause (Some url) (cond (not http) NotHttp (cond named Bad (cond long TooLong (Web (canonical_text url)))))
+cause_by : (url : Parts) (http named long : Bool) → bytes_eq url.scheme (codes "http") ≡ http → has_credentials url ≡ named → nat_lt max_text (length (canonical_text url)) ≡ long
+    → IsCause (Some url) (cond (not http) NotHttp (cond named Bad (cond long TooLong (Web (canonical_text url)))))
 cause_by url false named long e n l = (url, refl, λ same. false≢true (sym e ∙ (bytes_eq-Decides _ _).1 same))
 cause_by url true true long e n l = inr (url, refl, (bytes_eq-Decides _ _).0 e, n)
 cause_by url true false true e n l = (url, refl, ((bytes_eq-Decides _ _).0 e, n), grind (arith, nat_tests))
@@ -87,20 +88,25 @@ canonical_from_same url text web short same =
 
 -- ---- the same of a result
 
-pub value_of_result : {E : Type 0} (result : Result Canon E) (base : Option (List ℕ)) (text : List ℕ) (link : Option Parts) → link ≡ link_of base text → IfOk result (λ canon. canon ≡ canon_of_link link) → IfOk result (λ canon. canon ≡ canon_of base text)
+pub value_of_result : {E : Type 0} (result : Result Canon E) (base : Option (List ℕ)) (text : List ℕ) (link : Option Parts) → link ≡ link_of base text
+    → IfOk result (λ canon. canon ≡ canon_of_link link) → IfOk result (λ canon. canon ≡ canon_of base text)
 unfolding canon_of
 value_of_result (Ok canon) base text link is counted = counted ∙ ap canon_of_link is
 value_of_result (Err e) base text link is counted = tt
 
-pub cause_of_result : {E : Type 0} (result : Result Canon E) (base : Option (List ℕ)) (text : List ℕ) (link : Option Parts) → link ≡ link_of base text → IfOk result (λ canon. canon ≡ canon_of_link link) → IfOk result (λ canon. (answer : Canon) → (canon ≡ answer) ↔ IsCause (link_of base text) answer)
+pub cause_of_result : {E : Type 0} (result : Result Canon E) (base : Option (List ℕ)) (text : List ℕ) (link : Option Parts) → link ≡ link_of base text
+    → IfOk result (λ canon. canon ≡ canon_of_link link) → IfOk result (λ canon. (answer : Canon) → (canon ≡ answer) ↔ IsCause (link_of base text) answer)
 cause_of_result (Ok canon) base text link is counted = exact_cause (link_of base text) canon (counted ∙ ap canon_of_link is)
 cause_of_result (Err e) base text link is counted = tt
 
-pub own_of_result : {E : Type 0} (result : Result Canon E) (base : Option (List ℕ)) (text : List ℕ) (link : Option Parts) → link ≡ link_of base text → IfOk result (λ canon. canon ≡ canon_of_link link) → IsWebText text → IfOk result (λ canon. canon ≡ own_canon text)
+pub own_of_result : {E : Type 0} (result : Result Canon E) (base : Option (List ℕ)) (text : List ℕ) (link : Option Parts) → link ≡ link_of base text → IfOk result (λ canon. canon ≡ canon_of_link link)
+    → IsWebText text → IfOk result (λ canon. canon ≡ own_canon text)
 own_of_result (Ok canon) base text link is counted own = counted ∙ ap canon_of_link is ∙ counts_as_own base text own
 own_of_result (Err e) base text link is counted own = tt
 
-pub again_of_result : {E : Type 0} (result : Result Canon E) (base : Option (List ℕ)) (text : List ℕ) (link : Option Parts) → link ≡ link_of base text → IfOk result (λ canon. canon ≡ canon_of_link link) → IfOk result (λ canon. (web : List ℕ) → canon ≡ Web web → IsCanonicalText web) → IfOk result (λ canon. (canon ≡ Web text) ↔ IsCanonicalText text)
+pub again_of_result : {E : Type 0} (result : Result Canon E) (base : Option (List ℕ)) (text : List ℕ) (link : Option Parts) → link ≡ link_of base text
+    → IfOk result (λ canon. canon ≡ canon_of_link link) → IfOk result (λ canon. (web : List ℕ) → canon ≡ Web web → IsCanonicalText web)
+    → IfOk result (λ canon. (canon ≡ Web text) ↔ IsCanonicalText text)
 again_of_result (Ok canon) base text link is counted found = (found text, λ own. counted ∙ ap canon_of_link is ∙ counts_as_itself base text own)
 again_of_result (Err e) base text link is counted found = tt
 

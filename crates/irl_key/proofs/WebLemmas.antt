@@ -29,7 +29,7 @@ use Rattle.url.proofs.HostRoundTrip.{All-decimal, IsHostByte, host_text_plain}
 use Rattle.url.proofs.RoundTrip.{host_nonempty}
 use Rattle.url.proofs.ValidLemmas.{IsAscii-serialize, segment_list_kept, special_has_authority, base_from_authority, hierarchical, option_unchanged}
 use Rattle.url.proofs.Theorems.{parse_url-serialize_special}
-use Rattle.irl_offer.specs.Limits.{max_text}
+use Rattle.irl_base.specs.Limits.{max_text}
 use Rattle.irl_key.specs.Web.{IsVisible, url_against, marked, host_part, target_part, host_of, target_of, robots_text, IsWeb, IsHost}
 use Rattle.irl_key.specs.Links.{without_fragment}
 
@@ -67,14 +67,16 @@ web_form url valid http username password fragment =
       fragment = fragment i;
     }
 
-web_url_text : (host : Host (List ℕ)) (port : Option ℕ) (path : List ℕ) (query : Option (List ℕ)) → serialize (web_url host port path query) ≡ codes "http://" ++ (host_part (web_url host port path query) ++ target_part (web_url host port path query))
+web_url_text : (host : Host (List ℕ)) (port : Option ℕ) (path : List ℕ) (query : Option (List ℕ))
+    → serialize (web_url host port path query) ≡ codes "http://" ++ (host_part (web_url host port path query) ++ target_part (web_url host port path query))
 web_url_text host None path None = simp (append_assoc, append-nil)
 web_url_text host None path (Some q) = simp (append_assoc, append-nil)
 web_url_text host (Some n) path None = simp (append_assoc, append-nil)
 web_url_text host (Some n) path (Some q) = simp (append_assoc, append-nil)
 
 -- the text is the scheme, the host and the target
-pub web_text : (url : Parts) → IsValid url → url.scheme ≡ codes "http" → url.username ≡ [] → url.password ≡ [] → url.fragment ≡ None → serialize url ≡ codes "http://" ++ (host_part url ++ target_part url)
+pub web_text : (url : Parts) → IsValid url → url.scheme ≡ codes "http" → url.username ≡ [] → url.password ≡ [] → url.fragment ≡ None
+    → serialize url ≡ codes "http://" ++ (host_part url ++ target_part url)
 web_text url valid http username password fragment =
     let form = web_form url valid http username password fragment in
     let Written : Parts → Type 0 = λ u. serialize u ≡ codes "http://" ++ (host_part u ++ target_part u) in
@@ -95,7 +97,8 @@ pub text_between-target : (url : Parts) → text_between url BeforePath AfterQue
 text_between-target url = ap (λ t. url.path ++ t) (query_pieces url.query)
 
 -- a text that is not too long has room for its host
-pub short_host : (url : Parts) → IsValid url → url.scheme ≡ codes "http" → url.username ≡ [] → url.password ≡ [] → url.fragment ≡ None → length (serialize url) ≤ max_text → length (host_part url) + 8 ≤ max_text
+pub short_host : (url : Parts) → IsValid url → url.scheme ≡ codes "http" → url.username ≡ [] → url.password ≡ [] → url.fragment ≡ None → length (serialize url) ≤ max_text
+    → length (host_part url) + 8 ≤ max_text
 short_host url valid http username password fragment short =
     let kind = ap is_special (kind-http url http) in
     let authority = special_has_authority url valid.head kind in
@@ -212,7 +215,8 @@ unfolding url_against
 url_against-utf8 base text utf8 = cond-true _ _ _ (is_utf8-from_IsUtf8 text utf8)
 
 -- what the parser refuses reads as nothing
-pub url_against-refused : {E : Type 0} (result : Result (Option Parts) E) (base : Option Parts) (text : List ℕ) (error : ParseError) → IfOk result (λ url. url ≡ None) → OnOk result (¬ (IsOutOfRoom error)) → (parse_url base text ≡ Err error) ⊎ IsOutOfRoom error → IsUtf8 text → IfOk result (λ url. url ≡ url_against base text)
+pub url_against-refused : {E : Type 0} (result : Result (Option Parts) E) (base : Option Parts) (text : List ℕ) (error : ParseError) → IfOk result (λ url. url ≡ None)
+    → OnOk result (¬ (IsOutOfRoom error)) → (parse_url base text ≡ Err error) ⊎ IsOutOfRoom error → IsUtf8 text → IfOk result (λ url. url ≡ url_against base text)
 url_against-refused (Ok url) base text error none room refused utf8 =
     ⊎_elim (λ parsed. none ∙ sym (url_against-utf8 base text utf8 ∙ ap result_ok parsed)) (λ out. absurd (room out)) refused
 url_against-refused (Err e) base text error none room refused utf8 = tt

@@ -3,7 +3,7 @@ use Rattle.std.specs.Prelude.{◌≡◌, ◌≢◌, ℕ, ◌<◌, ◌≤◌, ◌
 use Rattle.url.specs.Parts.{Parts, has_credentials, serialize}
 use Rattle.irl_key.specs.declared.canon.Canon.{Canon}
 use Rattle.irl_key.specs.declared.canon.Canon.TheVariants.{Web, NotHttp, Bad, TooLong}
-use Rattle.irl_offer.specs.Limits.{max_text}
+use Rattle.irl_base.specs.Limits.{max_text}
 use Rattle.irl_key.specs.Web.{url_against, url_of, IsWebText}
 
 -- the URL that the bytes of a link read as, against the text of its base where there is one

@@ -5,7 +5,7 @@ use Rattle.std.specs.Result.{result_ok}
 use Rattle.url.specs.Host.{host_text}
 use Rattle.url.specs.Parts.{Parts, host_or_empty, serialize, IsValid}
 use Rattle.url.specs.Parser.{parse_url}
-use Rattle.irl_offer.specs.Limits.{max_text}
+use Rattle.irl_base.specs.Limits.{max_text}
 
 -- a visible byte of ASCII: no space and no control, so no line break
 abbrev pub IsVisible : ℕ → Type 0

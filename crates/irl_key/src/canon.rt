@@ -1,6 +1,6 @@
 ghost use Rattle.std.specs.Prelude.{◌≡◌, ◌+◌, ◌≤◌, ◌↔◌, ℕ, List, length, codes, Option, option_copied, IfOk, OnOk, Some, None};
 ghost use Rattle.url.specs.Parser.{parse_url, Gives, IsOutOfRoom};
-ghost use Rattle.irl_offer.specs.Limits.{max_text};
+ghost use Rattle.irl_base.specs.Limits.{max_text};
 ghost use Rattle.irl_key.specs.declared.canon.Canon.{Canon as Answer};
 ghost use Rattle.irl_key.specs.Web.{IsWebText, IsHost, host_of, target_of, url_against, robots_text as robots};
 ghost use Rattle.irl_key.specs.Links.{IsCause, IsCanonicalText, canon_of, canon_of_link, link_of, own_canon, without_fragment as cut};

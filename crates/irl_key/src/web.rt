@@ -1,5 +1,5 @@
 ghost use Rattle.std.specs.Prelude.{◌≡◌, ◌+◌, ◌<◌, ◌≤◌, length, slice_index, All, IfOk, Some};
-ghost use Rattle.irl_offer.specs.Limits.{max_text};
+ghost use Rattle.irl_base.specs.Limits.{max_text};
 ghost use Rattle.irl_key.specs.Web.{IsWebText, IsHost, IsVisible, host_of, target_of, url_of};
 
 use std::alloc::{AllocError, Global};

@@ -53,7 +53,8 @@ done_more asked vs news v a lt is e =
     ∙ map-append tuple_of (take (length vs) asked) (get_or asked (length vs) a ∷ [])
     ∙ ap (λ (x : Query). map tuple_of (take (length vs) asked) ++ tuple_of x ∷ []) (sym is)
 
-judgements_more : (rule : Rule) (keys : KeyMap) (os : List Tuple) (o : Tuple) → map (λ (p : Tuple × Option Verdict). p.1) (judgements rule keys (os ++ o ∷ [])) ≡ map (λ (p : Tuple × Option Verdict). p.1) (judgements rule keys os) ++ answer o.op (get (after rule keys os) o.key) ∷ []
+judgements_more : (rule : Rule) (keys : KeyMap) (os : List Tuple) (o : Tuple) → map (λ (p : Tuple × Option Verdict). p.1) (judgements rule keys (os ++ o ∷ []))
+    ≡ map (λ (p : Tuple × Option Verdict). p.1) (judgements rule keys os) ++ answer o.op (get (after rule keys os) o.key) ∷ []
 judgements_more rule keys os o =
     ap (map (λ (p : Tuple × Option Verdict). p.1)) (judgements-judged_on rule keys (os ++ o ∷ []) ∙ judged_on-more rule keys os o)
     ∙ map-append (λ (p : Tuple × Option Verdict). p.1) (judged_on rule keys os) ((o, answer o.op (get (after rule keys os) o.key)) ∷ [])
@@ -77,13 +78,15 @@ ask_more rule keys given more old new a has lt is rule_same same verdicts made u
     let count : length new.verdicts.items ≡ n + 1 = ap length verdicts ∙ length-append old.verdicts.items (v ∷ []) in
     record {
       rule_is = rule_same ∙ has.rule_is;
-      told = verdicts ∙ ap (λ (vs : List (Option Verdict)). vs ++ v ∷ []) has.told ∙ sym (ap (λ (os : List Tuple). map (λ (p : Tuple × Option Verdict). p.1) (judgements rule keys os)) all ∙ judgements_more rule keys (judged old) (tuple_of a));
+      told = verdicts ∙ ap (λ (vs : List (Option Verdict)). vs ++ v ∷ []) has.told
+          ∙ sym (ap (λ (os : List Tuple). map (λ (p : Tuple × Option Verdict). p.1) (judgements rule keys os)) all ∙ judgements_more rule keys (judged old) (tuple_of a));
       made = subst (λ (m : KeyMap). HasGiven m more new.last) (sym (ap (after rule keys) all ∙ after-more rule keys (judged old) (tuple_of a))) made;
       order = subst (λ (xs : List Query). (i j : ℕ) (d : Query) → i ≤ j → j < length xs → (get_or xs i d).key ≤ (get_or xs j d).key) (sym same) has.order;
       ahead = λ l.
           let later : n + 1 < length asked = omega (arith, l, count, ap length same) in
           let next : next_key new ≡ (get_or asked (n + 1) a).key =
-          ap (λ (xs : List Query). slice_index (map (λ (x : Query). x.key) xs) (length new.verdicts.items)) same ∙ ap (slice_index (map (λ (x : Query). x.key) asked)) count ∙ key_at asked (n + 1) a later in
+          ap (λ (xs : List Query). slice_index (map (λ (x : Query). x.key) xs) (length new.verdicts.items)) same ∙ ap (slice_index (map (λ (x : Query). x.key) asked)) count
+          ∙ key_at asked (n + 1) a later in
           let here : a.key ≡ (get_or asked n a).key = ap (λ (x : Query). x.key) is in
           up_more new.last a.key (next_key new) (omega (arith, next, here, has.order n (n + 1) a (omega arith) later)) up;
     }
@@ -106,11 +109,13 @@ fed_more rule fed given more mid new p rising has behind ahead rule_same same ve
           ap (λ (os : List Tuple). map (λ (q : Tuple × Option Verdict). q.1) (judgements rule (keys_of (fed ++ p ∷ [])) os)) all
           ∙ ap (λ (m : KeyMap). map (λ (q : Tuple × Option Verdict). q.1) (judgements rule m (judged mid))) keys
           ∙ ap (map (λ (q : Tuple × Option Verdict). q.1)) (judgements_apart rule (keys_of fed) p.key p.value (judged mid) behind.judged_are));
-      made = subst (λ (m : KeyMap). HasGiven m more new.last) (sym (ap (after rule (keys_of (fed ++ p ∷ []))) all ∙ ap (λ (m : KeyMap). after rule m (judged mid)) keys ∙ after_apart rule (keys_of fed) p.key p.value (judged mid) behind.judged_are)) made;
+      made = subst (λ (m : KeyMap). HasGiven m more new.last) (sym (ap (after rule (keys_of (fed ++ p ∷ []))) all ∙ ap (λ (m : KeyMap). after rule m (judged mid)) keys
+          ∙ after_apart rule (keys_of fed) p.key p.value (judged mid) behind.judged_are)) made;
       order = subst (λ (xs : List Query). (i j : ℕ) (d : Query) → i ≤ j → j < length xs → (get_or xs i d).key ≤ (get_or xs j d).key) (sym same) has.order;
       ahead = λ l.
           let next : next_key new ≡ next_key mid =
-          ap (λ (xs : List Query). slice_index (map (λ (x : Query). x.key) xs) (length new.verdicts.items)) same ∙ ap (λ (vs : List (Option Verdict)). slice_index (map (λ (x : Query). x.key) mid.queries.items) (length vs)) verdicts in
+          ap (λ (xs : List Query). slice_index (map (λ (x : Query). x.key) xs) (length new.verdicts.items)) same
+          ∙ ap (λ (vs : List (Option Verdict)). slice_index (map (λ (x : Query). x.key) mid.queries.items) (length vs)) verdicts in
           subst (λ (h : Option Pair). IsUpTo h (next_key new)) (sym held) (omega (arith, next, ahead (omega (arith, l, ap length same, ap length verdicts))));
     }
 
@@ -171,8 +176,10 @@ swept_more rule offers fed all given more next old mid new p is rising swept ask
 no_pair : (p : Pair) → None ≡ Some p → ⊥
 no_pair p e = cc
 
-pub swept_first : (rule : Rule) (offers : List Tuple) (sweep : Sweep) → ((key : ℕ) → filter (λ (a : Query). nat_eq key a.key) sweep.queries.items ≡ filter (λ (a : Query). nat_eq key a.key) (numbered 0 offers))
-    → length sweep.queries.items ≡ length offers → IsNonDecreasingBy (λ (a : Query). a.key) sweep.queries.items → sweep.rule ≡ rule → sweep.verdicts.items ≡ [] → sweep.last ≡ None → HasSwept rule offers [] [] sweep
+pub swept_first : (rule : Rule) (offers : List Tuple) (sweep : Sweep) → ((key : ℕ)
+    → filter (λ (a : Query). nat_eq key a.key) sweep.queries.items ≡ filter (λ (a : Query). nat_eq key a.key) (numbered 0 offers))
+    → length sweep.queries.items ≡ length offers → IsNonDecreasingBy (λ (a : Query). a.key) sweep.queries.items → sweep.rule ≡ rule → sweep.verdicts.items ≡ [] → sweep.last ≡ None
+    → HasSwept rule offers [] [] sweep
 swept_first rule offers sweep same count order rule_is none held =
     let so_far : List (Option Verdict) → List Tuple = λ vs. map tuple_of (take (length vs) sweep.queries.items) in
     record {
@@ -182,7 +189,8 @@ swept_first rule offers sweep same count order rule_is none held =
       asked = record {
         rule_is = rule_is;
         told = none ∙ sym (ap (λ (vs : List (Option Verdict)). map (λ (p : Tuple × Option Verdict). p.1) (judgements rule (keys_of []) (so_far vs))) none);
-        made = subst (HasGiven (after rule (keys_of []) (judged sweep)) []) (sym held) (subst (λ (vs : List (Option Verdict)). HasGiven (after rule (keys_of []) (so_far vs)) [] None) (sym none) nothing_made);
+        made = subst (HasGiven (after rule (keys_of []) (judged sweep)) []) (sym held)
+            (subst (λ (vs : List (Option Verdict)). HasGiven (after rule (keys_of []) (so_far vs)) [] None) (sym none) nothing_made);
         order = order;
         ahead = λ l. subst (λ (h : Option Pair). IsUpTo h (next_key sweep)) (sym held) tt;
       };

@@ -18,7 +18,8 @@ use Rattle.irl_merge.proofs.Unsorting.{SameByKey, after_same, right, right_is_to
 use Rattle.irl_merge.proofs.Asking.{all_done}
 
 -- the verdicts in the order of the keys
-in_key_order : (rule : Rule) (keys : KeyMap) (fed given : List Pair) (sweep : Sweep) → ArePairsOf keys fed → HasAsked rule (keys_of fed) given sweep → length sweep.verdicts.items ≡ length sweep.queries.items
+in_key_order : (rule : Rule) (keys : KeyMap) (fed given : List Pair) (sweep : Sweep) → ArePairsOf keys fed → HasAsked rule (keys_of fed) given sweep
+    → length sweep.verdicts.items ≡ length sweep.queries.items
     → sweep.verdicts.items ≡ map (λ (p : Told). p.1) (told_on rule keys sweep.queries.items)
 in_key_order rule keys fed given sweep are has count =
     has.told ∙ ap (λ (os : List Tuple). map (λ (p : Tuple × Option Verdict). p.1) (judgements rule (keys_of fed) os)) (all_done sweep count)
@@ -27,8 +28,10 @@ in_key_order rule keys fed given sweep are has count =
     ∙ told-judged rule keys sweep.queries.items
 
 -- and in the order of the places
-pub all_told : (rule : Rule) (keys : KeyMap) (offers : List Tuple) (fed given : List Pair) (sweep : Sweep) (told : List (Option Verdict)) → ArePairsOf keys fed → HasAsked rule (keys_of fed) given sweep
-    → length sweep.verdicts.items ≡ length sweep.queries.items → SameByKey sweep.queries.items (numbered 0 offers) → length sweep.queries.items ≡ length offers → length told ≡ length sweep.queries.items
+pub all_told : (rule : Rule) (keys : KeyMap) (offers : List Tuple) (fed given : List Pair) (sweep : Sweep) (told : List (Option Verdict)) → ArePairsOf keys fed
+    → HasAsked rule (keys_of fed) given sweep
+    → length sweep.verdicts.items ≡ length sweep.queries.items → SameByKey sweep.queries.items (numbered 0 offers) → length sweep.queries.items ≡ length offers
+    → length told ≡ length sweep.queries.items
     → ((right : List (Option Verdict)) → AreTold sweep.queries.items sweep.verdicts.items right → AreTold sweep.queries.items sweep.verdicts.items told) → told ≡ right rule keys offers
 all_told rule keys offers fed given sweep told are has count same long size put =
     let ordered = in_key_order rule keys fed given sweep are has count in

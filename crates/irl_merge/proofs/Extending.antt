@@ -27,7 +27,8 @@ get_apart keys k v a lt = get_set keys k v a ∙ below a k (Some v) (get keys a)
 
 pub entered_apart : (rule : Rule) (keys : KeyMap) (k v : ℕ) (o : Tuple) → o.key < k → entered rule (insert keys k v) o ≡ insert (entered rule keys o) k v
 entered_apart rule keys k v o lt =
-    elim (enters o.op) as (λ (b : Bool). cond b (insert (insert keys k v) o.key (combined rule (get (insert keys k v) o.key) o.value)) (insert keys k v) ≡ insert (cond b (insert keys o.key (combined rule (get keys o.key) o.value)) keys) k v) [
+    elim (enters o.op) as (λ (b : Bool). cond b (insert (insert keys k v) o.key (combined rule (get (insert keys k v) o.key) o.value)) (insert keys k v)
+    ≡ insert (cond b (insert keys o.key (combined rule (get keys o.key) o.value)) keys) k v) [
       | true ↦ ap (λ (known : Option ℕ). insert (insert keys k v) o.key (combined rule known o.value)) (get_apart keys k v o.key lt)
           ∙ set_apart keys k v o.key (combined rule (get keys o.key) o.value) lt
       | false ↦ refl

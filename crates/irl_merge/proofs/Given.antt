@@ -38,7 +38,8 @@ module _ (test : ℕ → Bool) where
   pass_numbered place (o ∷ os) q t (inl e) = ap (λ (x : Query). test x.key) (sym e) ∙ t.0
   pass_numbered place (o ∷ os) q t (inr h) = pass_numbered (place + 1) os q t.1 h
 
-  pass_queries : (queries : List Query) (os : List Tuple) → ((q : Query) → Has queries q → test q.key ≡ true) → (n : ℕ) → AllByRecursion (λ (o : Tuple). test o.key ≡ true) (map tuple_of (take n queries))
+  pass_queries : (queries : List Query) (os : List Tuple) → ((q : Query) → Has queries q → test q.key ≡ true) → (n : ℕ)
+      → AllByRecursion (λ (o : Tuple). test o.key ≡ true) (map tuple_of (take n queries))
   pass_queries [] os each zero = tt
   pass_queries [] os each (suc n) = tt
   pass_queries (q ∷ queries) os each zero = tt

@@ -35,12 +35,14 @@ pub length_entries : (offers : List Tuple) (entries : List Entry) → AreEntries
 length_entries offers entries h = sym (length-map entries bare_entry) ∙ ap length h ∙ length-map offers bare
 
 -- ---- one entry more
-numbered_more : (place n : ℕ) (os : List Tuple) (o : Tuple) → place + length os ≡ n → numbered place (os ++ o ∷ []) ≡ numbered place os ++ record { key = o.key; place = n; op = o.op; value = o.value } ∷ []
+numbered_more : (place n : ℕ) (os : List Tuple) (o : Tuple) → place + length os ≡ n
+    → numbered place (os ++ o ∷ []) ≡ numbered place os ++ record { key = o.key; place = n; op = o.op; value = o.value } ∷ []
 numbered_more place n [] o e = ap (λ (p : ℕ). record { key = o.key; place = p; op = o.op; value = o.value } ∷ []) (omega (arith, e))
 numbered_more place n (x ∷ os) o e = ap (λ (xs : List Query). record { key = x.key; place = place; op = x.op; value = x.value } ∷ xs) (numbered_more (place + 1) n os o (omega (arith, e)))
 
 pub numbered_entry : (entries : List Entry) (i : ℕ) (d : Entry) → i < length entries
-    → numbered 0 (map bare_entry (take i entries)) ++ record { key = (get_or entries i d).key; place = i; op = (get_or entries i d).op; value = (get_or entries i d).value } ∷ [] ≡ numbered 0 (map bare_entry (take (i + 1) entries))
+    → numbered 0 (map bare_entry (take i entries)) ++ record { key = (get_or entries i d).key; place = i; op = (get_or entries i d).op; value = (get_or entries i d).value }
+    ∷ [] ≡ numbered 0 (map bare_entry (take (i + 1) entries))
 numbered_entry entries i d lt =
     let long : 0 + length (map bare_entry (take i entries)) ≡ i = omega (arith, length-map (take i entries) bare_entry, length-take i entries) in
     sym (ap (λ (es : List Entry). numbered 0 (map bare_entry es)) (take_more entries i d lt)

@@ -64,7 +64,8 @@ told-filter rule keys key [] = refl
 told-filter rule keys key (a ∷ xs) =
     let rest = told-filter rule (entered rule keys (tuple_of a)) key xs in
     let later = filter (λ (p : Told). here key p.0) (told_on rule (entered rule keys (tuple_of a)) xs) in
-    elim (nat_eq key a.key) as (λ (b : Bool). nat_eq key a.key ≡ b → cond b ((a, answer a.op (get keys a.key)) ∷ later) later ≡ told_of rule (get keys key) (cond b (a ∷ filter (here key) xs) (filter (here key) xs))) [
+    elim (nat_eq key a.key) as (λ (b : Bool). nat_eq key a.key ≡ b → cond b ((a, answer a.op (get keys a.key)) ∷ later) later
+    ≡ told_of rule (get keys key) (cond b (a ∷ filter (here key) xs) (filter (here key) xs))) [
       | true ↦ λ e. ap (λ (known : Option ℕ). (a, answer a.op known) ∷ later) (answer_here keys a key e)
           ∙ ap (λ (ps : List Told). (a, answer a.op (get keys key)) ∷ ps) (rest ∙ ap (λ (known : Option ℕ). told_of rule known (filter (here key) xs)) (value_here rule keys a key e))
       | false ↦ λ e. rest ∙ ap (λ (known : Option ℕ). told_of rule known (filter (here key) xs)) (value_there rule keys a key e)
@@ -74,7 +75,8 @@ pub after-get : (rule : Rule) (keys : KeyMap) (key : ℕ) (xs : List Query) → 
 after-get rule keys key [] = refl
 after-get rule keys key (a ∷ xs) =
     let rest = after-get rule (entered rule keys (tuple_of a)) key xs in
-    elim (nat_eq key a.key) as (λ (b : Bool). nat_eq key a.key ≡ b → get (after rule (entered rule keys (tuple_of a)) (map tuple_of xs)) key ≡ value_of rule (get keys key) (cond b (a ∷ filter (here key) xs) (filter (here key) xs))) [
+    elim (nat_eq key a.key) as (λ (b : Bool). nat_eq key a.key ≡ b → get (after rule (entered rule keys (tuple_of a)) (map tuple_of xs)) key
+    ≡ value_of rule (get keys key) (cond b (a ∷ filter (here key) xs) (filter (here key) xs))) [
       | true ↦ λ e. rest ∙ ap (λ (known : Option ℕ). value_of rule known (filter (here key) xs)) (value_here rule keys a key e)
       | false ↦ λ e. rest ∙ ap (λ (known : Option ℕ). value_of rule known (filter (here key) xs)) (value_there rule keys a key e)
     ] refl
@@ -84,7 +86,8 @@ pub told-judged : (rule : Rule) (keys : KeyMap) (xs : List Query) → map (λ (p
 told-judged rule keys [] = refl
 told-judged rule keys (a ∷ xs) = ap (λ (vs : List (Option Verdict)). answer a.op (get keys a.key) ∷ vs) (told-judged rule (entered rule keys (tuple_of a)) xs)
 
-pub numbered-judged : (rule : Rule) (keys : KeyMap) (place : ℕ) (os : List Tuple) → map (λ (p : Tuple × Option Verdict). p.1) (judged_on rule keys os) ≡ map (λ (p : Told). p.1) (told_on rule keys (numbered place os))
+pub numbered-judged : (rule : Rule) (keys : KeyMap) (place : ℕ) (os : List Tuple)
+    → map (λ (p : Tuple × Option Verdict). p.1) (judged_on rule keys os) ≡ map (λ (p : Told). p.1) (told_on rule keys (numbered place os))
 numbered-judged rule keys place [] = refl
 numbered-judged rule keys place (o ∷ os) = ap (λ (vs : List (Option Verdict)). answer o.op (get keys o.key) ∷ vs) (numbered-judged rule (entered rule keys o) (place + 1) os)
 

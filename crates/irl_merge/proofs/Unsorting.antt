@@ -112,7 +112,8 @@ told_is_right rule keys offers asked verdicts told same e long is =
     ext_get_or None told (right rule keys offers) (long ∙ sym count) (λ j lt.
     let within : j < length offers = omega (arith, long) in
     let p = get_or (told_on rule keys (numbered 0 offers)) j (nothing, None) in
-    let has = told_same rule keys (numbered 0 offers) asked (λ key. sym (same key)) p (has_at (told_on rule keys (numbered 0 offers)) j (nothing, None) (omega (arith, length-told_on rule keys (numbered 0 offers), length-numbered 0 offers))) in
+    let has = told_same rule keys (numbered 0 offers) asked (λ key. sym (same key)) p
+    (has_at (told_on rule keys (numbered 0 offers)) j (nothing, None) (omega (arith, length-told_on rule keys (numbered 0 offers), length-numbered 0 offers))) in
     let found = at_has (told_on rule keys asked) p (nothing, None) has in
     let i = found.0 in
     let at : i < length asked = omega (arith, found.1, length-told_on rule keys asked) in

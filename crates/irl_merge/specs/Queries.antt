@@ -23,8 +23,10 @@ tuple_of asked = record { op = asked.op; key = asked.key; value = asked.value; f
 -- what offers ask, each with its place, from one on
 abbrev pub numbered : ℕ → List Tuple → List Query
 numbered place [] = []
-numbered place (offer ∷ offers) = record { key = offer.key; place = place; op = offer.op; value = offer.value } ∷ numbered (place + 1) offers
+numbered place (offer ∷ offers) = record { key = offer.key; place = place; op = offer.op; value = offer.value }
+    ∷ numbered (place + 1) offers
 
 -- a list has at the place of each that was asked the verdict on it
 abbrev pub AreTold : List Query → List (Option Verdict) → List (Option Verdict) → Type 0
-AreTold asked verdicts told = (i : ℕ) (d : Query) → i < length asked → slice_index_or told (slice_index_or asked i d).place None ≡ slice_index_or verdicts i None
+AreTold asked verdicts told = (i : ℕ) (d : Query) → i < length asked
+    → slice_index_or told (slice_index_or asked i d).place None ≡ slice_index_or verdicts i None

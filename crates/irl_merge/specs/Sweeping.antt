@@ -36,7 +36,8 @@ pub record IsBehind (key : ℕ) (sweep : Sweep) : Type 0 where
 -- Callers need no field of it: `Sweep::new` begins it, `feed` keeps it, and `end` uses it.
 -- A sweep by this rule, made of the entries of these offers, was fed these pairs and has given those.
 pub record HasSwept (rule : Rule) (offers : List Tuple) (fed given : List Pair) (sweep : Sweep) : Type 0 where
-  pub same : (key : ℕ) → filter (λ a. nat_eq key a.key) sweep.queries.items ≡ filter (λ a. nat_eq key a.key) (numbered 0 offers)
+  pub same : (key : ℕ) → filter (λ a. nat_eq key a.key) sweep.queries.items
+      ≡ filter (λ a. nat_eq key a.key) (numbered 0 offers)
   pub count : length sweep.queries.items ≡ length offers
   pub rising : IsRising fed
   pub asked : HasAsked rule (keys_of fed) given sweep

@@ -57,7 +57,8 @@ impl Sweep {
         requires sound { self.old.is_sound ≡ true }
         // `more` are the pairs that this call gave.
         ensures swept { OnOk result ((rule : Rule) (offers : List Tuple) (fed given more : List Pair) →
-            out.new.items ≡ out.old.items ++ more → HasSwept rule offers fed given self.old → IsRising (fed ++ block.now) →
+            out.new.items ≡ out.old.items ++ more → HasSwept rule offers fed given self.old
+            → IsRising (fed ++ block.now) →
             HasSwept rule offers (fed ++ block.now) (given ++ more) self.new) }
         ensures sound { (self.new.is_sound ≡ true) ↔ IsOk result }
         ensures kept { IsPrefixOf out.old.items out.new.items }
@@ -77,7 +78,8 @@ impl Sweep {
     pub fn end(mut self, out: &mut Vec<Pair>) -> Result<Vec<Option<Verdict>>, AllocError>
         requires sound { self.is_sound ≡ true }
         // Each verdict is that of the set of all that was fed, asked the offers before it.
-        ensures verdicts { IfOk result (λ verdicts. (rule : Rule) (offers : List Tuple) (fed given : List Pair) (keys : KeyMap) →
+        ensures verdicts { IfOk result (λ verdicts.
+            (rule : Rule) (offers : List Tuple) (fed given : List Pair) (keys : KeyMap) →
             HasSwept rule offers fed given self → ArePairsOf keys fed →
             verdicts.items ≡ map (λ p. p.1) (judgements rule keys offers)) }
         ensures count { IfOk result (λ verdicts. (rule : Rule) (offers : List Tuple) (fed given : List Pair) →
@@ -109,7 +111,8 @@ impl Sweep {
     // As `feed`, but for what want of memory leaves.
     fn feed_all(&mut self, block: &[Pair], out: &mut Vec<Pair>) -> Result<(), AllocError>
         ensures swept { OnOk result ((rule : Rule) (offers : List Tuple) (fed given more : List Pair) →
-            out.new.items ≡ out.old.items ++ more → HasSwept rule offers fed given self.old → IsRising (fed ++ block.now) →
+            out.new.items ≡ out.old.items ++ more → HasSwept rule offers fed given self.old
+            → IsRising (fed ++ block.now) →
             HasSwept rule offers (fed ++ block.now) (given ++ more) self.new) }
         ensures sound { self.new.is_sound ≡ self.old.is_sound }
         ensures kept { IsPrefixOf out.old.items out.new.items }
@@ -123,7 +126,8 @@ impl Sweep {
 
     // As `end`, but for what want of memory leaves.
     fn end_all(&mut self, out: &mut Vec<Pair>) -> Result<Vec<Option<Verdict>>, AllocError>
-        ensures verdicts { IfOk result (λ verdicts. (rule : Rule) (offers : List Tuple) (fed given : List Pair) (keys : KeyMap) →
+        ensures verdicts { IfOk result (λ verdicts.
+            (rule : Rule) (offers : List Tuple) (fed given : List Pair) (keys : KeyMap) →
             HasSwept rule offers fed given self.old → ArePairsOf keys fed →
             verdicts.items ≡ map (λ p. p.1) (judgements rule keys offers)) }
         ensures count { IfOk result (λ verdicts. length verdicts.items ≡ length self.old.queries.items) }
@@ -169,7 +173,8 @@ impl Sweep {
             out.new.items ≡ out.old.items ++ more →
             HasAsked rule keys given self.old → HasAsked rule keys (given ++ more) self.new) }
         ensures behind { OnOk result (IsBehind key self.old → IsBehind key self.new) }
-        ensures ahead { OnOk result (length self.new.verdicts.items < length self.new.queries.items → key ≤ next_key self.new) }
+        ensures ahead { OnOk result (length self.new.verdicts.items < length self.new.queries.items
+            → key ≤ next_key self.new) }
         ensures same { self.new.queries ≡ self.old.queries }
         ensures sound { self.new.is_sound ≡ self.old.is_sound }
         ensures kept { IsPrefixOf out.old.items out.new.items }

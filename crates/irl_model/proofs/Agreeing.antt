@@ -60,7 +60,8 @@ module _ (is_here : ℕ → Bool) where
       by_op Both is = rw is (one_set s t offer.key _ agree there)
 
   -- ---- lists of offers
-  pub both_after : (rule : Rule) (s t : KeyMap) (offers : List Tuple) → AllByRecursion (λ (offer : Tuple). is_here offer.key ≡ true) offers → Agree s t → Agree (after rule s offers) (after rule t offers)
+  pub both_after : (rule : Rule) (s t : KeyMap) (offers : List Tuple) → AllByRecursion (λ (offer : Tuple). is_here offer.key ≡ true) offers → Agree s t
+      → Agree (after rule s offers) (after rule t offers)
   both_after rule s t [] here agree = agree
   both_after rule s t (offer ∷ offers) here agree = both_after rule (entered rule s offer) (entered rule t offer) offers here.1 (both_entered rule s t offer here.0 agree)
 
@@ -68,8 +69,10 @@ module _ (is_here : ℕ → Bool) where
   one_after rule s t [] there agree = agree
   one_after rule s t (offer ∷ offers) there agree = one_after rule (entered rule s offer) t offers there.1 (one_entered rule s t offer there.0 agree)
 
-  pub same_judged : (rule : Rule) (s t : KeyMap) (offers : List Tuple) → AllByRecursion (λ (offer : Tuple). is_here offer.key ≡ true) offers → Agree s t → judged_on rule s offers ≡ judged_on rule t offers
+  pub same_judged : (rule : Rule) (s t : KeyMap) (offers : List Tuple) → AllByRecursion (λ (offer : Tuple). is_here offer.key ≡ true) offers → Agree s t
+      → judged_on rule s offers ≡ judged_on rule t offers
   same_judged rule s t [] here agree = refl
   same_judged rule s t (offer ∷ offers) here agree =
       ap (λ (o : Option ℕ). (offer, answer offer.op o) ∷ judged_on rule (entered rule s offer) offers) (agree offer.key here.0)
-      ∙ ap (λ (js : List (Tuple × Option Verdict)). (offer, answer offer.op (get t offer.key)) ∷ js) (same_judged rule (entered rule s offer) (entered rule t offer) offers here.1 (both_entered rule s t offer here.0 agree))
+      ∙ ap (λ (js : List (Tuple × Option Verdict)). (offer, answer offer.op (get t offer.key)) ∷ js)
+      (same_judged rule (entered rule s offer) (entered rule t offer) offers here.1 (both_entered rule s t offer here.0 agree))

@@ -38,11 +38,14 @@ module _ (buckets b : ℕ) where
       (λ here. judged_here rule (entered rule s offer) (entered rule t offer) offers (both_entered is_here rule s t offer here agree))
       (λ there. judged_here rule (entered rule s offer) t offers (one_entered is_here rule s t offer there agree))
     where
-      by_test : (test : Bool) → is_here offer.key ≡ test → (is_here offer.key ≡ true → judgements_here (judged_on rule (entered rule s offer) offers) ≡ judged_on rule (entered rule t offer) (offers_here offers))
-          → (is_here offer.key ≡ false → judgements_here (judged_on rule (entered rule s offer) offers) ≡ judged_on rule t (offers_here offers)) → judgements_here (judged_on rule s (offer ∷ offers)) ≡ judged_on rule t (offers_here (offer ∷ offers))
+      by_test : (test : Bool) → is_here offer.key ≡ test → (is_here offer.key ≡ true
+          → judgements_here (judged_on rule (entered rule s offer) offers) ≡ judged_on rule (entered rule t offer) (offers_here offers))
+          → (is_here offer.key ≡ false → judgements_here (judged_on rule (entered rule s offer) offers) ≡ judged_on rule t (offers_here offers))
+          → judgements_here (judged_on rule s (offer ∷ offers)) ≡ judged_on rule t (offers_here (offer ∷ offers))
       by_test true here both one =
           let same : answer offer.op (get s offer.key) ≡ answer offer.op (get t offer.key) = ap (λ (o : Option ℕ). answer offer.op o) (agree offer.key here) in
-          rw here (ap (λ (v : Option Verdict). (offer, v) ∷ judgements_here (judged_on rule (entered rule s offer) offers)) same ∙ ap (λ (js : List (Tuple × Option Verdict)). (offer, answer offer.op (get t offer.key)) ∷ js) (both here))
+          rw here (ap (λ (v : Option Verdict). (offer, v) ∷ judgements_here (judged_on rule (entered rule s offer) offers)) same
+          ∙ ap (λ (js : List (Tuple × Option Verdict)). (offer, answer offer.op (get t offer.key)) ∷ js) (both here))
       by_test false there both one = rw there (one there)
 
   -- the bucket's offers are judged among all as they are judged alone
@@ -60,7 +63,8 @@ pub judgements-take : (rule : Rule) (base : KeyMap) (n : ℕ) (xs : List Tuple) 
 judgements-take rule base n xs = judgements-judged_on rule base (take n xs) ∙ judged_on-take rule base n xs ∙ ap (take n) (sym (judgements-judged_on rule base xs))
 
 pub judged_in_its_list : (book : Book) (b : ℕ) → IsBook book → b < book.buckets
-    → judgements_here book.buckets b (judgements book.rule book.base (judged_offers book)) ≡ take (get_or (judged_cut book) b 0 - get_or book.firsts b 0) (judgements book.rule book.base (get_or book.lists b []))
+    → judgements_here book.buckets b (judgements book.rule book.base (judged_offers book))
+    ≡ take (get_or (judged_cut book) b 0 - get_or book.firsts b 0) (judgements book.rule book.base (get_or book.lists b []))
 judged_in_its_list book b is within =
     let n = get_or (judged_cut book) b 0 - get_or book.firsts b 0 in
     judgements-here book.buckets b book.rule book.base (judged_offers book)
@@ -118,7 +122,8 @@ not_again rule seen key (x ∷ xs) there = by_verdict (is_unique (answer x.op (g
     differs false e none = sym e
     differs true e none = absurd (others (sym e) none)
 
-    by_verdict : (unique : Bool) → is_unique (answer x.op (get seen x.key)) ≡ unique → AllByRecursion (λ (k : ℕ). nat_eq key k ≡ false) (unique_keys (judged_on rule (entered rule seen x) xs)) → AllByRecursion (λ (k : ℕ). nat_eq key k ≡ false) (unique_keys (judged_on rule seen (x ∷ xs)))
+    by_verdict : (unique : Bool) → is_unique (answer x.op (get seen x.key)) ≡ unique → AllByRecursion (λ (k : ℕ). nat_eq key k ≡ false) (unique_keys (judged_on rule (entered rule seen x) xs))
+        → AllByRecursion (λ (k : ℕ). nat_eq key k ≡ false) (unique_keys (judged_on rule seen (x ∷ xs)))
     by_verdict true e rest = rw e (differs (nat_eq key x.key) refl (new_where_unique x.op (get seen x.key) e).0, rest)
     by_verdict false e rest = rw e rest
 
@@ -127,23 +132,31 @@ unfolding IsDistinct
 distinct_on rule seen [] = tt
 distinct_on rule seen (x ∷ xs) = by_verdict (is_unique (answer x.op (get seen x.key))) refl (distinct_on rule (entered rule seen x) xs)
   where
-    by_verdict : (unique : Bool) → is_unique (answer x.op (get seen x.key)) ≡ unique → IsDistinct nat_eq (unique_keys (judged_on rule (entered rule seen x) xs)) → IsDistinct nat_eq (unique_keys (judged_on rule seen (x ∷ xs)))
+    by_verdict : (unique : Bool) → is_unique (answer x.op (get seen x.key)) ≡ unique → IsDistinct nat_eq (unique_keys (judged_on rule (entered rule seen x) xs))
+        → IsDistinct nat_eq (unique_keys (judged_on rule seen (x ∷ xs)))
     by_verdict true e rest = rw e (not_again rule (entered rule seen x) x.key xs (there_once_entered rule seen x (new_where_unique x.op (get seen x.key) e).1), rest)
     by_verdict false e rest = rw e rest
 
-keys_are : (buckets n : ℕ) (js : List (Tuple × Option Verdict)) → map (λ (p : ℕ × Tuple). p.1.key) (map (λ (p : ℕ × Judged). (p.0, p.1.offer)) (filter (λ (p : ℕ × Judged). is_unique p.1.verdict) (enumerate_from n (map (judged_as buckets) js)))) ≡ unique_keys js
+keys_are : (buckets n : ℕ) (js : List (Tuple × Option Verdict)) → map (λ (p : ℕ × Tuple). p.1.key)
+    (map (λ (p : ℕ × Judged). (p.0, p.1.offer)) (filter (λ (p : ℕ × Judged). is_unique p.1.verdict) (enumerate_from n (map (judged_as buckets) js)))) ≡ unique_keys js
 keys_are buckets n [] = refl
 keys_are buckets n (p ∷ js) = by_verdict (is_unique p.1) refl (keys_are buckets (n + 1) js)
   where
     keys : List (ℕ × Judged) → List ℕ
     keys ps = map (λ (p : ℕ × Tuple). p.1.key) (map (λ (p : ℕ × Judged). (p.0, p.1.offer)) (filter (λ (p : ℕ × Judged). is_unique p.1.verdict) ps))
 
-    by_verdict : (unique : Bool) → is_unique p.1 ≡ unique → keys (enumerate_from (n + 1) (map (judged_as buckets) js)) ≡ unique_keys js → keys (enumerate_from n (map (judged_as buckets) (p ∷ js))) ≡ unique_keys (p ∷ js)
+    by_verdict : (unique : Bool) → is_unique p.1 ≡ unique → keys (enumerate_from (n + 1) (map (judged_as buckets) js)) ≡ unique_keys js
+        → keys (enumerate_from n (map (judged_as buckets) (p ∷ js))) ≡ unique_keys (p ∷ js)
     by_verdict true e rest = rw e (ap (λ (ks : List ℕ). p.0.key ∷ ks) rest)
     by_verdict false e rest = rw e rest
 
-pub distinct_uniques : (book : Book) → AllPairs (λ x y. x ≢ y) (map (λ p. p.1.key) (uniques book))
-distinct_uniques book =
+-- the keys of the unique offers, each once
+pub unique_keys_once : (book : Book) → IsDistinct nat_eq (map (λ p. p.1.key) (uniques book))
+unique_keys_once book =
     let js = judgements book.rule book.base (judged_offers book) in
-    let keys : map (λ (p : ℕ × Tuple). p.1.key) (uniques book) ≡ unique_keys (judged_on book.rule book.base (judged_offers book)) = keys_are book.buckets (gone book) js ∙ ap unique_keys (judgements-judged_on book.rule book.base (judged_offers book)) in
-    subst (AllPairs (λ (x y : ℕ). x ≢ y)) (sym keys) (AllPairs-from_IsDistinct (λ a b. Decides-eqb a b) _ (distinct_on book.rule book.base (judged_offers book)))
+    let keys : map (λ (p : ℕ × Tuple). p.1.key) (uniques book) ≡ unique_keys (judged_on book.rule book.base (judged_offers book)) = keys_are book.buckets (gone book) js
+    ∙ ap unique_keys (judgements-judged_on book.rule book.base (judged_offers book)) in
+    subst (IsDistinct nat_eq) (sym keys) (distinct_on book.rule book.base (judged_offers book))
+
+pub distinct_uniques : (book : Book) → AllPairs (λ x y. x ≢ y) (map (λ p. p.1.key) (uniques book))
+distinct_uniques book = AllPairs-from_IsDistinct (λ a b. Decides-eqb a b) _ (unique_keys_once book)

@@ -18,10 +18,12 @@ pub flushed_here : (b : ℕ) (news : List Tuple) (book : Book) → b < length bo
 flushed_here b news book within = ap (λ (ls : List (List Tuple)). get_or ls b []) (flushed_lists-set b news book.lists) ∙ get_or-set_same book.lists b (get_or book.lists b [] ++ news) [] within
 
 pub flushed_elsewhere : (b : ℕ) (news : List Tuple) (book : Book) (c : ℕ) → c ≢ b → get_or (flushed b news book).lists c [] ≡ get_or book.lists c []
-flushed_elsewhere b news book c other = ap (λ (ls : List (List Tuple)). get_or ls c []) (flushed_lists-set b news book.lists) ∙ get_or-set_other book.lists b c (get_or book.lists b [] ++ news) [] other
+flushed_elsewhere b news book c other = ap (λ (ls : List (List Tuple)). get_or ls c []) (flushed_lists-set b news book.lists)
+    ∙ get_or-set_other book.lists b c (get_or book.lists b [] ++ news) [] other
 
 -- the bucket's number rises by so many, and the others stay
-pub flushed_lengths : (b : ℕ) (news : List Tuple) (firsts : List ℕ) (lists : List (List Tuple)) → length firsts ≡ length lists → list_lengths firsts (flushed_lists b news lists) ≡ set (list_lengths firsts lists) b (get_or (list_lengths firsts lists) b 0 + length news)
+pub flushed_lengths : (b : ℕ) (news : List Tuple) (firsts : List ℕ) (lists : List (List Tuple)) → length firsts ≡ length lists
+    → list_lengths firsts (flushed_lists b news lists) ≡ set (list_lengths firsts lists) b (get_or (list_lengths firsts lists) b 0 + length news)
 flushed_lengths b news [] lists same = refl
 flushed_lengths b news (first ∷ firsts) [] same = absurd (omega (arith, same))
 flushed_lengths zero news (first ∷ firsts) (list ∷ lists) same = ap (λ (n : ℕ). n ∷ list_lengths firsts lists) (omega (arith, length-append list news))
@@ -35,7 +37,8 @@ length-lengths_of book is = length-list_lengths book.firsts book.lists (is.first
 
 pub flushed_length_here : (b : ℕ) (news : List Tuple) (book : Book) → IsBook book → b < book.buckets → get_or (lengths_of (flushed b news book)) b 0 ≡ get_or (lengths_of book) b 0 + length news
 flushed_length_here b news book is within =
-    ap (λ (ns : List ℕ). get_or ns b 0) (flushed_lengths-set b news book is) ∙ get_or-set_same (lengths_of book) b (get_or (lengths_of book) b 0 + length news) 0 (omega (arith, length-lengths_of book is))
+    ap (λ (ns : List ℕ). get_or ns b 0) (flushed_lengths-set b news book is) ∙ get_or-set_same (lengths_of book) b (get_or (lengths_of book) b 0 + length news) 0
+    (omega (arith, length-lengths_of book is))
 
 pub flushed_length_elsewhere : (b : ℕ) (news : List Tuple) (book : Book) (c : ℕ) → IsBook book → c ≢ b → get_or (lengths_of (flushed b news book)) c 0 ≡ get_or (lengths_of book) c 0
 flushed_length_elsewhere b news book c is other =
@@ -46,7 +49,8 @@ all_join : {X : Type 0} (P : X → Type 0) (xs ys : List X) → AllByRecursion P
 all_join P [] ys h k = k
 all_join P (x ∷ xs) ys h k = (h.0, all_join P xs ys h.1 k)
 
-each_flushed : (buckets b c i : ℕ) (news : List Tuple) (lists : List (List Tuple)) → b ≡ c + i → AllByRecursion (λ (o : Tuple). bucket_of buckets o.key ≡ b) news → AreOfBuckets buckets c lists → AreOfBuckets buckets c (flushed_lists i news lists)
+each_flushed : (buckets b c i : ℕ) (news : List Tuple) (lists : List (List Tuple)) → b ≡ c + i → AllByRecursion (λ (o : Tuple). bucket_of buckets o.key ≡ b) news → AreOfBuckets buckets c lists
+    → AreOfBuckets buckets c (flushed_lists i news lists)
 each_flushed buckets b c i news [] is theirs each = tt
 each_flushed buckets b c zero news (list ∷ lists) is theirs each =
     let same : b ≡ c = omega arith in

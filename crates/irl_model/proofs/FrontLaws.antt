@@ -54,7 +54,8 @@ front_both x y z h k = record {
 taken_same : (n : ℕ) (xs ys : List Tuple) → n ≤ length xs → IsPrefixOf xs ys → take n ys ≡ take n xs
 taken_same n xs ys le h = ap (take n) h.1 ∙ take-append-le n xs h.0 le
 
-pub stretch_same : (firsts froms tos : List ℕ) (lists more : List (List Tuple)) → IsBelow tos (list_lengths firsts lists) → ArePrefixes lists more → stretch firsts froms tos more ≡ stretch firsts froms tos lists
+pub stretch_same : (firsts froms tos : List ℕ) (lists more : List (List Tuple)) → IsBelow tos (list_lengths firsts lists) → ArePrefixes lists more
+    → stretch firsts froms tos more ≡ stretch firsts froms tos lists
 stretch_same [] froms tos lists more below h = refl
 stretch_same (first ∷ firsts) [] tos lists more below h = refl
 stretch_same (first ∷ firsts) (from ∷ froms) [] lists more below h = refl
@@ -70,13 +71,15 @@ pub below_end : (from end : List ℕ) (cuts : List (List ℕ)) → AreCuts from 
 below_end from end [] cuts = cuts
 below_end from end (cut ∷ rest) cuts = below_both from cut end cuts.0 (below_end cut end rest cuts.2)
 
-pub stretches_same : (firsts from : List ℕ) (cuts : List (List ℕ)) (lists more : List (List Tuple)) → AreCuts from cuts (list_lengths firsts lists) → ArePrefixes lists more → stretches firsts from cuts more ≡ stretches firsts from cuts lists
+pub stretches_same : (firsts from : List ℕ) (cuts : List (List ℕ)) (lists more : List (List Tuple)) → AreCuts from cuts (list_lengths firsts lists) → ArePrefixes lists more
+    → stretches firsts from cuts more ≡ stretches firsts from cuts lists
 stretches_same firsts from [] lists more cuts h = refl
 stretches_same firsts from (cut ∷ rest) lists more cuts h =
     ap (λ (os : List Tuple). os ++ stretches firsts cut rest more) (stretch_same firsts from cut lists more (below_end cut (list_lengths firsts lists) rest cuts.2) h)
     ∙ ap (λ (os : List Tuple). stretch firsts from cut lists ++ os) (stretches_same firsts cut rest lists more cuts.2 h)
 
-pub stretches-append : (firsts from : List ℕ) (cuts more : List (List ℕ)) (lists : List (List Tuple)) → stretches firsts from (cuts ++ more) lists ≡ stretches firsts from cuts lists ++ stretches firsts (last_cut from cuts) more lists
+pub stretches-append : (firsts from : List ℕ) (cuts more : List (List ℕ)) (lists : List (List Tuple))
+    → stretches firsts from (cuts ++ more) lists ≡ stretches firsts from cuts lists ++ stretches firsts (last_cut from cuts) more lists
 stretches-append firsts from [] more lists = refl
 stretches-append firsts from (cut ∷ cuts) more lists =
     ap (λ (os : List Tuple). stretch firsts from cut lists ++ os) (stretches-append firsts cut cuts more lists)
@@ -95,7 +98,8 @@ judgements_prefix : (rule : Rule) (base : KeyMap) (xs ys : List Tuple) → IsPre
 judgements_prefix rule base xs ys h = (
   judgements rule (after rule base xs) h.0,
   ap (judgements rule base) h.1 ∙ judgements-judged_on rule base (xs ++ h.0) ∙ judged_on-append rule base xs h.0
-      ∙ ap (λ (js : List (Tuple × Option Verdict)). js ++ judged_on rule (after rule base xs) h.0) (sym (judgements-judged_on rule base xs)) ∙ ap (λ (js : List (Tuple × Option Verdict)). judgements rule base xs ++ js) (sym (judgements-judged_on rule (after rule base xs) h.0)),
+      ∙ ap (λ (js : List (Tuple × Option Verdict)). js ++ judged_on rule (after rule base xs) h.0) (sym (judgements-judged_on rule base xs))
+      ∙ ap (λ (js : List (Tuple × Option Verdict)). judgements rule base xs ++ js) (sym (judgements-judged_on rule (after rule base xs) h.0)),
 )
 
 -- and so are what they were judged
@@ -131,7 +135,8 @@ flushed_front b news book = record { buckets = refl; rule = refl; base = refl; d
 
 -- it judges nothing
 pub flushed_judged : (b : ℕ) (news : List Tuple) (book : Book) → IsBook book → judged (flushed b news book) ≡ judged book
-flushed_judged b news book is = ap (λ (os : List Tuple). map (judged_as book.buckets) (judgements book.rule book.base os)) (stretches_same book.firsts book.firsts book.cuts book.lists (flushed_lists b news book.lists) is.cuts (flushed_prefixes b news book.lists))
+flushed_judged b news book is = ap (λ (os : List Tuple). map (judged_as book.buckets) (judgements book.rule book.base os))
+    (stretches_same book.firsts book.firsts book.cuts book.lists (flushed_lists b news book.lists) is.cuts (flushed_prefixes b news book.lists))
 
 -- ---- a merge
 pub merged_front : (book : Book) → IsFront book (merged book)
@@ -149,4 +154,11 @@ cuts_more from end (cut ∷ rest) cuts differs = (cuts.0, cuts.1, cuts_more cut 
 
 -- and is a book where something was pending
 pub merged_book : (book : Book) → IsBook book → judged_cut book ≢ lengths_of book → IsBook (merged book)
-merged_book book is pending = record { buckets = is.buckets; firsts = is.firsts; lists = is.lists; each = is.each; cuts = cuts_more book.firsts (lengths_of book) book.cuts is.cuts pending; none = is.none }
+merged_book book is pending = record {
+  buckets = is.buckets;
+  firsts = is.firsts;
+  lists = is.lists;
+  each = is.each;
+  cuts = cuts_more book.firsts (lengths_of book) book.cuts is.cuts pending;
+  none = is.none;
+}

@@ -27,7 +27,8 @@ at_seam : (before : List Tuple) (x : Tuple) (rest : List Tuple) → slice_get (b
 at_seam [] x rest = refl
 at_seam (y ∷ before) x rest = at_seam before x rest
 
-from_place : (rule : Rule) (base : KeyMap) (before offers : List Tuple) → map (λ (p : ℕ × Tuple). (p.1, verdict rule base (before ++ offers) p.0)) (enumerate_from (length before) offers) ≡ judged_on rule (after rule base before) offers
+from_place : (rule : Rule) (base : KeyMap) (before offers : List Tuple) → map (λ (p : ℕ × Tuple). (p.1, verdict rule base (before ++ offers) p.0)) (enumerate_from (length before) offers)
+    ≡ judged_on rule (after rule base before) offers
 from_place rule base before [] = refl
 from_place rule base before (x ∷ offers) =
     let ih = rw (append_assoc before (x ∷ []) offers, length-append before (x ∷ []), after-append rule base before (x ∷ [])) at (from_place rule base (before ++ x ∷ []) offers) in

@@ -25,7 +25,8 @@ pub get-entries_map : (entries : List (ℕ × ℕ)) (key : ℕ) → get (from_en
 get-entries_map entries key = get-from_entries nat_cmp_total entries key ∙ find-entries entries key
 
 -- entries that differ at one key make maps that differ there
-pub one_set : (old new : List (ℕ × ℕ)) (key value : ℕ) → ((q : ℕ) → value_at new q ≡ cond (is_at (nat_cmp key) q) (Some value) (value_at old q)) → from_entries {R = nat_cmp} new ≡ insert (from_entries old) key value
+pub one_set : (old new : List (ℕ × ℕ)) (key value : ℕ) → ((q : ℕ) → value_at new q ≡ cond (is_at (nat_cmp key) q) (Some value) (value_at old q))
+    → from_entries {R = nat_cmp} new ≡ insert (from_entries old) key value
 one_set old new key value h = same_map nat_cmp_total nat_cmp-IsAntisymmetric _ _ (λ q.
     get-entries_map new q ∙ h q ∙ ap (λ b. cond b (Some value) (value_at old q)) ((eq_by_cmp_equiv nat_cmp_total).symm key q)
     ∙ sym (get-insert nat_cmp_total (from_entries old) key value q ∙ ap (cond (is_at (nat_cmp q) key) (Some value)) (get-entries_map old q)))

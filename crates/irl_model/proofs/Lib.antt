@@ -6,10 +6,8 @@ pub mod Flushes
 pub mod FrontLaws
 pub mod JudgingLaws
 pub mod KeyMaps
-pub mod LinkLemmas
 pub mod Merges
 pub mod Parts
 pub mod PlainLemmas
-pub mod QueueLemmas
 pub mod RisingKeys
 pub mod Stretches

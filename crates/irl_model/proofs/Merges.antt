@@ -58,7 +58,15 @@ pub earlier_book : (n : ℕ) (book : Book) → IsBook book → IsBook (with_cuts
 earlier_book n book is = record { buckets = is.buckets; firsts = is.firsts; lists = is.lists; each = is.each; cuts = cuts_first n book.firsts (lengths_of book) book.cuts is.cuts; none = is.none }
 
 pub earlier_front : (n : ℕ) (book : Book) → IsFront (with_cuts n book) book
-earlier_front n book = record { buckets = refl; rule = refl; base = refl; dropped = refl; firsts = refl; lists = prefixes_same book.lists; cuts = (drop n book.cuts, sym (take-append-drop n book.cuts)) }
+earlier_front n book = record {
+  buckets = refl;
+  rule = refl;
+  base = refl;
+  dropped = refl;
+  firsts = refl;
+  lists = prefixes_same book.lists;
+  cuts = (drop n book.cuts, sym (take-append-drop n book.cuts));
+}
 
 pub earlier_all : (n : ℕ) (book : Book) → length book.cuts ≤ n → with_cuts n book ≡ book
 earlier_all n book all = ap (λ (cuts : List (List ℕ)). record book { cuts = cuts }) (take_all n book.cuts all)
@@ -74,7 +82,8 @@ length-part : (first from to : ℕ) (list : List Tuple) → first ≤ from → f
 length-part first from to list below rises within =
     omega (arith, length-drop (from - first) (take (to - first) list), length-take (to - first) list)
 
-pub length-stretch : (firsts froms tos : List ℕ) (lists : List (List Tuple)) → IsBelow firsts froms → IsBelow froms tos → IsBelow tos (list_lengths firsts lists) → length (stretch firsts froms tos lists) + sum froms ≡ sum tos
+pub length-stretch : (firsts froms tos : List ℕ) (lists : List (List Tuple)) → IsBelow firsts froms → IsBelow froms tos → IsBelow tos (list_lengths firsts lists)
+    → length (stretch firsts froms tos lists) + sum froms ≡ sum tos
 length-stretch [] [] [] lists b r w = refl
 length-stretch [] [] (to ∷ tos) lists b r w = absurd r
 length-stretch [] (from ∷ froms) tos lists b r w = absurd b
@@ -86,7 +95,8 @@ length-stretch (first ∷ firsts) (from ∷ froms) (to ∷ tos) (list ∷ lists)
     let rest = length-stretch firsts froms tos lists b.1 r.1 w.1 in
     omega (arith, head, rest, length-append (drop (from - first) (take (to - first) list)) (stretch firsts froms tos lists), sum-cons from froms, sum-cons to tos)
 
-pub length-stretches : (firsts from : List ℕ) (cuts : List (List ℕ)) (lists : List (List Tuple)) → IsBelow firsts from → AreCuts from cuts (list_lengths firsts lists) → length (stretches firsts from cuts lists) + sum from ≡ sum (last_cut from cuts)
+pub length-stretches : (firsts from : List ℕ) (cuts : List (List ℕ)) (lists : List (List Tuple)) → IsBelow firsts from → AreCuts from cuts (list_lengths firsts lists)
+    → length (stretches firsts from cuts lists) + sum from ≡ sum (last_cut from cuts)
 length-stretches firsts from [] lists below are = omega arith
 length-stretches firsts from (cut ∷ rest) lists below are =
     let first = length-stretch firsts from cut lists below are.0 (below_end cut (list_lengths firsts lists) rest are.2) in

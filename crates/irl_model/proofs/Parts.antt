@@ -107,7 +107,8 @@ module _ (cut : ℕ) where
         | inr le ↦ as_two q (high q le) ∙ get-entries two q ∙ sym (find_back q (entries one) (entries two) le below)
       ]
 
-  module _ (rule : Rule) (keys one two : KeyMap) (before behind : List Tuple) (are : AreParts cut keys one two) (are_below : AllByRecursion (λ (o : Tuple). o.key < cut) before) (are_above : AllByRecursion (λ (o : Tuple). cut ≤ o.key) behind) where
+  module _ (rule : Rule) (keys one two : KeyMap) (before behind : List Tuple) (are : AreParts cut keys one two) (are_below : AllByRecursion (λ (o : Tuple). o.key < cut) before)
+      (are_above : AllByRecursion (λ (o : Tuple). cut ≤ o.key) behind) where
     low_before : AllByRecursion (λ (o : Tuple). is_low o.key ≡ true) before
     low_before = each_too (λ (o : Tuple). low o.key) before are_below
 
@@ -127,7 +128,8 @@ module _ (cut : ℕ) where
     pub parts_judged : judgements rule keys (before ++ behind) ≡ judgements rule one before ++ judgements rule two behind
     parts_judged =
         judgements-judged_on rule keys (before ++ behind) ∙ judged_on-append rule keys before behind
-        ∙ ap (λ (js : List _). js ++ judged_on rule (after rule keys before) behind) (same_judged is_low rule keys one before low_before (agree_low keys one two are) ∙ sym (judgements-judged_on rule one before))
+        ∙ ap (λ (js : List _). js ++ judged_on rule (after rule keys before) behind) (same_judged is_low rule keys one before low_before (agree_low keys one two are)
+        ∙ sym (judgements-judged_on rule one before))
         ∙ ap (λ (js : List _). judgements rule one before ++ js) (same_judged is_high rule (after rule keys before) two behind high_behind middle_high ∙ sym (judgements-judged_on rule two behind))
 
     last_low : Agree is_low (after rule keys (before ++ behind)) (after rule one before)
@@ -140,8 +142,10 @@ module _ (cut : ℕ) where
 
     pub parts_after : AreParts cut (after rule keys (before ++ behind)) (after rule one before) (after rule two behind)
     parts_after =
-        let below = each_too (λ (e : ℕ × ℕ). from_low e.0) (entries (after rule one before)) (pass_after is_low rule one before (each_too (λ (e : ℕ × ℕ). low e.0) (entries one) are.below) low_before) in
-        let above = each_too (λ (e : ℕ × ℕ). from_high e.0) (entries (after rule two behind)) (pass_after is_high rule two behind (each_too (λ (e : ℕ × ℕ). high e.0) (entries two) are.above) high_behind) in
+        let below = each_too (λ (e : ℕ × ℕ). from_low e.0) (entries (after rule one before))
+        (pass_after is_low rule one before (each_too (λ (e : ℕ × ℕ). low e.0) (entries one) are.below) low_before) in
+        let above = each_too (λ (e : ℕ × ℕ). from_high e.0) (entries (after rule two behind))
+        (pass_after is_high rule two behind (each_too (λ (e : ℕ × ℕ). high e.0) (entries two) are.above) high_behind) in
         record {
           joined = joined (after rule keys (before ++ behind)) (after rule one before) (after rule two behind) last_low last_high below above;
           below = below;
@@ -153,12 +157,14 @@ each_pair : (P : ℕ → Type 0) (pairs : List Pair) → AllByRecursion (λ (p :
 each_pair P [] h = tt
 each_pair P (p ∷ pairs) h = (h.0, each_pair P pairs h.1)
 
-pub parts_of_pairs : (cut : ℕ) (front back : List Pair) → IsRising (front ++ back) → AllByRecursion (λ (p : Pair). p.key < cut) front → AllByRecursion (λ (p : Pair). cut ≤ p.key) back → AreParts cut (keys_of (front ++ back)) (keys_of front) (keys_of back)
+pub parts_of_pairs : (cut : ℕ) (front back : List Pair) → IsRising (front ++ back) → AllByRecursion (λ (p : Pair). p.key < cut) front → AllByRecursion (λ (p : Pair). cut ≤ p.key) back
+    → AreParts cut (keys_of (front ++ back)) (keys_of front) (keys_of back)
 parts_of_pairs cut front back rises below above =
     let one = pairs_are front (rising_front front back rises) in
     let two = pairs_are back (rising_back front back rises) in
     record {
-      joined = sym (pairs_are (front ++ back) rises) ∙ map-append pair_of front back ∙ ap (λ (es : List (ℕ × ℕ)). es ++ map pair_of back) one ∙ ap (λ (es : List (ℕ × ℕ)). entries (keys_of front) ++ es) two;
+      joined = sym (pairs_are (front ++ back) rises) ∙ map-append pair_of front back ∙ ap (λ (es : List (ℕ × ℕ)). es ++ map pair_of back) one
+          ∙ ap (λ (es : List (ℕ × ℕ)). entries (keys_of front) ++ es) two;
       below = subst (AllByRecursion (λ (e : ℕ × ℕ). e.0 < cut)) one (each_pair (λ (k : ℕ). k < cut) front below);
       above = subst (AllByRecursion (λ (e : ℕ × ℕ). cut ≤ e.0)) two (each_pair (λ (k : ℕ). cut ≤ k) back above);
     }

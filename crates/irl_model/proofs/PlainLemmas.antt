@@ -53,7 +53,8 @@ stretch_more (suc n) (suc b) (from ∷ froms) (to ∷ tos) (list ∷ lists) i j 
     ∙ sym (append_assoc head (stretch (replicate n 0) froms tos (take b lists)) (drop (get_or froms b 0) (take (get_or tos b 0) (get_or lists b []))))
 
 -- a stretch ends where one of its lists does
-pub stretch_ends : (firsts froms tos : List ℕ) (lists : List (List Tuple)) (count : ℕ) → min (min (length lists) (length froms)) (length tos) ≤ count → stretch firsts froms tos (take count lists) ≡ stretch firsts froms tos lists
+pub stretch_ends : (firsts froms tos : List ℕ) (lists : List (List Tuple)) (count : ℕ) → min (min (length lists) (length froms)) (length tos) ≤ count
+    → stretch firsts froms tos (take count lists) ≡ stretch firsts froms tos lists
 stretch_ends [] froms tos lists count le = refl
 stretch_ends (first ∷ firsts) [] tos lists count le = refl
 stretch_ends (first ∷ firsts) (from ∷ froms) [] lists count le = refl
@@ -78,7 +79,8 @@ stretches_buckets n from (cut ∷ cuts) lists =
     ∙ ap (λ (os : List Tuple). stretch (replicate n 0) from cut lists ++ os) (stretches_buckets n cut cuts lists)
 
 -- one cut more
-pub stretches_more : (firsts from : List ℕ) (cuts : List (List ℕ)) (cut : List ℕ) (lists : List (List Tuple)) → stretches firsts from (cuts ++ cut ∷ []) lists ≡ stretches firsts from cuts lists ++ stretch firsts (last_cut from cuts) cut lists
+pub stretches_more : (firsts from : List ℕ) (cuts : List (List ℕ)) (cut : List ℕ) (lists : List (List Tuple))
+    → stretches firsts from (cuts ++ cut ∷ []) lists ≡ stretches firsts from cuts lists ++ stretch firsts (last_cut from cuts) cut lists
 stretches_more firsts from cuts cut lists =
     stretches-append firsts from cuts (cut ∷ []) lists
     ∙ ap (λ (os : List Tuple). stretches firsts from cuts lists ++ os) (append-nil (stretch firsts (last_cut from cuts) cut lists))

@@ -50,7 +50,8 @@ module _ (buckets b : ℕ) where
   each_drop P (suc n) [] each = tt
   each_drop P (suc n) (o ∷ offers) each = each_drop P n offers each.1
 
-  each_part : (c a n : ℕ) (offers : List Tuple) → AllByRecursion (λ (o : Tuple). bucket_of buckets o.key ≡ c) offers → AllByRecursion (λ (o : Tuple). bucket_of buckets o.key ≡ c) (drop a (take n offers))
+  each_part : (c a n : ℕ) (offers : List Tuple) → AllByRecursion (λ (o : Tuple). bucket_of buckets o.key ≡ c) offers
+      → AllByRecursion (λ (o : Tuple). bucket_of buckets o.key ≡ c) (drop a (take n offers))
   each_part c a n offers each = each_drop _ a (take n offers) (each_take _ n offers each)
 
   -- of a stretch that begins with a later bucket none is here
@@ -66,7 +67,8 @@ module _ (buckets b : ℕ) where
       ∙ later_none (c + 1) firsts froms tos lists (omega arith) each.1
 
   -- of a stretch those are here that the bucket's list has there
-  pub stretch_here : (i c : ℕ) (firsts froms tos : List ℕ) (lists : List (List Tuple)) → b ≡ c + i → i < length firsts → i < length froms → i < length tos → i < length lists → AreOfBuckets buckets c lists
+  pub stretch_here : (i c : ℕ) (firsts froms tos : List ℕ) (lists : List (List Tuple)) → b ≡ c + i → i < length firsts → i < length froms → i < length tos → i < length lists
+      → AreOfBuckets buckets c lists
       → filter here (stretch firsts froms tos lists) ≡ drop (get_or froms i 0 - get_or firsts i 0) (take (get_or tos i 0 - get_or firsts i 0) (get_or lists i []))
   stretch_here i c [] froms tos lists is l m n o each = absurd (omega arith)
   stretch_here i c (first ∷ firsts) [] tos lists is l m n o each = absurd (omega arith)
@@ -118,7 +120,8 @@ last_above from end (cut ∷ rest) cuts = let later = last_above cut end rest cu
 
 module _ (buckets b : ℕ) where
   -- what was judged of a bucket's list from one cut to the last
-  pub stretches_here : (firsts from end : List ℕ) (cuts : List (List ℕ)) (lists : List (List Tuple)) → b < length lists → length firsts ≡ length lists → length from ≡ length lists → AreOfBuckets buckets 0 lists → IsBelow firsts from → AreCuts from cuts end
+  pub stretches_here : (firsts from end : List ℕ) (cuts : List (List ℕ)) (lists : List (List Tuple)) → b < length lists → length firsts ≡ length lists → length from ≡ length lists
+      → AreOfBuckets buckets 0 lists → IsBelow firsts from → AreCuts from cuts end
       → filter (here buckets b) (stretches firsts from cuts lists) ≡ drop (get_or from b 0 - get_or firsts b 0) (take (get_or (last_cut from cuts) b 0 - get_or firsts b 0) (get_or lists b []))
   stretches_here firsts from end [] lists is long wide each below cuts =
       let n = get_or from b 0 - get_or firsts b 0 in
@@ -132,7 +135,8 @@ module _ (buckets b : ℕ) where
       filter-append (here buckets b) (stretch firsts from cut lists) (stretches firsts cut rest lists)
       ∙ ap (λ (os : List Tuple). os ++ filter (here buckets b) (stretches firsts cut rest lists)) first
       ∙ ap (λ (os : List Tuple). drop (get_or from b 0 - f) (take (get_or cut b 0 - f) (get_or lists b [])) ++ os) later
-      ∙ parts_join (get_or lists b []) (get_or from b 0 - f) (get_or cut b 0 - f) (get_or (last_cut cut rest) b 0 - f) (omega (arith, below_at from cut b cuts.0)) (omega (arith, below_at cut (last_cut cut rest) b above.0))
+      ∙ parts_join (get_or lists b []) (get_or from b 0 - f) (get_or cut b 0 - f) (get_or (last_cut cut rest) b 0 - f) (omega (arith, below_at from cut b cuts.0))
+      (omega (arith, below_at cut (last_cut cut rest) b above.0))
 
 pub length-list_lengths : (firsts : List ℕ) (lists : List (List Tuple)) → length firsts ≡ length lists → length (list_lengths firsts lists) ≡ length lists
 length-list_lengths [] [] same = refl
@@ -141,9 +145,11 @@ length-list_lengths (first ∷ firsts) [] same = refl
 length-list_lengths (first ∷ firsts) (list ∷ lists) same = ap (λ (n : ℕ). suc n) (length-list_lengths firsts lists (omega (arith, same)))
 
 -- of a book's judged offers those of a bucket are the first of its list
-pub judged_here_are : (book : Book) (b : ℕ) → IsBook book → b < book.buckets → filter (here book.buckets b) (judged_offers book) ≡ take (get_or (judged_cut book) b 0 - get_or book.firsts b 0) (get_or book.lists b [])
+pub judged_here_are : (book : Book) (b : ℕ) → IsBook book → b < book.buckets → filter (here book.buckets b) (judged_offers book)
+    ≡ take (get_or (judged_cut book) b 0 - get_or book.firsts b 0) (get_or book.lists b [])
 judged_here_are book b is within =
     let n = get_or book.firsts b 0 in
     let none : n - n ≡ 0 = omega arith in
-    let part = stretches_here book.buckets b book.firsts book.firsts (lengths_of book) book.cuts book.lists (omega (arith, is.lists)) (is.firsts ∙ sym is.lists) (is.firsts ∙ sym is.lists) is.each (below_same book.firsts) is.cuts in
+    let part = stretches_here book.buckets b book.firsts book.firsts (lengths_of book) book.cuts book.lists (omega (arith, is.lists)) (is.firsts ∙ sym is.lists) (is.firsts
+    ∙ sym is.lists) is.each (below_same book.firsts) is.cuts in
     part ∙ ap (λ (k : ℕ). drop k (take (get_or (judged_cut book) b 0 - n) (get_or book.lists b []))) none

@@ -1,5 +1,5 @@
--- The book of a DRUM: what its files stand for, and what its merges have made of it (Lee, Leonard, Wang, Loguinov, "IRLbot:
--- Scaling to 6 Billion Pages and Beyond", WWW 2008, section 4).
+-- The book of a DRUM: what its files stand for, and what its merges have made of it (Lee, Leonard, Wang, Loguinov,
+-- "IRLbot: Scaling to 6 Billion Pages and Beyond", WWW 2008, section 4).
 use Rattle.std.specs.Prelude.{◌≡◌, ◌≢◌, ℕ, zero, suc, ◌+◌, ◌-◌, ◌≤◌, nat_eq, Bool, true, false, List, [], ◌∷◌, ◌++◌, length, map, take, drop, sum, filter, replicate, Option, None, Some}
 use Rattle.std.specs.List.{AllByRecursion, enumerate_from}
 use Rattle.std.specs.FinMap.{empty}
@@ -11,8 +11,9 @@ use Rattle.irl_offer.specs.Buckets.{IsBucketCount, bucket_of}
 use Rattle.irl_offer.specs.Tuple.{Tuple}
 use Rattle.irl_model.specs.Judging.{KeyMap, after, judgements}
 
--- Offers and cuts of one DRUM. Offers are numbered bucket by bucket, from 0, from the beginning of time, and a cut has a number
--- for each bucket: the offers below it are judged. The first cuts may be dropped, with the offers below the last of them.
+-- Offers and cuts of one DRUM. Offers are numbered bucket by bucket, from 0, from the beginning of time, and a cut has
+-- a number for each bucket: the offers below it are judged. The first cuts may be dropped, with the offers below the
+-- last of them.
 pub record Book : Type 0 where
   -- how many buckets there are
   pub buckets : ℕ
@@ -30,7 +31,15 @@ pub record Book : Type 0 where
 
 -- a book without an offer
 abbrev pub blank_book : ℕ → Rule → Book
-blank_book buckets rule = record { buckets = buckets; rule = rule; base = empty; dropped = 0; firsts = replicate buckets 0; lists = replicate buckets []; cuts = [] }
+blank_book buckets rule = record {
+  buckets = buckets;
+  rule = rule;
+  base = empty;
+  dropped = 0;
+  firsts = replicate buckets 0;
+  lists = replicate buckets [];
+  cuts = [];
+}
 
 -- the length of a bucket's list, from the beginning of time
 abbrev pub list_lengths : List ℕ → List (List Tuple) → List ℕ
@@ -65,7 +74,8 @@ judged_cut book = last_cut book.firsts book.cuts
 -- each offer of the lists, the first of which is of this bucket, is of its list's bucket
 abbrev pub AreOfBuckets : ℕ → ℕ → List (List Tuple) → Type 0
 AreOfBuckets buckets b [] = Unit {0}
-AreOfBuckets buckets b (list ∷ lists) = AllByRecursion (λ offer. bucket_of buckets offer.key ≡ b) list × AreOfBuckets buckets (b + 1) lists
+AreOfBuckets buckets b (list ∷ lists) = AllByRecursion (λ offer. bucket_of buckets offer.key ≡ b) list
+    × AreOfBuckets buckets (b + 1) lists
 
 -- what every book keeps
 pub record IsBook (book : Book) : Type 0 where
@@ -80,7 +90,8 @@ pub record IsBook (book : Book) : Type 0 where
 -- ---- what is judged
 -- the offers from one cut to another, bucket 0 first, each bucket's by number
 abbrev pub stretch : List ℕ → List ℕ → List ℕ → List (List Tuple) → List Tuple
-stretch (first ∷ firsts) (from ∷ froms) (to ∷ tos) (list ∷ lists) = drop (from - first) (take (to - first) list) ++ stretch firsts froms tos lists
+stretch (first ∷ firsts) (from ∷ froms) (to ∷ tos) (list ∷ lists) = drop (from - first) (take (to - first) list)
+    ++ stretch firsts froms tos lists
 stretch _ _ _ _ = []
 
 -- the same cut by cut, from one cut on
@@ -88,8 +99,8 @@ abbrev pub stretches : List ℕ → List ℕ → List (List ℕ) → List (List 
 stretches firsts from [] lists = []
 stretches firsts from (cut ∷ cuts) lists = stretch firsts from cut lists ++ stretches firsts cut cuts lists
 
--- the kept offers that are judged, in the order in which they were: cut by cut, bucket 0 first within a cut, by number within a
--- bucket
+-- the kept offers that are judged, in the order in which they were: cut by cut, bucket 0 first within a cut, by number
+-- within a bucket
 abbrev pub judged_offers : Book → List Tuple
 judged_offers book = stretches book.firsts book.firsts book.cuts book.lists
 
@@ -114,9 +125,11 @@ is_unique (Some (Known value)) = false
 
 -- those of a list that were judged Unique, each with its number, where the list begins at this number
 abbrev pub uniques_from : ℕ → List Judged → List (ℕ × Tuple)
-uniques_from number judged = map (λ p. (p.0, p.1.offer)) (filter (λ p. is_unique p.1.verdict) (enumerate_from number judged))
+uniques_from number judged = map (λ p. (p.0, p.1.offer))
+    (filter (λ p. is_unique p.1.verdict) (enumerate_from number judged))
 
--- the kept offers that were judged Unique, each with its number: its place in the judged order, from the beginning of time
+-- the kept offers that were judged Unique, each with its number: its place in the judged order, from the beginning of
+-- time
 abbrev pub uniques : Book → List (ℕ × Tuple)
 uniques book = uniques_from (gone book) (judged book)
 
@@ -125,7 +138,8 @@ uniques book = uniques_from (gone book) (judged book)
 abbrev pub seen : Book → KeyMap
 seen book = after book.rule book.base (judged_offers book)
 
--- the offers that are not judged yet, in the order in which a merge judges them: bucket 0 first, each bucket's by number
+-- the offers that are not judged yet, in the order in which a merge judges them: bucket 0 first, each bucket's by
+-- number
 abbrev pub pending : Book → List Tuple
 pending book = stretch book.firsts (judged_cut book) (lengths_of book) book.lists
 

@@ -1,9 +1,4 @@
 pub mod Book
-pub mod Events
 pub mod Judging
-pub mod Legal
-pub mod Links
 pub mod Pairs
 pub mod Plain
-pub mod Queues
-pub mod State

@@ -40,7 +40,8 @@ pub fn parts_are_judged_apart()
     ensures after { (rule : Rule) (keys low high : KeyMap) (cut : ℕ) (before behind : List Tuple) →
         AreParts cut keys low high →
         AllByRecursion (λ offer. offer.key < cut) before → AllByRecursion (λ offer. cut ≤ offer.key) behind →
-        entries (after rule keys (before ++ behind)) ≡ entries (after rule low before) ++ entries (after rule high behind) }
+        entries (after rule keys (before ++ behind)) ≡ entries (after rule low before)
+        ++ entries (after rule high behind) }
     // The results are parts again.
     ensures parts { (rule : Rule) (keys low high : KeyMap) (cut : ℕ) (before behind : List Tuple) →
         AreParts cut keys low high →

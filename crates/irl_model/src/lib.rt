@@ -4,7 +4,6 @@
 mod judging;
 mod key_set;
 mod laws;
-mod links;
 mod plain;
 
 pub use judging::{answer, combined, enters, judge};
@@ -15,8 +14,7 @@ pub use laws::{
     buckets_follow_the_keys, fronts_stay, parts_are_judged_apart, rising_pairs_are_a_set,
     unique_keys_differ,
 };
-pub use links::{Domains, degree, first_offers_are_unique, pair_offers, pairs};
-pub use plain::{judged, uniques};
+pub use plain::{judged, judged_offers, uniques};
 
 #[cfg(test)]
 mod tests;

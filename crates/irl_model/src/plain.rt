@@ -1,7 +1,8 @@
 ghost use Rattle.std.specs.Prelude.{◌≡◌, ◌≤◌, ◌++◌, ℕ, length, take, drop, replicate, IfOk, OnOk};
 ghost use Rattle.irl_offer.specs.Buckets.{IsBucketCount};
 ghost use Rattle.irl_model.specs.Book.{judged as judged_of, judged_offers as judged_offers_of, stretch, uniques as uniques_of};
-ghost use Rattle.irl_model.specs.Plain.{items_of, whole_book};
+ghost use Rattle.irl_base.specs.Lists.{items_of};
+ghost use Rattle.irl_model.specs.Plain.{whole_book};
 
 use crate::KeySet;
 use irl_offer::{Judged, Offer, Rule, Verdict, bucket_of};
@@ -56,8 +57,9 @@ fn push_stretch(
     Ok(())
 }
 
-/// Copies of the offers that the cuts judge, in the order in which they do.
-pub(crate) fn judged_offers(
+/// Copies of the offers that are judged of a book that has these lists and these cuts, and has dropped none, in the order in
+/// which its merges judged them.
+pub fn judged_offers(
     alloc: Global,
     buckets: u32,
     lists: &[Vec<Offer>],

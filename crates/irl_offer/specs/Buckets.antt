@@ -4,7 +4,8 @@ use Rattle.std.specs.Prelude.{ℕ, ◌*◌, ◌/◌, ◌^◌, nat_eq, Bool, ◌|
 -- a number of buckets: a power of two from 1 to 64
 abbrev pub is_bucket_count : ℕ → Bool
 is_bucket_count buckets =
-    nat_eq buckets 1 || nat_eq buckets 2 || nat_eq buckets 4 || nat_eq buckets 8 || nat_eq buckets 16 || nat_eq buckets 32 || nat_eq buckets 64
+    nat_eq buckets 1 || nat_eq buckets 2 || nat_eq buckets 4 || nat_eq buckets 8 || nat_eq buckets 16 || nat_eq buckets
+    32 || nat_eq buckets 64
 
 abbrev pub IsBucketCount : ℕ → Type 0
 IsBucketCount buckets = IsTrue (is_bucket_count buckets)

@@ -1,9 +1,9 @@
--- The 27 bytes in which a bucket's journal keeps an offer without its text: the operation, the text's length, the key, the value
--- and the source, each number with its lowest byte first.
+-- The 27 bytes in which a bucket's journal keeps an offer without its text: the operation, the text's length, the key,
+-- the value and the source, each number with its lowest byte first.
 use Rattle.std.specs.Prelude.{ℕ, nat_eq, nat_lt, if◌then◌else◌, List, ◌∷◌, ◌++◌, drop, slice_index, Option, None, Some}
 use Rattle.std.specs.Option.{option_map}
 use Rattle.byteorder.specs.Endian.{little_bytes, little_number}
-use Rattle.irl_offer.specs.Limits.{max_text}
+use Rattle.irl_base.specs.Limits.{max_text}
 use Rattle.irl_offer.specs.declared.entry.Entry.{Entry}
 use Rattle.irl_offer.specs.declared.offer.Op.{Op}
 use Rattle.irl_offer.specs.declared.offer.Op.TheVariants.{Check, Update, Both}
@@ -24,7 +24,8 @@ op_of number =
 -- the bytes of an entry
 abbrev pub entry_bytes : Entry → List ℕ
 entry_bytes entry =
-    op_number entry.op ∷ (little_bytes 2 entry.aux_len ++ (little_bytes 8 entry.key ++ (little_bytes 8 entry.value ++ little_bytes 8 entry.from)))
+    op_number entry.op ∷ (little_bytes 2 entry.aux_len
+    ++ (little_bytes 8 entry.key ++ (little_bytes 8 entry.value ++ little_bytes 8 entry.from)))
 
 -- the entry that bytes are, if they are one: none has an operation above 2 or a text of more than 2,048 bytes
 abbrev pub entry_of : List ℕ → Option Entry

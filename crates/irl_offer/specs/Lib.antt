@@ -1,7 +1,5 @@
 pub mod Buckets
 pub mod Entries
-pub mod Faults
-pub mod Limits
 pub mod Notes
 pub mod Purses
 pub mod Replies

@@ -1,6 +1,6 @@
 ghost use Rattle.std.specs.Prelude.{◌≡◌, ◌+◌, ◌≤◌, ◌++◌, take, length};
 ghost use Rattle.byteorder.specs.Endian.{little_bytes};
-ghost use Rattle.irl_offer.specs.Limits.{max_text};
+ghost use Rattle.irl_base.specs.Limits.{max_text};
 ghost use Rattle.irl_offer.specs.Entries.{entry_bytes, entry_of};
 
 use crate::{MAX_TEXT, Op};

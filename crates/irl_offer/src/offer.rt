@@ -76,7 +76,7 @@ pub struct Offer {
 
 impl Model for Offer {
     ghost use Rattle.std.specs.Prelude.{◌≤◌, length};
-    ghost use Rattle.irl_offer.specs.Limits.{max_text};
+    ghost use Rattle.irl_base.specs.Limits.{max_text};
     ghost use Rattle.irl_offer.specs.Tuple.{Tuple};
 
     ghost Value = { Tuple };

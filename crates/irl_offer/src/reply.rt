@@ -24,7 +24,7 @@ pub struct Reply {
 
 impl Model for Reply {
     ghost use Rattle.std.specs.Prelude.{◌≤◌, length};
-    ghost use Rattle.irl_offer.specs.Limits.{max_page};
+    ghost use Rattle.irl_base.specs.Limits.{max_page};
     ghost use Rattle.irl_offer.specs.Replies.{Received};
 
     ghost Value = { Received };

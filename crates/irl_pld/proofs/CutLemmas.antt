@@ -42,7 +42,9 @@ cut-first s xs i inside here before = ap (cut s) (around xs i s inside here) ∙
 
 -- ---- the parts, and the tails
 
-split_by : (s b : ℕ) (bytes : List ℕ) (test : Bool) → split s bytes ≡ (cut s bytes).0 ∷ parts_left s (cut s bytes).1 → cond test ([] ∷ split s bytes) (onto_first b (split s bytes)) ≡ (cond {A = List ℕ × Option (List ℕ)} test ([], Some bytes) (b ∷ (cut s bytes).0, (cut s bytes).1)).0 ∷ parts_left s (cond {A = List ℕ × Option (List ℕ)} test ([], Some bytes) (b ∷ (cut s bytes).0, (cut s bytes).1)).1
+split_by : (s b : ℕ) (bytes : List ℕ) (test : Bool) → split s bytes ≡ (cut s bytes).0 ∷ parts_left s (cut s bytes).1
+    → cond test ([] ∷ split s bytes) (onto_first b (split s bytes)) ≡ (cond {A = List ℕ × Option (List ℕ)} test ([], Some bytes) (b ∷ (cut s bytes).0, (cut s bytes).1)).0
+    ∷ parts_left s (cond {A = List ℕ × Option (List ℕ)} test ([], Some bytes) (b ∷ (cut s bytes).0, (cut s bytes).1)).1
 split_by s b bytes true later = refl
 split_by s b bytes false later = ap (onto_first b) later
 
@@ -52,7 +54,8 @@ unfolding cut
 split-cut s [] = refl
 split-cut s (b ∷ bytes) = split_by s b bytes (b == s) (split-cut s bytes)
 
-tails_by : (b : ℕ) (bytes : List ℕ) (test : Bool) → tails bytes ≡ tails_left (cut 46 bytes).1 → cond test (bytes ∷ tails bytes) (tails bytes) ≡ tails_left (cond {A = List ℕ × Option (List ℕ)} test ([], Some bytes) (b ∷ (cut 46 bytes).0, (cut 46 bytes).1)).1
+tails_by : (b : ℕ) (bytes : List ℕ) (test : Bool) → tails bytes ≡ tails_left (cut 46 bytes).1
+    → cond test (bytes ∷ tails bytes) (tails bytes) ≡ tails_left (cond {A = List ℕ × Option (List ℕ)} test ([], Some bytes) (b ∷ (cut 46 bytes).0, (cut 46 bytes).1)).1
 tails_by b bytes true later = refl
 tails_by b bytes false later = later
 
@@ -68,7 +71,9 @@ nonempty_and xs rest nonempty = let more : nat_lt 0 (length xs) ≡ true = grind
 
 -- ---- where there is no separator
 
-whole_by : (s b : ℕ) (bytes : List ℕ) (test : Bool) → ((cut s bytes).1 ≡ None → (cut s bytes).0 ≡ bytes) → (cond {A = List ℕ × Option (List ℕ)} test ([], Some bytes) (b ∷ (cut s bytes).0, (cut s bytes).1)).1 ≡ None → (cond {A = List ℕ × Option (List ℕ)} test ([], Some bytes) (b ∷ (cut s bytes).0, (cut s bytes).1)).0 ≡ b ∷ bytes
+whole_by : (s b : ℕ) (bytes : List ℕ) (test : Bool) → ((cut s bytes).1 ≡ None → (cut s bytes).0 ≡ bytes)
+    → (cond {A = List ℕ × Option (List ℕ)} test ([], Some bytes) (b ∷ (cut s bytes).0, (cut s bytes).1)).1 ≡ None
+    → (cond {A = List ℕ × Option (List ℕ)} test ([], Some bytes) (b ∷ (cut s bytes).0, (cut s bytes).1)).0 ≡ b ∷ bytes
 whole_by s b bytes true later none = cc
 whole_by s b bytes false later none = ap (λ l. b ∷ l) (later none)
 
@@ -77,7 +82,8 @@ unfolding cut
 cut-whole s [] none = refl
 cut-whole s (b ∷ bytes) none = whole_by s b bytes (b == s) (cut-whole s bytes) none
 
-front_by : (s b : ℕ) (bytes : List ℕ) (test : Bool) → length (cut s bytes).0 ≤ length bytes → length (cond {A = List ℕ × Option (List ℕ)} test ([], Some bytes) (b ∷ (cut s bytes).0, (cut s bytes).1)).0 ≤ length (b ∷ bytes)
+front_by : (s b : ℕ) (bytes : List ℕ) (test : Bool) → length (cut s bytes).0 ≤ length bytes
+    → length (cond {A = List ℕ × Option (List ℕ)} test ([], Some bytes) (b ∷ (cut s bytes).0, (cut s bytes).1)).0 ≤ length (b ∷ bytes)
 front_by s b bytes true later = omega arith
 front_by s b bytes false later = omega arith
 

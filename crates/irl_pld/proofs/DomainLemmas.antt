@@ -13,7 +13,9 @@ use Rattle.irl_pld.proofs.CutLemmas.{tails-cut, length-cut_front}
 
 -- ---- the first tail
 
-first_by : (b : ℕ) (bytes rest : List ℕ) (test : Bool) → (b == 46) ≡ test → ((cut 46 bytes).1 ≡ Some rest → bytes ≡ (cut 46 bytes).0 ++ 46 ∷ rest) → (cond {A = List ℕ × Option (List ℕ)} test ([], Some bytes) (b ∷ (cut 46 bytes).0, (cut 46 bytes).1)).1 ≡ Some rest → b ∷ bytes ≡ (cond {A = List ℕ × Option (List ℕ)} test ([], Some bytes) (b ∷ (cut 46 bytes).0, (cut 46 bytes).1)).0 ++ 46 ∷ rest
+first_by : (b : ℕ) (bytes rest : List ℕ) (test : Bool) → (b == 46) ≡ test → ((cut 46 bytes).1 ≡ Some rest → bytes ≡ (cut 46 bytes).0 ++ 46 ∷ rest)
+    → (cond {A = List ℕ × Option (List ℕ)} test ([], Some bytes) (b ∷ (cut 46 bytes).0, (cut 46 bytes).1)).1 ≡ Some rest
+    → b ∷ bytes ≡ (cond {A = List ℕ × Option (List ℕ)} test ([], Some bytes) (b ∷ (cut 46 bytes).0, (cut 46 bytes).1)).0 ++ 46 ∷ rest
 first_by b bytes rest true dot later is =
     let is_dot : b ≡ 46 = grind (arith, nat_tests) in
     let same : bytes ≡ rest = cc in
@@ -26,7 +28,8 @@ unfolding cut
 spelled_by_cut [] rest is = cc
 spelled_by_cut (b ∷ bytes) rest is = first_by b bytes rest (b == 46) refl (spelled_by_cut bytes rest) is
 
-no_dot_by : (b : ℕ) (bytes : List ℕ) (test : Bool) → (b == 46) ≡ test → HasNoDot (cut 46 bytes).0 → HasNoDot (cond {A = List ℕ × Option (List ℕ)} test ([], Some bytes) (b ∷ (cut 46 bytes).0, (cut 46 bytes).1)).0
+no_dot_by : (b : ℕ) (bytes : List ℕ) (test : Bool) → (b == 46) ≡ test → HasNoDot (cut 46 bytes).0
+    → HasNoDot (cond {A = List ℕ × Option (List ℕ)} test ([], Some bytes) (b ∷ (cut 46 bytes).0, (cut 46 bytes).1)).0
 no_dot_by b bytes true dot later = refl
 no_dot_by b bytes false dot later = cond-false _ _ _ dot ∙ later
 
@@ -97,7 +100,8 @@ ends_from_among host (t ∷ ts) s is among =
 -- ---- the longest listed tail
 
 -- the longest listed tail is the first
-first_is_longest : (listed : List ℕ → Bool) (host : List ℕ) (ts : List (List ℕ)) (s : List ℕ) → ts ≡ tails host → Among s ts → listed s ≡ true → ((other : List ℕ) → Among other ts → listed other ≡ true → length other ≤ length s) → find listed ts ≡ Some s
+first_is_longest : (listed : List ℕ → Bool) (host : List ℕ) (ts : List (List ℕ)) (s : List ℕ) → ts ≡ tails host → Among s ts → listed s ≡ true
+    → ((other : List ℕ) → Among other ts → listed other ≡ true → length other ≤ length s) → find listed ts ≡ Some s
 first_is_longest listed host [] s is among hit longest = absurd among
 first_is_longest listed host (t ∷ ts) s is among hit longest =
     let b = begins host t ts is in
@@ -152,7 +156,8 @@ more_at_suffix listed host (t ∷ u ∷ ts) s is found =
     subst (IsOneMore host s) (sym (cond-false _ host _ miss)) (lift_more b.label t s _ host b.spelled (more_at_suffix listed t (u ∷ ts) s b.further (sym (cond-false _ (Some t) _ miss) ∙ found))))
     (cases_Bool (listed t))
 
-more_at_last : (listed : List ℕ → Bool) (host t : List ℕ) (ts : List (List ℕ)) → t ∷ ts ≡ tails host → find listed (t ∷ ts) ≡ None → (last : List ℕ) × HasNoDot last × IsOneMore host last (one_more listed host (t ∷ ts))
+more_at_last : (listed : List ℕ → Bool) (host t : List ℕ) (ts : List (List ℕ)) → t ∷ ts ≡ tails host → find listed (t ∷ ts) ≡ None → (last : List ℕ) × HasNoDot last
+    × IsOneMore host last (one_more listed host (t ∷ ts))
 more_at_last listed host t [] is found = (t, sym (begins host t [] is).further, here_more host t [] is)
 more_at_last listed host t (u ∷ ts) is found =
     let b = begins host t (u ∷ ts) is in
@@ -165,7 +170,8 @@ more_at_last listed host t (u ∷ ts) is found =
 
 -- ---- the whole
 
-last_two : (listed : List ℕ → Bool) (host : List ℕ) (ts : List (List ℕ)) → ts ≡ tails host → (ts ≡ [] → ⊥) → find listed ts ≡ None → (last : List ℕ) × HasNoDot last × IsOneMore host last (one_more listed host ts)
+last_two : (listed : List ℕ → Bool) (host : List ℕ) (ts : List (List ℕ)) → ts ≡ tails host → (ts ≡ [] → ⊥) → find listed ts ≡ None → (last : List ℕ) × HasNoDot last
+    × IsOneMore host last (one_more listed host ts)
 last_two listed host [] is some found = absurd (some refl)
 last_two listed host (t ∷ ts) is some found = more_at_last listed host t ts is found
 

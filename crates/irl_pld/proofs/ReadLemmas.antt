@@ -33,12 +33,14 @@ module _ {A : Type 0} where
   }
 
   -- the line after those that are read is no name
-  pub reads_bad : (names : BTreeSet (Vec ℕ A)) (text : List ℕ) (number : ℕ) (left : List (List ℕ)) (line : List ℕ) (rest : List (List ℕ)) → ReadsOn names text number left → left ≡ line ∷ rest → is_name line ≡ false → bad_line text ≡ Some (number + 1)
+  pub reads_bad : (names : BTreeSet (Vec ℕ A)) (text : List ℕ) (number : ℕ) (left : List (List ℕ)) (line : List ℕ) (rest : List (List ℕ)) → ReadsOn names text number left → left ≡ line ∷ rest
+      → is_name line ≡ false → bad_line text ≡ Some (number + 1)
   reads_bad names text number left line rest on is bad =
       sym on.good ∙ ap (position_from is_bad (number + 1)) is ∙ cond-true _ (Some (number + 1)) _ (ap not bad)
 
   -- one more line is a name, and joins the set
-  pub reads_more : (old new : BTreeSet (Vec ℕ A)) (key : Vec ℕ A) (text : List ℕ) (number : ℕ) (left : List (List ℕ)) (line : List ℕ) (rest : List (List ℕ)) → ReadsOn old text number left → left ≡ line ∷ rest → is_name line ≡ true → key.items ≡ line → new.keys ≡ insert_key vec_cmp old.keys key → ReadsOn new text (number + 1) rest
+  pub reads_more : (old new : BTreeSet (Vec ℕ A)) (key : Vec ℕ A) (text : List ℕ) (number : ℕ) (left : List (List ℕ)) (line : List ℕ) (rest : List (List ℕ)) → ReadsOn old text number left
+      → left ≡ line ∷ rest → is_name line ≡ true → key.items ≡ line → new.keys ≡ insert_key vec_cmp old.keys key → ReadsOn new text (number + 1) rest
   reads_more old new key text number left line rest on is good same keys = record {
     count = let e = ap length is in let before = on.count in omega arith;
     good = sym (cond-false _ (Some (number + 1)) (position_from is_bad (number + 1 + 1) rest) (ap not good)) ∙ sym (ap (position_from is_bad (number + 1)) is) ∙ on.good;

@@ -32,7 +32,8 @@ same_text : (k x : List ℕ) → slice_cmp nat_cmp k x ≡ Equal → k ≡ x
 same_text k x e = (bytes_eq-Decides k x).0 (sym (is_eq-slice_cmp k x) ∙ ap is_eq e)
 
 module _ {A : Type 0} (name : List ℕ) (k : Vec ℕ A) where
-  insert_by : (x : Vec ℕ A) (xs : List (Vec ℕ A)) (o : Ordering) → vec_cmp k x ≡ o → list_any (is_of name) (insert_key vec_cmp xs k) ≡ (is_of name k || list_any (is_of name) xs) → list_any (is_of name) (match_ordering o (k ∷ x ∷ xs) (x ∷ xs) (x ∷ insert_key vec_cmp xs k)) ≡ (is_of name k || (is_of name x || list_any (is_of name) xs))
+  insert_by : (x : Vec ℕ A) (xs : List (Vec ℕ A)) (o : Ordering) → vec_cmp k x ≡ o → list_any (is_of name) (insert_key vec_cmp xs k) ≡ (is_of name k || list_any (is_of name) xs)
+      → list_any (is_of name) (match_ordering o (k ∷ x ∷ xs) (x ∷ xs) (x ∷ insert_key vec_cmp xs k)) ≡ (is_of name k || (is_of name x || list_any (is_of name) xs))
   insert_by x xs Less e later = refl
   insert_by x xs Equal e later = or_same (is_of name k) (is_of name x) (ap (λ t. is_eq (slice_cmp nat_cmp name t)) (same_text k.items x.items e)) (list_any (is_of name) xs)
   insert_by x xs Greater e later = ap (λ t. is_of name x || t) later ∙ or_swap (is_of name k) (is_of name x) (list_any (is_of name) xs)

@@ -44,7 +44,8 @@ module _ (names names' : List ℕ → Option ℕ) (hosts : List Host) (name : Li
   len : length (hosts ++ record { name = name; known = None; due = 0; awaited = false; first = None } ∷ []) ≡ length hosts + 1
   len = length-append hosts (record { name = name; known = None; due = 0; awaited = false; first = None } ∷ [])
 
-  seen_after : (o : Option ℕ) → ((p : ℕ) → o ≡ Some p → p < length hosts) → seen (host_at (hosts ++ record { name = name; known = None; due = 0; awaited = false; first = None } ∷ []) o) ≡ seen (host_at hosts o)
+  seen_after : (o : Option ℕ) → ((p : ℕ) → o ≡ Some p → p < length hosts) → seen (host_at (hosts ++ record { name = name; known = None; due = 0; awaited = false; first = None } ∷ []) o)
+      ≡ seen (host_at hosts o)
   seen_after None within = refl
   seen_after (Some p) within = ap seen (get_left hosts (record { name = name; known = None; due = 0; awaited = false; first = None } ∷ []) p (within p refl))
 

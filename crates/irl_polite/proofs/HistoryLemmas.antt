@@ -126,10 +126,12 @@ started_past : (moment : ℕ) (step : Step) → All (Past moment) (started_by mo
 unfolding Past
 started_past moment (Load items notes) = All-nil (λ (s : Start). moment ≤ s.moment)
 started_past moment (RobotsDone name state when) = All-nil (λ (s : Start). moment ≤ s.moment)
-started_past moment (Take now (Page work)) = All-cons (λ (s : Start). moment ≤ s.moment) (record { host = host work; moment = max moment now }) [] (omega arith) (All-nil (λ (s : Start). moment ≤ s.moment))
+started_past moment (Take now (Page work)) = All-cons (λ (s : Start). moment ≤ s.moment) (record { host = host work; moment = max moment now }) [] (omega arith)
+    (All-nil (λ (s : Start). moment ≤ s.moment))
 started_past moment (Take now (Denied work line)) = All-nil (λ (s : Start). moment ≤ s.moment)
 started_past moment (Take now (ShutOut work)) = All-nil (λ (s : Start). moment ≤ s.moment)
-started_past moment (Take now (Robots name)) = All-cons (λ (s : Start). moment ≤ s.moment) (record { host = name; moment = max moment now }) [] (omega arith) (All-nil (λ (s : Start). moment ≤ s.moment))
+started_past moment (Take now (Robots name)) = All-cons (λ (s : Start). moment ≤ s.moment) (record { host = name; moment = max moment now }) [] (omega arith)
+    (All-nil (λ (s : Start). moment ≤ s.moment))
 started_past moment (Take now (WaitTill till)) = All-nil (λ (s : Start). moment ≤ s.moment)
 started_past moment (Take now Idle) = All-nil (λ (s : Start). moment ≤ s.moment)
 
@@ -281,7 +283,8 @@ runs_held : (a : Schedule) (steps : List Step) (b : Schedule) → Runs a steps b
 runs_held a [] b runs held = subst Held runs held
 runs_held a (step ∷ steps) b runs held = runs_held runs.0 steps b runs.2 (step_held a step runs.0 runs.1 held)
 
-pub all_held : (delay : ℕ) (agent : List ℕ) (steps : List Step) (b : Schedule) → Runs (empty_of delay agent) steps b → (name : List ℕ) → b.awaited name ≡ true → Any (λ (w : Work). host w ≡ name) b.items
+pub all_held : (delay : ℕ) (agent : List ℕ) (steps : List Step) (b : Schedule) → Runs (empty_of delay agent) steps b → (name : List ℕ) → b.awaited name ≡ true
+    → Any (λ (w : Work). host w ≡ name) b.items
 unfolding Held
 all_held delay agent steps b runs = runs_held (empty_of delay agent) steps b runs (λ name asked. let e : false ≡ true = asked in absurd cc)
 

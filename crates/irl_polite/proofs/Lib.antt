@@ -6,7 +6,6 @@ pub mod NextLemmas
 pub mod MoveLemmas
 pub mod AnswerLemmas
 pub mod TakeLemmas
-pub mod TextPlaces
 pub mod GrowLemmas
 pub mod LinkingLemmas
 pub mod BeginLemmas

@@ -90,7 +90,8 @@ module _ (hosts : List Host) (slots : List Slot) (at : ℕ) (slot : Slot) (work 
       elim (cases_eq p slot.host) [
         | inl same ↦
             let is : Some at ≡ o.first = ap (λ (x : Host). x.first) (same_some (record owner { first = Some at }) o
-            (sym (get_set_same hosts slot.host (record owner { first = Some at }) (get_within hosts slot.host owner held)) ∙ ap (slice_get (set hosts slot.host (record owner { first = Some at }))) (sym same) ∙ e)) in
+            (sym (get_set_same hosts slot.host (record owner { first = Some at }) (get_within hosts slot.host owner held))
+            ∙ ap (slice_get (set hosts slot.host (record owner { first = Some at }))) (sym same) ∙ e)) in
             let f : IsFirst slots slot.host at (Some at) = (omega arith, here, λ q le lt l. absurd (omega arith)) in
             subst (λ k. IsFirst new_slots k at o.first) (sym same) (subst (IsFirst new_slots slot.host at) is (first_like slots new_slots like slot.host at (Some at) f))
         | inr other ↦

@@ -60,7 +60,8 @@ module _ (names : List ℕ → Option ℕ) (hosts : List Host) (slots : List Slo
           absurd (let e = sym (first_none is.place is.owner is.stands) ∙ is.first in cc)
 
   -- hosts were entered, and nothing was loaded
-  pub sound_grown : (names' : List ℕ → Option ℕ) (hosts' : List Host) (turns' : List Turn) (room' : ℕ) → Grows names hosts names' hosts' → turns' ≡ turns → room ≤ room' → IsSound names' hosts' slots left turns' room'
+  pub sound_grown : (names' : List ℕ → Option ℕ) (hosts' : List Host) (turns' : List Turn) (room' : ℕ) → Grows names hosts names' hosts' → turns' ≡ turns → room ≤ room'
+      → IsSound names' hosts' slots left turns' room'
   sound_grown names' hosts' turns' room' grown same more =
       let none : turns' ≡ [] = same ∙ no_turns in
       let enough : length slots ≤ room = sound.reserved in
@@ -193,7 +194,8 @@ module _ (names : List ℕ → Option ℕ) (agent : List ℕ) where
     pub due : (q : List ℕ) → (seen_at names new q).due ≡ (seen_at names old q).due
     pub awaited : (q : List ℕ) → (seen_at names new q).awaited ≡ (seen_at names old q).awaited
 
-  pub noted_table : (notes : List Note) (read : List (ℕ × Known)) (old new : List Host) → AllZip (IsRead names agent) notes read → IsTable names old → All IsResting old → Noted old read new → NotedTable old notes new
+  pub noted_table : (notes : List Note) (read : List (ℕ × Known)) (old new : List Host) → AllZip (IsRead names agent) notes read → IsTable names old → All IsResting old → Noted old read new
+      → NotedTable old notes new
   noted_table [] [] old new all table resting noted =
       subst (NotedTable old []) (sym noted) (record { table = table; resting = resting; known = λ q. refl; due = λ q. refl; awaited = λ q. refl })
   noted_table [] (r ∷ read) old new all table resting noted = absurd all
@@ -218,7 +220,8 @@ module _ (names : List ℕ → Option ℕ) (agent : List ℕ) where
         resting = more.resting;
         known = λ q. more.known q ∙ ap (λ f. fold (with_note agent) f notes q) (fun_ext step);
         due = λ q. more.due q ∙ field_set names old table n.host r.0 is.owner moved (λ s. s.due) q ∙ changed_to_itself (λ p. (seen_at names old p).due) n.host owner.due (ap (λ s. s.due) sees) q;
-        awaited = λ q. more.awaited q ∙ field_set names old table n.host r.0 is.owner moved (λ s. s.awaited) q ∙ changed_to_itself (λ p. (seen_at names old p).awaited) n.host owner.awaited (ap (λ s. s.awaited) sees) q;
+        awaited = λ q. more.awaited q ∙ field_set names old table n.host r.0 is.owner moved (λ s. s.awaited) q
+            ∙ changed_to_itself (λ p. (seen_at names old p).awaited) n.host owner.awaited (ap (λ s. s.awaited) sees) q;
       }
 
 pub noted_resting : (old : List Host) (read : List (ℕ × Known)) (new : List Host) → Noted old read new → All IsResting old → All IsResting new

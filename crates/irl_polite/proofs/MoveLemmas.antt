@@ -43,18 +43,22 @@ module _ (names : List ℕ → Option ℕ) (hosts : List Host) (slots : List Slo
           → schedule_of agent delay moment names (set hosts place moved) slots' ≡ fetched (schedule_of agent delay moment names hosts slots) name (items_of slots')
       means_fetched known awaited due =
           schedules (schedule_of agent delay moment names (set hosts place moved) slots') (fetched (schedule_of agent delay moment names hosts slots) name (items_of slots')) refl refl refl refl
-          (λ q. field_set names hosts sound.table name place named moved (λ s. s.known) q ∙ changed_to_itself (λ p. (seen_at names hosts p).known) name moved.known (ap (λ s. s.known) sees ∙ sym known) q)
+          (λ q. field_set names hosts sound.table name place named moved (λ s. s.known) q
+          ∙ changed_to_itself (λ p. (seen_at names hosts p).known) name moved.known (ap (λ s. s.known) sees ∙ sym known) q)
           (λ q. field_set names hosts sound.table name place named moved (λ s. s.due) q ∙ ap (λ d. changed (λ p. (seen_at names hosts p).due) name d q) due)
-          (λ q. field_set names hosts sound.table name place named moved (λ s. s.awaited) q ∙ changed_to_itself (λ p. (seen_at names hosts p).awaited) name moved.awaited (ap (λ s. s.awaited) sees ∙ sym awaited) q)
+          (λ q. field_set names hosts sound.table name place named moved (λ s. s.awaited) q
+          ∙ changed_to_itself (λ p. (seen_at names hosts p).awaited) name moved.awaited (ap (λ s. s.awaited) sees ∙ sym awaited) q)
 
       -- an item was answered, and its host stays due when it was
       pub means_refused : moved.known ≡ owner.known → moved.awaited ≡ owner.awaited → moved.due ≡ owner.due
           → schedule_of agent delay moment names (set hosts place moved) slots' ≡ refused (schedule_of agent delay moment names hosts slots) (items_of slots')
       means_refused known awaited due =
           schedules (schedule_of agent delay moment names (set hosts place moved) slots') (refused (schedule_of agent delay moment names hosts slots) (items_of slots')) refl refl refl refl
-          (λ q. field_set names hosts sound.table name place named moved (λ s. s.known) q ∙ changed_to_itself (λ p. (seen_at names hosts p).known) name moved.known (ap (λ s. s.known) sees ∙ sym known) q)
+          (λ q. field_set names hosts sound.table name place named moved (λ s. s.known) q
+          ∙ changed_to_itself (λ p. (seen_at names hosts p).known) name moved.known (ap (λ s. s.known) sees ∙ sym known) q)
           (λ q. field_set names hosts sound.table name place named moved (λ s. s.due) q ∙ changed_to_itself (λ p. (seen_at names hosts p).due) name moved.due (ap (λ s. s.due) sees ∙ sym due) q)
-          (λ q. field_set names hosts sound.table name place named moved (λ s. s.awaited) q ∙ changed_to_itself (λ p. (seen_at names hosts p).awaited) name moved.awaited (ap (λ s. s.awaited) sees ∙ sym awaited) q)
+          (λ q. field_set names hosts sound.table name place named moved (λ s. s.awaited) q
+          ∙ changed_to_itself (λ p. (seen_at names hosts p).awaited) name moved.awaited (ap (λ s. s.awaited) sees ∙ sym awaited) q)
 
     module _ (moved : Host) where
       -- its robots file was asked for
@@ -62,7 +66,8 @@ module _ (names : List ℕ → Option ℕ) (hosts : List Host) (slots : List Slo
           → schedule_of agent delay moment names (set hosts place moved) slots ≡ asked (schedule_of agent delay moment names hosts slots) name
       means_asked known awaited due =
           schedules (schedule_of agent delay moment names (set hosts place moved) slots) (asked (schedule_of agent delay moment names hosts slots) name) refl refl refl refl
-          (λ q. field_set names hosts sound.table name place named moved (λ s. s.known) q ∙ changed_to_itself (λ p. (seen_at names hosts p).known) name moved.known (ap (λ s. s.known) sees ∙ sym known) q)
+          (λ q. field_set names hosts sound.table name place named moved (λ s. s.known) q
+          ∙ changed_to_itself (λ p. (seen_at names hosts p).known) name moved.known (ap (λ s. s.known) sees ∙ sym known) q)
           (λ q. field_set names hosts sound.table name place named moved (λ s. s.due) q ∙ ap (λ d. changed (λ p. (seen_at names hosts p).due) name d q) due)
           (λ q. field_set names hosts sound.table name place named moved (λ s. s.awaited) q ∙ ap (λ d. changed (λ p. (seen_at names hosts p).awaited) name d q) awaited)
 
@@ -143,7 +148,8 @@ module _ (names : List ℕ → Option ℕ) (hosts : List Host) (slots : List Slo
         let moved : Host = record owner { due = due; first = slot.next } in
         let gone : Slot = record slot { work = None } in
         let named' : names (host work) ≡ Some place = ap names (sym its) ∙ named in
-        let firsts' : AreFirsts (set hosts place moved) (set slots at gone) 0 = firsts_after slots at slot gone stands refl names hosts place owner work has named' held first sound.owned sound.firsts sound.nexts moved refl in
+        let firsts' : AreFirsts (set hosts place moved) (set slots at gone) 0 =
+        firsts_after slots at slot gone stands refl names hosts place owner work has named' held first sound.owned sound.firsts sound.nexts moved refl in
         let enough : length slots ≤ room = sound.reserved in
         let others : AreOthers place hosts replaced.rest = others_popped hosts slots sound.firsts place owner held turn turns replaced.rest (first ∙ ap Some (sym there)) sound.all replaced.out in
         let had : length (items_of slots) ≡ length (items_of (take at slots)) + length (work ∷ items_of (drop (suc at) slots)) =

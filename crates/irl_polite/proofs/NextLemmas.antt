@@ -39,7 +39,8 @@ module _ (agent : List ℕ) (delay moment : ℕ) (names : List ℕ → Option �
       let here : IsLeft slots k slot.host = record { slot = slot; work = work; stands = stands; left = left; owner = refl } in
       by_first owner.first owner refl held here (seen_here names hosts table (host work) slot.host named owner held)
     where
-      by_first : (f : Option ℕ) (owner : Host) → owner.first ≡ f → slice_get hosts slot.host ≡ Some owner → IsLeft slots k slot.host → seen_at names hosts (host work) ≡ seen (Some owner) → Stood k work
+      by_first : (f : Option ℕ) (owner : Host) → owner.first ≡ f → slice_get hosts slot.host ≡ Some owner → IsLeft slots k slot.host → seen_at names hosts (host work) ≡ seen (Some owner)
+          → Stood k work
       by_first None owner is held here sees = absurd (subst (IsFirst slots slot.host 0) is (firsts slot.host owner held) k (omega arith) here)
       by_first (Some at) owner is held here sees =
           let f : IsFirst slots slot.host 0 (Some at) = subst (IsFirst slots slot.host 0) is (firsts slot.host owner held) in

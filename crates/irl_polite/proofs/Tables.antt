@@ -55,7 +55,8 @@ module _ (names : List ℕ → Option ℕ) (hosts : List Host) (table : IsTable 
       apart = table.apart;
       named = λ p h e ready. elim (cases_eq p place) [
         | inl same ↦
-            let is : h ≡ changed_owner = same_some h changed_owner (sym e ∙ ap (slice_get (set hosts place changed_owner)) same ∙ get_set_same hosts place changed_owner (table.within name place named)) in
+            let is : h ≡ changed_owner = same_some h changed_owner (sym e ∙ ap (slice_get (set hosts place changed_owner)) same
+            ∙ get_set_same hosts place changed_owner (table.within name place named)) in
             ap (λ (x : Host). names x.name) is ∙ ap names (keeps (ap (λ (x : Host). x.awaited) (sym is) ∙ ready)) ∙ named ∙ ap Some (sym same)
         | inr other ↦ table.named p h (sym (get_set_other hosts place p changed_owner other) ∙ e) ready
       ];

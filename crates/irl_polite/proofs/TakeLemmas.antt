@@ -46,7 +46,8 @@ module _ (agent : List ℕ) (delay moment : ℕ) (names : List ℕ → Option �
 
     pub found : Picked
     found =
-        let p : IsPicked agent delay moment names hosts slots turns sound.table sound.owned sound.firsts sound.all due at top = picked agent delay moment names hosts slots turns sound.table sound.owned sound.firsts sound.all due at top in
+        let p : IsPicked agent delay moment names hosts slots turns sound.table sound.owned sound.firsts sound.all due at top =
+        picked agent delay moment names hosts slots turns sound.table sound.owned sound.firsts sound.all due at top in
         record {
           place = p.place;
           owner = p.owner;
@@ -119,11 +120,14 @@ module _ (agent : List ℕ) (delay moment : ℕ) (names : List ℕ → Option �
         means : (l : Leave) → new_due ≡ due_by l (next_due now) due → (new_slots : List Slot)
             → schedule_of agent delay moment names (set hosts p.place (record p.owner { due = new_due; first = p.slot.next })) new_slots ≡ left_after now p.work l (items_of new_slots)
         means leave.Allowed e new_slots =
-            means_fetched names hosts slots left turns room sound (host p.work) p.place p.owner p.named p.held agent delay moment (record p.owner { due = new_due; first = p.slot.next }) new_slots refl refl e
+            means_fetched names hosts slots left turns room sound (host p.work) p.place p.owner p.named p.held agent delay moment (record p.owner { due = new_due; first = p.slot.next }) new_slots refl
+            refl e
         means (leave.Denied line) e new_slots =
-            means_refused names hosts slots left turns room sound (host p.work) p.place p.owner p.named p.held agent delay moment (record p.owner { due = new_due; first = p.slot.next }) new_slots refl refl (e ∙ sym p.is_due)
+            means_refused names hosts slots left turns room sound (host p.work) p.place p.owner p.named p.held agent delay moment (record p.owner { due = new_due; first = p.slot.next }) new_slots refl
+            refl (e ∙ sym p.is_due)
         means leave.Shut e new_slots =
-            means_refused names hosts slots left turns room sound (host p.work) p.place p.owner p.named p.held agent delay moment (record p.owner { due = new_due; first = p.slot.next }) new_slots refl refl (e ∙ sym p.is_due)
+            means_refused names hosts slots left turns room sound (host p.work) p.place p.owner p.named p.held agent delay moment (record p.owner { due = new_due; first = p.slot.next }) new_slots refl
+            refl (e ∙ sym p.is_due)
 
         pub answers : due ≤ moment → Says p.owner moment p.work says → (new : List Host) (new_slots : List Slot)
             → new ≡ set hosts p.place (record p.owner { due = new_due; first = p.slot.next }) → new_slots ≡ set slots at (record p.slot { work = None })

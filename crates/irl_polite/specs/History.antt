@@ -82,7 +82,8 @@ unfoldable pub starts : ℕ → List Step → List Start
 starts moment [] = []
 starts moment (step ∷ steps) = started_by moment step ++ starts (moment_after moment step) steps
 
--- of two fetches of one host the later one starts at least the delay after the earlier one, or at the last moment there is
+-- of two fetches of one host the later one starts at least the delay after the earlier one, or at the last moment there
+-- is
 abbrev pub AreApart : ℕ → Start → Start → Type 0
 AreApart delay first second = first.host ≡ second.host → min (first.moment + delay) last_moment ≤ second.moment
 

@@ -1,5 +1,5 @@
--- How a front holds its schedule: a table of hosts, the items in the order of loading, each with the place of its host's
--- next one, and the turns, of which each host that may be picked has one.
+-- How a front holds its schedule: a table of hosts, the items in the order of loading, each with the place of its
+-- host's next one, and the turns, of which each host that may be picked has one.
 use Rattle.std.specs.Prelude.{◌≡◌, ℕ, ◌+◌, ◌<◌, ◌≤◌, nat_eq, cond, List, [], ◌∷◌, length, map, Bool, true, false, Option, Some, None, Vec, slice_get, slice_set, option_to_list, MatchOption, IsSome, ◌⊎◌}
 use Rattle.std.specs.List.{All, AllZip, flat_map, sum_by}
 use Rattle.std.specs.List.Sorted.{IsPermutation}
@@ -80,7 +80,8 @@ schedule held = schedule_of held.agent held.delay held.moment (place_of held.nam
 pub record IsTable (names : List ℕ → Option ℕ) (hosts : List Host) : Type 0 where
   pub within : (name : List ℕ) (place : ℕ) → names name ≡ Some place → place < length hosts
   pub apart : (a b : List ℕ) (place : ℕ) → names a ≡ Some place → names b ≡ Some place → a ≡ b
-  pub named : (place : ℕ) (host : Host) → slice_get hosts place ≡ Some host → host.awaited ≡ false → names host.name ≡ Some place
+  pub named : (place : ℕ) (host : Host) → slice_get hosts place ≡ Some host → host.awaited ≡ false
+      → names host.name ≡ Some place
 
 -- an item of the host is left there
 pub record IsLeft (slots : List Slot) (at place : ℕ) : Type 0 where
@@ -114,7 +115,8 @@ pub record IsOwner (names : List ℕ → Option ℕ) (name : List ℕ) (place : 
 -- each item that is left knows the place of its host
 abbrev pub AreOwned : (List ℕ → Option ℕ) → List Slot → Type 0
 AreOwned names slots =
-    (at : ℕ) (slot : Slot) (work : Work) → slice_get slots at ≡ Some slot → slot.work ≡ Some work → IsOwner names (host work) slot.host
+    (at : ℕ) (slot : Slot) (work : Work) → slice_get slots at ≡ Some slot → slot.work ≡ Some work
+    → IsOwner names (host work) slot.host
 
 -- an entry of the turns: when a host is due, and the place of its first item
 abbrev pub Turn : Type 0
@@ -147,14 +149,17 @@ turns_at at turns = sum_by (λ turn. cond (nat_eq (item_at turn) at) 1 0) turns
 pub record AreTurns (hosts : List Host) (turns : List Turn) : Type 0 where
   pub only : All (IsTurn hosts) turns
   pub once : (at : ℕ) → turns_at at turns ≤ 1
-  pub each : (place : ℕ) (owner : Host) (at : ℕ) → slice_get hosts place ≡ Some owner → owner.first ≡ Some at → owner.awaited ≡ false → 1 ≤ turns_at at turns
+  pub each : (place : ℕ) (owner : Host) (at : ℕ) → slice_get hosts place ≡ Some owner → owner.first ≡ Some at
+      → owner.awaited ≡ false → 1 ≤ turns_at at turns
 
-pub record IsSound (names : List ℕ → Option ℕ) (hosts : List Host) (slots : List Slot) (left : ℕ) (turns : List Turn) (room : ℕ) : Type 0 where
+pub record IsSound (names : List ℕ → Option ℕ) (hosts : List Host) (slots : List Slot) (left : ℕ) (turns : List Turn)
+    (room : ℕ) : Type 0 where
   pub table : IsTable names hosts
   pub owned : AreOwned names slots
   pub firsts : AreFirsts hosts slots 0
   pub nexts : AreNexts slots 0
-  pub waiting : (place : ℕ) (owner : Host) → slice_get hosts place ≡ Some owner → owner.awaited ≡ true → owner.first ≡ None → ⊥
+  pub waiting : (place : ℕ) (owner : Host) → slice_get hosts place ≡ Some owner → owner.awaited ≡ true
+      → owner.first ≡ None → ⊥
   pub all : AreTurns hosts turns
   pub heap : IsHeap turn_cmp turns
   pub reserved : length slots ≤ room
@@ -169,7 +174,8 @@ abbrev pub IsResting : Host → Type 0
 IsResting owner = (owner.awaited ≡ false) × (owner.first ≡ None)
 
 -- Hosts were entered where none has items left: places stay, and nothing is known of the new ones.
-pub record Grows (old_names : List ℕ → Option ℕ) (old : List Host) (names : List ℕ → Option ℕ) (new : List Host) : Type 0 where
+pub record Grows (old_names : List ℕ → Option ℕ) (old : List Host) (names : List ℕ
+    → Option ℕ) (new : List Host) : Type 0 where
   pub table : IsTable names new
   pub resting : All IsResting new
   pub kept : (name : List ℕ) (place : ℕ) → old_names name ≡ Some place → names name ≡ Some place
@@ -198,7 +204,8 @@ IsPlaced hosts read = read.0 < length hosts
 abbrev pub Noted : List Host → List (ℕ × Known) → List Host → Type 0
 Noted old [] new = new ≡ old
 Noted old (read ∷ more) new =
-    (owner : Host) × (slice_get old read.0 ≡ Some owner) × Noted (slice_set old read.0 (record owner { known = Some read.1 })) more new
+    (owner : Host) × (slice_get old read.0 ≡ Some owner)
+    × Noted (slice_set old read.0 (record owner { known = Some read.1 })) more new
 
 -- without its links
 abbrev pub bare_host : Host → Host
@@ -210,7 +217,8 @@ bare_slot slot = record slot { next = None }
 -- the turn comes before all others: it is due first, and of these its item stands first
 pub record IsTop (turns : List Turn) (turn : ℕ × ℕ) : Type 0 where
   pub stands : slice_get turns 0 ≡ Some (record { 0 = turn })
-  pub least : All (λ (other : Turn). (turn.0 < due_at other) ⊎ ((turn.0 ≡ due_at other) × (turn.1 ≤ item_at other))) turns
+  pub least : All (λ (other : Turn). (turn.0 < due_at other)
+      ⊎ ((turn.0 ≡ due_at other) × (turn.1 ≤ item_at other))) turns
 
 -- the turn was taken out, and that of the next item put in, where there is one
 pub record IsReplaced (old : List Turn) (turn : Turn) (due : ℕ) (next : Option ℕ) (new : List Turn) : Type 0 where
@@ -245,7 +253,8 @@ pub record IsBegun (old : List Turn) (owner : Host) (at : ℕ) (new : List Turn)
   pub stays : (owner.first ≡ Some at → ⊥) → new ≡ old
 
 -- each item has its slot, and each note was read
-pub record IsPrepared (names : List ℕ → Option ℕ) (agent : List ℕ) (items : List Work) (notes : List Note) (slots : List Slot) (read : List (ℕ × Known)) : Type 0 where
+pub record IsPrepared (names : List ℕ → Option ℕ) (agent : List ℕ) (items : List Work) (notes : List Note)
+    (slots : List Slot) (read : List (ℕ × Known)) : Type 0 where
   pub entered : AllZip (IsEntered names) items slots
   pub heard : AllZip (IsRead names agent) notes read
 

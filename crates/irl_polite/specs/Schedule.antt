@@ -47,12 +47,16 @@ changed values at value host = if bytes_eq host at then value else values host
 
 -- a note, read for an agent, comes in place of what was known of its host
 abbrev pub with_note : List ℕ → (List ℕ → Option Known) → Note → List ℕ → Option Known
-with_note agent known note = changed known note.host (Some (record { state = host_state note.state agent; when = note.when }))
+with_note agent known note = changed known note.host
+    (Some (record { state = host_state note.state agent; when = note.when }))
 
 -- Items to fetch where none is left, and notes, of which the last one for a host counts. A note counts also for a host
 -- without items. Dues stay.
 abbrev pub loaded : Schedule → List Work → List Note → Schedule
-loaded schedule items notes = record schedule { items = items; known = fold (with_note schedule.agent) schedule.known notes }
+loaded schedule items notes = record schedule {
+  items = items;
+  known = fold (with_note schedule.agent) schedule.known notes;
+}
 
 -- the moment has come
 abbrev pub raised : Schedule → ℕ → Schedule

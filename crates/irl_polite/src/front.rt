@@ -43,9 +43,17 @@ impl Model for Front {
 
     ghost Value = { Held };
 
-    ghost view = { λ f. record { agent = f.agent; delay = f.delay; moment = f.moment; names = f.names.entries; hosts = f.hosts.items; slots = f.slots.items } };
+    ghost view = { λ f. record {
+      agent = f.agent;
+      delay = f.delay;
+      moment = f.moment;
+      names = f.names.entries;
+      hosts = f.hosts.items;
+      slots = f.slots.items;
+    } };
 
-    ghost invariant = { λ f. IsSound (place_of f.names.entries) f.hosts.items f.slots.items f.left (heap_items f.turns) (heap_capacity f.turns) };
+    ghost invariant = { λ f. IsSound (place_of f.names.entries) f.hosts.items f.slots.items f.left (heap_items f.turns)
+        (heap_capacity f.turns) };
 }
 
 impl Front {
@@ -157,7 +165,8 @@ impl Front {
 // What a note on a host that is in use at the moment says of an item that is left; nothing where none is in use.
 fn says(host: &Host, slot: &Slot, moment: u64) -> Option<Leave>
     requires { IsSome slot.now.work }
-    ensures some { IfSome result (λ leave. (work : Work) → slot.now.work ≡ Some work → Says host.now moment work leave) }
+    ensures some { IfSome result (λ leave. (work : Work) → slot.now.work ≡ Some work
+        → Says host.now moment work leave) }
     ensures none { IfNone result (SaysNothing host.now moment) }
 {
     let (Some(work), Some(known)) = (&slot.work, &host.known) else {

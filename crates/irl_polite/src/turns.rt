@@ -36,7 +36,8 @@ pub fn push(turns: &mut BinaryHeap<Reverse<(u64, usize)>>, due: u64, at: usize)
 pub fn remove_first(turns: &mut BinaryHeap<Reverse<(u64, usize)>>)
     requires heap { IsHeap turn_cmp (heap_items turns.old) }
     requires some { 0 < heap_len turns.old }
-    ensures turns { (turn : Turn) → slice_index_or (heap_items turns.old) 0 turn ≡ turn → IsPermutation (heap_items turns.old) (turn ∷ heap_items turns.new) }
+    ensures turns { (turn : Turn) → slice_index_or (heap_items turns.old) 0 turn ≡ turn
+        → IsPermutation (heap_items turns.old) (turn ∷ heap_items turns.new) }
     ensures heap { IsHeap turn_cmp (heap_items turns.new) }
     ensures room { heap_capacity turns.new ≡ heap_capacity turns.old }
     ensures spare { heap_len turns.new < heap_capacity turns.new }

@@ -1,25 +1,17 @@
 -- Lines that are read as a tape are those of its items.
-use Rattle.std.proofs.Common.{◌≡◌, ◌≢◌, ◌∙◌, ℕ, ◌+◌, ◌-◌, ◌*◌, ◌/◌, ◌%◌, ◌<◌, ◌≤◌, Bool, true, false, ◌&&◌, ◌||◌, ◌==◌, not, cond, nat_lt, nat_eq, List, [], ◌∷◌, ◌++◌, length, take, drop, map, Option, Some, None, Ok, Err, refl, sym, ap, arith, append_assoc, append-nil, length-append, subst, take-append-drop, inl, inr, ◌⊎◌}
-use Rattle.std.specs.Prelude.{nat_le, option_map, option_and_then, codes, slice_index, bytes_eq, Result}
+use Rattle.std.proofs.Common.{◌≡◌, ◌∙◌, ℕ, ◌+◌, ◌-◌, ◌*◌, ◌/◌, ◌%◌, ◌≤◌, Bool, true, false, ◌&&◌, ◌==◌, not, List, [], ◌∷◌, ◌++◌, length, take, drop, None, refl, sym, ap, arith, take-append-drop}
+use Rattle.std.specs.Prelude.{nat_le, codes, bytes_eq}
 use Rattle.std.specs.Char.{is_ascii_digit}
-use Rattle.std.specs.List.{flat_map}
-use Rattle.std.proofs.lemmas.Bool.{cond-true, cond-false, false≢true, ne_eqb}
+use Rattle.std.proofs.lemmas.Bool.{cond-true, cond-false, false≢true}
 use Rattle.std.proofs.lemmas.Bool.Decides.{nat_tests}
-use Rattle.std.proofs.lemmas.List.{map-append}
-use Rattle.std.proofs.lemmas.Grind.{flat_map-append}
 use Rattle.std.proofs.lemmas.Slice.Eq.{bytes_eq-Decides}
-use Rattle.irl_offer.specs.Limits.{max_page}
-use Rattle.irl_offer.specs.Replies.{Received}
-use Rattle.irl_record.specs.declared.record.Record.TheVariants as record_of
+use Rattle.irl_base.specs.Limits.{max_page}
 use Rattle.irl_record.specs.Forms.{Form, form_of, is_skipped, begins, page_of, kind_of, is_status, status_of}
 use Rattle.irl_record.specs.Forms as form
 use Rattle.irl_record.specs.Parts.{Within, within_of}
 use Rattle.irl_record.specs.Parts as within
-use Rattle.irl_record.specs.Opened.{Opened, opened, with_body, with_location}
-use Rattle.irl_record.specs.Reading.{Reading, next, outside, inside, takes, takes_within, new_web, with_record, with_seed, with_suffix}
-use Rattle.irl_record.specs.Taped.{Taped}
-use Rattle.irl_record.specs.Grammar.{Piece, Whole, Part, PageItem, Item, Comment, Suffix, Seed, Page, Lost, item_lines, head_line, location_lines, three_digits, piece_line, piece_bytes, reply_of, is_page, with_item, with_items}
-use Rattle.irl_record.proofs.ItemLemmas.{runs, runs_step, next_outside, next_inside, at_least, at_least_back, and-left, and-right, comment_form, suffix_form, seed_form, lost_form, page_line_form, page_form, piece_within, location_within, end_within, with_more, option_map_twice}
+use Rattle.irl_record.specs.Grammar.{Piece, Whole, Part, PageItem, head_line, three_digits, piece_line}
+use Rattle.irl_record.proofs.ItemLemmas.{at_least_back, and-left, and-right, comment_form, suffix_form, seed_form, lost_form, page_line_form, page_form}
 
 -- ---- what a line outside a page is, by its bytes
 
@@ -91,11 +83,13 @@ has_status (a ∷ b ∷ c ∷ text) is =
       most = omega arith;
     }
 
-other_form : (line : List ℕ) → is_skipped line ≡ false → begins (codes "suffix ") line ≡ false → begins (codes "seed ") line ≡ false → begins (codes "page ") line ≡ false → begins (codes "lost ") line ≡ false → form_of line ≡ form.Other
+other_form : (line : List ℕ) → is_skipped line ≡ false → begins (codes "suffix ") line ≡ false → begins (codes "seed ") line ≡ false → begins (codes "page ") line ≡ false
+    → begins (codes "lost ") line ≡ false → form_of line ≡ form.Other
 unfolding form_of
 other_form line a b c d e = cond-false _ _ _ a ∙ cond-false _ _ _ b ∙ cond-false _ _ _ c ∙ cond-false _ _ _ d ∙ cond-false _ _ _ e
 
-by_other_kind : (line rest : List ℕ) (status : ℕ) → line ≡ codes "page " ++ (three_digits status ++ rest) → 100 ≤ status → status ≤ 999 → form_of line ≡ kind_of status rest → begins (codes " html ") rest ≡ false → (b : Bool) → begins (codes " other ") rest ≡ b → Outside line
+by_other_kind : (line rest : List ℕ) (status : ℕ) → line ≡ codes "page " ++ (three_digits status ++ rest) → 100 ≤ status → status ≤ 999 → form_of line ≡ kind_of status rest
+    → begins (codes " html ") rest ≡ false → (b : Bool) → begins (codes " other ") rest ≡ b → Outside line
 by_other_kind line rest status spelled least most is html true other =
     let url = drop 7 rest in
     let shape : line ≡ head_line (empty_page status false url) = spelled ∙ ap (λ (r : List ℕ). codes "page " ++ (three_digits status ++ r)) (begins_with (codes " other ") rest other) in
@@ -103,7 +97,8 @@ by_other_kind line rest status spelled least most is html true other =
 by_other_kind line rest status spelled least most is html false other =
     Says_nothing (is ∙ cond-false _ _ _ html ∙ cond-false _ _ _ other)
 
-by_kind : (line rest : List ℕ) (status : ℕ) → line ≡ codes "page " ++ (three_digits status ++ rest) → 100 ≤ status → status ≤ 999 → form_of line ≡ kind_of status rest → (b : Bool) → begins (codes " html ") rest ≡ b → Outside line
+by_kind : (line rest : List ℕ) (status : ℕ) → line ≡ codes "page " ++ (three_digits status ++ rest) → 100 ≤ status → status ≤ 999 → form_of line ≡ kind_of status rest → (b : Bool)
+    → begins (codes " html ") rest ≡ b → Outside line
 by_kind line rest status spelled least most is true html =
     let url = drop 6 rest in
     let shape : line ≡ head_line (empty_page status true url) = spelled ∙ ap (λ (r : List ℕ). codes "page " ++ (three_digits status ++ r)) (begins_with (codes " html ") rest html) in
@@ -118,7 +113,8 @@ by_status line text shape true is =
     (ap form_of shape ∙ page_line_form text ∙ cond-true _ _ _ is) (begins (codes " html ") (drop 3 text)) refl
 by_status line text shape false is = Says_nothing (ap form_of shape ∙ page_line_form text ∙ cond-false _ _ _ is)
 
-by_lost : (line : List ℕ) → is_skipped line ≡ false → begins (codes "suffix ") line ≡ false → begins (codes "seed ") line ≡ false → begins (codes "page ") line ≡ false → (b : Bool) → begins (codes "lost ") line ≡ b → Outside line
+by_lost : (line : List ℕ) → is_skipped line ≡ false → begins (codes "suffix ") line ≡ false → begins (codes "seed ") line ≡ false → begins (codes "page ") line ≡ false → (b : Bool)
+    → begins (codes "lost ") line ≡ b → Outside line
 by_lost line a c d e true is = let shape = begins_with (codes "lost ") line is in Loses (drop 5 line) shape (ap form_of shape ∙ lost_form (drop 5 line))
 by_lost line a c d e false is = Says_nothing (other_form line a c d e is)
 
@@ -149,7 +145,8 @@ pub data Inside (line : List ℕ) : Type 0 where
   Ends : line ≡ codes "end" → Inside line
   Adds_nothing : within_of line ≡ within.Other → Inside line
 
-other_within : (line : List ℕ) → begins (codes "|") line ≡ false → begins (codes "+") line ≡ false → begins (codes "to ") line ≡ false → bytes_eq line (codes "end") ≡ false → within_of line ≡ within.Other
+other_within : (line : List ℕ) → begins (codes "|") line ≡ false → begins (codes "+") line ≡ false → begins (codes "to ") line ≡ false → bytes_eq line (codes "end") ≡ false
+    → within_of line ≡ within.Other
 unfolding within_of
 other_within line a b c d = cond-false _ _ _ a ∙ cond-false _ _ _ b ∙ cond-false _ _ _ c ∙ cond-false _ _ _ d
 

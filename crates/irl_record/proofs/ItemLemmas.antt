@@ -1,11 +1,11 @@
 -- The lines of a tape's items, read one after another, give the tape of the items.
-use Rattle.std.proofs.Common.{◌≡◌, ◌≢◌, ◌∙◌, ℕ, ◌+◌, ◌-◌, ◌*◌, ◌/◌, ◌%◌, ◌<◌, ◌≤◌, Bool, true, false, ◌&&◌, ◌||◌, ◌==◌, cond, nat_lt, nat_eq, List, [], ◌∷◌, ◌++◌, length, take, drop, map, Option, Some, None, refl, sym, ap, arith, append_assoc, append-nil, length-append, subst}
-use Rattle.std.specs.Prelude.{nat_le, option_map, option_and_then, codes, slice_index}
+use Rattle.std.proofs.Common.{◌≡◌, ◌≢◌, ◌∙◌, ℕ, ◌+◌, ◌/◌, ◌%◌, ◌≤◌, Bool, true, false, ◌&&◌, ◌||◌, ◌==◌, cond, List, [], ◌∷◌, ◌++◌, length, map, Option, Some, None, refl, sym, ap, arith, append_assoc, append-nil, length-append, subst}
+use Rattle.std.specs.Prelude.{nat_le, option_map, option_and_then, codes}
 use Rattle.std.specs.Char.{is_ascii_digit}
 use Rattle.std.specs.List.{flat_map}
 use Rattle.std.proofs.lemmas.Bool.{cond-true, cond-false, false≢true, ne_eqb}
 use Rattle.std.proofs.lemmas.Bool.Decides.{nat_tests}
-use Rattle.irl_offer.specs.Limits.{max_page}
+use Rattle.irl_base.specs.Limits.{max_page}
 use Rattle.irl_offer.specs.Replies.{Received}
 use Rattle.irl_record.specs.declared.record.Record.TheVariants as record_of
 use Rattle.irl_record.specs.Forms.{Form, form_of, is_skipped, page_of, kind_of, is_status, status_of}
@@ -13,7 +13,7 @@ use Rattle.irl_record.specs.Forms as form
 use Rattle.irl_record.specs.Parts.{Within, within_of}
 use Rattle.irl_record.specs.Parts as within
 use Rattle.irl_record.specs.Opened.{Opened, opened, with_body}
-use Rattle.irl_record.specs.Reading.{Reading, next, next_of, outside, inside, takes, takes_within, new_web, with_record, with_seed, with_suffix}
+use Rattle.irl_record.specs.Reading.{Reading, next, outside, inside, takes, takes_within, new_web, with_record}
 use Rattle.irl_record.specs.Taped.{Taped}
 use Rattle.irl_record.specs.Grammar.{Piece, Whole, Part, PageItem, Item, Comment, Suffix, Seed, Page, Lost, item_lines, head_line, location_lines, three_digits, piece_line, piece_bytes, reply_of, is_page, with_item, with_items}
 
@@ -24,7 +24,8 @@ abbrev pub runs : Bool → Reading → List (List ℕ) → Option Reading
 runs pages reading [] = Some reading
 runs pages reading (line ∷ lines) = option_and_then (λ after. runs pages after lines) (next pages reading line)
 
-and_then_by : (pages : Bool) (xs ys : List (List ℕ)) (o : Option Reading) → ((r : Reading) → runs pages r (xs ++ ys) ≡ option_and_then (λ after. runs pages after ys) (runs pages r xs)) → option_and_then (λ after. runs pages after (xs ++ ys)) o ≡ option_and_then (λ after. runs pages after ys) (option_and_then (λ after. runs pages after xs) o)
+and_then_by : (pages : Bool) (xs ys : List (List ℕ)) (o : Option Reading) → ((r : Reading) → runs pages r (xs ++ ys) ≡ option_and_then (λ after. runs pages after ys) (runs pages r xs))
+    → option_and_then (λ after. runs pages after (xs ++ ys)) o ≡ option_and_then (λ after. runs pages after ys) (option_and_then (λ after. runs pages after xs) o)
 and_then_by pages xs ys None later = refl
 and_then_by pages xs ys (Some r) later = later r
 
@@ -143,11 +144,13 @@ located-url : (status : ℕ) (html : Bool) (url : List ℕ) (location : Option (
 located-url status html url None = refl
 located-url status html url (Some text) = refl
 
-located-reply : (status : ℕ) (html : Bool) (url : List ℕ) (location : Option (List ℕ)) → (located status html url location).reply ≡ record { status = status; location = location; html = html; body = [] }
+located-reply : (status : ℕ) (html : Bool) (url : List ℕ) (location : Option (List ℕ))
+    → (located status html url location).reply ≡ record { status = status; location = location; html = html; body = [] }
 located-reply status html url None = refl
 located-reply status html url (Some text) = refl
 
-location_taken : (pages : Bool) (tape : Taped) (status : ℕ) (html : Bool) (url : List ℕ) (location : Option (List ℕ)) → runs pages (inside tape (opened status html url)) (location_lines location) ≡ Some (inside tape (located status html url location))
+location_taken : (pages : Bool) (tape : Taped) (status : ℕ) (html : Bool) (url : List ℕ) (location : Option (List ℕ))
+    → runs pages (inside tape (opened status html url)) (location_lines location) ≡ Some (inside tape (located status html url location))
 location_taken pages tape status html url None = refl
 location_taken pages tape status html url (Some text) =
     runs_step pages _ (inside tape (located status html url (Some text))) (codes "to " ++ text) [] (next_inside pages tape (opened status html url) _ _ (location_within text))
@@ -174,10 +177,13 @@ pieces_taken pages tape [] page short = record {
 }
 pieces_taken pages tape (piece ∷ pieces) page short =
     let bytes = piece_bytes piece in
-    let joined : (page.reply.body ++ bytes) ++ flat_map piece_bytes pieces ≡ page.reply.body ++ (bytes ++ flat_map piece_bytes pieces) = append_assoc page.reply.body bytes (flat_map piece_bytes pieces) in
+    let joined : (page.reply.body ++ bytes) ++ flat_map piece_bytes pieces ≡ page.reply.body ++ (bytes ++ flat_map piece_bytes pieces) =
+    append_assoc page.reply.body bytes (flat_map piece_bytes pieces) in
     let size = ap length joined in
-    let longer : length ((page.reply.body ++ bytes) ++ flat_map piece_bytes pieces) ≡ length (page.reply.body ++ bytes) + length (flat_map piece_bytes pieces) = length-append (page.reply.body ++ bytes) (flat_map piece_bytes pieces) in
-    let one : next pages (inside tape page) (piece_line piece) ≡ Some (inside tape (with_more page bytes)) = piece_within pages tape page piece ∙ ap (option_map (inside tape)) (body_fits page bytes (omega arith)) in
+    let longer : length ((page.reply.body ++ bytes) ++ flat_map piece_bytes pieces) ≡ length (page.reply.body ++ bytes) + length (flat_map piece_bytes pieces) =
+    length-append (page.reply.body ++ bytes) (flat_map piece_bytes pieces) in
+    let one : next pages (inside tape page) (piece_line piece) ≡ Some (inside tape (with_more page bytes)) = piece_within pages tape page piece
+    ∙ ap (option_map (inside tape)) (body_fits page bytes (omega arith)) in
     let later = pieces_taken pages tape pieces (with_more page bytes) (omega arith) in
     record {
       after = later.after;
@@ -197,7 +203,8 @@ and-right false b h = absurd (false≢true h)
 pub at_least_back : (a b : ℕ) → nat_le a b ≡ true → a ≤ b
 at_least_back a b h = grind (arith, nat_tests)
 
-page_taken : (tape : Taped) (page : PageItem) (text : List ℕ) → is_page page ≡ true → new_web tape.records page.url ≡ Some text → runs true (outside tape) (item_lines (Page page)) ≡ Some (outside (with_record tape text (record_of.Page (reply_of page))))
+page_taken : (tape : Taped) (page : PageItem) (text : List ℕ) → is_page page ≡ true → new_web tape.records page.url ≡ Some text
+    → runs true (outside tape) (item_lines (Page page)) ≡ Some (outside (with_record tape text (record_of.Page (reply_of page))))
 page_taken tape page text is web =
     let low : 100 ≤ page.status = at_least_back _ _ (and-left _ _ (and-left (nat_le 100 page.status && nat_le page.status 999) _ is)) in
     let high : page.status ≤ 999 = at_least_back _ _ (and-right (nat_le 100 page.status) _ (and-left (nat_le 100 page.status && nat_le page.status 999) _ is)) in
@@ -214,8 +221,10 @@ page_taken tape page text is web =
     let url : third.after.url ≡ text = third.url ∙ located-url page.status page.html text page.location in
     runs_step true (outside tape) (inside tape first) (head_line page) _ head
     ∙ runs_both true (inside tape first) (inside tape third.after) (location_lines page.location ++ map piece_line page.pieces) (codes "end" ∷ [])
-    (runs_both true (inside tape first) (inside tape second) (location_lines page.location) (map piece_line page.pieces) (location_taken true tape page.status page.html text page.location) ∙ third.taken)
-    ∙ runs_step true (inside tape third.after) (outside (with_record tape third.after.url (record_of.Page third.after.reply))) (codes "end") [] (next_inside true tape third.after (codes "end") _ end_within)
+    (runs_both true (inside tape first) (inside tape second) (location_lines page.location) (map piece_line page.pieces) (location_taken true tape page.status page.html text page.location)
+    ∙ third.taken)
+    ∙ runs_step true (inside tape third.after) (outside (with_record tape third.after.url (record_of.Page third.after.reply))) (codes "end") []
+    (next_inside true tape third.after (codes "end") _ end_within)
     ∙ ap (λ (u : List ℕ). Some (outside (with_record tape u (record_of.Page third.after.reply)))) url
     ∙ ap (λ (r : Received). Some (outside (with_record tape text (record_of.Page r)))) reply
 
@@ -233,7 +242,8 @@ lost_by true tape after url h =
     ∙ option_map_twice outside (λ (text : List ℕ). with_record tape text record_of.Lost) (new_web tape.records url) ∙ ap (option_map outside) h)
 lost_by false tape after url h = cc
 
-page_by : (tape after : Taped) (page : PageItem) (b : Bool) (o : Option (List ℕ)) → is_page page ≡ b → new_web tape.records page.url ≡ o → cond b (option_map (λ text. with_record tape text (record_of.Page (reply_of page))) o) None ≡ Some after → runs true (outside tape) (item_lines (Page page)) ≡ Some (outside after)
+page_by : (tape after : Taped) (page : PageItem) (b : Bool) (o : Option (List ℕ)) → is_page page ≡ b → new_web tape.records page.url ≡ o
+    → cond b (option_map (λ text. with_record tape text (record_of.Page (reply_of page))) o) None ≡ Some after → runs true (outside tape) (item_lines (Page page)) ≡ Some (outside after)
 page_by tape after page true (Some text) is web h = page_taken tape page text is web ∙ ap (option_map outside) h
 page_by tape after page true None is web h = cc
 page_by tape after page false o is web h = cc
@@ -249,7 +259,9 @@ item_taken true tape after (Page page) h = page_by tape after page (is_page page
 item_taken false tape after (Page page) h = cc
 item_taken pages tape after (Lost url) h = lost_by pages tape after url h
 
-items_by : (pages : Bool) (tape after : Taped) (item : Item) (items : List Item) (o : Option Taped) → with_item pages tape item ≡ o → option_and_then (λ t. with_items pages t items) o ≡ Some after → ((t : Taped) → with_items pages t items ≡ Some after → runs pages (outside t) (flat_map item_lines items) ≡ Some (outside after)) → runs pages (outside tape) (item_lines item ++ flat_map item_lines items) ≡ Some (outside after)
+items_by : (pages : Bool) (tape after : Taped) (item : Item) (items : List Item) (o : Option Taped) → with_item pages tape item ≡ o → option_and_then (λ t. with_items pages t items) o ≡ Some after
+    → ((t : Taped) → with_items pages t items ≡ Some after → runs pages (outside t) (flat_map item_lines items) ≡ Some (outside after))
+    → runs pages (outside tape) (item_lines item ++ flat_map item_lines items) ≡ Some (outside after)
 items_by pages tape after item items None is h later = cc
 items_by pages tape after item items (Some t) is h later =
     runs_both pages (outside tape) (outside t) (item_lines item) (flat_map item_lines items) (item_taken pages tape t item is) ∙ later t h

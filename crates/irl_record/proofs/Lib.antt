@@ -1,9 +1,9 @@
 mod GrammarLemmas
+mod IndexLemmas
 mod ItemLemmas
 mod NameLemmas
 pub mod Playing
 mod ReadLemmas
-mod RecordLemmas
 mod RunLemmas
 mod SiteLemmas
 mod TapeLemmas

@@ -1,14 +1,14 @@
 -- A suffix text with one more name.
-use Rattle.std.proofs.Common.{◌≡◌, ◌∙◌, ℕ, ◌+◌, Bool, true, false, ◌&&◌, ◌||◌, ◌==◌, cond, not, List, [], ◌∷◌, ◌++◌, Option, Some, None, All, refl, sym, ap, subst, arith, length}
-use Rattle.std.specs.Prelude.{Vec, bytes_eq, nat_lt, nat_le}
-use Rattle.std.specs.List.{list_any, list_all, position_from, onto_first, slice_split}
+use Rattle.std.proofs.Common.{◌≡◌, ◌∙◌, ℕ, ◌+◌, Bool, true, false, ◌&&◌, ◌||◌, ◌==◌, cond, not, List, [], ◌∷◌, ◌++◌, Some, None, All, refl, sym, ap, arith, length}
+use Rattle.std.specs.Prelude.{Vec, bytes_eq, nat_le}
+use Rattle.std.specs.List.{list_any, list_all, position_from, onto_first}
 use Rattle.std.specs.BTreeSet.{BTreeSet, insert_key}
-use Rattle.std.proofs.lemmas.Bool.{cond-true, cond-false, false≢true}
+use Rattle.std.proofs.lemmas.Bool.{cond-false, false≢true}
 use Rattle.std.proofs.lemmas.Bool.Decides.{nat_tests}
 use Rattle.std.proofs.lemmas.List.Splits.{slice_split_none}
 use Rattle.std.proofs.lemmas.List.Elements.{All-nil, All-cons}
 use Rattle.irl_pld.specs.Cut.{cut, split, parts_left}
-use Rattle.irl_pld.specs.Names.{lines_of, is_name, is_label, is_name_byte, is_bad, bad_line, is_listed}
+use Rattle.irl_pld.specs.Names.{lines_of, is_name, is_label, is_name_byte, is_bad}
 use Rattle.irl_pld.specs.Sets.{has_name, AreNamesOf}
 use Rattle.irl_pld.proofs.CutLemmas.{split-cut}
 use Rattle.irl_pld.proofs.SetLemmas.{vec_cmp, is_of, has_name-insert}
@@ -19,7 +19,8 @@ use Rattle.irl_record.specs.Names.{joined}
 onto_first-append : (x : ℕ) (first : List ℕ) (rest more : List (List ℕ)) → onto_first x ((first ∷ rest) ++ more) ≡ onto_first x (first ∷ rest) ++ more
 onto_first-append x first rest more = refl
 
-split_by : (x : ℕ) (xs ys : List ℕ) (test : Bool) → split 10 (xs ++ 10 ∷ ys) ≡ split 10 xs ++ split 10 ys → cond test ([] ∷ split 10 (xs ++ 10 ∷ ys)) (onto_first x (split 10 (xs ++ 10 ∷ ys))) ≡ cond test ([] ∷ split 10 xs) (onto_first x (split 10 xs)) ++ split 10 ys
+split_by : (x : ℕ) (xs ys : List ℕ) (test : Bool) → split 10 (xs ++ 10 ∷ ys) ≡ split 10 xs ++ split 10 ys
+    → cond test ([] ∷ split 10 (xs ++ 10 ∷ ys)) (onto_first x (split 10 (xs ++ 10 ∷ ys))) ≡ cond test ([] ∷ split 10 xs) (onto_first x (split 10 xs)) ++ split 10 ys
 split_by x xs ys true later = ap (λ l. [] ∷ l) later
 split_by x xs ys false later =
     ap (onto_first x) (later ∙ ap (λ l. l ++ split 10 ys) (split-cut 10 xs))
@@ -61,7 +62,8 @@ clean_onto b part parts h =
     let first : (is_name_byte b && list_all is_name_byte part) ≡ true = and-left _ (is_clean parts) h in
     (and-left _ _ first, ap (λ t. t && is_clean parts) (and-right (is_name_byte b) _ first) ∙ and-right (is_name_byte b && list_all is_name_byte part) _ h)
 
-clean_by : (b : ℕ) (bytes : List ℕ) (test : Bool) → (b == 46) ≡ test → is_clean (cond test ([] ∷ split 46 bytes) (onto_first b (split 46 bytes))) ≡ true → (is_clean (split 46 bytes) ≡ true → All IsNotLineFeed bytes) → All IsNotLineFeed (b ∷ bytes)
+clean_by : (b : ℕ) (bytes : List ℕ) (test : Bool) → (b == 46) ≡ test → is_clean (cond test ([] ∷ split 46 bytes) (onto_first b (split 46 bytes))) ≡ true
+    → (is_clean (split 46 bytes) ≡ true → All IsNotLineFeed bytes) → All IsNotLineFeed (b ∷ bytes)
 clean_by b bytes true dot h later =
     let other : (b == 10) ≡ false = grind (arith, nat_tests) in
     All-cons IsNotLineFeed b bytes other (later h)
@@ -90,7 +92,8 @@ lines-joined (b ∷ text) name is = split-line_feed (b ∷ text) name ∙ ap (λ
 
 -- ---- sets of names
 
-good_by : (n : ℕ) (name : List ℕ) (lines : List (List ℕ)) (test : Bool) → (position_from is_bad (n + 1) lines ≡ None → position_from is_bad (n + 1) (lines ++ name ∷ []) ≡ None) → cond test (Some n) (position_from is_bad (n + 1) lines) ≡ None → cond test (Some n) (position_from is_bad (n + 1) (lines ++ name ∷ [])) ≡ None
+good_by : (n : ℕ) (name : List ℕ) (lines : List (List ℕ)) (test : Bool) → (position_from is_bad (n + 1) lines ≡ None → position_from is_bad (n + 1) (lines ++ name ∷ []) ≡ None)
+    → cond test (Some n) (position_from is_bad (n + 1) lines) ≡ None → cond test (Some n) (position_from is_bad (n + 1) (lines ++ name ∷ [])) ≡ None
 good_by n name lines true later h = cc
 good_by n name lines false later h = later h
 
@@ -121,7 +124,8 @@ pub names_none : {A : Type 0} (names : BTreeSet (Vec ℕ A)) → names.keys ≡ 
 names_none names empty = record { good = refl; listed = λ name. ap (list_any (is_of name)) empty }
 
 -- one name more in the set and in the text
-pub names_more : {A : Type 0} (old new : BTreeSet (Vec ℕ A)) (key : Vec ℕ A) (text name longer : List ℕ) → AreNamesOf old text → is_name name ≡ true → key.items ≡ name → new.keys ≡ insert_key vec_cmp old.keys key → longer ≡ joined text name → AreNamesOf new longer
+pub names_more : {A : Type 0} (old new : BTreeSet (Vec ℕ A)) (key : Vec ℕ A) (text name longer : List ℕ) → AreNamesOf old text → is_name name ≡ true → key.items ≡ name
+    → new.keys ≡ insert_key vec_cmp old.keys key → longer ≡ joined text name → AreNamesOf new longer
 names_more old new key text name longer names is same keys joins =
     let all = ap lines_of joins ∙ lines-joined text name is in
     record {

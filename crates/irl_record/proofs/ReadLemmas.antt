@@ -1,15 +1,14 @@
 -- The reading of a tape, one line after another.
-use Rattle.std.proofs.Common.{◌≡◌, ◌∙◌, ℕ, ◌+◌, ◌<◌, ◌≤◌, Bool, true, false, ◌||◌, nat_lt, cond, List, [], ◌∷◌, length, Option, Some, None, Ok, Err, refl, sym, ap, arith, inl, inr}
+use Rattle.std.proofs.Common.{◌≡◌, ◌∙◌, ℕ, ◌+◌, ◌<◌, ◌≤◌, Bool, true, false, ◌||◌, nat_lt, List, [], ◌∷◌, length, Option, Some, None, Ok, Err, refl, ap, arith, inl, inr}
 use Rattle.std.specs.Prelude.{Result, OnOk}
 use Rattle.std.proofs.lemmas.Bool.Decides.{nat_tests}
 use Rattle.std.proofs.lemmas.Bool.{cond-true, cond-false}
 use Rattle.std.specs.List.{before_first}
 use Rattle.std.specs.Io.KnownBytes.{prepend_known}
-use Rattle.irl_offer.specs.Limits.{max_text}
+use Rattle.irl_base.specs.Limits.{max_text}
 use Rattle.irl_io.specs.Lines.{lines, most_lines, is_line_feed, IsLine}
 use Rattle.irl_io.specs.Steps.{OfKnown, Progress, TakesLine, RefusesLine}
 use Rattle.irl_io.proofs.LineLemmas.{lines_first}
-use Rattle.irl_record.specs.Taped.{Taped}
 use Rattle.irl_record.specs.Reading.{Reading, next, is_over, or_refused, whole, tape_from, tape_of}
 
 -- what known bytes become
@@ -33,7 +32,8 @@ on_ok (Err e) P p = tt
 
 -- What is left of a tape reads as the whole does, where the source tells it.
 abbrev pub ReadsOn : Bool → Option (List ℕ) → Reading → Progress → Option (List ℕ) → Type 0
-ReadsOn pages told reading progress left = (bytes : List ℕ) → told ≡ Some bytes → (rest : List ℕ) × (prepend_known progress.ahead left ≡ Some rest) × (tape_of pages bytes ≡ tape_from pages (progress.number + 1) reading (lines rest))
+ReadsOn pages told reading progress left = (bytes : List ℕ) → told ≡ Some bytes → (rest : List ℕ) × (prepend_known progress.ahead left ≡ Some rest)
+    × (tape_of pages bytes ≡ tape_from pages (progress.number + 1) reading (lines rest))
 
 nat_lt-false : (a b : ℕ) → b ≤ a → nat_lt a b ≡ false
 nat_lt-false a b h = grind (arith, nat_tests)
@@ -55,14 +55,16 @@ within_limits : (n : ℕ) (line : List ℕ) → IsLine line → n < most_lines �
 within_limits n line is few = or-false _ _ (nat_lt-false max_text (length line) is.short) (nat_lt-false most_lines (n + 1) (omega arith))
 
 -- a line that is given and taken
-pub line_taken : (pages : Bool) (n : ℕ) (reading after : Reading) (line before rest : List ℕ) → TakesLine line before rest → IsLine line → n < most_lines → next pages reading line ≡ Some after → tape_from pages (n + 1) reading (lines before) ≡ tape_from pages (n + 1 + 1) after (lines rest)
+pub line_taken : (pages : Bool) (n : ℕ) (reading after : Reading) (line before rest : List ℕ) → TakesLine line before rest → IsLine line → n < most_lines → next pages reading line ≡ Some after
+    → tape_from pages (n + 1) reading (lines before) ≡ tape_from pages (n + 1 + 1) after (lines rest)
 line_taken pages n reading after line before rest takes is few taken =
     ap (tape_from pages (n + 1) reading) takes.law
     ∙ cond-false _ (Err (n + 1)) _ (within_limits n line is few)
     ∙ ap (λ o. or_refused (n + 1) o (λ r. tape_from pages (n + 1 + 1) r (lines rest))) taken
 
 -- a line that is given and refused
-pub line_refused : (pages : Bool) (n : ℕ) (reading : Reading) (line before rest : List ℕ) → TakesLine line before rest → IsLine line → n < most_lines → next pages reading line ≡ None → tape_from pages (n + 1) reading (lines before) ≡ Err (n + 1)
+pub line_refused : (pages : Bool) (n : ℕ) (reading : Reading) (line before rest : List ℕ) → TakesLine line before rest → IsLine line → n < most_lines → next pages reading line ≡ None
+    → tape_from pages (n + 1) reading (lines before) ≡ Err (n + 1)
 line_refused pages n reading line before rest takes is few refused =
     ap (tape_from pages (n + 1) reading) takes.law
     ∙ cond-false _ (Err (n + 1)) _ (within_limits n line is few)

@@ -1,20 +1,19 @@
 -- Lines that are taken one after another are the lines of items, and some tape begins with them.
-use Rattle.std.proofs.Common.{◌≡◌, ◌∙◌, ℕ, ◌+◌, ◌≤◌, Bool, true, false, ◌&&◌, cond, List, [], ◌∷◌, ◌++◌, length, map, Option, Some, None, refl, sym, ap, subst, arith, append_assoc, append-nil, length-append}
+use Rattle.std.proofs.Common.{◌≡◌, ◌∙◌, ℕ, ◌≤◌, Bool, true, false, ◌&&◌, cond, List, [], ◌∷◌, ◌++◌, length, map, Option, Some, None, refl, sym, ap, subst, arith, append_assoc}
 use Rattle.std.specs.Prelude.{nat_le, option_map, option_and_then, codes, is_some}
 use Rattle.std.specs.List.{flat_map}
-use Rattle.std.proofs.lemmas.Bool.{cond-true, cond-false, false≢true}
+use Rattle.std.proofs.lemmas.Bool.{cond-true, false≢true}
 use Rattle.std.proofs.lemmas.List.{map-append, flat_map_more}
-use Rattle.irl_offer.specs.Limits.{max_page}
+use Rattle.irl_base.specs.Limits.{max_page}
 use Rattle.irl_offer.specs.Replies.{Received}
 use Rattle.irl_record.specs.declared.record.Record.TheVariants as record_of
 use Rattle.irl_record.specs.Forms.{is_skipped}
 use Rattle.irl_record.specs.Forms as form
-use Rattle.irl_record.specs.Parts as within
-use Rattle.irl_record.specs.Opened.{Opened, opened, with_body, with_location}
-use Rattle.irl_record.specs.Reading.{Reading, next, outside, inside, takes, takes_within, new_web, with_record, with_seed, with_suffix, blank}
+use Rattle.irl_record.specs.Opened.{Opened, opened}
+use Rattle.irl_record.specs.Reading.{Reading, next, outside, inside, takes, new_web, with_record, with_seed, with_suffix, blank}
 use Rattle.irl_record.specs.Taped.{Taped}
 use Rattle.irl_record.specs.Grammar.{Piece, PageItem, Item, Comment, Suffix, Seed, Page, Lost, item_lines, head_line, location_lines, piece_line, piece_bytes, reply_of, is_page, with_item, with_items, IsTape, Begins}
-use Rattle.irl_record.proofs.ItemLemmas.{runs, runs_step, runs_both, runs-append, next_outside, next_inside, at_least, at_least_back, comment_form, suffix_form, seed_form, lost_form, piece_within, location_within, end_within, with_more, option_map_twice, items_taken}
+use Rattle.irl_record.proofs.ItemLemmas.{runs, runs_step, runs_both, runs-append, next_outside, next_inside, at_least, at_least_back, piece_within, location_within, end_within, with_more, option_map_twice, items_taken}
 use Rattle.irl_record.proofs.GrammarLemmas.{Outside, Skips, Suffixes, Seeds, Opens, Loses, Says_nothing, view_outside, Inside, Gives, Locates, Ends, Adds_nothing, view_inside, empty_page}
 
 -- these lines are those of items that make the one tape of the other
@@ -23,7 +22,8 @@ pub record Items (pages : Bool) (tape : Taped) (lines : List (List ℕ)) (last :
   pub written : lines ≡ flat_map item_lines items
   pub taken : with_items pages tape items ≡ Some last
 
-item_first : (pages : Bool) (tape mid last : Taped) (item : Item) (lines rest : List (List ℕ)) → with_item pages tape item ≡ Some mid → lines ≡ item_lines item ++ rest → Items pages mid rest last → Items pages tape lines last
+item_first : (pages : Bool) (tape mid last : Taped) (item : Item) (lines rest : List (List ℕ)) → with_item pages tape item ≡ Some mid → lines ≡ item_lines item ++ rest → Items pages mid rest last
+    → Items pages tape lines last
 item_first pages tape mid last item lines rest is shape later = record {
   items = item ∷ later.items;
   written = shape ∙ ap (λ l. item_lines item ++ l) later.written;
@@ -56,13 +56,16 @@ module _ (pages : Bool) (last : Taped) (line : List ℕ) (lines : List (List ℕ
   some_next : (r after : Reading) → next pages r line ≡ Some after → runs pages r (line ∷ lines) ≡ Some (outside last) → runs pages after lines ≡ Some (outside last)
   some_next r after some h = sym (runs_step pages r after line lines some) ∙ h
 
-  one_item : Both pages last lines → (tape : Taped) (item : Item) (o : Option Taped) → with_item pages tape item ≡ o → next pages (outside tape) line ≡ option_map outside o → line ∷ [] ≡ item_lines item → runs pages (outside tape) (line ∷ lines) ≡ Some (outside last) → Items pages tape (line ∷ lines) last
+  one_item : Both pages last lines → (tape : Taped) (item : Item) (o : Option Taped) → with_item pages tape item ≡ o → next pages (outside tape) line ≡ option_map outside o
+      → line ∷ [] ≡ item_lines item → runs pages (outside tape) (line ∷ lines) ≡ Some (outside last) → Items pages tape (line ∷ lines) last
   one_item later tape item None is step shape h = no_next (outside tape) step h
   one_item later tape item (Some mid) is step shape h =
       item_first pages tape mid last item (line ∷ lines) lines is (ap (λ l. l ++ lines) shape) (later.out mid (some_next (outside tape) (outside mid) step h))
 
   -- the first line of a page
-  page_opens : (may : Bool) → pages ≡ may → Both pages last lines → (tape : Taped) (status : ℕ) (html : Bool) (url : List ℕ) (o : Option (List ℕ)) → new_web tape.records url ≡ o → line ≡ head_line (empty_page status html url) → 100 ≤ status → status ≤ 999 → next pages (outside tape) line ≡ cond may (option_map (λ text. inside tape (opened status html text)) o) None → runs pages (outside tape) (line ∷ lines) ≡ Some (outside last) → Items pages tape (line ∷ lines) last
+  page_opens : (may : Bool) → pages ≡ may → Both pages last lines → (tape : Taped) (status : ℕ) (html : Bool) (url : List ℕ) (o : Option (List ℕ)) → new_web tape.records url ≡ o
+      → line ≡ head_line (empty_page status html url) → 100 ≤ status → status ≤ 999 → next pages (outside tape) line ≡ cond may (option_map (λ text. inside tape (opened status html text)) o) None
+      → runs pages (outside tape) (line ∷ lines) ≡ Some (outside last) → Items pages tape (line ∷ lines) last
   page_opens false may later tape status html url o web shape least most step h = no_next (outside tape) step h
   page_opens true may later tape status html url None web shape least most step h = no_next (outside tape) step h
   page_opens true may later tape status html url (Some text) web shape least most step h =
@@ -96,7 +99,9 @@ module _ (pages : Bool) (last : Taped) (line : List ℕ) (lines : List (List ℕ
   outside_by later tape (Says_nothing says) h = no_next (outside tape) (next_outside pages tape line _ says) h
 
   -- a line of a page's body
-  piece_by : Both pages last lines → (tape : Taped) (page : PageItem) (now : Opened) → Holds pages tape page now → (piece : Piece) → line ≡ piece_line piece → (b : Bool) → nat_le (length (now.reply.body ++ piece_bytes piece)) max_page ≡ b → next pages (inside tape now) line ≡ option_map (inside tape) (cond b (Some (with_more now (piece_bytes piece))) None) → runs pages (inside tape now) (line ∷ lines) ≡ Some (outside last) → Items pages tape (front page ++ line ∷ lines) last
+  piece_by : Both pages last lines → (tape : Taped) (page : PageItem) (now : Opened) → Holds pages tape page now → (piece : Piece) → line ≡ piece_line piece → (b : Bool)
+      → nat_le (length (now.reply.body ++ piece_bytes piece)) max_page ≡ b → next pages (inside tape now) line ≡ option_map (inside tape) (cond b (Some (with_more now (piece_bytes piece))) None)
+      → runs pages (inside tape now) (line ∷ lines) ≡ Some (outside last) → Items pages tape (front page ++ line ∷ lines) last
   piece_by later tape page now held piece shape false fits step h = no_next (inside tape now) step h
   piece_by later tape page now held piece shape true fits step h =
       let longer = record page { pieces = page.pieces ++ piece ∷ [] } in
@@ -125,7 +130,9 @@ module _ (pages : Bool) (last : Taped) (line : List ℕ) (lines : List (List ℕ
       subst (λ l. Items pages tape (head_line page ∷ l) last) (sym parts) found
 
   -- the Location of a page
-  location_by : Both pages last lines → (tape : Taped) (page : PageItem) (now : Opened) → Holds pages tape page now → (text : List ℕ) → line ≡ codes "to " ++ text → (b : Bool) → now.is_new ≡ b → next pages (inside tape now) line ≡ option_map (inside tape) (cond b (Some (record now { reply = record now.reply { location = Some text }; is_new = false })) None) → runs pages (inside tape now) (line ∷ lines) ≡ Some (outside last) → Items pages tape (front page ++ line ∷ lines) last
+  location_by : Both pages last lines → (tape : Taped) (page : PageItem) (now : Opened) → Holds pages tape page now → (text : List ℕ) → line ≡ codes "to " ++ text → (b : Bool) → now.is_new ≡ b
+      → next pages (inside tape now) line ≡ option_map (inside tape) (cond b (Some (record now { reply = record now.reply { location = Some text }; is_new = false })) None)
+      → runs pages (inside tape now) (line ∷ lines) ≡ Some (outside last) → Items pages tape (front page ++ line ∷ lines) last
   location_by later tape page now held text shape false new step h = no_next (inside tape now) step h
   location_by later tape page now held text shape true new step h =
       let after : Opened = record now { reply = record now.reply { location = Some text }; is_new = false } in
@@ -148,7 +155,9 @@ module _ (pages : Bool) (last : Taped) (line : List ℕ) (lines : List (List ℕ
       subst (λ l. Items pages tape (head_line page ∷ l) last) (sym (before ∙ ap (λ l. l ∷ lines) shape ∙ sym behind)) found
 
   -- the end of a page
-  end_by : Both pages last lines → (tape : Taped) (page : PageItem) (now : Opened) → Holds pages tape page now → line ≡ codes "end" → next pages (inside tape now) line ≡ Some (outside (with_record tape now.url (record_of.Page now.reply))) → runs pages (inside tape now) (line ∷ lines) ≡ Some (outside last) → Items pages tape (front page ++ line ∷ lines) last
+  end_by : Both pages last lines → (tape : Taped) (page : PageItem) (now : Opened) → Holds pages tape page now → line ≡ codes "end"
+      → next pages (inside tape now) line ≡ Some (outside (with_record tape now.url (record_of.Page now.reply))) → runs pages (inside tape now) (line ∷ lines) ≡ Some (outside last)
+      → Items pages tape (front page ++ line ∷ lines) last
   end_by later tape page now held shape step h =
       let after = with_record tape now.url (record_of.Page now.reply) in
       let is : is_page page ≡ true = rw (at_least 100 page.status held.least, at_least page.status 999 held.most, at_least (length (reply_of page).body) max_page held.short) refl in
@@ -163,7 +172,8 @@ module _ (pages : Bool) (last : Taped) (line : List ℕ) (lines : List (List ℕ
       item_first pages tape after last (Page page) (front page ++ line ∷ lines) lines item (ap (λ l. head_line page ∷ l) parts)
       (later.out after (some_next (inside tape now) (outside after) step h))
 
-  inside_by : Both pages last lines → (tape : Taped) (page : PageItem) (now : Opened) → Holds pages tape page now → Inside line → runs pages (inside tape now) (line ∷ lines) ≡ Some (outside last) → Items pages tape (front page ++ line ∷ lines) last
+  inside_by : Both pages last lines → (tape : Taped) (page : PageItem) (now : Opened) → Holds pages tape page now → Inside line → runs pages (inside tape now) (line ∷ lines) ≡ Some (outside last)
+      → Items pages tape (front page ++ line ∷ lines) last
   inside_by later tape page now held (Gives piece shape) h =
       piece_by later tape page now held piece shape (nat_le (length (now.reply.body ++ piece_bytes piece)) max_page) refl
       (ap (next pages (inside tape now)) shape ∙ piece_within pages tape now piece) h

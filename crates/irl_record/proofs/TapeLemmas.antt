@@ -1,20 +1,24 @@
 -- What the reading of a tape answers, by the lines that are taken.
-use Rattle.std.proofs.Common.{◌≡◌, ◌∙◌, ℕ, ◌+◌, Bool, true, false, cond, List, [], ◌∷◌, ◌++◌, length, Option, Some, None, Ok, Err, refl, sym, ap, subst, arith, ◌⊎◌, inl, inr, append-nil}
-use Rattle.std.specs.Prelude.{Result, option_and_then, is_some}
-use Rattle.std.proofs.lemmas.Bool.{cond-false, false≢true}
+use Rattle.std.proofs.Common.{◌≡◌, ◌∙◌, ℕ, ◌+◌, Bool, true, false, cond, List, [], ◌∷◌, ◌++◌, length, Option, Some, None, Ok, Err, refl, sym, ap, subst, arith, ◌⊎◌, inl, inr}
+use Rattle.std.specs.Prelude.{option_and_then, is_some}
+use Rattle.std.proofs.lemmas.Bool.{cond-false}
 use Rattle.irl_record.specs.Opened.{Opened}
 use Rattle.irl_record.specs.Reading.{Reading, next, outside, blank, is_over, or_refused, whole, tape_from}
 use Rattle.irl_record.specs.Taped.{Taped}
-use Rattle.irl_record.specs.Grammar.{IsTape, Begins, AreWithin, IsRefused, IsRefusedAt}
+use Rattle.irl_record.specs.Grammar.{AreWithin, IsRefused, IsRefusedAt}
 use Rattle.irl_record.proofs.ItemLemmas.{runs, runs_step, runs_both, items_taken}
-use Rattle.irl_record.proofs.RunLemmas.{tape_from_runs, begins_from_runs, begins_none}
+use Rattle.irl_record.proofs.RunLemmas.{begins_from_runs, begins_none}
 
 module _ (pages : Bool) where
-  whole_ok : (n : ℕ) (tape t : Taped) (page : Option Opened) → whole n (record { tape = tape; page = page }) ≡ Ok t → ◌≡◌ {A = Option Reading} (Some (record { tape = tape; page = page })) (Some (outside t))
+  whole_ok : (n : ℕ) (tape t : Taped) (page : Option Opened) → whole n (record { tape = tape; page = page }) ≡ Ok t
+      → ◌≡◌ {A = Option Reading} (Some (record { tape = tape; page = page })) (Some (outside t))
   whole_ok n tape t None h = let e : tape ≡ t = cc in ap (λ (s : Taped). Some (outside s)) e
   whole_ok n tape t (Some page) h = cc
 
-  ok_by : (n : ℕ) (r : Reading) (t : Taped) (line : List ℕ) (lines : List (List ℕ)) (b : Bool) (o : Option Reading) → is_over n line ≡ b → next pages r line ≡ o → cond b (Err n) (or_refused n o (λ a. tape_from pages (n + 1) a lines)) ≡ Ok t → ((a : Reading) → tape_from pages (n + 1) a lines ≡ Ok t → (runs pages a lines ≡ Some (outside t)) × AreWithin (n + 1) lines) → (runs pages r (line ∷ lines) ≡ Some (outside t)) × AreWithin n (line ∷ lines)
+  ok_by : (n : ℕ) (r : Reading) (t : Taped) (line : List ℕ) (lines : List (List ℕ)) (b : Bool) (o : Option Reading) → is_over n line ≡ b → next pages r line ≡ o
+      → cond b (Err n) (or_refused n o (λ a. tape_from pages (n + 1) a lines)) ≡ Ok t
+      → ((a : Reading) → tape_from pages (n + 1) a lines ≡ Ok t → (runs pages a lines ≡ Some (outside t)) × AreWithin (n + 1) lines) → (runs pages r (line ∷ lines) ≡ Some (outside t))
+      × AreWithin n (line ∷ lines)
   ok_by n r t line lines true o over is h later = cc
   ok_by n r t line lines false None over is h later = cc
   ok_by n r t line lines false (Some a) over is h later =
@@ -29,7 +33,9 @@ module _ (pages : Bool) where
   some_same : (r s : Reading) → Some r ≡ Some s → r ≡ s
   some_same r s h = cc
 
-  runs_by : (n : ℕ) (r : Reading) (t : Taped) (line : List ℕ) (lines : List (List ℕ)) (o : Option Reading) → is_over n line ≡ false → next pages r line ≡ o → option_and_then (λ a. runs pages a lines) o ≡ Some (outside t) → ((a : Reading) → runs pages a lines ≡ Some (outside t) → tape_from pages (n + 1) a lines ≡ Ok t) → tape_from pages n r (line ∷ lines) ≡ Ok t
+  runs_by : (n : ℕ) (r : Reading) (t : Taped) (line : List ℕ) (lines : List (List ℕ)) (o : Option Reading) → is_over n line ≡ false → next pages r line ≡ o
+      → option_and_then (λ a. runs pages a lines) o ≡ Some (outside t) → ((a : Reading) → runs pages a lines ≡ Some (outside t) → tape_from pages (n + 1) a lines ≡ Ok t)
+      → tape_from pages n r (line ∷ lines) ≡ Ok t
   runs_by n r t line lines None over is h later = cc
   runs_by n r t line lines (Some a) over is h later =
       cond-false _ (Err n) _ over ∙ ap (λ o. or_refused n o (λ s. tape_from pages (n + 1) s lines)) is ∙ later a h
@@ -70,7 +76,9 @@ module _ (pages : Bool) where
   whole_err n k tape None h = cc
   whole_err n k tape (Some page) h = (let e : n ≡ k = cc in e, refl)
 
-  err_by : (n k : ℕ) (r : Reading) (line : List ℕ) (lines : List (List ℕ)) (b : Bool) (o : Option Reading) → is_over n line ≡ b → next pages r line ≡ o → cond b (Err n) (or_refused n o (λ a. tape_from pages (n + 1) a lines)) ≡ Err k → ((a : Reading) → tape_from pages (n + 1) a lines ≡ Err k → Stops (n + 1) a lines k) → Stops n r (line ∷ lines) k
+  err_by : (n k : ℕ) (r : Reading) (line : List ℕ) (lines : List (List ℕ)) (b : Bool) (o : Option Reading) → is_over n line ≡ b → next pages r line ≡ o
+      → cond b (Err n) (or_refused n o (λ a. tape_from pages (n + 1) a lines)) ≡ Err k → ((a : Reading) → tape_from pages (n + 1) a lines ≡ Err k → Stops (n + 1) a lines k)
+      → Stops n r (line ∷ lines) k
   err_by n k r line lines true o over is h later =
       let same : n ≡ k = cc in
       stops_here n r (line ∷ lines) k same (inl (subst (λ m. is_over m line ≡ true) same over))

@@ -1,6 +1,6 @@
 -- A fetcher that answers by a tape.
 use Rattle.std.specs.Prelude.{◌≡◌, ℕ, Result, Ok, Err}
-use Rattle.irl_offer.specs.Faults.{counted}
+use Rattle.irl_base.specs.Faults.{counted}
 use Rattle.irl_offer.specs.declared.reply.Answer.{Answer}
 use Rattle.irl_offer.specs.declared.reply.Answer.TheVariants.{Reply, NoReply, Short, BadReply, TooLarge, Coded}
 use Rattle.irl_record.specs.Taped.{Taped, record_at, answer_of}

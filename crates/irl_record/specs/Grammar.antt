@@ -1,7 +1,7 @@
 -- A tape as the records that it is made of, each of one line or more. `Reading` has the same line by line.
 use Rattle.std.specs.Prelude.{◌≡◌, ℕ, ◌+◌, ◌/◌, ◌%◌, ◌⊎◌, Bool, true, false, ◌&&◌, nat_le, List, [], ◌∷◌, ◌++◌, length, map, Option, None, Some, option_map, option_and_then, if◌then◌else◌, codes}
 use Rattle.std.specs.List.{flat_map}
-use Rattle.irl_offer.specs.Limits.{max_page}
+use Rattle.irl_base.specs.Limits.{max_page}
 use Rattle.irl_offer.specs.Replies.{Received}
 use Rattle.irl_record.specs.declared.record.Record.TheVariants as record_of
 use Rattle.irl_record.specs.Forms.{is_skipped}
@@ -35,7 +35,8 @@ three_digits n = (48 + n / 100) ∷ (48 + n % 100 / 10) ∷ (48 + n % 100 % 10) 
 
 -- `page STATUS KIND URL`
 abbrev pub head_line : PageItem → List ℕ
-head_line page = codes "page " ++ three_digits page.status ++ (if page.html then codes " html " else codes " other ") ++ page.url
+head_line page = codes "page " ++ three_digits page.status ++ (if page.html then codes " html " else codes " other ")
+    ++ page.url
 
 -- at most one `to TEXT`
 abbrev pub location_lines : Option (List ℕ) → List (List ℕ)
@@ -55,11 +56,17 @@ abbrev pub item_lines : Item → List (List ℕ)
 item_lines (Comment line) = line ∷ []
 item_lines (Suffix name) = (codes "suffix " ++ name) ∷ []
 item_lines (Seed url) = (codes "seed " ++ url) ∷ []
-item_lines (Page page) = head_line page ∷ (location_lines page.location ++ map piece_line page.pieces ++ codes "end" ∷ [])
+item_lines (Page page) = head_line page ∷ (location_lines page.location ++ map piece_line page.pieces ++ codes "end"
+    ∷ [])
 item_lines (Lost url) = (codes "lost " ++ url) ∷ []
 
 abbrev pub reply_of : PageItem → Received
-reply_of page = record { status = page.status; location = page.location; html = page.html; body = flat_map piece_bytes page.pieces }
+reply_of page = record {
+  status = page.status;
+  location = page.location;
+  html = page.html;
+  body = flat_map piece_bytes page.pieces;
+}
 
 -- its status is from 100 to 999, and its body is not too long
 abbrev pub is_page : PageItem → Bool
@@ -79,7 +86,8 @@ with_item pages tape (Lost url) =
 
 abbrev pub with_items : Bool → Taped → List Item → Option Taped
 with_items pages tape [] = Some tape
-with_items pages tape (item ∷ items) = option_and_then (λ after. with_items pages after items) (with_item pages tape item)
+with_items pages tape (item ∷ items) = option_and_then (λ after. with_items pages after items)
+    (with_item pages tape item)
 
 -- the lines are those of such items, and this is their tape
 pub record IsTape (pages : Bool) (lines : List (List ℕ)) (tape : Taped) : Type 0 where
@@ -96,7 +104,8 @@ abbrev pub AreWithin : ℕ → List (List ℕ) → Type 0
 AreWithin number [] = Unit {0}
 AreWithin number (line ∷ lines) = (is_over number line ≡ false) × AreWithin (number + 1) lines
 
--- The line behind these is refused: it is over a limit, or no tape begins with them and it; or they are all, and no tape.
+-- The line behind these is refused: it is over a limit, or no tape begins with them and it; or they are all, and no
+-- tape.
 abbrev pub IsRefused : Bool → List (List ℕ) → List (List ℕ) → Type 0
 IsRefused pages front [] = (tape : Taped) → ¬ (IsTape pages front tape)
 IsRefused pages front (line ∷ rest) = (is_over (length front + 1) line ≡ true) ⊎ (¬ (Begins pages (front ++ line ∷ [])))

@@ -1,6 +1,7 @@
 pub mod Fetched
 pub mod Forms
 pub mod Grammar
+pub mod Index
 pub mod Limits
 pub mod Names
 pub mod Opened

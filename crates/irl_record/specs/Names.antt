@@ -1,5 +1,5 @@
 -- The suffixes of a tape that is being read.
-use Rattle.std.specs.Prelude.{ℕ, ◌≤◌, Bool, not, nat_le, List, [], ◌∷◌, ◌++◌, length, Option, Some, None, if◌then◌else◌}
+use Rattle.std.specs.Prelude.{ℕ, ◌≤◌, not, nat_le, List, [], ◌∷◌, ◌++◌, length, Option, Some, None, if◌then◌else◌}
 use Rattle.std.specs.BTreeSet.{BTreeSet}
 use Rattle.std.specs.Prelude.{Vec}
 use Rattle.irl_pld.specs.Names.{is_name, is_listed}

@@ -1,6 +1,6 @@
 -- A page of a tape that is being read.
 use Rattle.std.specs.Prelude.{ℕ, Bool, true, false, nat_le, List, [], ◌++◌, length, Option, None, Some, if◌then◌else◌}
-use Rattle.irl_offer.specs.Limits.{max_page}
+use Rattle.irl_base.specs.Limits.{max_page}
 use Rattle.irl_offer.specs.Replies.{Received}
 
 -- a page whose `end` is yet to come: its canonical text, its reply so far, and whether no line of it came yet

@@ -1,9 +1,6 @@
 -- The tape of some bytes, or the line at which they are refused.
-use Rattle.std.specs.Prelude.{ℕ, ◌+◌, Bool, true, false, ◌||◌, nat_lt, List, [], ◌∷◌, ◌++◌, length, Option, None, Some, is_some, option_map, option_and_then, Result, Ok, Err, if◌then◌else◌}
-use Rattle.std.specs.Ordering.{nat_cmp}
-use Rattle.std.specs.Cmp.Lexicographic.{slice_cmp}
-use Rattle.std.specs.BTreeMap.{insert_entry}
-use Rattle.irl_offer.specs.Limits.{max_text}
+use Rattle.std.specs.Prelude.{ℕ, ◌+◌, Bool, ◌||◌, nat_lt, List, [], ◌∷◌, ◌++◌, length, Option, None, Some, is_some, option_map, option_and_then, Result, Ok, Err, if◌then◌else◌}
+use Rattle.irl_base.specs.Limits.{max_text}
 use Rattle.irl_key.specs.declared.canon.Canon.{Canon}
 use Rattle.irl_key.specs.declared.canon.Canon.TheVariants.{Web, NotHttp, Bad, TooLong}
 use Rattle.irl_key.specs.Links.{canon_of}
@@ -49,9 +46,9 @@ with_suffix tape name = option_map (λ text. record tape { suffixes = text }) (w
 abbrev pub with_seed : Taped → List ℕ → Option Taped
 with_seed tape url = option_map (λ text. record tape { seeds = tape.seeds ++ text ∷ [] }) (web_of (canon_of None url))
 
--- the tape with one more record
+-- the tape with one more record, behind the others
 abbrev pub with_record : Taped → List ℕ → Record → Taped
-with_record tape url recorded = record tape { records = insert_entry (slice_cmp nat_cmp) tape.records url recorded }
+with_record tape url recorded = record tape { records = tape.records ++ (url, recorded) ∷ [] }
 
 -- A line outside a page, and whether pages may be recorded at all.
 abbrev pub takes : Bool → Taped → Form → Option Reading
@@ -61,7 +58,8 @@ takes pages tape (Seed url) = option_map outside (with_seed tape url)
 takes pages tape (Page status html url) =
     if pages then option_map (λ text. inside tape (opened status html text)) (new_web tape.records url) else None
 takes pages tape (Lost url) =
-    if pages then option_map (λ text. outside (with_record tape text record_of.Lost)) (new_web tape.records url) else None
+    if pages then option_map (λ text. outside (with_record tape text record_of.Lost))
+    (new_web tape.records url) else None
 takes pages tape Other = None
 
 -- A line inside a page. A Location may come first alone.

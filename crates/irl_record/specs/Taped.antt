@@ -1,8 +1,5 @@
 -- A tape: what answers a fetcher in place of the network.
-use Rattle.std.specs.Prelude.{ℕ, Bool, false, List, [], map, Option, None, Some, Vec}
-use Rattle.std.specs.Ordering.{nat_cmp}
-use Rattle.std.specs.Cmp.Lexicographic.{slice_cmp}
-use Rattle.std.specs.BTreeMap.{is_at}
+use Rattle.std.specs.Prelude.{ℕ, false, List, [], Option, None, Some, bytes_eq}
 use Rattle.std.specs.Map.{lookup}
 use Rattle.irl_offer.specs.Replies.{Received}
 use Rattle.irl_offer.specs.declared.reply.Answer.{Answer}
@@ -10,7 +7,7 @@ use Rattle.irl_offer.specs.declared.reply.Answer.TheVariants as answer
 use Rattle.irl_record.specs.declared.record.Record.{Record}
 use Rattle.irl_record.specs.declared.record.Record.TheVariants.{Page, Lost}
 
--- what is recorded of URLs, by their canonical texts, as `insert_entry` puts them
+-- what is recorded of URLs, by their canonical texts, in the order of the tape
 abbrev pub Records : Type 0
 Records = List (List ℕ × Record)
 
@@ -22,11 +19,7 @@ pub record Taped : Type 0 where
 
 -- what is recorded of a URL
 abbrev pub record_at : Records → List ℕ → Option Record
-record_at records url = lookup (is_at (slice_cmp nat_cmp url)) records
-
--- entries with vectors as keys, by their texts
-abbrev pub texts_of : {A : Type 0} → List (Vec ℕ A × Record) → Records
-texts_of entries = map (λ e. (e.0.items, e.1)) entries
+record_at records url = lookup (bytes_eq url) records
 
 -- the reply to a URL that isn't on the tape
 abbrev pub not_found : Received

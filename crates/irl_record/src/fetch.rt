@@ -1,6 +1,6 @@
 ghost use Rattle.std.specs.Prelude.{◌≡◌, ◌≤◌, ℕ, IfOk, Ok};
-ghost use Rattle.irl_offer.specs.Faults.{HasCause};
-ghost use Rattle.irl_record.specs.Widening.{Answers, Widens};
+ghost use Rattle.irl_base.specs.Faults.{HasCause};
+ghost use Rattle.irl_record.specs.Widening.{Answers, Widens, WidensSince};
 
 use irl_key::Web;
 use irl_offer::{Answer, Want};
@@ -8,8 +8,12 @@ use std::alloc::{AllocError, Global};
 
 /// What gets pages: a fetcher with a clock.
 pub trait Fetch {
-    /// The answers that it gives. A fetcher that tells nothing of them has them all.
-    ghost gives: { Self → Answers };
+    /// A count of what it did to get answers, as of its connections, which never falls. By it a moment is named.
+    ghost asked: { Self → ℕ };
+
+    /// The answers that it gives, by what it did since such a count. A fetcher that tells nothing of them has them all, and
+    /// one whose answers stand from the beginning gives them since every count.
+    ghost gives: { Self → ℕ → Answers };
 
     /// How often nothing came. The count never falls, and stands still at the last value of a `u64`.
     ghost faults: { Self → ℕ };
@@ -19,8 +23,9 @@ pub trait Fetch {
 
     /// Gets a page, or a robots file. `NoReply` comes only where a fault was counted in this call.
     fn fetch(&mut self, alloc: Global, web: &Web, want: Want) -> Result<Answer, AllocError>
-        ensures told { IfOk result (λ answer. gives self.new web.now want answer) }
-        ensures wider { Widens (gives self.old) (gives self.new) }
+        ensures told { IfOk result (λ answer. gives self.new (asked self.old) web.now want answer) }
+        ensures wider { WidensSince (gives self.old) (gives self.new) }
+        ensures asked { asked self.old ≤ asked self.new }
         ensures cause { HasCause (result ≡ Ok Answer.NoReply) (faults self.old) (faults self.new) }
         ensures later { last self.old ≤ last self.new };
 
@@ -28,12 +33,20 @@ pub trait Fetch {
     fn now(&mut self) -> u64
         ensures later { last self.old ≤ result }
         ensures told { last self.new ≡ result }
-        ensures wider { Widens (gives self.old) (gives self.new) }
+        ensures wider { WidensSince (gives self.old) (gives self.new) }
+        ensures asked { asked self.new ≡ asked self.old }
         ensures faults { faults self.old ≤ faults self.new };
 
     /// Waits till the moment has come. A fetcher may wake early.
     fn wait_till(&mut self, moment: u64)
         ensures later { last self.old ≤ last self.new }
-        ensures wider { Widens (gives self.old) (gives self.new) }
+        ensures wider { WidensSince (gives self.old) (gives self.new) }
+        ensures asked { asked self.new ≡ asked self.old }
         ensures faults { faults self.old ≤ faults self.new };
+
+    /// An answer since a count is one since each count before it.
+    ghost earlier: { (x : Self) (since later : ℕ) → since ≤ later → Widens (gives x later) (gives x since) };
+
+    /// An answer since now is nothing new: it is one since every count.
+    ghost nothing_new: { (x : Self) (since : ℕ) → Widens (gives x (asked x)) (gives x since) };
 }

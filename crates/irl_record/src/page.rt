@@ -1,5 +1,5 @@
 ghost use Rattle.std.specs.Prelude.{◌≡◌, ◌-◌, ◌∷◌, ◌++◌, [], length, IfOk};
-ghost use Rattle.irl_offer.specs.Limits.{max_page};
+ghost use Rattle.irl_base.specs.Limits.{max_page};
 ghost use Rattle.irl_record.specs.Opened.{opened, with_location as located, with_body};
 
 use irl_key::Web;
@@ -20,7 +20,7 @@ pub struct Page {
 
 impl Model for Page {
     ghost use Rattle.std.specs.Prelude.{◌≤◌, length};
-    ghost use Rattle.irl_offer.specs.Limits.{max_page};
+    ghost use Rattle.irl_base.specs.Limits.{max_page};
     ghost use Rattle.irl_record.specs.Opened.{Opened};
 
     ghost Value = { Opened };

@@ -1,6 +1,6 @@
 ghost use Rattle.std.specs.Prelude.{◌≡◌, ◌+◌, ◌<◌, ◌^◌, ℕ, [], true, option_map, Ok, Err, Some, IfOk, OnOk, IsErrOf, MatchResult};
 ghost use Rattle.std.specs.Option.{ForSome};
-ghost use Rattle.irl_offer.specs.Faults.{HasCause};
+ghost use Rattle.irl_base.specs.Faults.{HasCause};
 ghost use Rattle.irl_io.specs.Lines.{most_lines};
 ghost use Rattle.irl_record.specs.Forms.{form, Page as PageLine, Lost as LostLine};
 ghost use Rattle.irl_record.specs.Parts.{within};
@@ -155,7 +155,8 @@ fn inside(tape: Tape, page: Option<Page>) -> Option<Reading>
 
 /// Inside a new page, if the tape has no record of its URL yet.
 fn open(alloc: Global, tape: Tape, head: Head<'_>) -> Result<Option<Reading>, AllocError>
-    ensures { IfOk result (λ after. after ≡ takes true tape (PageLine head.entry.status head.entry.html head.entry.url.now)) }
+    ensures { IfOk result (λ after. after ≡ takes true tape
+        (PageLine head.entry.status head.entry.html head.entry.url.now)) }
 {
     let Some(web) = tape.new_web(alloc, head.url)? else {
         return Ok(None);
@@ -171,7 +172,7 @@ fn lose(alloc: Global, tape: Tape, url: &[u8]) -> Result<Option<Reading>, AllocE
     let Some(web) = tape.new_web(alloc, url)? else {
         return Ok(None);
     };
-    let tape = tape.with_record(alloc, &web, Record::Lost)?;
+    let tape = tape.with_record(alloc, web, Record::Lost)?;
     Ok(outside(Some(tape)))
 }
 
@@ -190,7 +191,7 @@ fn take_part(
         Part::Piece(bytes) => Ok(inside(tape, page.with_piece(bytes)?)),
         Part::End => {
             let (web, reply) = page.close();
-            let tape = tape.with_record(alloc, &web, Record::Page(reply))?;
+            let tape = tape.with_record(alloc, web, Record::Page(reply))?;
             Ok(outside(Some(tape)))
         }
         Part::Other => Ok(None),

@@ -1,7 +1,8 @@
-ghost use Rattle.std.specs.Prelude.{◌≡◌, ◌≤◌, None, length, option_copied, is_some, IfOk, IfSome, All};
+ghost use Rattle.std.specs.Prelude.{◌≡◌, ◌≤◌, None, length, slice_get, option_copied, option_map, IfOk, OnOk, IfSome, All};
 ghost use Rattle.irl_pld.specs.Names.{bad_line};
 ghost use Rattle.irl_record.specs.Limits.{max_suffixes};
 ghost use Rattle.irl_record.specs.Taped.{record_at};
+ghost use Rattle.irl_record.specs.Index.{Enters};
 ghost use Rattle.irl_record.specs.Reading.{blank, new_web, with_suffix as suffixed, with_seed as seeded, with_record as recorded, web_of};
 ghost use Rattle.irl_key.specs.Links.{canon_of, IsCanonicalText};
 
@@ -14,24 +15,29 @@ use std::collections::BTreeMap;
 use std::marker::Model;
 
 /// What answers a fetcher in place of the network. Contracts see it as a `Taped`.
+///
+/// Its records stand in the order of the tape. An index has the place of each by its URL's text, so a look-up takes time
+/// that is logarithmic in their number.
 #[derive(Drop)]
 pub struct Tape {
     names: Names,
     seeds: Vec<Web>,
-    records: BTreeMap<Vec<u8>, Record>,
+    records: Vec<(Web, Record)>,
+    index: BTreeMap<Vec<u8>, usize>,
 }
 
 impl Model for Tape {
-    ghost use Rattle.irl_record.specs.Taped.{Taped, texts_of};
+    ghost use Rattle.irl_record.specs.Taped.{Taped};
 
     ghost Value = { Taped };
 
     ghost use Rattle.std.specs.Prelude.{All};
     ghost use Rattle.irl_key.specs.Links.{IsCanonicalText};
+    ghost use Rattle.irl_record.specs.Index.{IsIndexOf};
 
-    ghost view = { λ t. record { suffixes = t.names; seeds = t.seeds.items; records = texts_of t.records.entries } };
+    ghost view = { λ t. record { suffixes = t.names; seeds = t.seeds.items; records = t.records.items } };
 
-    ghost invariant = { λ t. All IsCanonicalText t.seeds.items };
+    ghost invariant = { λ t. All IsCanonicalText t.seeds.items × IsIndexOf t.index t.records.items };
 }
 
 impl Tape {
@@ -42,7 +48,8 @@ impl Tape {
         Tape {
             names: Names::new(alloc),
             seeds: Vec::new(alloc),
-            records: BTreeMap::new(alloc),
+            records: Vec::new(alloc),
+            index: BTreeMap::new(alloc),
         }
     }
 
@@ -68,7 +75,10 @@ impl Tape {
     pub(crate) fn record(&self, url: &[u8]) -> Option<&Record>
         ensures { option_copied result ≡ record_at self.now.records url.now }
     {
-        self.records.get(url)
+        match self.index.get(url) {
+            Some(place) => record_in(&self.records, *place),
+            None => None,
+        }
     }
 
     /// The tape after a line of a suffix, if the line is taken.
@@ -79,6 +89,7 @@ impl Tape {
             names,
             seeds,
             records,
+            index,
         } = self;
         let Some(names) = names.add(alloc, name)? else {
             return Ok(None);
@@ -87,6 +98,7 @@ impl Tape {
             names,
             seeds,
             records,
+            index,
         }))
     }
 
@@ -102,17 +114,18 @@ impl Tape {
         Ok(Some(tape))
     }
 
-    /// The tape with one more record.
+    /// The tape with one more record, behind the others.
     pub(crate) fn with_record(
         self,
         alloc: Global,
-        web: &Web,
+        web: Web,
         entry: Record,
     ) -> Result<Tape, AllocError>
-        ensures { IfOk result (λ tape. tape ≡ recorded self web.now entry) }
+        ensures { IfOk result (λ tape. tape ≡ recorded self web entry) }
     {
         let mut tape = self;
-        tape.records.insert(web.text().to_vec(alloc)?, entry)?;
+        enter(alloc, &mut tape.index, web.text(), tape.records.len())?;
+        tape.records.push((web, entry))?;
         Ok(tape)
     }
 
@@ -130,7 +143,32 @@ impl Tape {
     }
 }
 
-/// The page of a URL, if it has one.
+// The record at a place, if there is one.
+fn record_in(records: &[(Web, Record)], place: usize) -> Option<&Record>
+    ensures { option_copied result ≡ option_map (λ r. r.1) (slice_get records.now place) }
+{
+    let (_, record) = records.get(place)?;
+    Some(record)
+}
+
+// Enters the place of a URL's record, unless the URL has one already.
+fn enter(
+    alloc: Global,
+    index: &mut BTreeMap<Vec<u8>, usize>,
+    url: &[u8],
+    place: usize,
+) -> Result<(), AllocError>
+    ensures { OnOk result (Enters url.now place index.old.entries index.new.entries) }
+{
+    if index.contains_key(url) {
+        return Ok(());
+    }
+    let key = url.to_vec(alloc)?;
+    index.insert(key, place)?;
+    Ok(())
+}
+
+// The page of a URL, if it has one.
 fn web_of(alloc: Global, url: &[u8]) -> Result<Option<Web>, AllocError>
     ensures value { IfOk result (λ web. web ≡ web_of (canon_of None url.now)) }
     ensures found { IfOk result (λ web. IfSome web IsCanonicalText) }

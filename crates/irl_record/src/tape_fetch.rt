@@ -1,8 +1,8 @@
 ghost use Rattle.std.specs.Prelude.{◌≡◌, ◌≤◌, Ok, IfOk, max};
 ghost use Rattle.irl_record.specs.Taped.{record_at, answer_of, not_found};
 ghost use Rattle.irl_record.specs.Fetched.{by_tape, faults_after};
-ghost use Rattle.irl_record.specs.Widening.{Widens};
-ghost use Rattle.irl_offer.specs.Faults.{HasCause};
+ghost use Rattle.irl_record.specs.Widening.{WidensSince};
+ghost use Rattle.irl_base.specs.Faults.{HasCause};
 
 use crate::fetch::Fetch;
 use crate::record::Record;
@@ -43,16 +43,25 @@ impl<'a> TapeFetch<'a> {
 }
 
 impl Fetch for TapeFetch<'_> {
-    ghost gives = { λ f. by_tape f.tape };
+    // Its answers are the tape's from the beginning.
+    ghost asked = { λ _. 0 };
+
+    ghost gives = { λ f _. by_tape f.tape };
 
     ghost faults = { λ f. f.faults };
 
     ghost last = { λ f. f.moment };
 
+    ghost earlier = { λ _ _ _ _ _ _ _ given. given };
+
+    ghost nothing_new = { λ _ _ _ _ _ given. given };
+
     /// What is asked for doesn't matter.
     fn fetch(&mut self, alloc: Global, web: &Web, want: Want) -> Result<Answer, AllocError>
         ensures told { IfOk result (λ answer. by_tape self.new.tape web.now want answer) }
-        ensures wider { Widens (by_tape self.old.tape) (by_tape self.new.tape) }
+        ensures wider { WidensSince (λ _. by_tape self.old.tape) (λ _. by_tape self.new.tape) }
+        // The count stays.
+        ensures asked { 0 ≤ 0 }
         ensures cause { HasCause (result ≡ Ok Answer.NoReply) self.old.faults self.new.faults }
         ensures later { self.old.moment ≤ self.new.moment }
         ensures answer { IfOk result (λ answer. answer ≡ answer_of (record_at self.old.tape.records web.now)) }
@@ -71,7 +80,7 @@ impl Fetch for TapeFetch<'_> {
     fn now(&mut self) -> u64
         ensures later { self.old.moment ≤ result }
         ensures told { self.new.moment ≡ result }
-        ensures wider { Widens (by_tape self.old.tape) (by_tape self.new.tape) }
+        ensures wider { WidensSince (λ _. by_tape self.old.tape) (λ _. by_tape self.new.tape) }
         ensures faults { self.old.faults ≤ self.new.faults }
         ensures value { result ≡ self.old.moment }
         ensures same { self.new ≡ self.old }
@@ -81,7 +90,7 @@ impl Fetch for TapeFetch<'_> {
 
     fn wait_till(&mut self, moment: u64)
         ensures later { self.old.moment ≤ self.new.moment }
-        ensures wider { Widens (by_tape self.old.tape) (by_tape self.new.tape) }
+        ensures wider { WidensSince (λ _. by_tape self.old.tape) (λ _. by_tape self.new.tape) }
         ensures faults { self.old.faults ≤ self.new.faults }
         ensures after { self.new ≡ record self.old { moment = max self.old.moment moment } }
     {

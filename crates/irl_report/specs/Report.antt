@@ -13,12 +13,18 @@ count_line name n = name ++ codes " " ++ decimal n ++ codes "\n"
 
 abbrev pub report_of : Counts → List ℕ
 report_of counts =
-    count_line (codes "offers") counts.offers ++ count_line (codes "judged") counts.judged ++ count_line (codes "unique") counts.unique
-    ++ count_line (codes "pairs") counts.pairs ++ count_line (codes "fresh") counts.fresh ++ count_line (codes "queued") counts.queued
-    ++ count_line (codes "last") counts.last ++ count_line (codes "front") counts.front ++ count_line (codes "done") counts.done
-    ++ count_line (codes "page") counts.page ++ count_line (codes "moved") counts.moved ++ count_line (codes "status") counts.status
-    ++ count_line (codes "denied") counts.denied ++ count_line (codes "shut") counts.shut ++ count_line (codes "lost") counts.lost
-    ++ count_line (codes "bad") counts.bad ++ count_line (codes "large") counts.large ++ count_line (codes "coded") counts.coded
+    count_line (codes "offers") counts.offers ++ count_line (codes "judged") counts.judged
+    ++ count_line (codes "unique") counts.unique
+    ++ count_line (codes "pairs") counts.pairs ++ count_line (codes "fresh") counts.fresh
+    ++ count_line (codes "queued") counts.queued
+    ++ count_line (codes "last") counts.last ++ count_line (codes "front") counts.front
+    ++ count_line (codes "done") counts.done
+    ++ count_line (codes "page") counts.page ++ count_line (codes "moved") counts.moved
+    ++ count_line (codes "status") counts.status
+    ++ count_line (codes "denied") counts.denied ++ count_line (codes "shut") counts.shut
+    ++ count_line (codes "lost") counts.lost
+    ++ count_line (codes "bad") counts.bad ++ count_line (codes "large") counts.large
+    ++ count_line (codes "coded") counts.coded
 
 abbrev pub outcome_word : Outcome → List ℕ
 outcome_word Page = codes "page"

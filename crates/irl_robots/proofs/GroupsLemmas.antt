@@ -17,7 +17,8 @@ any_agent passes (Agent value ∷ rest) = passes value || any_agent passes rest
 any_agent passes (Access allow value ∷ rest) = any_agent passes rest
 any_agent passes (Other ∷ rest) = any_agent passes rest
 
-any-opened : (passes : List ℕ → Bool) (agent : List ℕ) (before : List RuleLine) (groups : List Group) → list_any (is_for passes) (opened agent before groups) ≡ (passes agent || list_any (is_for passes) groups)
+any-opened : (passes : List ℕ → Bool) (agent : List ℕ) (before : List RuleLine) (groups : List Group)
+    → list_any (is_for passes) (opened agent before groups) ≡ (passes agent || list_any (is_for passes) groups)
 any-opened passes agent (entry ∷ before) groups = ap (λ b. b || list_any (is_for passes) groups) (or-false (passes agent))
 any-opened passes agent [] [] = ap (λ b. b || false) (or-false (passes agent))
 any-opened passes agent [] (group ∷ groups) = or_assoc (passes agent) (is_for passes group) (list_any (is_for passes) groups)
@@ -74,7 +75,8 @@ chosen-opened passes agent [] [] =
 chosen-opened passes agent [] (group ∷ groups) =
     chosen-cons passes (record { agents = agent ∷ group.agents; entries = group.entries }) groups
 
-joined-opened : (passes : List ℕ → Bool) (meant : Bool) (agent : List ℕ) (before : List RuleLine) (groups : List Group) → joined passes meant [] (opened agent before groups) ≡ joined passes (passes agent || meant) before groups
+joined-opened : (passes : List ℕ → Bool) (meant : Bool) (agent : List ℕ) (before : List RuleLine) (groups : List Group)
+    → joined passes meant [] (opened agent before groups) ≡ joined passes (passes agent || meant) before groups
 joined-opened passes meant agent (entry ∷ before) groups =
     ap (λ b. cond b (flat_map rule_of (entry ∷ before)) [] ++ chosen passes groups) (ap (λ b. meant || b) (or-false (passes agent)) ∙ or_comm meant (passes agent))
 joined-opened passes meant agent [] [] = cond-nil (meant || (passes agent || false))

@@ -2,7 +2,7 @@
 use Rattle.std.proofs.Common.{◌≡◌, ℕ, List, take, map, ap, ◌∙◌, le_refl}
 use Rattle.std.specs.List.{flat_map}
 use Rattle.std.proofs.lemmas.List.{take-take}
-use Rattle.irl_offer.specs.Limits.{max_robots}
+use Rattle.irl_base.specs.Limits.{max_robots}
 use Rattle.irl_robots.specs.Lines.{text_of, without_mark, lines, line_of}
 use Rattle.irl_robots.specs.Groups.{obeyed, rules_of, groups_for, outline_of}
 

@@ -24,7 +24,8 @@ pub normal-at_lone : (xs : List ℕ) → 1 ≤ length xs → begins_triplet xs �
 normal-at_lone [] few none = absurd (omega (arith, few))
 normal-at_lone (c ∷ cs) few none = rw (take_all (length (c ∷ cs) - 1) cs (omega arith)) (normal-lone c cs none)
 
-pub normal-at_triplet : (xs : List ℕ) → 3 ≤ length xs → is_triplet (get_or xs 0 0) (get_or xs 1 0) (get_or xs 2 0) ≡ true → normal xs ≡ normal_triplet (get_or xs 1 0) (get_or xs 2 0) ++ normal (take (length xs - 3) (drop 3 xs))
+pub normal-at_triplet : (xs : List ℕ) → 3 ≤ length xs → is_triplet (get_or xs 0 0) (get_or xs 1 0) (get_or xs 2 0) ≡ true
+    → normal xs ≡ normal_triplet (get_or xs 1 0) (get_or xs 2 0) ++ normal (take (length xs - 3) (drop 3 xs))
 normal-at_triplet [] few whole = absurd (omega (arith, few))
 normal-at_triplet (c ∷ []) few whole = absurd (omega (arith, few))
 normal-at_triplet (c ∷ d ∷ []) few whole = absurd (omega (arith, few))

@@ -20,7 +20,8 @@ rises-sooner : (n m : ℕ) (rs : List PathRule) → n ≤ m → RisesFrom m rs �
 rises-sooner n m [] sooner h = tt
 rises-sooner n m (r ∷ rs) sooner h = (omega (arith, sooner, h.0), h.1)
 
-rises-put : (n : ℕ) (meant allow : Bool) (value : List ℕ) (later : List PathRule) → RisesFrom (n + 1) later → RisesFrom n (cond meant (rule_of (record { line = n; allow = allow; value = value })) [] ++ later)
+rises-put : (n : ℕ) (meant allow : Bool) (value : List ℕ) (later : List PathRule) → RisesFrom (n + 1) later
+    → RisesFrom n (cond meant (rule_of (record { line = n; allow = allow; value = value })) [] ++ later)
 rises-put n true allow [] later h = rises-sooner n (n + 1) later (omega arith) h
 rises-put n true allow (c ∷ cs) later h = (omega arith, subst (λ k. RisesFrom k later) (add-one n) h)
 rises-put n false allow value later h = rises-sooner n (n + 1) later (omega arith) h
@@ -32,7 +33,8 @@ rises passes n opening meant (Agent value ∷ rest) =
 rises passes n opening meant (Access allow value ∷ rest) = rises-put n meant allow value _ (rises passes (n + 1) false meant rest)
 rises passes n opening meant (Other ∷ rest) = rises-sooner n (n + 1) _ (omega arith) (rises passes (n + 1) opening meant rest)
 
-next_above : (n : ℕ) (rs : List PathRule) → RisesFrom n rs → (k : ℕ) → suc k < length (map (λ (r : PathRule). r.line) rs) → get_or (map (λ (r : PathRule). r.line) rs) k 0 < get_or (map (λ (r : PathRule). r.line) rs) (suc k) 0
+next_above : (n : ℕ) (rs : List PathRule) → RisesFrom n rs → (k : ℕ) → suc k < length (map (λ (r : PathRule). r.line) rs)
+    → get_or (map (λ (r : PathRule). r.line) rs) k 0 < get_or (map (λ (r : PathRule). r.line) rs) (suc k) 0
 next_above n [] h k within = absurd (omega (arith, within))
 next_above n (r ∷ []) h k within = absurd (omega (arith, within))
 next_above n (r ∷ s ∷ rs) h zero within = omega (arith, h.1.0)
@@ -45,7 +47,8 @@ increasing n rs h k within =
 
 -- ---- the lines
 
-stands-put : (said : List Line) (n : ℕ) (meant allow : Bool) (value : List ℕ) (later : List PathRule) → 1 ≤ n → slice_get said (n - 1) ≡ Some (Access allow value) → AllByRecursion (IsOfLine said) later → AllByRecursion (IsOfLine said) (cond meant (rule_of (record { line = n; allow = allow; value = value })) [] ++ later)
+stands-put : (said : List Line) (n : ℕ) (meant allow : Bool) (value : List ℕ) (later : List PathRule) → 1 ≤ n → slice_get said (n - 1) ≡ Some (Access allow value)
+    → AllByRecursion (IsOfLine said) later → AllByRecursion (IsOfLine said) (cond meant (rule_of (record { line = n; allow = allow; value = value })) [] ++ later)
 stands-put said n true allow [] later first says h = h
 stands-put said n true allow (c ∷ cs) later first says h =
     (record { value = c ∷ cs; counted = first; says = says; some = refl; pattern = refl }, h)

@@ -62,7 +62,8 @@ yields seen path best x behind h = record {
 }
 
 -- one that matches and that no earlier one wins over is the best
-takes : (seen : List PathRule) (path : List ℕ) (x : PathRule) → Matches x.pattern path → ((other : PathRule) → Contains seen other → Matches other.pattern path → WinsOver other x → ⊥) → IsBest (seen ++ x ∷ []) path x
+takes : (seen : List PathRule) (path : List ℕ) (x : PathRule) → Matches x.pattern path → ((other : PathRule) → Contains seen other → Matches other.pattern path → WinsOver other x → ⊥)
+    → IsBest (seen ++ x ∷ []) path x
 takes seen path x matched h = record {
   among = Contains-push seen x;
   matching = matched;
@@ -75,13 +76,15 @@ takes seen path x matched h = record {
 -- ---- the test for the order
 
 -- of m and n octets, verdicts a and b, lines k and l
-wins-from_test : (m n k l : ℕ) (a b : Bool) → cond (ltb n m) true (cond (ltb m n) false (cond (a && not b) true (cond (b && not a) false (ltb k l)))) ≡ true → (n < m) ⊎ ((m ≡ n) × (((a ≡ true) × (b ≡ false)) ⊎ ((a ≡ b) × (k < l))))
+wins-from_test : (m n k l : ℕ) (a b : Bool) → cond (ltb n m) true (cond (ltb m n) false (cond (a && not b) true (cond (b && not a) false (ltb k l)))) ≡ true → (n < m)
+    ⊎ ((m ≡ n) × (((a ≡ true) × (b ≡ false)) ⊎ ((a ≡ b) × (k < l))))
 wins-from_test m n k l true true h = grind (arith, nat_tests)
 wins-from_test m n k l true false h = grind (arith, nat_tests)
 wins-from_test m n k l false true h = grind (arith, nat_tests)
 wins-from_test m n k l false false h = grind (arith, nat_tests)
 
-test-from_wins : (m n k l : ℕ) (a b : Bool) → (n < m) ⊎ ((m ≡ n) × (((a ≡ true) × (b ≡ false)) ⊎ ((a ≡ b) × (k < l)))) → cond (ltb n m) true (cond (ltb m n) false (cond (a && not b) true (cond (b && not a) false (ltb k l)))) ≡ true
+test-from_wins : (m n k l : ℕ) (a b : Bool) → (n < m) ⊎ ((m ≡ n) × (((a ≡ true) × (b ≡ false)) ⊎ ((a ≡ b) × (k < l))))
+    → cond (ltb n m) true (cond (ltb m n) false (cond (a && not b) true (cond (b && not a) false (ltb k l)))) ≡ true
 test-from_wins m n k l a b (inl more) = rw (lt-ltb n m more) refl
 test-from_wins m n k l a b (inr (same, inl (allowed, denied))) = rw (allowed, denied, le-ltb n m (omega arith), le-ltb m n (omega arith)) refl
 test-from_wins m n k l true true (inr (same, inr (alike, earlier))) = rw (le-ltb n m (omega arith), le-ltb m n (omega arith)) (lt-ltb k l earlier)

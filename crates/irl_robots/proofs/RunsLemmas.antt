@@ -159,7 +159,8 @@ last-end run t ends literal from to =
     (ap (matches (run ++ 36 ∷ [])) (there.1 ∙ sym (append-nil run)) ∙ met-front run (36 ∷ []) [] before ∙ matches-end []))
 
 -- the last octets are the only ones that may be the run
-pub ends-with : (path run : List ℕ) (b : Bool) → length run ≤ length path → b ≡ bytes_eq (take (length path - (length path - length run)) (drop (length path - length run) path)) run → (b ≡ true → (k : ℕ) × (drop k path ≡ run)) × (((k : ℕ) × (drop k path ≡ run)) → b ≡ true)
+pub ends-with : (path run : List ℕ) (b : Bool) → length run ≤ length path → b ≡ bytes_eq (take (length path - (length path - length run)) (drop (length path - length run) path)) run
+    → (b ≡ true → (k : ℕ) × (drop k path ≡ run)) × (((k : ℕ) × (drop k path ≡ run)) → b ≡ true)
 ends-with path run b short is =
     let n = length path - length run in
     let tests = bytes_eq-Decides (take (length path - n) (drop n path)) run in

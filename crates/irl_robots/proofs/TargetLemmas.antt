@@ -22,7 +22,8 @@ not-begun (Normal octets sums) pattern summed fails =
     let front = begins pattern octets.now h in
     let head = head_of pattern in
     let within : head.len < length sums.now = omega (arith, summed.0, front.short) in
-    false≢true (sym fails ∙ and_from (leb head.len (length octets.now) && ltb head.len (length sums.now)) (eqb (get_or sums.now head.len 0) head.sum) (and_from _ _ (le-leb head.len (length octets.now) front.long) (lt-ltb head.len (length sums.now) within)) (eq-eqb _ _ (summed.1 head.len within ∙ front.same))))
+    false≢true (sym fails ∙ and_from (leb head.len (length octets.now) && ltb head.len (length sums.now)) (eqb (get_or sums.now head.len 0) head.sum)
+    (and_from _ _ (le-leb head.len (length octets.now) front.long) (lt-ltb head.len (length sums.now) within)) (eq-eqb _ _ (summed.1 head.len within ∙ front.same))))
 not-begun (Written path) pattern summed fails = absurd (false≢true (sym fails))
 
 pub passed_over : (path : List ℕ) (found : Option PathRule) (x : PathRule) → matches x.pattern path ≡ false → best_after path found x ≡ found
@@ -30,7 +31,8 @@ passed_over path None x unmatched = rw unmatched refl
 passed_over path (Some best) x unmatched = rw (unmatched, and-false (wins_over x best)) refl
 
 -- one rule more, whatever its head says
-pub after-one : (target : Target) (rules : List PathRule) (i : ℕ) (d : PathRule) → i < length rules → fold (best_after (normal_of target)) None (take (i + 1) rules) ≡ best_after (normal_of target) (fold (best_after (normal_of target)) None (take i rules)) (get_or rules i d)
+pub after-one : (target : Target) (rules : List PathRule) (i : ℕ) (d : PathRule) → i < length rules
+    → fold (best_after (normal_of target)) None (take (i + 1) rules) ≡ best_after (normal_of target) (fold (best_after (normal_of target)) None (take i rules)) (get_or rules i d)
 after-one target rules i d below =
     ap (fold (best_after (normal_of target)) None) (take_more rules i d below)
     ∙ fold-append (best_after (normal_of target)) None (take i rules) (get_or rules i d ∷ [])

@@ -73,12 +73,14 @@ is_for passes group = list_any passes group.agents
 
 -- The groups that name the agent, or where there are none those for all.
 abbrev pub groups_for : List ℕ → List Group → List Group
-groups_for agent groups = filter (is_for (if list_any (is_for (is_named agent)) groups then is_named agent else is_star)) groups
+groups_for agent groups = filter (is_for (if list_any (is_for (is_named agent)) groups then is_named
+    agent else is_star)) groups
 
 -- a line with an empty value is no rule
 abbrev pub rule_of : RuleLine → List PathRule
 rule_of entry =
-    if is_empty entry.value then [] else record { line = entry.line; allow = entry.allow; pattern = normal entry.value } ∷ []
+    if is_empty entry.value then [] else record { line = entry.line; allow = entry.allow; pattern = normal entry.value }
+    ∷ []
 
 abbrev pub rules_of : Group → List PathRule
 rules_of group = flat_map rule_of group.entries

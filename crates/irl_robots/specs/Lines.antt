@@ -1,8 +1,9 @@
 -- The lines of a robots file and what each says (RFC 9309, section 2.2; its section 2.5 on the limit).
-use Rattle.std.specs.Prelude.{ℕ, List, [], ◌∷◌, length, take, drop, reverse, Bool, true, false, ◌&&◌, ◌||◌, ◌==◌, nat_eq, nat_lt, if◌then◌else◌, codes}
+use Rattle.std.specs.Prelude.{ℕ, List, [], ◌∷◌, length, take, drop, Bool, true, false, ◌&&◌, ◌||◌, ◌==◌, nat_eq, nat_lt, if◌then◌else◌, codes}
 use Rattle.std.specs.List.{starts_with, position_or_len, before_first, after_first}
 use Rattle.std.specs.Str.{str_eq_ignore_ascii_case}
-use Rattle.irl_offer.specs.Limits.{max_robots}
+use Rattle.irl_base.specs.Blanks.{trim}
+use Rattle.irl_base.specs.Limits.{max_robots}
 
 -- the byte order mark of UTF-8
 abbrev pub mark : List ℕ
@@ -49,20 +50,6 @@ pub data Line : Type 0 where
   Agent : List ℕ → Line
   Access : Bool → List ℕ → Line
   Other : Line
-
--- spaces and tabs
-abbrev pub is_blank : ℕ → Bool
-is_blank c = (c == 32) || (c == 9)
-
-abbrev pub trim_start : List ℕ → List ℕ
-trim_start [] = []
-trim_start (c ∷ cs) = if is_blank c then trim_start cs else c ∷ cs
-
-abbrev pub trim_end : List ℕ → List ℕ
-trim_end cs = reverse (trim_start (reverse cs))
-
-abbrev pub trim : List ℕ → List ℕ
-trim cs = trim_end (trim_start cs)
 
 -- the fields that count, without regard to case
 abbrev pub field : List ℕ → List ℕ → Line

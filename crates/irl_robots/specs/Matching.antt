@@ -48,4 +48,5 @@ one_then c passes (d ∷ ds) = (c == d) && passes ds
 unfoldable pub matches : List ℕ → List ℕ → Bool
 matches [] path = true
 matches (c ∷ cs) path =
-    if c == 42 then some_end (matches cs) path else (if (c == 36) && is_empty cs then is_empty path else one_then c (matches cs) path)
+    if c == 42 then some_end (matches cs) path else (if (c == 36) && is_empty cs then is_empty path else one_then c
+    (matches cs) path)

@@ -13,7 +13,8 @@ use Rattle.irl_robots.specs.Normal.{normal}
 abbrev pub WinsOver : PathRule → PathRule → Type 0
 WinsOver x y =
     (length y.pattern < length x.pattern)
-    ⊎ ((length x.pattern ≡ length y.pattern) × (((x.allow ≡ true) × (y.allow ≡ false)) ⊎ ((x.allow ≡ y.allow) × (x.line < y.line))))
+    ⊎ ((length x.pattern ≡ length y.pattern) × (((x.allow ≡ true) × (y.allow ≡ false))
+    ⊎ ((x.allow ≡ y.allow) × (x.line < y.line))))
 
 -- a matching rule over which no matching rule wins
 pub record IsBest (rules : List PathRule) (path : List ℕ) (best : PathRule) : Type 0 where
@@ -54,7 +55,8 @@ best_rule rules path = fold (best_after path) None rules
 -- none (RFC 9309, section 2.2.2).
 unfoldable pub rule : List PathRule → List ℕ → Option (ℕ × Bool)
 rule rules target =
-    if bytes_eq target (codes "/robots.txt") then None else option_map (λ (x : PathRule). (x.line, x.allow)) (best_rule rules (normal target))
+    if bytes_eq target (codes "/robots.txt") then None else option_map (λ (x : PathRule). (x.line, x.allow))
+    (best_rule rules (normal target))
 
 -- what no rule forbids is allowed
 abbrev pub allows : Option (ℕ × Bool) → Bool

@@ -3,7 +3,7 @@ ghost use Rattle.std.specs.List.{list_any, filter, flat_map, position};
 ghost use Rattle.irl_robots.specs.Lines.{lines, line_of};
 ghost use Rattle.irl_robots.specs.Groups.{is_named as named, is_star, is_for, is_token_octet as token_octet, token as token_by, outline_of, rules_of, obeyed as obeyed_by};
 ghost use Rattle.irl_robots.specs.Agents.{are_meant};
-ghost use Rattle.irl_offer.specs.Limits.{max_robots};
+ghost use Rattle.irl_base.specs.Limits.{max_robots};
 
 use crate::lines::{Line, Lines, parse, text_of};
 use crate::octets::normalized;

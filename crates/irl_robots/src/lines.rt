@@ -1,12 +1,12 @@
 ghost use Rattle.std.specs.Prelude.{◌≡◌, ◌<◌, ◌≤◌, ◌==◌, ◌||◌, ◌∷◌, [], List, ℕ, take, length, MatchOption};
 ghost use Rattle.std.specs.List.{position};
 ghost use Rattle.std.specs.Iterator.{YieldsFirstRef, item_count};
-ghost use Rattle.irl_robots.specs.Lines.{text_of as counted, without_mark, lines, is_line_end, after_end, is_blank as blank, trim_start as trimmed_start, trim_end as trimmed_end, field as field_of, line_of, without_comment as uncommented, said as said_by};
+ghost use Rattle.irl_robots.specs.Lines.{text_of as counted, without_mark, lines, is_line_end, after_end, field as field_of, line_of, without_comment as uncommented, said as said_by};
 ghost use Rattle.irl_robots.specs.Groups.{obeyed as obeyed_by};
 ghost use Rattle.irl_robots.specs.Seen.{seen};
-ghost use Rattle.irl_offer.specs.Limits.{max_robots};
+ghost use Rattle.irl_base.specs.Limits.{max_robots};
 
-use irl_offer::MAX_ROBOTS;
+use irl_base::{MAX_ROBOTS, trim};
 
 /// The byte order mark of UTF-8.
 const MARK: &[u8] = b"\xef\xbb\xbf";
@@ -158,44 +158,4 @@ fn field<'a>(name: &[u8], value: &'a [u8]) -> Line<'a>
     } else {
         Line::Other
     }
-}
-
-/// A part of a line without blanks at its ends.
-fn trim(bytes: &[u8]) -> &[u8]
-    ensures { result.now ≡ trimmed_end (trimmed_start bytes.now) }
-{
-    trim_end(trim_start(bytes))
-}
-
-fn trim_start(bytes: &[u8]) -> &[u8]
-    ensures { result.now ≡ trimmed_start bytes.now }
-{
-    let mut rest = bytes;
-    while let Some((first, others)) = rest.split_first() {
-        if !is_blank(*first) {
-            return rest;
-        }
-        rest = others;
-    }
-    rest
-}
-
-fn trim_end(bytes: &[u8]) -> &[u8]
-    ensures { result.now ≡ trimmed_end bytes.now }
-{
-    let mut rest = bytes;
-    while let Some((last, others)) = rest.split_last() {
-        if !is_blank(*last) {
-            return rest;
-        }
-        rest = others;
-    }
-    rest
-}
-
-/// Whether a byte is a space or a tab.
-fn is_blank(byte: u8) -> bool
-    ensures { result ≡ blank byte }
-{
-    byte == b' ' || byte == b'\t'
 }

@@ -49,7 +49,8 @@ closes_inside kind size left h =
     let dropped = length-drop 1 (from not_gap left) in
     record { first = None; ending = Marked; rest = drop 1 (from not_gap left); reads = inside_closes kind (size - length left) left h; shorter = omega arith }
 
-more_inside : (kind : Kind) (size : ℕ) (left : List ℕ) → length left ≤ size → (some : 0 < length (from not_gap left)) → first_is 62 (from not_gap left) ≡ false → SomeInside kind size (behind_attribute left) → SomeInside kind size left
+more_inside : (kind : Kind) (size : ℕ) (left : List ℕ) → length left ≤ size → (some : 0 < length (from not_gap left)) → first_is 62 (from not_gap left) ≡ false
+    → SomeInside kind size (behind_attribute left) → SomeInside kind size left
 more_inside kind size left fits some h next =
     let short = attribute_shorter left some in
     record {
@@ -94,7 +95,8 @@ tag_by size xs name inside kind some fits h is_name is_inside is_kind read =
     record {
       given = found_in read.ending kind read.first;
       rest = from (ends_raw kind) read.rest;
-      takes = takes_tag size xs name inside read.rest (from (ends_raw kind) read.rest) kind read.first read.ending (found_in read.ending kind read.first) h is_name is_inside is_kind fits read.reads refl refl;
+      takes = takes_tag size xs name inside read.rest (from (ends_raw kind) read.rest) kind read.first read.ending (found_in read.ending kind read.first) h is_name is_inside is_kind fits read.reads
+          refl refl;
       shorter = omega arith;
     }
 

@@ -51,7 +51,8 @@ pub or_first-none : (first : Option Span) → or_first first None ≡ first
 or_first-none None = refl
 or_first-none (Some first) = refl
 
-pub or_first-wanted : (first : Option Span) (wanted : Bool) (here : Span) (later : Option Span) → or_first (or_first first (cond wanted (Some here) None)) later ≡ or_first first (cond wanted (Some here) later)
+pub or_first-wanted : (first : Option Span) (wanted : Bool) (here : Span) (later : Option Span)
+    → or_first (or_first first (cond wanted (Some here) None)) later ≡ or_first first (cond wanted (Some here) later)
 or_first-wanted None true here later = refl
 or_first-wanted None false here later = refl
 or_first-wanted (Some first) wanted here later = refl
@@ -94,7 +95,8 @@ module _ (left : List ℕ) (some : 0 < length (from not_gap left)) (h : first_is
       omega arith
 
   pub inside_more : (kind : Kind) (first : Option Span) (ending : Ending) (rest : List ℕ) → ReadsInside kind (size - length (behind_attribute left)) (behind_attribute left) first ending rest →
-      ReadsInside kind (size - length left) left (cond (wants kind (name_of (from not_gap left))) (Some (value_span (size - length (behind_name (from not_gap left))) (value_at (behind_name (from not_gap left))).0)) first) ending rest
+      ReadsInside kind (size - length left) left (cond (wants kind (name_of (from not_gap left)))
+      (Some (value_span (size - length (behind_name (from not_gap left))) (value_at (behind_name (from not_gap left))).0)) first) ending rest
   inside_more kind first ending rest r =
       let wanted = wants kind (name_of (from not_gap left)) in
       let value = (value_at (behind_name (from not_gap left))).0 in
@@ -183,7 +185,8 @@ pub record IsInside (inside : List ℕ) (attributes : List Attribute) (gap : Lis
   pub gap_ends : IsGap gap (end_onto (62 ∷ []) ending rest)
   pub ends : EndsBy ending rest
 
-pub one_inside : (inside : List ℕ) (as_ bs : List Attribute) (g h : List ℕ) (e f : Ending) (r s : List ℕ) → IsInside inside as_ g e r → IsInside inside bs h f s → (as_ ≡ bs) × (g ≡ h) × (e ≡ f) × (r ≡ s)
+pub one_inside : (inside : List ℕ) (as_ bs : List Attribute) (g h : List ℕ) (e f : Ending) (r s : List ℕ) → IsInside inside as_ g e r → IsInside inside bs h f s → (as_ ≡ bs) × (g ≡ h) × (e ≡ f)
+    × (r ≡ s)
 one_inside inside [] [] g h e f r s i j =
     let gap = one_run not_gap g h _ _ i.gap_ends j.gap_ends (sym i.spelled ∙ j.spelled) in
     let mark = one_end 62 [] e f r s i.ends j.ends gap.1 in

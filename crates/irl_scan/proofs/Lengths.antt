@@ -20,7 +20,8 @@ value_length Absent rest = omega arith
 value_length (Bare space more bytes) rest =
     front_length space _ _ (length rest) (one_more 61 _ _ (length rest) (front_length more _ _ (length rest) (front_length bytes rest [] (length rest) (omega arith))))
 value_length (Quoted space more quote bytes ending) rest =
-    front_length space _ _ (length rest) (one_more 61 _ _ (length rest) (front_length more _ _ (length rest) (one_more quote _ _ (length rest) (front_length bytes _ _ (length rest) (end_length (quote ∷ []) ending rest)))))
+    front_length space _ _ (length rest) (one_more 61 _ _ (length rest) (front_length more _ _ (length rest)
+    (one_more quote _ _ (length rest) (front_length bytes _ _ (length rest) (end_length (quote ∷ []) ending rest)))))
 
 pub value_longer : (v : Value) (rest : List ℕ) → length rest ≤ length (value_onto v rest)
 value_longer v rest = let all = value_length v rest in omega arith
@@ -46,5 +47,6 @@ tag_length t rest =
 pub piece_length : (p : Piece) (rest : List ℕ) → length (piece_onto p rest) ≡ length (piece_onto p []) + length rest
 piece_length (Letter b) rest = omega arith
 piece_length (Comment body ending) rest = front_length (60 ∷ 33 ∷ 45 ∷ 45 ∷ []) _ _ (length rest) (front_length body _ _ (length rest) (end_length (45 ∷ 45 ∷ 62 ∷ []) ending rest))
-piece_length (Skipped sign body ending) rest = one_more 60 (sign ∷ (body ++ end_onto (62 ∷ []) ending rest)) (sign ∷ (body ++ end_onto (62 ∷ []) ending [])) (length rest) (one_more sign _ _ (length rest) (front_length body _ _ (length rest) (end_length (62 ∷ []) ending rest)))
+piece_length (Skipped sign body ending) rest = one_more 60 (sign ∷ (body ++ end_onto (62 ∷ []) ending rest)) (sign ∷ (body ++ end_onto (62 ∷ []) ending [])) (length rest)
+    (one_more sign _ _ (length rest) (front_length body _ _ (length rest) (end_length (62 ∷ []) ending rest)))
 piece_length (Markup t) rest = tag_length t rest

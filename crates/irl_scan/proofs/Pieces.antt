@@ -54,7 +54,8 @@ chosen_tag false false false true h = refl
 chosen_tag false false false false h = cc
 
 comment_begins : (xs : List ℕ) → opening xs ≡ opens.Comment → xs ≡ codes "<!--" ++ drop 4 xs
-comment_begins xs h = starts (codes "<!--") xs (chosen_comment (starts_with nat_eq xs (codes "<!--")) (starts_with nat_eq xs (codes "<!") || starts_with nat_eq xs (codes "<?")) (starts_with nat_eq xs (codes "</") && has_letter_at 2 xs) (starts_with nat_eq xs (codes "<") && has_letter_at 1 xs) h)
+comment_begins xs h = starts (codes "<!--") xs (chosen_comment (starts_with nat_eq xs (codes "<!--")) (starts_with nat_eq xs (codes "<!") || starts_with nat_eq xs (codes "<?"))
+    (starts_with nat_eq xs (codes "</") && has_letter_at 2 xs) (starts_with nat_eq xs (codes "<") && has_letter_at 1 xs) h)
 
 tag_begins : (xs : List ℕ) → opening xs ≡ opens.Tag → xs ≡ 60 ∷ drop 1 xs
 tag_begins xs h = starts (codes "<") xs (and_parts _ _ (chosen_tag _ _ _ (starts_with nat_eq xs (codes "<") && has_letter_at 1 xs) h)).0
@@ -135,7 +136,8 @@ takes_tag size xs name inside left rest kind first ending given h is_name is_ins
     let t : Tag = record { name = name; attributes = reads.attributes; gap = reads.gap; ending = ending; raw = raw } in
     let spelled : xs ≡ tag_onto t rest = tag_begins xs h ∙ ap (λ ys. 60 ∷ ys) (sym named ∙ ap (λ ys. name ++ ys) inside_is) in
     let run : UpTo (at_byte ends_tag_name) name inside =
-    subst (λ n. UpTo (at_byte ends_tag_name) n inside) (sym is_name) (subst (UpTo (at_byte ends_tag_name) (before (at_byte ends_tag_name) (drop 1 xs))) (sym is_inside) (UpTo-read (at_byte ends_tag_name) refl (drop 1 xs))) in
+    subst (λ n. UpTo (at_byte ends_tag_name) n inside) (sym is_name) (subst (UpTo (at_byte ends_tag_name) (before (at_byte ends_tag_name) (drop 1 xs))) (sym is_inside)
+    (UpTo-read (at_byte ends_tag_name) refl (drop 1 xs))) in
     let raw_run : UpTo (ends_raw kind) raw rest = subst (UpTo (ends_raw kind) raw) (sym is_rest) (UpTo-read (ends_raw kind) (raw_ends_there kind) left) in
     let first_length : length xs ≡ suc (length (drop 1 xs)) = ap length (tag_begins xs h) in
     let name_length : length name + length inside ≡ length (drop 1 xs) = sym (length-append name inside) ∙ ap length named in
@@ -151,7 +153,8 @@ takes_tag size xs name inside left rest kind first ending given h is_name is_ins
         ending = subst (EndsBy ending) (sym left_is) reads.ends;
         raw = subst (λ k. UpTo (ends_raw k) raw rest) is_kind raw_run;
       };
-      gives = is_given ∙ ap (found_in ending kind) (reads.first_is ∙ ap (λ n. first_span kind n reads.attributes) place) ∙ ap (λ k. found_in ending k (first_span k (size - length xs + 1 + length name) reads.attributes)) is_kind;
+      gives = is_given ∙ ap (found_in ending kind) (reads.first_is ∙ ap (λ n. first_span kind n reads.attributes) place)
+          ∙ ap (λ k. found_in ending k (first_span k (size - length xs + 1 + length name) reads.attributes)) is_kind;
     }
 
 -- ## Two cuts of one page are the same
@@ -171,7 +174,8 @@ opened (Markup t) rest h = h.opens
 
 one_tag : (t u : Tag) (r s : List ℕ) → IsTag t r → IsTag u s → tag_onto t r ≡ tag_onto u s → (t ≡ u) × (r ≡ s)
 one_tag t u r s h k e =
-    let behind : t.name ++ attributes_onto t.attributes (tag_end_onto t.gap t.ending (t.raw ++ r)) ≡ u.name ++ attributes_onto u.attributes (tag_end_onto u.gap u.ending (u.raw ++ s)) = append_cancel_left (60 ∷ []) _ _ e in
+    let behind : t.name ++ attributes_onto t.attributes (tag_end_onto t.gap t.ending (t.raw ++ r)) ≡ u.name ++ attributes_onto u.attributes (tag_end_onto u.gap u.ending (u.raw ++ s)) =
+    append_cancel_left (60 ∷ []) _ _ e in
     let name = one_run (at_byte ends_tag_name) t.name u.name _ _ h.name k.name behind in
     let inside = attributes_onto t.attributes (tag_end_onto t.gap t.ending (t.raw ++ r)) in
     let first : IsInside inside t.attributes t.gap t.ending (t.raw ++ r) = record { spelled = refl; each = h.attributes; gap_ends = h.gap; ends = h.ending } in
@@ -184,13 +188,15 @@ one_tag t u r s h k e =
       raw.1,
     )
 
-one_comment : (a b : List ℕ) (e f : Ending) (r s : List ℕ) → IsPiece (Comment a e) r → IsPiece (Comment b f) s → piece_onto (Comment a e) r ≡ piece_onto (Comment b f) s → (Comment a e ≡ Comment b f) × (r ≡ s)
+one_comment : (a b : List ℕ) (e f : Ending) (r s : List ℕ) → IsPiece (Comment a e) r → IsPiece (Comment b f) s → piece_onto (Comment a e) r ≡ piece_onto (Comment b f) s → (Comment a e ≡ Comment b f)
+    × (r ≡ s)
 one_comment a b e f r s h k same =
     let run = one_run ends_comment a b _ _ h.0 k.0 (append_cancel_left (codes "<!--") _ _ same) in
     let mark = one_end 45 (45 ∷ 62 ∷ []) e f r s h.1 k.1 run.1 in
     (ap (λ x. Comment x e) run.0 ∙ ap (Comment b) mark.0, mark.1)
 
-one_skipped : (c d : ℕ) (a b : List ℕ) (e f : Ending) (r s : List ℕ) → IsPiece (Skipped c a e) r → IsPiece (Skipped d b f) s → piece_onto (Skipped c a e) r ≡ piece_onto (Skipped d b f) s → (Skipped c a e ≡ Skipped d b f) × (r ≡ s)
+one_skipped : (c d : ℕ) (a b : List ℕ) (e f : Ending) (r s : List ℕ) → IsPiece (Skipped c a e) r → IsPiece (Skipped d b f) s → piece_onto (Skipped c a e) r ≡ piece_onto (Skipped d b f) s
+    → (Skipped c a e ≡ Skipped d b f) × (r ≡ s)
 one_skipped c d a b e f r s h k same =
     let sign : c ≡ d = cc in
     let behind : a ++ end_onto (codes ">") e r ≡ b ++ end_onto (codes ">") f s = cc in
@@ -231,7 +237,8 @@ one_cut page a b h k = one_list a b h.each k.each (sym h.whole ∙ k.whole)
 pub gives_end : (place : ℕ) (xs : List ℕ) → xs ≡ [] → Gives place xs [] None
 gives_end place xs e = record { pieces = []; cut = record { whole = e; each = tt }; spans_are = refl; base_is = refl }
 
-pub gives_more : (size : ℕ) (xs rest : List ℕ) (given : Found) (spans : List Span) (base : Option Span) → length xs ≤ size → Takes (size - length xs) xs given rest → Gives (size - length rest) rest spans base → Gives (size - length xs) xs (link_of given ++ spans) (base_or given base)
+pub gives_more : (size : ℕ) (xs rest : List ℕ) (given : Found) (spans : List Span) (base : Option Span) → length xs ≤ size → Takes (size - length xs) xs given rest
+    → Gives (size - length rest) rest spans base → Gives (size - length xs) xs (link_of given ++ spans) (base_or given base)
 gives_more size xs rest given spans base fits takes gives =
     let p = takes.piece in
     let place : size - length rest ≡ size - length xs + length (piece_onto p []) =

@@ -41,7 +41,8 @@ number_takes radix n (c ∷ cs) v small h =
       | inr w ↦ let no : None ≡ Some v = w.1 in cc
     ]
 
-number_again : (radix : Radix) (n : ℕ) (ds : List ℕ) → AllDigits (radix_of radix) ds → digits_value_after (radix_of radix) n ds < 128 → number_from (radix_of radix) n ds ≡ Some (digits_value_after (radix_of radix) n ds)
+number_again : (radix : Radix) (n : ℕ) (ds : List ℕ) → AllDigits (radix_of radix) ds → digits_value_after (radix_of radix) n ds < 128
+    → number_from (radix_of radix) n ds ≡ Some (digits_value_after (radix_of radix) n ds)
 number_again radix n [] all small = refl
 number_again radix n (c ∷ cs) all small =
     let least = no_less radix (n * radix_of radix + digit_value c) cs in
@@ -72,7 +73,8 @@ unfolding number_at
 number_at_takes radix xs v rest h =
     let digits = before (not_digit radix) xs in
     let behind = from (not_digit radix) xs in
-    elim (chosen ((eqb (length digits) 0 || nat_lt (most_digits radix) (length digits)) || not (first_is 59 behind)) None (closed digits behind (number_from (radix_of radix) 0 digits)) (Some (v, rest)) h) [
+    elim (chosen ((eqb (length digits) 0 || nat_lt (most_digits radix) (length digits)) || not (first_is 59 behind)) None (closed digits behind (number_from (radix_of radix) 0 digits))
+    (Some (v, rest)) h) [
       | inl w ↦ let no : ◌≡◌ {A = Option (ℕ × List ℕ)} None (Some (v, rest)) = w.1 in cc
       | inr w ↦
           let tests = or_parts (eqb (length digits) 0 || nat_lt (most_digits radix) (length digits)) (not (first_is 59 behind)) w.0 in
@@ -142,7 +144,8 @@ sign_takes sign xs v rest is_sign begins h =
       value = n.value;
     }
 
-hexadecimal_takes : (xs : List ℕ) (v : ℕ) (rest : List ℕ) → (starts_with nat_eq xs (codes "&#x") || starts_with nat_eq xs (codes "&#X")) ≡ true → number_at Sixteen (drop 3 xs) ≡ Some (v, rest) → IsReferenceAt xs v rest
+hexadecimal_takes : (xs : List ℕ) (v : ℕ) (rest : List ℕ) → (starts_with nat_eq xs (codes "&#x") || starts_with nat_eq xs (codes "&#X")) ≡ true → number_at Sixteen (drop 3 xs) ≡ Some (v, rest)
+    → IsReferenceAt xs v rest
 hexadecimal_takes xs v rest begins h =
     elim (or_cases (starts_with nat_eq xs (codes "&#x")) (starts_with nat_eq xs (codes "&#X")) begins) [
       | inl small ↦ sign_takes 120 xs v rest (inl refl) (starts (codes "&#x") xs small) h

@@ -15,7 +15,8 @@ before-from stops (b ∷ bs) = joined_cases (stops (b ∷ bs)) b bs (before stop
 
 -- ## A run read from a list is as the grammar says, and is the only one
 
-upto_cases : (stops : List ℕ → Bool) (b : ℕ) (bs : List ℕ) (t : Bool) → stops (b ∷ bs) ≡ t → UpTo stops (before stops bs) (from stops bs) → UpTo stops (cond t [] (b ∷ before stops bs)) (cond t (b ∷ bs) (from stops bs))
+upto_cases : (stops : List ℕ → Bool) (b : ℕ) (bs : List ℕ) (t : Bool) → stops (b ∷ bs) ≡ t → UpTo stops (before stops bs) (from stops bs)
+    → UpTo stops (cond t [] (b ∷ before stops bs)) (cond t (b ∷ bs) (from stops bs))
 upto_cases stops b bs true e ih = e
 upto_cases stops b bs false e ih = (ap (λ ys. stops (b ∷ ys)) (before-from stops bs) ∙ e, ih)
 

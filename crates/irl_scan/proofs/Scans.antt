@@ -17,7 +17,8 @@ abbrev HasLinks : List ℕ → List Span → Type 0
 HasLinks page spans = (base : Option Span) × Gives 0 page spans base
 
 -- nothing is found before the first byte
-pub links_start : (page rest : List ℕ) (spans : List Span) → rest ≡ page → spans ≡ [] → (more : List Span) (base : Option Span) → Gives (length page - length rest) rest more base → HasLinks page (spans ++ more)
+pub links_start : (page rest : List ℕ) (spans : List Span) → rest ≡ page → spans ≡ [] → (more : List Span) (base : Option Span) → Gives (length page - length rest) rest more base
+    → HasLinks page (spans ++ more)
 links_start page rest spans all e more base gives =
     let start : length page - length page ≡ 0 = omega arith in
     let whole : Gives (length page - length page) page more base = subst (λ ys. Gives (length page - length ys) ys more base) all gives in
@@ -45,7 +46,8 @@ within_link size (found.Link span) h = within_one size span h
 pub links_within : (size : ℕ) (given : Found) (spans new : List Span) → new ≡ spans ++ link_of given → All (IsWithin size) spans → found_within size given → All (IsWithin size) new
 links_within size given spans new e h k = subst (All (IsWithin size)) (sym e) (All-append (IsWithin size) spans (link_of given) h (within_link size given k))
 
-pub links_told : (page rest : List ℕ) (spans : List Span) → rest ≡ [] → ((more : List Span) (base : Option Span) → Gives (length page - length rest) rest more base → HasLinks page (spans ++ more)) → HasLinks page spans
+pub links_told : (page rest : List ℕ) (spans : List Span) → rest ≡ [] → ((more : List Span) (base : Option Span) → Gives (length page - length rest) rest more base → HasLinks page (spans ++ more))
+    → HasLinks page spans
 links_told page rest spans empty goes_on = subst (HasLinks page) (append-nil spans) (goes_on [] None (gives_end (length page - length rest) rest empty))
 
 pub links_found : (page : List ℕ) (spans : List Span) → HasLinks page spans → (pieces : List Piece) × Cut page pieces × (spans ≡ links_of pieces)
@@ -76,11 +78,13 @@ pub base_passes : (size : ℕ) (page rest next : List ℕ) (given : Found) → l
 base_passes size page rest next given fits takes none goes_on spans base gives =
     subst (HasBase page) (past given base none) (goes_on (link_of given ++ spans) (base_or given base) (gives_more size rest next given spans base fits takes gives))
 
-pub base_stops : (size : ℕ) (page rest next : List ℕ) (given : Found) (span : Span) → length rest ≤ size → length next ≤ length rest → Takes (size - length rest) rest given next → given ≡ found.Base span →
+pub base_stops : (size : ℕ) (page rest next : List ℕ) (given : Found) (span : Span) → length rest ≤ size → length next ≤ length rest → Takes (size - length rest) rest given next
+    → given ≡ found.Base span →
     ((spans : List Span) (base : Option Span) → Gives (size - length rest) rest spans base → HasBase page base) → HasBase page (Some span)
 base_stops size page rest next given span fits less takes is_base goes_on =
     let others = some_cut (length next) size next (omega arith) (omega arith) in
-    subst (λ f. HasBase page (base_or f others.base)) is_base (goes_on (link_of given ++ others.spans) (base_or given others.base) (gives_more size rest next given others.spans others.base fits takes others.gives))
+    subst (λ f. HasBase page (base_or f others.base)) is_base (goes_on (link_of given ++ others.spans) (base_or given others.base)
+    (gives_more size rest next given others.spans others.base fits takes others.gives))
 
 pub base_told : (page rest : List ℕ) → rest ≡ [] → ((spans : List Span) (base : Option Span) → Gives (length page - length rest) rest spans base → HasBase page base) → HasBase page None
 base_told page rest empty goes_on = goes_on [] None (gives_end (length page - length rest) rest empty)

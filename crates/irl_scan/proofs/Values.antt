@@ -60,8 +60,12 @@ pub bare_read : (rest after value : List ℕ) → first_is 61 (from not_space re
 unfolding value_at content_at
 bare_read rest after value h a v q = rw (h, ← a, ← v, q) refl
 
-pub quoted_read : (rest after value : List ℕ) (quote : ℕ) → first_is 61 (from not_space rest) ≡ true → after ≡ drop 1 (from not_space rest) → value ≡ from not_space after → quote_at value ≡ Some quote →
-    value_at rest ≡ (Quoted (before not_space rest) (before not_space after) quote (before (is_at quote) (drop 1 value)) (ending_of (from (is_at quote) (drop 1 value))), drop 1 (from (is_at quote) (drop 1 value)))
+pub quoted_read : (rest after value : List ℕ) (quote : ℕ) → first_is 61 (from not_space rest) ≡ true → after ≡ drop 1 (from not_space rest) → value ≡ from not_space after → quote_at value ≡ Some quote
+    →
+    value_at rest ≡ (
+      Quoted (before not_space rest) (before not_space after) quote (before (is_at quote) (drop 1 value)) (ending_of (from (is_at quote) (drop 1 value))),
+      drop 1 (from (is_at quote) (drop 1 value)),
+    )
 unfolding value_at content_at
 quoted_read rest after value quote h a v q = rw (h, ← a, ← v, q) refl
 
@@ -78,30 +82,38 @@ absent_span size rest =
     let e : size - length rest + 0 + 0 ≡ size - length rest = omega arith in
     ap (λ n. pair n (size - length rest + 0 + 0)) s ∙ ap (pair (size - length rest)) e
 
-module _ (size : ℕ) (rest after value : List ℕ) (fits : length rest ≤ size) (h : first_is 61 (from not_space rest) ≡ true) (a : after ≡ drop 1 (from not_space rest)) (v : value ≡ from not_space after) where
-  behind_sign : length (before not_space rest) + suc (length after) ≡ length rest
-  behind_sign =
-      ap (λ ys. length (before not_space rest) + suc (length ys)) a
-      ∙ ap (λ ys. length (before not_space rest) + length ys) (sym (first_is-cons 61 (from not_space rest) h))
-      ∙ length-run not_space rest
+module _ (size : ℕ) (rest after value : List ℕ) (fits : length rest ≤ size) (h : first_is 61 (from not_space rest) ≡ true) (a : after ≡ drop 1 (from not_space rest)) (v : value ≡ from not_space after)
+  where
+    behind_sign : length (before not_space rest) + suc (length after) ≡ length rest
+    behind_sign =
+        ap (λ ys. length (before not_space rest) + suc (length ys)) a
+        ∙ ap (λ ys. length (before not_space rest) + length ys) (sym (first_is-cons 61 (from not_space rest) h))
+        ∙ length-run not_space rest
 
-  behind_space : length (before not_space after) + length value ≡ length after
-  behind_space = ap (λ ys. length (before not_space after) + length ys) v ∙ length-run not_space after
+    behind_space : length (before not_space after) + length value ≡ length after
+    behind_space = ap (λ ys. length (before not_space after) + length ys) v ∙ length-run not_space after
 
-  bare_span : (bytes : List ℕ) → value_span (size - length rest) (Bare (before not_space rest) (before not_space after) bytes) ≡ record { start = size - length value; end = size - length value + length bytes }
-  bare_span bytes =
-      let first = behind_sign in
-      let second = behind_space in
-      let start : size - length rest + (length (before not_space rest) + 1 + length (before not_space after)) ≡ size - length value = omega arith in
-      ap (run_of (length bytes)) start
+    bare_span : (bytes : List ℕ) → value_span (size - length rest) (Bare (before not_space rest) (before not_space after) bytes) ≡ record {
+      start = size - length value;
+      end = size - length value + length bytes;
+    }
+    bare_span bytes =
+        let first = behind_sign in
+        let second = behind_space in
+        let start : size - length rest + (length (before not_space rest) + 1 + length (before not_space after)) ≡ size - length value = omega arith in
+        ap (run_of (length bytes)) start
 
-  quoted_span : (quote : ℕ) (bytes : List ℕ) (ending : Ending) → quote_at value ≡ Some quote → value_span (size - length rest) (Quoted (before not_space rest) (before not_space after) quote bytes ending) ≡ record { start = size - length (drop 1 value); end = size - length (drop 1 value) + length bytes }
-  quoted_span quote bytes ending q =
-      let first = behind_sign in
-      let second = behind_space in
-      let third : length value ≡ suc (length (drop 1 value)) = ap length (quote_at-some quote value q).0 in
-      let start : size - length rest + (length (before not_space rest) + 1 + length (before not_space after) + 1) ≡ size - length (drop 1 value) = omega arith in
-      ap (run_of (length bytes)) start
+    quoted_span : (quote : ℕ) (bytes : List ℕ) (ending : Ending) → quote_at value ≡ Some quote
+        → value_span (size - length rest) (Quoted (before not_space rest) (before not_space after) quote bytes ending) ≡ record {
+          start = size - length (drop 1 value);
+          end = size - length (drop 1 value) + length bytes;
+        }
+    quoted_span quote bytes ending q =
+        let first = behind_sign in
+        let second = behind_space in
+        let third : length value ≡ suc (length (drop 1 value)) = ap length (quote_at-some quote value q).0 in
+        let start : size - length rest + (length (before not_space rest) + 1 + length (before not_space after) + 1) ≡ size - length (drop 1 value) = omega arith in
+        ap (run_of (length bytes)) start
 
 -- what the places round it show
 pub absent_stands : (size : ℕ) (rest : List ℕ) (place : ℕ) → first_is 61 (from not_space rest) ≡ false → place ≡ size - length rest →
@@ -110,7 +122,8 @@ absent_stands size rest place h is_place =
     let at : ℕ → Span = λ n. record { start = n; end = n } in
     ap at is_place ∙ sym (ap (λ r. value_span (size - length rest) r.0) (absent_read rest h) ∙ absent_span size rest)
 
-module _ (size : ℕ) (rest after value : List ℕ) (start end : ℕ) (fits : length rest ≤ size) (h : first_is 61 (from not_space rest) ≡ true) (a : after ≡ drop 1 (from not_space rest)) (v : value ≡ from not_space after) where
+module _ (size : ℕ) (rest after value : List ℕ) (start end : ℕ) (fits : length rest ≤ size) (h : first_is 61 (from not_space rest) ≡ true) (a : after ≡ drop 1 (from not_space rest))
+    (v : value ≡ from not_space after) where
   pub bare_stands : quote_at value ≡ None → start ≡ size - length value → end ≡ size - length (from (at_byte ends_bare_value) value) →
       ◌≡◌ {A = Span} (record { start = start; end = end }) (value_span (size - length rest) (value_at rest).0)
   bare_stands q is_start is_end =
@@ -134,7 +147,8 @@ module _ (size : ℕ) (rest after value : List ℕ) (start end : ℕ) (fits : le
       let e : end ≡ size - length (drop 1 value) + length bytes = omega arith in
       let span : ℕ → ℕ → Span = λ s e. record { start = s; end = e } in
       ap (λ s. span s end) is_start ∙ ap (span (size - length (drop 1 value))) e
-      ∙ sym (ap (λ r. value_span (size - length rest) r.0) (quoted_read rest after value quote h a v q) ∙ quoted_span size rest after value fits h a v quote bytes (ending_of (from (is_at quote) (drop 1 value))) q)
+      ∙ sym (ap (λ r. value_span (size - length rest) r.0) (quoted_read rest after value quote h a v q)
+      ∙ quoted_span size rest after value fits h a v quote bytes (ending_of (from (is_at quote) (drop 1 value))) q)
 
 -- ## What is read is as the grammar says
 
@@ -238,7 +252,8 @@ bare_again space more bytes rest h =
     ∙ ap (λ b. pair space more b (from (at_byte ends_bare_value) value)) b3
     ∙ ap (λ r. pair space more bytes r) f3
 
-quoted_again : (space more : List ℕ) (quote : ℕ) (bytes : List ℕ) (ending : Ending) (rest : List ℕ) → IsValue (Quoted space more quote bytes ending) rest → value_at (value_onto (Quoted space more quote bytes ending) rest) ≡ (Quoted space more quote bytes ending, rest)
+quoted_again : (space more : List ℕ) (quote : ℕ) (bytes : List ℕ) (ending : Ending) (rest : List ℕ) → IsValue (Quoted space more quote bytes ending) rest
+    → value_at (value_onto (Quoted space more quote bytes ending) rest) ≡ (Quoted space more quote bytes ending, rest)
 quoted_again space more quote bytes ending rest h =
     let ends = end_onto (quote ∷ []) ending rest in
     let inner = bytes ++ ends in

@@ -51,8 +51,8 @@ wants Script name = false
 wants Style name = false
 wants Other name = false
 
--- A run of bytes ends where a test of what is left of the page holds, and with the page at the latest. A test of the byte
--- that stands there:
+-- A run of bytes ends where a test of what is left of the page holds, and with the page at the latest. A test of the
+-- byte that stands there:
 abbrev pub at_byte : (ℕ → Bool) → List ℕ → Bool
 at_byte test [] = true
 at_byte test (b ∷ bs) = test b

@@ -1,4 +1,5 @@
--- The links of a page, and its base: read off its cut into pieces. A place is how many bytes of the page stand before it.
+-- The links of a page, and its base: read off its cut into pieces. A place is how many bytes of the page stand before
+-- it.
 use Rattle.std.specs.Prelude.{ℕ, ◌+◌, ◌≤◌, List, [], ◌∷◌, ◌++◌, length, Option, Some, None, if◌then◌else◌}
 use Rattle.irl_scan.specs.declared.attribute.Ending.{Ending}
 use Rattle.irl_scan.specs.declared.attribute.Ending.TheVariants.{Marked, PageEnd}
@@ -34,9 +35,11 @@ attribute_span place a = value_span (place + length a.gap + length a.name) a.val
 abbrev pub first_span : Kind → ℕ → List Attribute → Option Span
 first_span kind place [] = None
 first_span kind place (a ∷ more) =
-    if wants kind a.name then Some (attribute_span place a) else first_span kind (place + length (attribute_onto a [])) more
+    if wants kind a.name then Some (attribute_span place a) else first_span kind (place + length (attribute_onto a []))
+    more
 
--- A link is the first `href` of `a` and `area` and the first `src` of `frame` and `iframe`; the base is a first `href` of `base`.
+-- A link is the first `href` of `a` and `area` and the first `src` of `frame` and `iframe`; the base is a first `href`
+-- of `base`.
 abbrev pub found_as : Kind → Option Span → Found
 found_as kind None = found.Nothing
 found_as Anchor (Some span) = found.Link span
@@ -56,7 +59,8 @@ abbrev pub found_at : ℕ → Piece → Found
 found_at place (Letter b) = found.Nothing
 found_at place (Comment body ending) = found.Nothing
 found_at place (Skipped sign body ending) = found.Nothing
-found_at place (Markup t) = found_in t.ending (kind_of t.name) (first_span (kind_of t.name) (place + 1 + length t.name) t.attributes)
+found_at place (Markup t) = found_in t.ending (kind_of t.name)
+    (first_span (kind_of t.name) (place + 1 + length t.name) t.attributes)
 
 abbrev pub link_of : Found → List Span
 link_of found.Nothing = []

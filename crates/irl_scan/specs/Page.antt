@@ -1,8 +1,7 @@
--- A page, cut into text, comments, skipped markup and tags with the raw text behind them, and each tag into its name and
--- its attributes. The pieces joined are the page, and each of them goes as far as the grammar says, which what stands
--- behind it shows.
--- The grammar is the project's own, after the tokenization of HTML (WHATWG HTML, section 13.2.5) but simpler: what is said
--- here is all that there is.
+-- A page, cut into text, comments, skipped markup and tags with the raw text behind them, and each tag into its name
+-- and its attributes. The pieces joined are the page, and each of them goes as far as the grammar says, which what
+-- stands behind it shows. The grammar is the project's own, after the tokenization of HTML (WHATWG HTML, section
+-- 13.2.5) but simpler: what is said here is all that there is.
 use Rattle.std.specs.Prelude.{ℕ, ◌≡◌, Bool, true, false, ◌&&◌, ◌||◌, ◌==◌, not, List, [], ◌∷◌, ◌++◌, length, take, drop, nat_eq, codes, if◌then◌else◌}
 use Rattle.std.specs.List.{starts_with}
 use Rattle.std.specs.Char.{is_ascii_alphabetic}
@@ -56,7 +55,8 @@ end_onto mark PageEnd rest = rest
 abbrev pub value_onto : Value → List ℕ → List ℕ
 value_onto Absent rest = rest
 value_onto (Bare before after value) rest = before ++ 61 ∷ (after ++ (value ++ rest))
-value_onto (Quoted before after quote value ending) rest = before ++ 61 ∷ (after ++ quote ∷ (value ++ end_onto (quote ∷ []) ending rest))
+value_onto (Quoted before after quote value ending) rest = before ++ 61
+    ∷ (after ++ quote ∷ (value ++ end_onto (quote ∷ []) ending rest))
 
 abbrev pub attribute_onto : Attribute → List ℕ → List ℕ
 attribute_onto a rest = a.gap ++ (a.name ++ value_onto a.value rest)
@@ -169,7 +169,8 @@ ends_raw Other page = true
 
 pub record IsTag (t : Tag) (rest : List ℕ) : Type 0 where
   pub opens : opening (tag_onto t rest) ≡ opens.Tag
-  pub name : UpTo (at_byte ends_tag_name) t.name (attributes_onto t.attributes (tag_end_onto t.gap t.ending (t.raw ++ rest)))
+  pub name : UpTo (at_byte ends_tag_name) t.name
+      (attributes_onto t.attributes (tag_end_onto t.gap t.ending (t.raw ++ rest)))
   pub attributes : AreAttributes t.attributes (tag_end_onto t.gap t.ending (t.raw ++ rest))
   pub gap : IsGap t.gap (end_onto (codes ">") t.ending (t.raw ++ rest))
   pub ending : EndsBy t.ending (t.raw ++ rest)

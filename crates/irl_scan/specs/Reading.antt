@@ -1,5 +1,5 @@
--- What the scanner's own functions read at a place. Private contracts alone speak of it: the proofs show that it is the one
--- cut of the page, and the one reading of a value.
+-- What the scanner's own functions read at a place. Private contracts alone speak of it: the proofs show that it is the
+-- one cut of the page, and the one reading of a value.
 use Rattle.std.specs.Prelude.{ℕ, ◌≡◌, ◌+◌, ◌*◌, ◌≤◌, Bool, false, ◌&&◌, ◌||◌, ◌==◌, not, nat_lt, nat_eq, List, [], ◌∷◌, length, take, drop, Option, Some, None, codes, if◌then◌else◌}
 use Rattle.std.specs.List.{starts_with}
 use Rattle.std.specs.Char.{digit_value}
@@ -63,15 +63,21 @@ quote_at (b ∷ bs) = if is_quote b then Some b else None
 
 -- behind the space before it, the sign and the space after it
 unfoldable pub content_at : List ℕ → List ℕ → List ℕ → Option ℕ → Value × List ℕ
-content_at space after value None = (Bare space after (before (at_byte ends_bare_value) value), from (at_byte ends_bare_value) value)
-content_at space after value (Some quote) =
-    (Quoted space after quote (before (is_at quote) (drop 1 value)) (ending_of (from (is_at quote) (drop 1 value))), drop 1 (from (is_at quote) (drop 1 value)))
+content_at space after value None = (
+  Bare space after (before (at_byte ends_bare_value) value),
+  from (at_byte ends_bare_value) value,
+)
+content_at space after value (Some quote) = (
+  Quoted space after quote (before (is_at quote) (drop 1 value)) (ending_of (from (is_at quote) (drop 1 value))),
+  drop 1 (from (is_at quote) (drop 1 value)),
+)
 
 -- the value behind an attribute's name, and what is left
 unfoldable pub value_at : List ℕ → Value × List ℕ
 value_at rest =
     if first_is 61 (from not_space rest) then
-    content_at (before not_space rest) (before not_space (drop 1 (from not_space rest))) (from not_space (drop 1 (from not_space rest))) (quote_at (from not_space (drop 1 (from not_space rest))))
+    content_at (before not_space rest) (before not_space (drop 1 (from not_space rest)))
+    (from not_space (drop 1 (from not_space rest))) (quote_at (from not_space (drop 1 (from not_space rest))))
     else (Absent, rest)
 
 -- an attribute's name, of at least one byte, and what is left behind it
@@ -88,7 +94,8 @@ or_first None second = second
 or_first (Some first) second = Some first
 
 -- the inside of a tag: attributes as far as its end, of which this is the first that is wanted
-pub record ReadsInside (kind : Kind) (place : ℕ) (inside : List ℕ) (first : Option Span) (ending : Ending) (rest : List ℕ) : Type 0 where
+pub record ReadsInside (kind : Kind) (place : ℕ) (inside : List ℕ) (first : Option Span) (ending : Ending)
+    (rest : List ℕ) : Type 0 where
   pub attributes : List Attribute
   pub gap : List ℕ
   pub spelled : inside ≡ attributes_onto attributes (tag_end_onto gap ending rest)
@@ -122,7 +129,8 @@ found_within size (found.Base span) = IsWithin size span
 abbrev pub number_from : ℕ → ℕ → List ℕ → Option ℕ
 number_from radix n [] = Some n
 number_from radix n (c ∷ cs) =
-    if nat_lt (digit_value c) radix && nat_lt (n * radix + digit_value c) 128 then number_from radix (n * radix + digit_value c) cs else None
+    if nat_lt (digit_value c) radix && nat_lt (n * radix + digit_value c) 128 then number_from radix
+    (n * radix + digit_value c) cs else None
 
 abbrev pub most_digits : Radix → ℕ
 most_digits Ten = 7
@@ -136,8 +144,10 @@ closed digits behind (Some n) = Some (n, drop 1 behind)
 -- a number and its `;`
 unfoldable pub number_at : Radix → List ℕ → Option (ℕ × List ℕ)
 number_at radix rest =
-    if (length (before (not_digit radix) rest) == 0 || nat_lt (most_digits radix) (length (before (not_digit radix) rest))) || not (first_is 59 (from (not_digit radix) rest)) then None
-    else closed (before (not_digit radix) rest) (from (not_digit radix) rest) (number_from (radix_of radix) 0 (before (not_digit radix) rest))
+    if (length (before (not_digit radix) rest) == 0 || nat_lt (most_digits radix)
+    (length (before (not_digit radix) rest))) || not (first_is 59 (from (not_digit radix) rest)) then None
+    else closed (before (not_digit radix) rest) (from (not_digit radix) rest)
+    (number_from (radix_of radix) 0 (before (not_digit radix) rest))
 
 -- the byte that a reference at the front stands for, and what is left
 unfoldable pub reference_at : List ℕ → Option (ℕ × List ℕ)
@@ -148,7 +158,8 @@ reference_at rest =
     (if starts_with nat_eq rest (codes "&gt;") then Some (62, drop 4 rest) else
     (if starts_with nat_eq rest (codes "&quot;") then Some (34, drop 6 rest) else
     (if starts_with nat_eq rest (codes "&apos;") then Some (39, drop 6 rest) else
-    (if starts_with nat_eq rest (codes "&#x") || starts_with nat_eq rest (codes "&#X") then number_at Sixteen (drop 3 rest) else
+    (if starts_with nat_eq rest (codes "&#x") || starts_with nat_eq rest (codes "&#X") then number_at Sixteen
+    (drop 3 rest) else
     (if starts_with nat_eq rest (codes "&#") then number_at Ten (drop 2 rest) else None)))))))
 
 -- what the value reads as

@@ -1,5 +1,5 @@
 ghost use Rattle.std.specs.Prelude.{◌≡◌, ◌-◌, ◌≤◌, length, take, drop, unwrap_or};
-ghost use Rattle.irl_offer.specs.Limits.{max_page};
+ghost use Rattle.irl_base.specs.Limits.{max_page};
 
 use crate::run::cut;
 

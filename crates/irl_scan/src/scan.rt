@@ -1,5 +1,5 @@
 ghost use Rattle.std.specs.Prelude.{◌≡◌, ◌≤◌, ℕ, List, ◌++◌, length, All, IfOk, IfSome, OnOk, OnErr};
-ghost use Rattle.irl_offer.specs.Limits.{max_page};
+ghost use Rattle.irl_base.specs.Limits.{max_page};
 ghost use Rattle.irl_scan.specs.Page.{Piece, Cut};
 ghost use Rattle.irl_scan.specs.Links.{IsWithin, link_of, links_of, base_of};
 

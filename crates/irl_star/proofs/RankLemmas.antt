@@ -25,7 +25,7 @@ use Rattle.irl_star.specs.Budgets.{degree, domains, ranks_before, rank, budget_a
 use Rattle.irl_star.specs.Degrees.{kept, texts_of}
 use Rattle.irl_star.specs.Ranks.{Domain, rank_cmp, rank_in, AreRanks}
 use Rattle.irl_star.proofs.Sorting.{bit, once, degree-cons, degree-nil, degree-domains, same_counts, count_front, count_by-map, same_tests, none_left}
-use Rattle.irl_star.proofs.TextMaps.{value_at, vec_cmp}
+use Rattle.irl_base.proofs.TextMaps.{value_at, vec_cmp}
 
 -- ---- the entries of a tree by their texts
 
@@ -75,7 +75,8 @@ place ps i x sorted distinct within at =
     count_front (λ y. is_lt (rank_cmp y x)) ps i x (omega arith)
     (λ k lt.
     let far : is_lt (rank_cmp (get_or ps i x) (get_or ps k x)) ≡ false = sorted_far (λ a b. is_lt (rank_cmp a b)) (ranks_by rank_total (λ (d : Domain). d)) ps sorted k i x (omega arith) within in
-    let other : bytes_eq (get_or (keys_of ps) k x.0) (get_or (keys_of ps) i x.0) ≡ false = apart_from_distinct bytes_eq (keys_of ps) k i x.0 distinct lt (let w : i < length (keys_of ps) = omega (arith, length-map ps (λ (d : Domain). d.0)) in w) in
+    let other : bytes_eq (get_or (keys_of ps) k x.0) (get_or (keys_of ps) i x.0) ≡ false =
+    apart_from_distinct bytes_eq (keys_of ps) k i x.0 distinct lt (let w : i < length (keys_of ps) = omega (arith, length-map ps (λ (d : Domain). d.0)) in w) in
     let here : bytes_eq (get_or ps k x).0 x.0 ≡ false =
     ap (λ t. bytes_eq t x.0) (sym (get_or-map (λ (d : Domain). d.0) ps k x x.0 (omega arith)))
     ∙ ap (λ t. bytes_eq (get_or (keys_of ps) k x.0) t) (sym (get_or-map (λ (d : Domain). d.0) ps i x x.0 within ∙ ap (λ (d : Domain). d.0) at)) ∙ other in
@@ -105,7 +106,8 @@ pub from_kept : (n m : ℕ) → kept n ≡ Some m → (n ≡ m) × (0 < n)
 from_kept zero m e = absurd (let f : None ≡ Some m = e in cc)
 from_kept (suc n) m e = (let f : Some (suc n) ≡ Some m = e in cc, omega arith)
 
-at_degree : (ds : List Domain) (z : List ℕ) (d : Domain) (b : Bool) → bytes_eq z d.0 ≡ b → IsDistinct bytes_eq (keys_of (d ∷ ds)) → degree (keys_of ds) z ≡ cond (is_some (lookup (bytes_eq z) ds)) 1 0 → bit b + degree (keys_of ds) z ≡ cond (is_some (cond b (Some d.1) (lookup (bytes_eq z) ds))) 1 0
+at_degree : (ds : List Domain) (z : List ℕ) (d : Domain) (b : Bool) → bytes_eq z d.0 ≡ b → IsDistinct bytes_eq (keys_of (d ∷ ds)) → degree (keys_of ds) z ≡ cond (is_some (lookup (bytes_eq z) ds)) 1 0
+    → bit b + degree (keys_of ds) z ≡ cond (is_some (cond b (Some d.1) (lookup (bytes_eq z) ds))) 1 0
 at_degree ds z d true e distinct later =
     let apart : AllByRecursion (λ y. bytes_eq d.0 y ≡ false) (keys_of ds) = IsDistinct-head bytes_eq d.0 (keys_of ds) distinct in
     let P : List ℕ → Type 0 = λ t. degree (keys_of ds) t ≡ 0 in
@@ -181,7 +183,8 @@ module _ (ds ps : List Domain) (adds : List (List ℕ)) (distinct : IsDistinct b
     budget_unknown pld none =
         ap (λ n. cond (nat_lt 0 n && nat_lt (rank adds pld) settings.ranks) (budget_at settings.base settings.most settings.ranks (rank adds pld)) settings.base) none
 
-    at_place : (pld : List ℕ) (i : ℕ) (o : Option Domain) → slice_get ps i ≡ o → i < settings.ranks → option_map (λ (d : Domain). d.0) o ≡ Some pld → budget settings adds pld ≡ budget_at settings.base settings.most settings.ranks i
+    at_place : (pld : List ℕ) (i : ℕ) (o : Option Domain) → slice_get ps i ≡ o → i < settings.ranks → option_map (λ (d : Domain). d.0) o ≡ Some pld
+        → budget settings adds pld ≡ budget_at settings.base settings.most settings.ranks i
     at_place pld i None at within e = cc
     at_place pld i (Some d) at within e =
         let same_pld : d.0 ≡ pld = cc in
@@ -219,7 +222,8 @@ module _ (ds ps : List Domain) (adds : List (List ℕ)) (distinct : IsDistinct b
 
 -- ---- the map of ranks
 
-module _ {A : Type 0} (ps : List Domain) (n : ℕ) (old new : BTreeMap (Vec ℕ A) ℕ) (d : Domain) (text : List ℕ) (at : slice_get ps n ≡ Some d) (is : d.0 ≡ text) (set : (q : List ℕ) → rank_in new q ≡ cond (bytes_eq q text) (Some n) (rank_in old q)) (ranks : AreRanks ps n old) where
+module _ {A : Type 0} (ps : List Domain) (n : ℕ) (old new : BTreeMap (Vec ℕ A) ℕ) (d : Domain) (text : List ℕ) (at : slice_get ps n ≡ Some d) (is : d.0 ≡ text) (set : (q : List ℕ)
+    → rank_in new q ≡ cond (bytes_eq q text) (Some n) (rank_in old q)) (ranks : AreRanks ps n old) where
   found_by : (q : List ℕ) (i : ℕ) (b : Bool) → bytes_eq q text ≡ b → cond b (Some n) (rank_in old q) ≡ Some i → (i < n + 1) × (option_map (λ (d : Domain). d.0) (slice_get ps i) ≡ Some q)
   found_by q i true e f =
       let here : n ≡ i = cc in
@@ -248,7 +252,8 @@ module _ {A : Type 0} (ps : List Domain) (n : ℕ) (old new : BTreeMap (Vec ℕ 
   }
 
 -- as many ranks as there are domains, or as are asked for
-pub ranks_enough : {A : Type 0} (ps : List Domain) (n most : ℕ) (rank_of : BTreeMap (Vec ℕ A) ℕ) → n ≤ most → ((i : ℕ) → i < length ps → i < most → i < n) → AreRanks ps n rank_of → AreRanks ps most rank_of
+pub ranks_enough : {A : Type 0} (ps : List Domain) (n most : ℕ) (rank_of : BTreeMap (Vec ℕ A) ℕ) → n ≤ most → ((i : ℕ) → i < length ps → i < most → i < n) → AreRanks ps n rank_of
+    → AreRanks ps most rank_of
 ranks_enough ps n most rank_of le enough ranks = record {
   found = λ q i e. let before = ranks.found q i e in (let lt : i < n = before.0 in omega arith, before.1);
   all = λ i x e lt. ranks.all i x e (enough i (slice_get_within ps i x e) lt);

@@ -26,6 +26,9 @@ domain letter = letter ∷ 46 ∷ 116 ∷ []
 abbrev adds : List (List ℕ)
 adds = domain 99 ∷ domain 98 ∷ domain 97 ∷ domain 98 ∷ domain 99 ∷ []
 
-budgets_row : ◌≡◌ {A = ℕ × (ℕ × (ℕ × ℕ))} (budget (settings_of asked) adds (domain 98), (budget (settings_of asked) adds (domain 99), (budget (settings_of asked) adds (domain 97), budget (settings_of asked) adds (domain 100)))) (10000, (9999, (9998, 10)))
+budgets_row : ◌≡◌ {A = ℕ × (ℕ × (ℕ × ℕ))} (
+  budget (settings_of asked) adds (domain 98),
+  (budget (settings_of asked) adds (domain 99), (budget (settings_of asked) adds (domain 97), budget (settings_of asked) adds (domain 100))),
+) (10000, (9999, (9998, 10)))
 unfolding degree domains ranks_before rank budget
 budgets_row = refl

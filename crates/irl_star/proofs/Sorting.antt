@@ -36,7 +36,8 @@ without : List ℕ → List (List ℕ) → List (List ℕ)
 without x [] = []
 without x (y ∷ ys) = cond (bytes_eq x y) ys (y ∷ without x ys)
 
-taken_out : (q : List ℕ → Bool) (x y : List ℕ) (ys : List (List ℕ)) (b : Bool) → bytes_eq x y ≡ b → 0 < degree (y ∷ ys) x → (0 < degree ys x → count_by q ys ≡ bit (q x) + count_by q (without x ys)) → count_by q (y ∷ ys) ≡ bit (q x) + count_by q (cond b ys (y ∷ without x ys))
+taken_out : (q : List ℕ → Bool) (x y : List ℕ) (ys : List (List ℕ)) (b : Bool) → bytes_eq x y ≡ b → 0 < degree (y ∷ ys) x → (0 < degree ys x → count_by q ys ≡ bit (q x) + count_by q (without x ys))
+    → count_by q (y ∷ ys) ≡ bit (q x) + count_by q (cond b ys (y ∷ without x ys))
 taken_out q x y ys true e some later =
     count_by-cons q y ys ∙ ap (λ t. bit (q t) + count_by q ys) (sym ((bytes_eq-Decides x y).0 e))
 taken_out q x y ys false e some later =
@@ -78,7 +79,8 @@ once_positive : (n : ℕ) → n ≢ 0 → once n ≡ once (1 + n)
 once_positive zero some = absurd (some refl)
 once_positive (suc n) some = sym (ap once (let e : 1 + suc n ≡ suc (suc n) = omega arith in e))
 
-new_domain : (x z : List ℕ) (xs : List (List ℕ)) (b c : Bool) → nat_eq (degree xs x) 0 ≡ b → bytes_eq z x ≡ c → degree (domains xs) z ≡ once (degree xs z) → degree (cond b (x ∷ domains xs) (domains xs)) z ≡ once (bit c + degree xs z)
+new_domain : (x z : List ℕ) (xs : List (List ℕ)) (b c : Bool) → nat_eq (degree xs x) 0 ≡ b → bytes_eq z x ≡ c → degree (domains xs) z ≡ once (degree xs z)
+    → degree (cond b (x ∷ domains xs) (domains xs)) z ≡ once (bit c + degree xs z)
 new_domain x z xs true true e f later =
     let none : degree xs z ≡ 0 = ap (degree xs) ((bytes_eq-Decides z x).0 f) ∙ eqb-true (degree xs x) 0 e in
     degree-cons x (domains xs) z ∙ ap (λ b. bit b + degree (domains xs) z) f ∙ ap (λ n. 1 + n) later ∙ ap (λ n. 1 + once n) none ∙ ap (λ n. once (1 + n)) (sym none)
@@ -96,7 +98,8 @@ degree-domains (x ∷ xs) z =
     new_domain x z xs (nat_eq (degree xs x) 0) (bytes_eq z x) refl refl (degree-domains xs z) ∙ ap once (sym (degree-cons x xs z))
 
 -- as many elements pass as stand before the first that doesn't, where none behind it does
-pub count_front : {X : Type 0} (q : X → Bool) (xs : List X) (i : ℕ) (d : X) → i ≤ length xs → ((k : ℕ) → k < i → q (get_or xs k d) ≡ true) → ((k : ℕ) → i ≤ k → k < length xs → q (get_or xs k d) ≡ false) → count_by q xs ≡ i
+pub count_front : {X : Type 0} (q : X → Bool) (xs : List X) (i : ℕ) (d : X) → i ≤ length xs → ((k : ℕ) → k < i → q (get_or xs k d) ≡ true)
+    → ((k : ℕ) → i ≤ k → k < length xs → q (get_or xs k d) ≡ false) → count_by q xs ≡ i
 count_front q [] zero d within front back = refl
 count_front q [] (suc i) d within front back = absurd (omega arith)
 count_front q (x ∷ xs) zero d within front back =

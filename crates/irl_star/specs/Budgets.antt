@@ -1,5 +1,5 @@
--- Budgets of domains by their in-degree (Lee, Leonard, Wang and Loguinov, "IRLbot: Scaling to 6 Billion Pages and Beyond",
--- WWW 2008, section 5). The adds are a list of the texts of domains, one for each domain that links to it.
+-- Budgets of domains by their in-degree (Lee, Leonard, Wang and Loguinov, "IRLbot: Scaling to 6 Billion Pages and
+-- Beyond", WWW 2008, section 5). The adds are a list of the texts of domains, one for each domain that links to it.
 use Rattle.std.specs.Prelude.{ℕ, ◌+◌, ◌-◌, ◌*◌, ◌/◌, nat_eq, nat_lt, Bool, ◌&&◌, ◌||◌, if◌then◌else◌, List, [], ◌∷◌, count_by, bytes_eq}
 use Rattle.std.specs.Ordering.{nat_cmp, is_lt}
 use Rattle.std.specs.Cmp.Lexicographic.{slice_cmp}

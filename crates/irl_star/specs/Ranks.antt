@@ -25,10 +25,11 @@ abbrev pub rank_cmp : Domain → Domain → Ordering
 rank_cmp a b = ordering_then (nat_cmp b.1 a.1) (slice_cmp nat_cmp a.0 b.0)
 
 -- the entries of a map in the order of their ranks
-pub record IsRanking {A : Type 0} (entries : List (Vec ℕ A × ℕ)) (ranked : List (Reverse ℕ × Bor (List ℕ))) : Type 0 where
-  pub keys : IsStrictlySortedBy (λ x y. slice_cmp nat_cmp x.items y.items) (keys_of entries)
-  pub same : IsPermutation (texts_of entries) (map domain_of ranked)
-  pub sorted : IsSorted rank_cmp (map domain_of ranked)
+pub record IsRanking {A : Type 0} (entries : List (Vec ℕ A × ℕ)) (ranked : List (Reverse ℕ × Bor (List ℕ))) : Type 0
+  where
+    pub keys : IsStrictlySortedBy (λ x y. slice_cmp nat_cmp x.items y.items) (keys_of entries)
+    pub same : IsPermutation (texts_of entries) (map domain_of ranked)
+    pub sorted : IsSorted rank_cmp (map domain_of ranked)
 
 -- the rank that a map has of a domain
 abbrev pub rank_in : {A : Type 0} → BTreeMap (Vec ℕ A) ℕ → List ℕ → Option ℕ
@@ -36,9 +37,11 @@ rank_in rank_of pld = get_by (λ k. slice_cmp nat_cmp pld k.items) rank_of
 
 -- the map has the ranks below a bound, of domains in the order of their ranks
 pub record AreRanks {A : Type 0} (ranked : List Domain) (ranks : ℕ) (rank_of : BTreeMap (Vec ℕ A) ℕ) : Type 0 where
-  pub found : (pld : List ℕ) (i : ℕ) → rank_in rank_of pld ≡ Some i → (i < ranks) × (option_map (λ d. d.0) (slice_get ranked i) ≡ Some pld)
+  pub found : (pld : List ℕ) (i : ℕ) → rank_in rank_of pld ≡ Some i → (i < ranks)
+      × (option_map (λ d. d.0) (slice_get ranked i) ≡ Some pld)
   pub all : (i : ℕ) (d : Domain) → slice_get ranked i ≡ Some d → i < ranks → IsSome (rank_in rank_of d.0)
 
-pub budget-positive : (base most ranks : ℕ) (found : Option ℕ) → 1 ≤ base → 1 ≤ option_map_or (budget_at base most ranks) found base
+pub budget-positive : (base most ranks : ℕ) (found : Option ℕ) → 1 ≤ base
+    → 1 ≤ option_map_or (budget_at base most ranks) found base
 budget-positive base most ranks None positive = positive
 budget-positive base most ranks (Some rank) positive = omega arith

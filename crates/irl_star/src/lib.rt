@@ -4,10 +4,12 @@
 
 mod budgets;
 mod degrees;
+mod laws;
 mod ranking;
 
 pub use budgets::Budgets;
 pub use degrees::Degrees;
+pub use laws::budgets_depend_on_degrees;
 
 #[cfg(test)]
 mod tests;

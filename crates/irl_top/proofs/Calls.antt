@@ -8,15 +8,15 @@ use Rattle.std.proofs.Math.Seq.{drop-append_seam}
 use Rattle.std.specs.Option.{ForSome}
 use Rattle.std.specs.Io.KnownBytes.{Appends}
 use Rattle.irl_array.specs.Waiting.{Waiting}
-use Rattle.irl_offer.specs.Faults.{HasCause}
+use Rattle.irl_base.specs.Faults.{HasCause}
 use Rattle.irl_offer.specs.Tuple.{Tuple}
 use Rattle.irl_offer.specs.declared.settings.Settings.{Settings}
 use Rattle.irl_offer.specs.declared.receipt.Judged.{Judged}
-use Rattle.irl_offer.specs.declared.receipt.Fault.{Fault}
-use Rattle.irl_offer.specs.declared.receipt.Fault.TheVariants.{Failed as StoreFailed, Memory as StoreMemory, Full as StoreFull, Damaged as StoreDamaged}
+use Rattle.irl_base.specs.declared.fault.Fault.{Fault}
+use Rattle.irl_base.specs.declared.fault.Fault.TheVariants.{Failed as StoreFailed, Memory as StoreMemory, Full as StoreFull, Damaged as StoreDamaged}
 use Rattle.irl_model.specs.Book.{Book, gone, judged, judged_cut, lengths_of, part}
-use Rattle.irl_model.specs.State.{State}
-use Rattle.irl_disk.specs.Images.{Snapshot, IsConsistent}
+use Rattle.irl_events.specs.State.{State}
+use Rattle.irl_disk.specs.Images.{Told, IsConsistent}
 use Rattle.irl_bay.specs.Standing.{IsBookOf}
 use Rattle.irl_bay.specs.declared.bucket.Bucket.{Bucket}
 use Rattle.irl_bay.specs.Drum.{IsDrum, durable_at, durables, pending_at, SomePending}
@@ -50,20 +50,36 @@ pub gone_none : (settings : Settings) (book : Book) → IsBookOf settings book �
 gone_none settings book is = ap sum (is.is_book.none is.dropped).1 ∙ sum-zeros book.buckets
 
 -- what a bucket has is what its list has
-pub durable_length : (images : Snapshot) (parts : Parts) (state : State) (b : ℕ) → HoldsState images.images parts state → durable_at parts.urls b ≡ length (list_at state.urls b)
+pub durable_length : (images : Told) (parts : Parts) (state : State) (b : ℕ) → HoldsState images.images parts state → durable_at parts.urls b ≡ length (list_at state.urls b)
 durable_length images parts state b holds = durable_held images.images parts.urls state b holds
 
 -- how many are judged
-pub judged_number : (images : Snapshot) (parts : Parts) (state : State) → HoldsState images.images parts state → parts.urls.last.judged ≡ judged_count state.urls
+pub judged_number : (images : Told) (parts : Parts) (state : State) → HoldsState images.images parts state → parts.urls.last.judged ≡ judged_count state.urls
 judged_number images parts state holds = omega (arith, holds.urls_hold.numbers.commit.judged, gone_none parts.urls.settings state.urls holds.urls_hold.book_is)
 
 -- ---- endings
 -- what an intake's refusal ends a run with
 store_unopened : (fault : Fault) → IsUnopened (ending_of_store fault) → ⊥
-store_unopened StoreFailed is = elim is [ inl bad ↦ let e = bad.1 in let no : ⊥ = cc in absurd no | inr rest ↦ elim rest [ inl ours ↦ let e = ours.1 in let no : ⊥ = cc in absurd no | inr other ↦ let e = other.3 in let no : ⊥ = cc in absurd no ] ]
-store_unopened StoreMemory is = elim is [ inl bad ↦ let e = bad.1 in let no : ⊥ = cc in absurd no | inr rest ↦ elim rest [ inl ours ↦ let e = ours.1 in let no : ⊥ = cc in absurd no | inr other ↦ let e = other.3 in let no : ⊥ = cc in absurd no ] ]
-store_unopened (StoreFull b) is = elim is [ inl bad ↦ let e = bad.1 in let no : ⊥ = cc in absurd no | inr rest ↦ elim rest [ inl ours ↦ let e = ours.1 in let no : ⊥ = cc in absurd no | inr other ↦ let e = other.3 in let no : ⊥ = cc in absurd no ] ]
-store_unopened (StoreDamaged f at) is = elim is [ inl bad ↦ let e = bad.1 in let no : ⊥ = cc in absurd no | inr rest ↦ elim rest [ inl ours ↦ let e = ours.1 in let no : ⊥ = cc in absurd no | inr other ↦ let e = other.3 in let no : ⊥ = cc in absurd no ] ]
+store_unopened StoreFailed is = elim is [
+  | inl bad ↦ let e = bad.1 in let no : ⊥ = cc in
+      absurd no
+  | inr rest ↦ elim rest [ inl ours ↦ let e = ours.1 in let no : ⊥ = cc in absurd no | inr other ↦ let e = other.3 in let no : ⊥ = cc in absurd no ]
+]
+store_unopened StoreMemory is = elim is [
+  | inl bad ↦ let e = bad.1 in let no : ⊥ = cc in
+      absurd no
+  | inr rest ↦ elim rest [ inl ours ↦ let e = ours.1 in let no : ⊥ = cc in absurd no | inr other ↦ let e = other.3 in let no : ⊥ = cc in absurd no ]
+]
+store_unopened (StoreFull b) is = elim is [
+  | inl bad ↦ let e = bad.1 in let no : ⊥ = cc in
+      absurd no
+  | inr rest ↦ elim rest [ inl ours ↦ let e = ours.1 in let no : ⊥ = cc in absurd no | inr other ↦ let e = other.3 in let no : ⊥ = cc in absurd no ]
+]
+store_unopened (StoreDamaged f at) is = elim is [
+  | inl bad ↦ let e = bad.1 in let no : ⊥ = cc in
+      absurd no
+  | inr rest ↦ elim rest [ inl ours ↦ let e = ours.1 in let no : ⊥ = cc in absurd no | inr other ↦ let e = other.3 in let no : ⊥ = cc in absurd no ]
+]
 
 store_disk : (fault : Fault) → ending_of_store fault ≡ DiskFault → fault ≡ StoreFailed
 store_disk StoreFailed is = refl
@@ -90,10 +106,38 @@ store_full (StoreFull c) b is = let one : c ≡ b = cc in cc
 store_full (StoreDamaged g place) b is = let no : ⊥ = cc in absurd no
 
 pub store_input : (fault : Fault) → IsEndOfInput (ending_of_store fault) → ⊥
-store_input StoreFailed is = elim is [ inl done ↦ let no : ⊥ = cc in absurd no | inr rest ↦ elim rest [ inl line ↦ let e = line.1 in let no : ⊥ = cc in absurd no | inr input ↦ let no : ⊥ = cc in absurd no ] ]
-store_input StoreMemory is = elim is [ inl done ↦ let no : ⊥ = cc in absurd no | inr rest ↦ elim rest [ inl line ↦ let e = line.1 in let no : ⊥ = cc in absurd no | inr input ↦ let no : ⊥ = cc in absurd no ] ]
-store_input (StoreFull b) is = elim is [ inl done ↦ let no : ⊥ = cc in absurd no | inr rest ↦ elim rest [ inl line ↦ let e = line.1 in let no : ⊥ = cc in absurd no | inr input ↦ let no : ⊥ = cc in absurd no ] ]
-store_input (StoreDamaged f at) is = elim is [ inl done ↦ let no : ⊥ = cc in absurd no | inr rest ↦ elim rest [ inl line ↦ let e = line.1 in let no : ⊥ = cc in absurd no | inr input ↦ let no : ⊥ = cc in absurd no ] ]
+store_input StoreFailed is = elim is [
+  | inl done ↦ let no : ⊥ = cc in absurd no
+  | inr rest ↦ elim rest [
+    | inl line ↦ let e = line.1 in let no : ⊥ = cc in absurd no
+    | inr input ↦ let no : ⊥ = cc in
+        absurd no
+  ]
+]
+store_input StoreMemory is = elim is [
+  | inl done ↦ let no : ⊥ = cc in absurd no
+  | inr rest ↦ elim rest [
+    | inl line ↦ let e = line.1 in let no : ⊥ = cc in absurd no
+    | inr input ↦ let no : ⊥ = cc in
+        absurd no
+  ]
+]
+store_input (StoreFull b) is = elim is [
+  | inl done ↦ let no : ⊥ = cc in absurd no
+  | inr rest ↦ elim rest [
+    | inl line ↦ let e = line.1 in let no : ⊥ = cc in absurd no
+    | inr input ↦ let no : ⊥ = cc in
+        absurd no
+  ]
+]
+store_input (StoreDamaged f at) is = elim is [
+  | inl done ↦ let no : ⊥ = cc in absurd no
+  | inr rest ↦ elim rest [
+    | inl line ↦ let e = line.1 in let no : ⊥ = cc in
+        absurd no
+    | inr input ↦ let no : ⊥ = cc in absurd no
+  ]
+]
 
 store_done : (fault : Fault) → ending_of_store fault ≡ Done → ⊥
 store_done StoreFailed is = cc
@@ -104,11 +148,13 @@ store_done (StoreDamaged f at) is = cc
 -- ---- ends
 -- the offers that wait of a bucket don't fit
 abbrev pub IsOver : Place → Place → ℕ → Type 0
-IsOver old new b = (b < old.moment.parts.urls.settings.buckets) × (1 ≤ length (waiting_at new.moment.arrays b)) × (old.moment.parts.urls.settings.cap < durable_at new.moment.parts.urls b + length (waiting_at new.moment.arrays b))
+IsOver old new b = (b < old.moment.parts.urls.settings.buckets) × (1 ≤ length (waiting_at new.moment.arrays b))
+    × (old.moment.parts.urls.settings.cap < durable_at new.moment.parts.urls b + length (waiting_at new.moment.arrays b))
 
 -- so they don't fit behind its list
 over_full : (old new : Place) (state : State) (b : ℕ) → HoldsState new.moment.store.images new.moment.parts state → IsOver old new b
-    → (b < old.moment.parts.urls.settings.buckets) × (1 ≤ length (waiting_at new.moment.arrays b)) × (old.moment.parts.urls.settings.cap < length_at state.urls b + length (waiting_at new.moment.arrays b))
+    → (b < old.moment.parts.urls.settings.buckets) × (1 ≤ length (waiting_at new.moment.arrays b))
+    × (old.moment.parts.urls.settings.cap < length_at state.urls b + length (waiting_at new.moment.arrays b))
 over_full old new state b holds over = (over.0, over.1, omega (arith, over.2, durable_length new.moment.store new.moment.parts state b holds))
 
 -- no array has more than its room, by the settings of before
@@ -135,7 +181,7 @@ no_more zero not = refl
 no_more (suc n) not = absurd (not (omega arith))
 
 -- so the last cut is at the lists' ends
-all_judged : (images : Snapshot) (parts : Parts) (state : State) → IsDrum parts.urls → HoldsState images.images parts state → (SomePending parts.urls → ⊥) → judged_cut state.urls ≡ lengths_of state.urls
+all_judged : (images : Told) (parts : Parts) (state : State) → IsDrum parts.urls → HoldsState images.images parts state → (SomePending parts.urls → ⊥) → judged_cut state.urls ≡ lengths_of state.urls
 all_judged images parts state law holds none =
     let numbers = holds.urls_hold.numbers in
     let same : parts.urls.last.cut ≡ durables parts.urls =
@@ -147,7 +193,8 @@ all_judged images parts state law holds none =
     sym numbers.commit.cut ∙ same ∙ numbers.offers
 
 -- all that was judged is printed
-pub printed_all : (kind : LineKind) (images : Snapshot) (parts : Parts) (state : State) (printed : ℕ) → HoldsState images.images parts state → parts.urls.last.judged ≤ printed → unprinted kind printed state.urls ≡ []
+pub printed_all : (kind : LineKind) (images : Told) (parts : Parts) (state : State) (printed : ℕ) → HoldsState images.images parts state → parts.urls.last.judged ≤ printed
+    → unprinted kind printed state.urls ≡ []
 printed_all kind images parts state printed holds whole =
     ap (judged_lines kind) (drop_all (printed - gone state.urls) (judged state.urls) (omega (arith, whole, judged_number images parts state holds)))
 
@@ -157,7 +204,8 @@ pub record Last (old new : Place) (ending : Ending) : Type 0 where
   pub full : (b : ℕ) → ending ≡ Full b → IsOver old new b
   pub done : ending ≡ Done → IsFinished new
 
-pub ends_goes : (kind : LineKind) (e : ℕ) (u : ℕ → ℕ) (xs : List Tuple) (old new : Place) (ending : Ending) (x : State) → IsConsistent new.moment.store → IsDrum new.moment.parts.urls → AreArrays new.moment.parts.urls.settings new.moment.arrays → Stays old.moment new.moment
+pub ends_goes : (kind : LineKind) (e : ℕ) (u : ℕ → ℕ) (xs : List Tuple) (old new : Place) (ending : Ending) (x : State) → IsConsistent new.moment.store → IsDrum new.moment.parts.urls
+    → AreArrays new.moment.parts.urls.settings new.moment.arrays → Stays old.moment new.moment
     → Last old new ending → Goes kind e u xs old new x → Ends kind e u xs old new ending x
 ends_goes kind e u xs old new ending x law drum arrays still last goes =
     let y = goes.fed.state in
@@ -165,20 +213,24 @@ ends_goes kind e u xs old new ending x law drum arrays still last goes =
       text = goes.text;
       written = goes.written;
       prints = (unprinted kind new.printed y.urls, sym goes.prints);
-      prints_all = λ all. sym (append-nil goes.text) ∙ ap (λ (l : List ℕ). goes.text ++ l) (sym (printed_all kind new.moment.store new.moment.parts y new.printed goes.fed.holds (last.printed all))) ∙ goes.prints;
+      prints_all = λ all. sym (append-nil goes.text) ∙ ap (λ (l : List ℕ). goes.text ++ l) (sym (printed_all kind new.moment.store new.moment.parts y new.printed goes.fed.holds (last.printed all)))
+          ∙ goes.prints;
       full = λ b is. over_full old new y b goes.fed.holds (last.full b is);
       done = λ is. let finished = last.done is in (finished.empty, all_judged new.moment.store new.moment.parts y drum goes.fed.holds finished.judged);
     })
 
-pub ends_on : (kind : LineKind) (e : ℕ) (u : ℕ → ℕ) (xs : List Tuple) (old new : Place) (ending : Ending) → IsConsistent new.moment.store → IsDrum new.moment.parts.urls → AreArrays new.moment.parts.urls.settings new.moment.arrays → Stays old.moment new.moment
+pub ends_on : (kind : LineKind) (e : ℕ) (u : ℕ → ℕ) (xs : List Tuple) (old new : Place) (ending : Ending) → IsConsistent new.moment.store → IsDrum new.moment.parts.urls
+    → AreArrays new.moment.parts.urls.settings new.moment.arrays → Stays old.moment new.moment
     → Last old new ending → GoesOn kind e u xs old new → EndsWith kind e u xs old new ending
 ends_on kind e u xs old new ending law drum arrays still last goes = λ files told x holds few. ends_goes kind e u xs old new ending x law drum arrays still last (goes files told x holds few)
 
 -- ---- an intake's call
-pub goes_call : (kind : LineKind) (e : ℕ) (u : ℕ → ℕ) (xs : List Tuple) (old new : Place) → new.output.bytes ≡ old.output.bytes → new.printed ≡ old.printed → Feeds e u xs old.moment new.moment → GoesOn kind e u xs old new
+pub goes_call : (kind : LineKind) (e : ℕ) (u : ℕ → ℕ) (xs : List Tuple) (old new : Place) → new.output.bytes ≡ old.output.bytes → new.printed ≡ old.printed → Feeds e u xs old.moment new.moment
+    → GoesOn kind e u xs old new
 goes_call kind e u xs old new output printed feeds = λ files told x holds few. goes_fed kind e u xs old new x holds few output printed (feeds files told x holds)
 
-pub last_of_store : (old new : Place) (fault : Fault) → ((n : ℕ) → fault ≡ StoreFull n → IsOver old new n) → ((n : ℕ) → fault ≡ StoreFull n → new.moment.parts.urls.last.judged ≤ new.printed) → Last old new (ending_of_store fault)
+pub last_of_store : (old new : Place) (fault : Fault) → ((n : ℕ) → fault ≡ StoreFull n → IsOver old new n) → ((n : ℕ) → fault ≡ StoreFull n → new.moment.parts.urls.last.judged ≤ new.printed)
+    → Last old new (ending_of_store fault)
 last_of_store old new fault full whole = record {
   printed = λ is. ⊎_elim (λ input. absurd (store_input fault input)) (λ over. whole over.0 (store_full fault over.0 over.1)) is;
   full = λ b is. full b (store_full fault b is);
@@ -186,8 +238,10 @@ last_of_store old new fault full whole = record {
 }
 
 -- a call that is refused
-pub ends_call : (kind : LineKind) (e : ℕ) (u : ℕ → ℕ) (xs : List Tuple) (old new : Place) (fault : Fault) → IsConsistent new.moment.store → IsDrum new.moment.parts.urls → AreArrays new.moment.parts.urls.settings new.moment.arrays → Stays old.moment new.moment
-    → new.output.bytes ≡ old.output.bytes → new.printed ≡ old.printed → ((fault ≡ StoreFailed → ⊥) → Feeds e u xs old.moment new.moment) → (fault ≡ StoreFailed → Strands e u xs old.moment new.moment) → ((n : ℕ) → fault ≡ StoreFull n → IsOver old new n)
+pub ends_call : (kind : LineKind) (e : ℕ) (u : ℕ → ℕ) (xs : List Tuple) (old new : Place) (fault : Fault) → IsConsistent new.moment.store → IsDrum new.moment.parts.urls
+    → AreArrays new.moment.parts.urls.settings new.moment.arrays → Stays old.moment new.moment
+    → new.output.bytes ≡ old.output.bytes → new.printed ≡ old.printed → ((fault ≡ StoreFailed → ⊥) → Feeds e u xs old.moment new.moment) → (fault ≡ StoreFailed → Strands e u xs old.moment new.moment)
+    → ((n : ℕ) → fault ≡ StoreFull n → IsOver old new n)
     → ((n : ℕ) → fault ≡ StoreFull n → new.moment.parts.urls.last.judged ≤ new.printed) → EndsWith kind e u xs old new (ending_of_store fault)
 ends_call kind e u xs old new StoreFailed law drum arrays still output printed feeds strands full whole = λ files told x holds few.
     ends_stranded kind e u xs old new x (few_wait old.moment new.moment.parts new.moment.arrays still.settings arrays) output (strands refl files told x holds)
@@ -196,12 +250,14 @@ ends_call kind e u xs old new StoreMemory law drum arrays still output printed f
 ends_call kind e u xs old new (StoreFull b) law drum arrays still output printed feeds strands full whole =
     ends_on kind e u xs old new (ending_of_store (StoreFull b)) law drum arrays still (last_of_store old new (StoreFull b) full whole) (goes_call kind e u xs old new output printed (feeds (λ is. cc)))
 ends_call kind e u xs old new (StoreDamaged f at) law drum arrays still output printed feeds strands full whole =
-    ends_on kind e u xs old new (ending_of_store (StoreDamaged f at)) law drum arrays still (last_of_store old new (StoreDamaged f at) full whole) (goes_call kind e u xs old new output printed (feeds (λ is. cc)))
+    ends_on kind e u xs old new (ending_of_store (StoreDamaged f at)) law drum arrays still (last_of_store old new (StoreDamaged f at) full whole)
+    (goes_call kind e u xs old new output printed (feeds (λ is. cc)))
 
 -- why it is
-pub reason_call : (old new : Place) (fault : Fault) → Stays old.moment new.moment → HasCause (fault ≡ StoreFailed) old.disk_faults new.disk_faults → new.output ≡ old.output
+pub reason_call : (old new : Place) (fault : Fault) → Stays old.moment new.moment → HasCause (fault ≡ StoreFailed) old.moment.store.faults new.moment.store.faults → new.output ≡ old.output
     → ((f at : ℕ) → fault ≡ StoreDamaged f at → ForSome new.moment.store.files (λ files. IsSpoiltAt new.moment.parts.urls files f at ⊎ IsJudgedSpoiltAt new.moment.parts.urls files f at))
-    → ((f at : ℕ) → fault ≡ StoreDamaged f at → ForSome new.moment.store.files (IsLong new.moment.parts.urls)) → ((f at : ℕ) → fault ≡ StoreDamaged f at → HeldNone old.moment) → HasReason old new (ending_of_store fault)
+    → ((f at : ℕ) → fault ≡ StoreDamaged f at → ForSome new.moment.store.files (IsLong new.moment.parts.urls)) → ((f at : ℕ) → fault ≡ StoreDamaged f at → HeldNone old.moment)
+    → HasReason old new (ending_of_store fault)
 reason_call old new fault still cause output damaged long whole = record {
   stays = still;
   disk = record { later = cause.later; rose = λ is. cause.rose (store_disk fault is) };
@@ -213,12 +269,19 @@ reason_call old new fault still cause output damaged long whole = record {
 }
 
 -- a call that isn't
-pub reason_went : (old new : Place) → Stays old.moment new.moment → old.disk_faults ≤ new.disk_faults → old.output.faults ≤ new.output.faults → HasReason old new Done
+pub reason_went : (old new : Place) → Stays old.moment new.moment → old.moment.store.faults ≤ new.moment.store.faults → old.output.faults ≤ new.output.faults → HasReason old new Done
 reason_went old new still disk output = record {
   stays = still;
   disk = record { later = disk; rose = λ is. let no : ⊥ = cc in absurd no };
   output = record { later = output; rose = λ is. let no : ⊥ = cc in absurd no };
-  opened = λ is. elim is [ inl bad ↦ let e = bad.1 in let no : ⊥ = cc in absurd no | inr rest ↦ elim rest [ inl ours ↦ let e = ours.1 in let no : ⊥ = cc in absurd no | inr other ↦ let e = other.3 in let no : ⊥ = cc in absurd no ] ];
+  opened = λ is. elim is [
+    | inl bad ↦ let e = bad.1 in let no : ⊥ = cc in absurd no
+    | inr rest ↦ elim rest [
+      | inl ours ↦ let e = ours.1 in let no : ⊥ = cc in absurd no
+      | inr other ↦ let e = other.3 in
+          let no : ⊥ = cc in absurd no
+    ]
+  ];
   damaged = λ f at is. let no : ⊥ = cc in absurd no;
   long = λ f at is. let no : ⊥ = cc in absurd no;
   whole = λ f at is. let no : ⊥ = cc in absurd no;
@@ -234,7 +297,8 @@ goes_same kind old law drum = λ files told x holds few.
 
 -- ---- a piece that is printed
 -- some judged offers from one on, and those behind them
-piece_lines : (kind : LineKind) (n most : ℕ) (all found : List Judged) → found ≡ take most (drop n all) → judged_lines kind found ++ judged_lines kind (drop (n + length found) all) ≡ judged_lines kind (drop n all)
+piece_lines : (kind : LineKind) (n most : ℕ) (all found : List Judged) → found ≡ take most (drop n all)
+    → judged_lines kind found ++ judged_lines kind (drop (n + length found) all) ≡ judged_lines kind (drop n all)
 piece_lines kind n most all found is =
     let rest = drop most (drop n all) in
     let whole : found ++ rest ≡ drop n all = ap (λ (l : List Judged). l ++ rest) is ∙ take-append-drop most (drop n all) in
@@ -242,21 +306,33 @@ piece_lines kind n most all found is =
     ap (λ (l : List Judged). judged_lines kind found ++ judged_lines kind l) behind ∙ sym (lines-append kind found rest) ∙ ap (judged_lines kind) whole
 
 -- the same of a book, of which no judged offer is dropped
-piece_of : (kind : LineKind) (settings : Settings) (book : Book) (printed next most : ℕ) (found : List Judged) → IsBookOf settings book → found ≡ take most (drop (printed - gone book) (judged book)) → next ≡ printed + length found → judged_lines kind found ++ unprinted kind next book ≡ unprinted kind printed book
+piece_of : (kind : LineKind) (settings : Settings) (book : Book) (printed next most : ℕ) (found : List Judged) → IsBookOf settings book → found ≡ take most (drop (printed - gone book) (judged book))
+    → next ≡ printed + length found → judged_lines kind found ++ unprinted kind next book ≡ unprinted kind printed book
 piece_of kind settings book printed next most found is pieces next_is =
     let none = gone_none settings book is in
     let at : next - gone book ≡ (printed - gone book) + length found = omega (arith, none, next_is) in
     ap (λ (n : ℕ). judged_lines kind found ++ judged_lines kind (drop n (judged book))) at ∙ piece_lines kind (printed - gone book) most (judged book) found pieces
 
-piece_within : (settings : Settings) (book : Book) (printed next most : ℕ) (found : List Judged) → IsBookOf settings book → found ≡ take most (drop (printed - gone book) (judged book)) → next ≡ printed + length found → printed ≤ judged_count book → next ≤ judged_count book
+piece_within : (settings : Settings) (book : Book) (printed next most : ℕ) (found : List Judged) → IsBookOf settings book → found ≡ take most (drop (printed - gone book) (judged book))
+    → next ≡ printed + length found → printed ≤ judged_count book → next ≤ judged_count book
 piece_within settings book printed next most found is pieces next_is few =
-    omega (arith, gone_none settings book is, next_is, few, ap (λ (l : List Judged). length l) pieces, length-take most (drop (printed - gone book) (judged book)), length-drop (printed - gone book) (judged book))
+    omega (
+      arith,
+      gone_none settings book is,
+      next_is,
+      few,
+      ap (λ (l : List Judged). length l) pieces,
+      length-take most (drop (printed - gone book) (judged book)),
+      length-drop (printed - gone book) (judged book),
+    )
 
 -- what is found of the judged offers of each state that the store holds
 abbrev pub Finds : Place → ℕ → List Judged → Type 0
-Finds old most found = ForSome old.moment.store.files (λ _. (state : State) → HoldsState old.moment.store.images old.moment.parts state → found ≡ take most (drop (old.printed - gone state.urls) (judged state.urls)))
+Finds old most found = ForSome old.moment.store.files (λ _. (state : State) → HoldsState old.moment.store.images old.moment.parts state
+    → found ≡ take most (drop (old.printed - gone state.urls) (judged state.urls)))
 
-goes_piece : (kind : LineKind) (old new : Place) (most : ℕ) (found : List Judged) (x : State) → HoldsState old.moment.store.images old.moment.parts x → old.printed ≤ judged_count x.urls → Fed 0 none_more [] old.moment new.moment x → found ≡ take most (drop (old.printed - gone x.urls) (judged x.urls))
+goes_piece : (kind : LineKind) (old new : Place) (most : ℕ) (found : List Judged) (x : State) → HoldsState old.moment.store.images old.moment.parts x → old.printed ≤ judged_count x.urls
+    → Fed 0 none_more [] old.moment new.moment x → found ≡ take most (drop (old.printed - gone x.urls) (judged x.urls))
     → new.printed ≡ old.printed + length found → Appends old.output.bytes new.output.bytes (judged_lines kind found) → Goes kind 0 none_more [] old new x
 goes_piece kind old new most found x holds few fed pieces next written =
     let is = holds.urls_hold.book_is in
@@ -267,14 +343,19 @@ goes_piece kind old new most found x holds few fed pieces next written =
       ahead = omega (arith, within, judged_later x.urls fed.state.urls is.is_book fed.grows.front.urls);
       text = judged_lines kind found;
       written = written;
-      prints = printed_later kind x.urls fed.state.urls old.printed new.printed (judged_lines kind found) is.is_book fed.grows.front.urls (omega (arith, next)) within (piece_of kind old.moment.parts.urls.settings x.urls old.printed new.printed most found is pieces next);
+      prints = printed_later kind x.urls fed.state.urls old.printed new.printed (judged_lines kind found) is.is_book fed.grows.front.urls (omega (arith, next)) within
+          (piece_of kind old.moment.parts.urls.settings x.urls old.printed new.printed most found is pieces next);
     }
 
-pub goes_on_piece : (kind : LineKind) (old new : Place) (most : ℕ) (found : List Judged) → Feeds 0 none_more [] old.moment new.moment → Finds old most found → new.printed ≡ old.printed + length found → Appends old.output.bytes new.output.bytes (judged_lines kind found) → GoesOn kind 0 none_more [] old new
-goes_on_piece kind old new most found feeds finds next written = λ files told x holds few. goes_piece kind old new most found x holds few (feeds files told x holds) (finds files told x holds) next written
+pub goes_on_piece : (kind : LineKind) (old new : Place) (most : ℕ) (found : List Judged) → Feeds 0 none_more [] old.moment new.moment → Finds old most found → new.printed ≡ old.printed + length found
+    → Appends old.output.bytes new.output.bytes (judged_lines kind found) → GoesOn kind 0 none_more [] old new
+goes_on_piece kind old new most found feeds finds next written = λ files told x holds few.
+    goes_piece kind old new most found x holds few (feeds files told x holds) (finds files told x holds) next written
 
 -- a piece of which a prefix is printed
-pub ends_piece : (kind : LineKind) (old new : Place) (most : ℕ) (found : List Judged) (ending : Ending) → IsConsistent new.moment.store → IsDrum new.moment.parts.urls → Stays old.moment new.moment → AreArrays new.moment.parts.urls.settings new.moment.arrays → IsPlain ending → Feeds 0 none_more [] old.moment new.moment → Finds old most found → AppendsPrefix old.output.bytes new.output.bytes (judged_lines kind found)
+pub ends_piece : (kind : LineKind) (old new : Place) (most : ℕ) (found : List Judged) (ending : Ending) → IsConsistent new.moment.store → IsDrum new.moment.parts.urls → Stays old.moment new.moment
+    → AreArrays new.moment.parts.urls.settings new.moment.arrays → IsPlain ending → Feeds 0 none_more [] old.moment new.moment → Finds old most found
+    → AppendsPrefix old.output.bytes new.output.bytes (judged_lines kind found)
     → EndsWith kind 0 none_more [] old new ending
 ends_piece kind old new most found ending law drum still arrays plain feeds finds part = λ files told x holds few.
     let fed = feeds files told x holds in
@@ -286,7 +367,8 @@ ends_piece kind old new most found ending law drum still arrays plain feeds find
     let behind = unprinted kind (old.printed + length found) x.urls in
     let whole : unprinted kind old.printed fed.state.urls ≡ text ++ (rest ++ (behind ++ more.0)) =
     more.1 old.printed few ∙ ap (λ (l : List ℕ). l ++ more.0) (sym (piece_of kind old.moment.parts.urls.settings x.urls old.printed (old.printed + length found) most found is pieces refl))
-    ∙ append_assoc (judged_lines kind found) behind more.0 ∙ ap (λ (l : List ℕ). l ++ (behind ++ more.0)) (sym (take-append-drop part.0 (judged_lines kind found))) ∙ append_assoc text rest (behind ++ more.0) in
+    ∙ append_assoc (judged_lines kind found) behind more.0 ∙ ap (λ (l : List ℕ). l ++ (behind ++ more.0)) (sym (take-append-drop part.0 (judged_lines kind found)))
+    ∙ append_assoc text rest (behind ++ more.0) in
     ends_fed kind 0 none_more [] old new ending x law drum still (few_wait old.moment new.moment.parts new.moment.arrays still.settings arrays) fed (record {
       text = text;
       written = part.1;
@@ -325,12 +407,27 @@ piece_plain ending (inl memory) = subst IsPlain (sym memory) memory_plain
 piece_plain ending (inr output) = subst IsPlain (sym output) output_plain
 
 memory_unopened : IsUnopened NoMemory → ⊥
-memory_unopened is = elim is [ inl bad ↦ let e = bad.1 in let no : ⊥ = cc in absurd no | inr rest ↦ elim rest [ inl ours ↦ let e = ours.1 in let no : ⊥ = cc in absurd no | inr other ↦ let e = other.3 in let no : ⊥ = cc in absurd no ] ]
+memory_unopened is = elim is [
+  | inl bad ↦ let e = bad.1 in let no : ⊥ = cc in absurd no
+  | inr rest ↦ elim rest [
+    | inl ours ↦ let e = ours.1 in let no : ⊥ = cc in
+        absurd no
+    | inr other ↦ let e = other.3 in let no : ⊥ = cc in absurd no
+  ]
+]
 
 output_unopened : IsUnopened OutputFault → ⊥
-output_unopened is = elim is [ inl bad ↦ let e = bad.1 in let no : ⊥ = cc in absurd no | inr rest ↦ elim rest [ inl ours ↦ let e = ours.1 in let no : ⊥ = cc in absurd no | inr other ↦ let e = other.3 in let no : ⊥ = cc in absurd no ] ]
+output_unopened is = elim is [
+  | inl bad ↦ let e = bad.1 in let no : ⊥ = cc in absurd no
+  | inr rest ↦ elim rest [
+    | inl ours ↦ let e = ours.1 in let no : ⊥ = cc in
+        absurd no
+    | inr other ↦ let e = other.3 in let no : ⊥ = cc in absurd no
+  ]
+]
 
-pub reason_piece : (old new : Place) (ending : Ending) → IsOfPiece ending → Stays old.moment new.moment → old.disk_faults ≤ new.disk_faults → HasCause (ending ≡ OutputFault) old.output.faults new.output.faults → HasReason old new ending
+pub reason_piece : (old new : Place) (ending : Ending) → IsOfPiece ending → Stays old.moment new.moment → old.moment.store.faults ≤ new.moment.store.faults
+    → HasCause (ending ≡ OutputFault) old.output.faults new.output.faults → HasReason old new ending
 reason_piece old new ending (inl memory) still disk output = subst (HasReason old new) (sym memory) (record {
   stays = still;
   disk = record { later = disk; rose = λ is. let no : ⊥ = cc in absurd no };
@@ -356,7 +453,8 @@ err_is r e h = let out = err_from_is_err_and r h in out.1 ∙ ap Err out.2
 
 -- ---- the end of an input
 -- what is printed last changes nothing
-pub last_finished : (old mid new : Place) → new.moment.parts.urls ≡ mid.moment.parts.urls → new.moment.arrays ≡ mid.moment.arrays → new.moment.parts.urls.last.judged ≤ new.printed → ((b : ℕ) → waiting_at mid.moment.arrays b ≡ []) → (SomePending mid.moment.parts.urls → ⊥) → Last old new Done
+pub last_finished : (old mid new : Place) → new.moment.parts.urls ≡ mid.moment.parts.urls → new.moment.arrays ≡ mid.moment.arrays → new.moment.parts.urls.last.judged ≤ new.printed
+    → ((b : ℕ) → waiting_at mid.moment.arrays b ≡ []) → (SomePending mid.moment.parts.urls → ⊥) → Last old new Done
 last_finished old mid new urls arrays whole empty judged = record {
   printed = λ all. whole;
   full = λ b is. let no : ⊥ = cc in absurd no;
@@ -380,11 +478,14 @@ no_input_of (Ok x) kinds is = let no : ⊥ = cc in absurd no
 no_input_of (Err e) kinds is = kinds (inr (inr is))
 
 -- the run ends where it stands
-pub stop_here : (kind : LineKind) (old : Place) (ending : Ending) → IsConsistent old.moment.store → IsDrum old.moment.parts.urls → AreArrays old.moment.parts.urls.settings old.moment.arrays → (ending ≢ Done) → ((b : ℕ) → ending ≢ Full b) → (IsAllPrinted ending → old.moment.parts.urls.last.judged ≤ old.printed)
+pub stop_here : (kind : LineKind) (old : Place) (ending : Ending) → IsConsistent old.moment.store → IsDrum old.moment.parts.urls → AreArrays old.moment.parts.urls.settings old.moment.arrays
+    → (ending ≢ Done) → ((b : ℕ) → ending ≢ Full b) → (IsAllPrinted ending → old.moment.parts.urls.last.judged ≤ old.printed)
     → EndsWith kind 1 one_more [] old old ending
 stop_here kind old ending law drum arrays not_done not_full whole =
-    ends_on kind 1 one_more [] old old ending law drum arrays (stays_same old.moment old.moment law refl refl) (record { printed = whole; full = λ b is. absurd (not_full b is); done = λ is. absurd (not_done is) })
-    (goes_call kind 1 one_more [] old old refl refl (feeds_more 0 1 none_more one_more [] old.moment old.moment (omega arith) (λ b. omega arith) (feeds_none old.moment old.moment law drum refl refl refl)))
+    ends_on kind 1 one_more [] old old ending law drum arrays (stays_same old.moment old.moment law refl refl)
+    (record { printed = whole; full = λ b is. absurd (not_full b is); done = λ is. absurd (not_done is) })
+    (goes_call kind 1 one_more [] old old refl refl (feeds_more 0 1 none_more one_more [] old.moment old.moment (omega arith) (λ b. omega arith)
+    (feeds_none old.moment old.moment law drum refl refl refl)))
 
 -- what a step of the input can end a run with
 abbrev pub IsOfInput : Ending → Type 0
@@ -401,10 +502,24 @@ input_full ending (inr (inl input)) b = λ is. let no : ⊥ = cc in absurd no
 input_full ending (inr (inr line)) b = λ is. let e = line.1 in let no : ⊥ = cc in absurd no
 
 line_unopened : (n : ℕ) → IsUnopened (LineRefused n) → ⊥
-line_unopened n is = elim is [ inl bad ↦ let e = bad.1 in let no : ⊥ = cc in absurd no | inr rest ↦ elim rest [ inl ours ↦ let e = ours.1 in let no : ⊥ = cc in absurd no | inr other ↦ let e = other.3 in let no : ⊥ = cc in absurd no ] ]
+line_unopened n is = elim is [
+  | inl bad ↦ let e = bad.1 in let no : ⊥ = cc in absurd no
+  | inr rest ↦ elim rest [
+    | inl ours ↦ let e = ours.1 in let no : ⊥ = cc in
+        absurd no
+    | inr other ↦ let e = other.3 in let no : ⊥ = cc in absurd no
+  ]
+]
 
 input_unopened : IsUnopened InputFault → ⊥
-input_unopened is = elim is [ inl bad ↦ let e = bad.1 in let no : ⊥ = cc in absurd no | inr rest ↦ elim rest [ inl ours ↦ let e = ours.1 in let no : ⊥ = cc in absurd no | inr other ↦ let e = other.3 in let no : ⊥ = cc in absurd no ] ]
+input_unopened is = elim is [
+  | inl bad ↦ let e = bad.1 in let no : ⊥ = cc in absurd no
+  | inr rest ↦ elim rest [
+    | inl ours ↦ let e = ours.1 in let no : ⊥ = cc in
+        absurd no
+    | inr other ↦ let e = other.3 in let no : ⊥ = cc in absurd no
+  ]
+]
 
 pub reason_input : (old : Place) (ending : Ending) → IsConsistent old.moment.store → IsOfInput ending → HasReason old old ending
 reason_input old ending law (inl memory) = subst (HasReason old old) (sym memory) (record {
@@ -437,15 +552,18 @@ reason_input old ending law (inr (inr line)) = subst (HasReason old old) (sym li
 
 -- the same numbers for the whole of an input
 lifts_goes : (kind : LineKind) (old : Place) → IsConsistent old.moment.store → IsDrum old.moment.parts.urls → GoesOn kind 1 one_more [] old old
-lifts_goes kind old law drum = goes_call kind 1 one_more [] old old refl refl (feeds_more 0 1 none_more one_more [] old.moment old.moment (omega arith) (λ b. omega arith) (feeds_none old.moment old.moment law drum refl refl refl))
+lifts_goes kind old law drum = goes_call kind 1 one_more [] old old refl refl (feeds_more 0 1 none_more one_more [] old.moment old.moment (omega arith) (λ b. omega arith)
+    (feeds_none old.moment old.moment law drum refl refl refl))
 
-pub ends_lifted : (kind : LineKind) (news : List Tuple) (old mid new : Place) (ending : Ending) → IsConsistent mid.moment.store → IsDrum mid.moment.parts.urls → Stays old.moment mid.moment → GoesOn kind 0 none_more news old mid → EndsWith kind 0 none_more [] mid new ending → EndsWith kind 1 one_more (news ++ []) old new ending
+pub ends_lifted : (kind : LineKind) (news : List Tuple) (old mid new : Place) (ending : Ending) → IsConsistent mid.moment.store → IsDrum mid.moment.parts.urls → Stays old.moment mid.moment
+    → GoesOn kind 0 none_more news old mid → EndsWith kind 0 none_more [] mid new ending → EndsWith kind 1 one_more (news ++ []) old new ending
 ends_lifted kind news old mid new ending law drum still goes ends =
     goes_on_ends kind 0 1 none_more one_more news [] old mid new ending still goes
     (goes_on_ends kind 1 0 one_more none_more [] [] mid mid new ending (stays_same mid.moment mid.moment law refl refl) (lifts_goes kind mid law drum) ends)
 
 -- nothing waits yet, and memory runs out
-pub stop_plain : (kind : LineKind) (old : Place) → IsConsistent old.moment.store → IsDrum old.moment.parts.urls → FewWait old.moment.parts.urls.settings old.moment.arrays → EndsWith kind 1 one_more [] old old NoMemory
+pub stop_plain : (kind : LineKind) (old : Place) → IsConsistent old.moment.store → IsDrum old.moment.parts.urls → FewWait old.moment.parts.urls.settings old.moment.arrays
+    → EndsWith kind 1 one_more [] old old NoMemory
 stop_plain kind old law drum few_waiting = λ files told x holds few.
     let fed = feeds_more 0 1 none_more one_more [] old.moment old.moment (omega arith) (λ b. omega arith) (feeds_none old.moment old.moment law drum refl refl refl) files told x holds in
     ends_fed kind 1 one_more [] old old NoMemory x law drum (stays_same old.moment old.moment law refl refl) few_waiting fed (closes_plain kind old old NoMemory fed.state memory_plain refl)

@@ -3,17 +3,16 @@ use Rattle.std.proofs.Common.{◌≡◌, ◌≢◌, ◌∙◌, ◌⊎◌, inl, i
 use Rattle.std.proofs.KnownBytes.{Appends-nil}
 use Rattle.std.specs.Option.{ForSome}
 use Rattle.std.specs.Io.KnownBytes.{Appends}
-use Rattle.irl_offer.specs.Faults.{HasCause}
+use Rattle.irl_base.specs.Faults.{HasCause}
 use Rattle.irl_offer.specs.Settings.{AreValid, settings_of}
 use Rattle.irl_offer.specs.declared.settings.Asked.{Asked}
 use Rattle.irl_offer.specs.declared.settings.Kind.TheVariants.{Crawl}
 use Rattle.irl_offer.specs.declared.settings.Settings.{Settings}
 use Rattle.irl_model.specs.Book.{part}
-use Rattle.irl_model.specs.State.{State, IsFrontState, blank_state}
-use Rattle.irl_disk.specs.Disk.{Files, ChangesFile}
+use Rattle.irl_events.specs.State.{State, IsFrontState, blank_state}
+use Rattle.irl_disk.specs.Disk.{Files, ChangesFile, TellsBy}
 use Rattle.irl_disk.specs.Images.{IsConsistent, Leaves, LeavesBy}
 use Rattle.irl_disk.proofs.Stretches.{widens, left_now}
-use Rattle.irl_bay.specs.Holding.{TellsBy}
 use Rattle.irl_bay.proofs.Blank.{blank_is_book}
 use Rattle.irl_journal.specs.Visiting.{IsOpened}
 use Rattle.irl_yard.specs.StoreFiles.{head_file}
@@ -46,7 +45,11 @@ use Rattle.irl_top.proofs.Opened.{enters_told, enters_stops, entered_uneven}
 pub open_late : (fault : OpenFault) → IsLate (ending_of_open fault) → ⊥
 open_late fault late = elim late [
   | inl done ↦ not_done fault done
-  | inr rest ↦ elim rest [ inl line ↦ not_line fault line.0 line.1 | inr more ↦ elim more [ inl input ↦ not_input fault input | inr last ↦ elim last [ inl output ↦ not_output fault output | inr full ↦ not_full fault full.0 full.1 ] ] ]
+  | inr rest ↦ elim rest [
+    | inl line ↦ not_line fault line.0 line.1
+    | inr more ↦ elim more
+        [ inl input ↦ not_input fault input | inr last ↦ elim last [ inl output ↦ not_output fault output | inr full ↦ not_full fault full.0 full.1 ] ]
+  ]
 ]
   where
     not_done : (f : OpenFault) → ending_of_open f ≡ Done → ⊥
@@ -147,7 +150,7 @@ pub record IsRefused (asked : Asked) (before after : Lent) (fault : OpenFault) :
   pub files : TellsBy (Enters asked before.store.files) before.store.files after.store.files
   pub steps : LeavesBy (Enters asked before.store.files) before.store after.store
   pub stops : (x : State) → ((image : Files) → before.store.images image → HasState x image) → Leaves before.store after.store (HasOneOf x (entered_state asked x))
-  pub cause : HasCause (fault ≡ OpenFailed) before.disk_faults after.disk_faults
+  pub cause : HasCause (fault ≡ OpenFailed) before.store.faults after.store.faults
   pub input : after.input ≡ before.input
   pub output : after.output ≡ before.output
 
@@ -157,7 +160,8 @@ record Keeps (asked : Asked) (before after : Lent) (x most : State) : Type 0 whe
   pub told : ForSome after.store.files (HasState state)
   pub reaches : Reaches asked x state × Reaches asked x most
   pub fronts : IsFrontState x state × IsFrontState state most
-  pub stops : ((image : Files) → before.store.images image → HasState x image) → Leaves before.store after.store (λ image. (z : State) × HasState z image × Reaches asked x z × IsFrontState x z × IsFrontState z most)
+  pub stops : ((image : Files) → before.store.images image → HasState x image) → Leaves before.store after.store (λ image. (z : State) × HasState z image × Reaches asked x z × IsFrontState x z
+      × IsFrontState z most)
   pub lists : (b : ℕ) → list_at most.urls b ≡ list_at x.urls b
   pub legal : IsLegal most
   pub either : (state ≡ x) ⊎ (state ≡ most)
@@ -176,11 +180,31 @@ same_told told f z is has = λ g is_g. let same : f ≡ g = cc in subst (HasStat
 -- a state that files stand for
 legal_has : (x : State) (files : Files) → HasState x files → IsLegal x
 legal_has x files (inl blank) = inl blank.1
-legal_has x files (inr (settings, made)) = inr (settings, record { settings_are = made.settings_are; valid = made.valid; kind = made.kind; book_is = made.urls.book_is; pairs_are = made.pairs_are })
+legal_has x files (inr (settings, made)) = inr (
+  settings,
+  record {
+    settings_are = made.settings_are;
+    valid = made.valid;
+    kind = made.kind;
+    book_is = made.urls.book_is;
+    pairs_are = made.pairs_are;
+    events_are = made.events_are;
+  },
+)
 
 -- that of a store that was just made
 legal_new : (settings : Settings) → AreValid settings → settings.kind ≢ Crawl → IsLegal (new_state settings)
-legal_new settings valid kind = inr (settings, record { settings_are = refl; valid = valid; kind = kind; book_is = record { is_book = blank_is_book settings.buckets settings.rule valid.buckets; buckets = refl; rule = refl; dropped = refl }; pairs_are = refl })
+legal_new settings valid kind = inr (
+  settings,
+  record {
+    settings_are = refl;
+    valid = valid;
+    kind = kind;
+    book_is = record { is_book = blank_is_book settings.buckets settings.rule valid.buckets; buckets = refl; rule = refl; dropped = refl };
+    pairs_are = refl;
+    events_are = refl;
+  },
+)
 
 legal_entered : (asked : Asked) (x : State) (files : Files) → asked.kind ≢ Crawl → AreValid (settings_of asked) → HasState x files → IsLegal (entered_state asked x)
 legal_entered asked x files kind valid (inl blank) = subst (λ (s : State). IsLegal (entered_state asked s)) (sym blank.1) (legal_new (settings_of asked) valid kind)
@@ -192,17 +216,20 @@ entered_valid asked x image blank has = from_new image (subst (λ (s : State). H
   where
     from_new : (image : Files) → HasState (new_state (settings_of asked)) image → AreValid (settings_of asked)
     from_new image (inl none) = let no : Some (settings_of asked) ≡ None = ap (λ (s : State). s.settings) none.1 in let never : ⊥ = cc in absurd never
-    from_new image (inr (settings, made)) = let same : settings_of asked ≡ settings = (let is : Some (settings_of asked) ≡ Some settings = made.settings_are in cc) in subst AreValid (sym same) made.valid
+    from_new image (inr (settings, made)) = let same : settings_of asked ≡ settings = (let is : Some (settings_of asked) ≡ Some settings = made.settings_are in cc) in
+        subst AreValid (sym same) made.valid
 
 -- ---- what is left of the state
 -- the greatest is the new store's
-keeps_either : (asked : Asked) (before after : Lent) (fault : OpenFault) (files : Files) (x : State) → IsRefused asked before after fault → before.store.files ≡ Some files → HasState x files → IsLegal (entered_state asked x) → Keeps asked before after x (entered_state asked x)
+keeps_either : (asked : Asked) (before after : Lent) (fault : OpenFault) (files : Files) (x : State) → IsRefused asked before after fault → before.store.files ≡ Some files → HasState x files
+    → IsLegal (entered_state asked x) → Keeps asked before after x (entered_state asked x)
 keeps_either asked before after fault files x refused told has legal =
     let new = told_after asked before.store.files after.store.files files refused.files told in
     let one = enters_keeps asked before.store.files files x files new.0 refused.kind told has has new.2 in
     by_one new.0 new.1 one
   where
-    stopped : ((image : Files) → before.store.images image → HasState x image) → Leaves before.store after.store (λ image. (z : State) × HasState z image × Reaches asked x z × IsFrontState x z × IsFrontState z (entered_state asked x))
+    stopped : ((image : Files) → before.store.images image → HasState x image) → Leaves before.store after.store (λ image. (z : State) × HasState z image × Reaches asked x z × IsFrontState x z
+        × IsFrontState z (entered_state asked x))
     stopped each = widens before.store after.store _ _ (refused.stops x each) (λ image either. ⊎_elim
         (λ (is : HasState x image). (x, is, inl refl, state_same x, entered_front asked x))
         (λ (is : HasState (entered_state asked x) image). (entered_state asked x, is, reaches_entered asked x, entered_front asked x, state_same (entered_state asked x)))
@@ -231,7 +258,8 @@ keeps_either asked before after fault files x refused told has legal =
     }
 
 -- where no store can be made as is asked, none is
-keeps_unmade : (asked : Asked) (before after : Lent) (fault : OpenFault) (files : Files) (x : State) → IsRefused asked before after fault → before.store.files ≡ Some files → HasState x files → x ≡ blank_state → (AreValid (settings_of asked) → ⊥) → Keeps asked before after x x
+keeps_unmade : (asked : Asked) (before after : Lent) (fault : OpenFault) (files : Files) (x : State) → IsRefused asked before after fault → before.store.files ≡ Some files → HasState x files
+    → x ≡ blank_state → (AreValid (settings_of asked) → ⊥) → Keeps asked before after x x
 keeps_unmade asked before after fault files x refused told has blank bad =
     let new = told_after asked before.store.files after.store.files files refused.files told in
     let one = enters_keeps asked before.store.files files x files new.0 refused.kind told has has new.2 in
@@ -256,19 +284,22 @@ blank_image x image is (inl blank) = blank.0
 blank_image x image is (inr (settings, made)) = let no : None ≡ Some settings = sym (ap (λ (s : State). s.settings) is) ∙ made.settings_are in let never : ⊥ = cc in absurd never
 
 -- unless a call failed, a store that wasn't made yet still isn't
-keeps_blank : (asked : Asked) (before after : Lent) (fault : OpenFault) (files : Files) (x : State) → IsRefused asked before after fault → fault ≢ OpenFailed → before.store.files ≡ Some files → IsBlank files → x ≡ blank_state → Keeps asked before after x x
+keeps_blank : (asked : Asked) (before after : Lent) (fault : OpenFault) (files : Files) (x : State) → IsRefused asked before after fault → fault ≢ OpenFailed → before.store.files ≡ Some files
+    → IsBlank files → x ≡ blank_state → Keeps asked before after x x
 keeps_blank asked before after fault files x refused fine told blank same = record {
   state = x;
   told = λ g is. inl (refused.blank fine files told blank g is, same);
   reaches = (inl refl, inl refl);
   fronts = (state_same x, state_same x);
-  stops = λ each. widens before.store after.store _ _ (refused.blank_stops fine (λ image left. blank_image x image same (each image left))) (λ image still. (x, inl (still, same), inl refl, state_same x, state_same x));
+  stops = λ each. widens before.store after.store _ _ (refused.blank_stops fine (λ image left. blank_image x image same (each image left))) (λ image still.
+      (x, inl (still, same), inl refl, state_same x, state_same x));
   lists = λ b. refl;
   legal = inl same;
   either = inl refl;
 }
 
-extends_closed : (kind : LineKind) (asked : Asked) (before after : Lent) (fault : OpenFault) (files : Files) (x most : State) → IsConsistent before.store → IsConsistent after.store → IsRefused asked before after fault → before.store.files ≡ Some files → HasState x files → (k : Keeps asked before after x most)
+extends_closed : (kind : LineKind) (asked : Asked) (before after : Lent) (fault : OpenFault) (files : Files) (x most : State) → IsConsistent before.store → IsConsistent after.store
+    → IsRefused asked before after fault → before.store.files ≡ Some files → HasState x files → (k : Keeps asked before after x most)
     → (fault ≢ OpenFailed → most ≡ x) → Extends (line_task kind asked) before after (ending_of_open fault) x
 extends_closed kind asked before after fault files x most law_before law_after refused told has k same =
     let settings = settings_in asked x in
@@ -303,31 +334,38 @@ extends_closed kind asked before after fault files x most law_before law_after r
           let new = told_after asked before.store.files after.store.files files refused.files told in
           let same_old : files ≡ old_files = cc in
           let same_new : new.0 ≡ new_files = (let e = sym new.1 ∙ is_new in cc) in
-          subst (λ (f : Files). AddsUnevenRecords 1 settings.buckets settings.array f new_files) same_old (subst (λ (f : Files). AddsUnevenRecords 1 settings.buckets settings.array files f) same_new (λ b within small records journal.
+          subst (λ (f : Files). AddsUnevenRecords 1 settings.buckets settings.array f new_files) same_old
+          (subst (λ (f : Files). AddsUnevenRecords 1 settings.buckets settings.array files f) same_new (λ b within small records journal.
           (records, enters_records asked before.store.files files x files new.0 settings.buckets b records told has has new.2 small journal, omega arith)));
       stops = λ each. widens before.store after.store _ _ (k.stops each) (λ image z. (z.0, z.1, z.2, z.4));
       records_stop = λ each. entered_uneven asked before after.store files x settings.buckets settings.array told has each refused.steps;
       stops_any = widens before.store after.store _ _ refused.steps (λ image from. inl from);
-      now = λ why image left. ⊎_elim (λ late. absurd (open_late fault late)) (λ other. ⊎_elim (λ some. absurd (omega (arith, some))) (λ each. let z = left_now before.store after.store _ law_after (k.stops each) image left in (z.0, z.1, z.3, z.4)) other) why;
+      now = λ why image left. ⊎_elim (λ late. absurd (open_late fault late)) (λ other.
+          ⊎_elim (λ some. absurd (omega (arith, some))) (λ each. let z = left_now before.store after.store _ law_after (k.stops each) image left in (z.0, z.1, z.3, z.4)) other) why;
     }
 
 -- ---- the run
 -- a store that was made stays so
-extends_made : (kind : LineKind) (asked : Asked) (before after : Lent) (fault : OpenFault) (files : Files) (x : State) (settings : Settings) → IsConsistent before.store → IsConsistent after.store → IsRefused asked before after fault → before.store.files ≡ Some files → HasState x files → x.settings ≡ Some settings → Extends (line_task kind asked) before after (ending_of_open fault) x
+extends_made : (kind : LineKind) (asked : Asked) (before after : Lent) (fault : OpenFault) (files : Files) (x : State) (settings : Settings) → IsConsistent before.store → IsConsistent after.store
+    → IsRefused asked before after fault → before.store.files ≡ Some files → HasState x files → x.settings ≡ Some settings → Extends (line_task kind asked) before after (ending_of_open fault) x
 extends_made kind asked before after fault files x settings law_before law_after refused told has made =
     let same = entered_made asked settings x made in
     let k = keeps_either asked before after fault files x refused told has (subst IsLegal (sym same) (legal_has x files has)) in
     extends_closed kind asked before after fault files x (entered_state asked x) law_before law_after refused told has k (λ fine. same)
 
 -- unless a call failed, a store that wasn't made yet still isn't
-extends_blank : (kind : LineKind) (asked : Asked) (before after : Lent) (fault : OpenFault) (files : Files) (x : State) → IsConsistent before.store → IsConsistent after.store → IsRefused asked before after fault → before.store.files ≡ Some files → IsBlank files → x ≡ blank_state → (fault ≢ OpenFailed) ⊎ (fault ≡ OpenFailed) → Extends (line_task kind asked) before after (ending_of_open fault) x
+extends_blank : (kind : LineKind) (asked : Asked) (before after : Lent) (fault : OpenFault) (files : Files) (x : State) → IsConsistent before.store → IsConsistent after.store
+    → IsRefused asked before after fault → before.store.files ≡ Some files → IsBlank files → x ≡ blank_state → (fault ≢ OpenFailed) ⊎ (fault ≡ OpenFailed)
+    → Extends (line_task kind asked) before after (ending_of_open fault) x
 extends_blank kind asked before after fault files x law_before law_after refused told blank same (inl fine) =
-    extends_closed kind asked before after fault files x x law_before law_after refused told (inl (blank, same)) (keeps_blank asked before after fault files x refused fine told blank same) (λ other. refl)
+    extends_closed kind asked before after fault files x x law_before law_after refused told (inl (blank, same)) (keeps_blank asked before after fault files x refused fine told blank same) (λ other.
+    refl)
 extends_blank kind asked before after fault files x law_before law_after refused told blank same (inr failed) = ⊎_elim
     (λ valid.
     let k = keeps_either asked before after fault files x refused told (inl (blank, same)) (legal_entered asked x files refused.kind valid (inl (blank, same))) in
     extends_closed kind asked before after fault files x (entered_state asked x) law_before law_after refused told (inl (blank, same)) k (λ fine. absurd (fine failed)))
-    (λ bad. extends_closed kind asked before after fault files x x law_before law_after refused told (inl (blank, same)) (keeps_unmade asked before after fault files x refused told (inl (blank, same)) same bad) (λ fine. refl))
+    (λ bad. extends_closed kind asked before after fault files x x law_before law_after refused told (inl (blank, same))
+    (keeps_unmade asked before after fault files x refused told (inl (blank, same)) same bad) (λ fine. refl))
     (valid_or_not (settings_of asked))
 
 failed_or_not : (fault : OpenFault) → (fault ≢ OpenFailed) ⊎ (fault ≡ OpenFailed)
@@ -338,9 +376,12 @@ failed_or_not (OpenBadSettings n) = inl (λ is. cc)
 failed_or_not OpenFailed = inr refl
 failed_or_not OpenMemory = inl (λ is. cc)
 
-extends_refused : (kind : LineKind) (asked : Asked) (before after : Lent) (fault : OpenFault) (files : Files) (x : State) → IsConsistent before.store → IsConsistent after.store → IsRefused asked before after fault → before.store.files ≡ Some files → HasState x files → Extends (line_task kind asked) before after (ending_of_open fault) x
-extends_refused kind asked before after fault files x law_before law_after refused told (inl blank) = extends_blank kind asked before after fault files x law_before law_after refused told blank.0 blank.1 (failed_or_not fault)
-extends_refused kind asked before after fault files x law_before law_after refused told (inr (settings, made)) = extends_made kind asked before after fault files x settings law_before law_after refused told (inr (settings, made)) made.settings_are
+extends_refused : (kind : LineKind) (asked : Asked) (before after : Lent) (fault : OpenFault) (files : Files) (x : State) → IsConsistent before.store → IsConsistent after.store
+    → IsRefused asked before after fault → before.store.files ≡ Some files → HasState x files → Extends (line_task kind asked) before after (ending_of_open fault) x
+extends_refused kind asked before after fault files x law_before law_after refused told (inl blank) =
+    extends_blank kind asked before after fault files x law_before law_after refused told blank.0 blank.1 (failed_or_not fault)
+extends_refused kind asked before after fault files x law_before law_after refused told (inr (settings, made)) =
+    extends_made kind asked before after fault files x settings law_before law_after refused told (inr (settings, made)) made.settings_are
 
 -- an ending that refuses the store as it is comes of a fault that does
 unwanted_open : (fault : OpenFault) → IsUnopened (ending_of_open fault) → IsUnwanted fault
@@ -355,7 +396,8 @@ ground_as asked told fault other is ground = subst (HasGround asked told) is gro
 denies_as : (fault other : OpenFault) → fault ≡ other → DeniesState other → DeniesState fault
 denies_as fault other is denies = subst DeniesState (sym is) denies
 
-pub ran_refused : (kind : LineKind) (asked : Asked) (before after : Lent) (fault : OpenFault) → IsConsistent before.store → IsConsistent after.store → IsRefused asked before after fault → Ran (line_task kind asked) before after (ending_of_open fault)
+pub ran_refused : (kind : LineKind) (asked : Asked) (before after : Lent) (fault : OpenFault) → IsConsistent before.store → IsConsistent after.store → IsRefused asked before after fault
+    → Ran (line_task kind asked) before after (ending_of_open fault)
 ran_refused kind asked before after fault law_before law_after refused = record {
   extends = λ files told x has. extends_refused kind asked before after fault files x law_before law_after refused told has;
   others = enters_told asked before.store.files before.store.files after.store.files refused.files;

@@ -2,16 +2,16 @@
 use Rattle.std.proofs.Common.{◌≡◌, ◌≢◌, ◌∙◌, ◌⊎◌, inl, inr, ⊎_elim, ℕ, ◌+◌, ◌-◌, ◌<◌, ◌≤◌, List, [], length, Option, Some, refl, sym, ap, subst, length-append, arith}
 use Rattle.std.specs.Prelude.{Result, Ok, Err, OnOk, OnErr, IsErr, unwrap_or, slice_index}
 use Rattle.std.specs.Io.KnownBytes.{Appends}
-use Rattle.irl_offer.specs.Faults.{HasCause}
+use Rattle.irl_base.specs.Faults.{HasCause}
 use Rattle.irl_offer.specs.Settings.{AreValid, settings_of}
 use Rattle.irl_offer.specs.declared.settings.Asked.{Asked}
 use Rattle.irl_offer.specs.declared.settings.Settings.{Settings}
 use Rattle.irl_offer.specs.Tuple.{Tuple}
 use Rattle.irl_model.specs.Book.{part}
-use Rattle.irl_model.specs.State.{State, AreFronts}
+use Rattle.irl_events.specs.State.{State, AreFronts}
 use Rattle.irl_disk.specs.Disk.{Files}
 use Rattle.irl_io.specs.Written.{AppendsPrefix}
-use Rattle.irl_words.specs.Words.{IsInRange, asked_of}
+use Rattle.irl_words.specs.Words.{IsInRange}
 use Rattle.irl_words.specs.declared.command.Command.{Command}
 use Rattle.irl_words.specs.declared.command.Command.TheVariants.{Seen, Drum as DrumOf}
 use Rattle.irl_yard.specs.Standing.{HasState}
@@ -22,13 +22,15 @@ use Rattle.irl_intake.specs.Feeding.{list_at, length_at}
 use Rattle.irl_intake.proofs.Chains.{same_fronts}
 use Rattle.irl_top.specs.Message.{Says, status_of, refused_status}
 use Rattle.irl_top.specs.Outside.{Lent}
-use Rattle.irl_top.specs.Run.{Task, task_of, settings_in, Reaches, TakesIn, Ran, Completes}
+use Rattle.irl_top.specs.Run.{Task, line_task, settings_in, Reaches, TakesIn, Ran, Completes, Filtered, Does}
 use Rattle.irl_top.specs.Stream.{Stream}
+use Rattle.irl_top.specs.declared.line.LineKind.TheVariants.{Text as TextLine, Tuple as TupleLine}
 use Rattle.irl_top.specs.declared.ending.Ending.{Ending}
 use Rattle.irl_top.proofs.Growing.{Starts, starts, front_list, part_prefix}
 use Rattle.irl_top.specs.declared.ending.Ending.TheVariants.{Done, BadSettings, LineRefused, NotOurs, Damaged, OtherSettings, DiskFault, InputFault, OutputFault, NoMemory, Full}
 
-pub says_of : {T E : Type 0} (r : Result T E) (text : List ℕ) (old new : Stream) → OnOk r (Appends old.bytes new.bytes text) → OnErr r (AppendsPrefix old.bytes new.bytes text) → HasCause (IsErr r) old.faults new.faults → Says text old new
+pub says_of : {T E : Type 0} (r : Result T E) (text : List ℕ) (old new : Stream) → OnOk r (Appends old.bytes new.bytes text) → OnErr r (AppendsPrefix old.bytes new.bytes text)
+    → HasCause (IsErr r) old.faults new.faults → Says text old new
 says_of (Ok x) text old new ok err cause = record { later = cause.later; written = inl ok }
 says_of (Err e) text old new ok err cause = record { later = cause.later; written = inr (err, cause.rose refl) }
 
@@ -36,26 +38,18 @@ says_of (Err e) text old new ok err cause = record { later = cause.later; writte
 not_bad_asked : (settings : Settings) (n : ℕ) → AreValid settings → IsBadAsked settings n → ⊥
 not_bad_asked settings n valid bad = bad.bad (valid_numbers settings valid n bad.within.0 bad.within.1)
 
-pub accepted : (task : Task) (before after : Lent) (ending : Ending) → Ran task before after ending → AreValid (settings_of task.asked) → status_of ending ≢ refused_status
-accepted task before after Done ran valid = λ is. omega (arith, is)
-accepted task before after (BadSettings n) ran valid = λ is. not_bad_asked (settings_of task.asked) n valid (ran.bad_asked n refl)
-accepted task before after (LineRefused n) ran valid = λ is. omega (arith, is)
-accepted task before after (NotOurs at) ran valid = λ is. omega (arith, is)
-accepted task before after (Damaged f at) ran valid = λ is. omega (arith, is)
-accepted task before after (OtherSettings n kept wanted) ran valid = λ is. omega (arith, is)
-accepted task before after DiskFault ran valid = λ is. omega (arith, is)
-accepted task before after InputFault ran valid = λ is. omega (arith, is)
-accepted task before after OutputFault ran valid = λ is. omega (arith, is)
-accepted task before after NoMemory ran valid = λ is. omega (arith, is)
-accepted task before after (Full b) ran valid = λ is. omega (arith, is)
-
--- what a command asks is what its task does
-asked_same : (command : Command) → asked_of command ≡ (task_of command).asked
-asked_same (Seen asked) = refl
-asked_same (DrumOf asked) = refl
-
-pub task_valid : (command : Command) → IsInRange command → AreValid (settings_of (task_of command).asked)
-task_valid command range = subst (λ (asked : Asked). AreValid (settings_of asked)) (asked_same command) range.valid
+not_refused : (task : Task) (before after : Lent) (ending : Ending) → Ran task before after ending → AreValid (settings_of task.asked) → status_of ending ≢ refused_status
+not_refused task before after Done ran valid = λ is. omega (arith, is)
+not_refused task before after (BadSettings n) ran valid = λ is. not_bad_asked (settings_of task.asked) n valid (ran.bad_asked n refl)
+not_refused task before after (LineRefused n) ran valid = λ is. omega (arith, is)
+not_refused task before after (NotOurs at) ran valid = λ is. omega (arith, is)
+not_refused task before after (Damaged f at) ran valid = λ is. omega (arith, is)
+not_refused task before after (OtherSettings n kept wanted) ran valid = λ is. omega (arith, is)
+not_refused task before after DiskFault ran valid = λ is. omega (arith, is)
+not_refused task before after InputFault ran valid = λ is. omega (arith, is)
+not_refused task before after OutputFault ran valid = λ is. omega (arith, is)
+not_refused task before after NoMemory ran valid = λ is. omega (arith, is)
+not_refused task before after (Full b) ran valid = λ is. omega (arith, is)
 
 -- a store that can be made isn't refused for a setting
 not_bad : (asked : Asked) (files : Files) (x : State) (n : ℕ) → HasState x files → AreValid (settings_in asked x) → IsBadStore asked files n → ⊥
@@ -80,8 +74,10 @@ entered_to task x kept (inl same) made =
 entered_to task x kept (inr grows) made = grows.front
 
 -- a bucket that is full didn't fit with its part of the offers
-no_room : (task : Task) (x kept : State) (input : List ℕ) (b : ℕ) → b < (settings_in task.asked x).buckets → AreFronts (entered_state task.asked x) kept → Starts x (entered_state task.asked x) → TakesIn task x kept input (Full b)
-    → (part (settings_in task.asked x).buckets b (task.offers input) ≡ []) ⊎ (length_at (entered_state task.asked x).urls b + length (part (settings_in task.asked x).buckets b (task.offers input)) ≤ (settings_in task.asked x).cap) → ⊥
+no_room : (task : Task) (x kept : State) (input : List ℕ) (b : ℕ) → b < (settings_in task.asked x).buckets → AreFronts (entered_state task.asked x) kept → Starts x (entered_state task.asked x)
+    → TakesIn task x kept input (Full b)
+    → (part (settings_in task.asked x).buckets b (task.offers input) ≡ []) ⊎ (length_at (entered_state task.asked x).urls b + length (part (settings_in task.asked x).buckets b (task.offers input))
+    ≤ (settings_in task.asked x).cap) → ⊥
 no_room task x kept input b within front start takes fits =
     let settings = settings_in task.asked x in
     let y = entered_state task.asked x in
@@ -102,13 +98,14 @@ no_room task x kept input b within front start takes fits =
     (λ few. omega (arith, few, firsts, grown, both, was, all, full.1, one, two, three, four))
     fits
 
-pub completes : (task : Task) (before after : Lent) (ending : Ending) → Ran task before after ending → Completes task before after ending
+completes : (task : Task) (before after : Lent) (ending : Ending) → Ran task before after ending → Completes task before after ending
 completes task before after Done ran = λ files x input told has known agrees valid fits disk source output. inr (inl (refl, (ran.read refl input known).1))
 completes task before after (BadSettings n) ran = λ files x input told has known agrees valid fits disk source output. absurd (not_bad task.asked files x n has valid (ran.bad n refl files told))
 completes task before after (LineRefused n) ran = λ files x input told has known agrees valid fits disk source output. inr (inr (n, refl, ran.line n refl input known))
 completes task before after (NotOurs at) ran = λ files x input told has known agrees valid fits disk source output. absurd (ran.whole_ours at refl files told x has)
 completes task before after (Damaged f at) ran = λ files x input told has known agrees valid fits disk source output. absurd (ran.whole f at refl files told x has)
-completes task before after (OtherSettings n kept wanted) ran = λ files x input told has known agrees valid fits disk source output. absurd (not_other task.asked files x n kept wanted has agrees (ran.other n kept wanted refl files told))
+completes task before after (OtherSettings n kept wanted) ran = λ files x input told has known agrees valid fits disk source output.
+    absurd (not_other task.asked files x n kept wanted has agrees (ran.other n kept wanted refl files told))
 completes task before after DiskFault ran = λ files x input told has known agrees valid fits disk source output. absurd (disk (ran.disk.rose refl))
 completes task before after InputFault ran = λ files x input told has known agrees valid fits disk source output. absurd (source (ran.input.rose refl))
 completes task before after OutputFault ran = λ files x input told has known agrees valid fits disk source output. absurd (output (ran.output.rose refl))
@@ -116,4 +113,23 @@ completes task before after NoMemory ran = λ files x input told has known agree
 completes task before after (Full b) ran = λ files x input told has known agrees valid fits disk source output.
     let extends = ran.extends files told x has in
     let full = extends.full b refl in
-    absurd (no_room task x extends.kept input b full.0 (entered_to task x extends.kept extends.reaches.0 (extends.entered (inr (inr (inr (inr (b, refl))))))) (starts task.asked x files has) (extends.takes input known) (fits b full.0))
+    absurd (no_room task x extends.kept input b full.0 (entered_to task x extends.kept extends.reaches.0 (extends.entered (inr (inr (inr (inr (b, refl))))))) (starts task.asked x files has)
+    (extends.takes input known) (fits b full.0))
+
+-- ---- commands
+-- what each does, by what is said of its run
+filtered : (task : Task) (before after : Lent) (ending : Ending) → Ran task before after ending → Filtered task before after ending
+filtered task before after ending ran = record { ran = ran; completes = completes task before after ending ran }
+
+pub does_seen : (command : Command) (asked : Asked) (before after : Lent) (ending : Ending) → command ≡ Seen asked → Ran (line_task TextLine asked) before after ending
+    → Does command before after ending
+does_seen command asked before after ending is ran = subst (λ (c : Command). Does c before after ending) (sym is) (filtered (line_task TextLine asked) before after ending ran)
+
+pub does_drum : (command : Command) (asked : Asked) (before after : Lent) (ending : Ending) → command ≡ DrumOf asked → Ran (line_task TupleLine asked) before after ending
+    → Does command before after ending
+does_drum command asked before after ending is ran = subst (λ (c : Command). Does c before after ending) (sym is) (filtered (line_task TupleLine asked) before after ending ran)
+
+-- one that is in range is never refused as words are
+pub accepted : (command : Command) (before after : Lent) (ending : Ending) → Does command before after ending → IsInRange command → status_of ending ≢ refused_status
+accepted (Seen asked) before after ending does range = not_refused (line_task TextLine asked) before after ending does.ran range.valid
+accepted (DrumOf asked) before after ending does range = not_refused (line_task TupleLine asked) before after ending does.ran range.valid

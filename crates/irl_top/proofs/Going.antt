@@ -8,7 +8,7 @@ use Rattle.irl_offer.specs.declared.settings.Settings.{Settings}
 use Rattle.irl_offer.specs.declared.receipt.Judged.{Judged}
 use Rattle.irl_offer.specs.Tuple.{Tuple}
 use Rattle.irl_model.specs.Book.{Book, IsBook, IsFront, gone, judged, judged_cut, lengths_of, part, IsPrefixOf}
-use Rattle.irl_model.specs.State.{State}
+use Rattle.irl_events.specs.State.{State}
 use Rattle.irl_model.proofs.FrontLaws.{judged_front}
 use Rattle.irl_disk.specs.Images.{IsConsistent}
 use Rattle.irl_bay.specs.Drum.{IsDrum}
@@ -52,7 +52,8 @@ printed_then : (one two old mid new : List ℕ) → one ++ mid ≡ old → two +
 printed_then one two old mid new first second = append_assoc one two new ∙ ap (λ (l : List ℕ). one ++ l) second ∙ first
 
 -- what was printed by then, seen from a later book
-pub printed_later : (kind : LineKind) (x y : Book) (p q : ℕ) (text : List ℕ) → IsBook x → IsFront x y → p ≤ q → q ≤ judged_count x → text ++ unprinted kind q x ≡ unprinted kind p x → text ++ unprinted kind q y ≡ unprinted kind p y
+pub printed_later : (kind : LineKind) (x y : Book) (p q : ℕ) (text : List ℕ) → IsBook x → IsFront x y → p ≤ q → q ≤ judged_count x → text ++ unprinted kind q x ≡ unprinted kind p x
+    → text ++ unprinted kind q y ≡ unprinted kind p y
 printed_later kind x y p q text book front le within prints =
     let more = unprinted_more kind x y book front in
     ap (λ (l : List ℕ). text ++ l) (more.1 q within) ∙ sym (append_assoc text (unprinted kind q x) more.0) ∙ ap (λ (l : List ℕ). l ++ more.0) prints ∙ sym (more.1 p (omega (arith, le, within)))
@@ -62,7 +63,8 @@ prefix_then : (one two old mid : List ℕ) → one ++ mid ≡ old → IsPrefixOf
 prefix_then one two old mid first part = (part.0, sym first ∙ ap (λ (l : List ℕ). one ++ l) part.1 ∙ sym (append_assoc one two part.0))
 
 -- ---- one part after another
-pub goes_both : (kind : LineKind) (e d : ℕ) (u v : ℕ → ℕ) (xs ys : List Tuple) (old mid new : Place) (x : State) → Stays old.moment mid.moment → (first : Goes kind e u xs old mid x) → Goes kind d v ys mid new first.fed.state → Goes kind (e + d) (λ b. u b + v b) (xs ++ ys) old new x
+pub goes_both : (kind : LineKind) (e d : ℕ) (u v : ℕ → ℕ) (xs ys : List Tuple) (old mid new : Place) (x : State) → Stays old.moment mid.moment → (first : Goes kind e u xs old mid x)
+    → Goes kind d v ys mid new first.fed.state → Goes kind (e + d) (λ b. u b + v b) (xs ++ ys) old new x
 unfolding fed_both
 goes_both kind e d u v xs ys old mid new x still first second =
     let book = first.fed.holds.urls_hold.book_is.is_book in
@@ -74,10 +76,12 @@ goes_both kind e d u v xs ys old mid new x still first second =
       ahead = second.ahead;
       text = first.text ++ second.text;
       written = appends_both _ _ _ first.text second.text first.written second.written;
-      prints = printed_then first.text second.text (unprinted kind old.printed z) (unprinted kind mid.printed z) (unprinted kind new.printed z) (printed_later kind y z old.printed mid.printed first.text book second.fed.grows.front.urls first.later first.ahead first.prints) second.prints;
+      prints = printed_then first.text second.text (unprinted kind old.printed z) (unprinted kind mid.printed z) (unprinted kind new.printed z)
+          (printed_later kind y z old.printed mid.printed first.text book second.fed.grows.front.urls first.later first.ahead first.prints) second.prints;
     }
 
-pub goes_then_ends : (kind : LineKind) (e d : ℕ) (u v : ℕ → ℕ) (xs ys : List Tuple) (old mid new : Place) (ending : Ending) (x : State) → Stays old.moment mid.moment → (first : Goes kind e u xs old mid x) → Ends kind d v ys mid new ending first.fed.state → Ends kind (e + d) (λ b. u b + v b) (xs ++ ys) old new ending x
+pub goes_then_ends : (kind : LineKind) (e d : ℕ) (u v : ℕ → ℕ) (xs ys : List Tuple) (old mid new : Place) (ending : Ending) (x : State) → Stays old.moment mid.moment
+    → (first : Goes kind e u xs old mid x) → Ends kind d v ys mid new ending first.fed.state → Ends kind (e + d) (λ b. u b + v b) (xs ++ ys) old new ending x
 unfolding stranded_after
 goes_then_ends kind e d u v xs ys old mid new ending x still first second =
     let settings = old.moment.parts.urls.settings in
@@ -98,18 +102,21 @@ goes_then_ends kind e d u v xs ys old mid new ending x still first second =
       legal = subst (λ (s : Settings). IsStateOf s z) still.settings second.legal;
       arrays = second.arrays;
       few = subst (λ (s : Settings). FewWait s second.arrays) still.settings second.few;
-      keeps = keeps_both settings x y z old.moment.arrays mid.moment.arrays second.arrays xs ys first.fed.keeps (subst (λ (s : Settings). Keeps s y mid.moment.arrays z second.arrays ys) still.settings second.keeps);
+      keeps = keeps_both settings x y z old.moment.arrays mid.moment.arrays second.arrays xs ys first.fed.keeps
+          (subst (λ (s : Settings). Keeps s y mid.moment.arrays z second.arrays ys) still.settings second.keeps);
       text = first.text ++ second.text;
       written = appends_both _ _ _ first.text second.text first.written second.written;
       prints = prefix_then first.text second.text (unprinted kind old.printed z.urls) (unprinted kind mid.printed z.urls) seen second.prints;
       prints_all = λ all. ap (λ (l : List ℕ). first.text ++ l) (second.prints_all all) ∙ seen;
-      full = λ b is. subst (λ (s : Settings). (b < s.buckets) × (1 ≤ length (waiting_at second.arrays b)) × (s.cap < length_at z.urls b + length (waiting_at second.arrays b))) still.settings (second.full b is);
+      full = λ b is. subst (λ (s : Settings). (b < s.buckets) × (1 ≤ length (waiting_at second.arrays b))
+          × (s.cap < length_at z.urls b + length (waiting_at second.arrays b))) still.settings (second.full b is);
       done = second.done;
     }
 
 -- ---- from what an intake's call says
 -- nothing was printed
-pub goes_fed : (kind : LineKind) (e : ℕ) (u : ℕ → ℕ) (xs : List Tuple) (old new : Place) (x : State) → HoldsState old.moment.store.images old.moment.parts x → old.printed ≤ judged_count x.urls → new.output.bytes ≡ old.output.bytes → new.printed ≡ old.printed → Fed e u xs old.moment new.moment x → Goes kind e u xs old new x
+pub goes_fed : (kind : LineKind) (e : ℕ) (u : ℕ → ℕ) (xs : List Tuple) (old new : Place) (x : State) → HoldsState old.moment.store.images old.moment.parts x → old.printed ≤ judged_count x.urls
+    → new.output.bytes ≡ old.output.bytes → new.printed ≡ old.printed → Fed e u xs old.moment new.moment x → Goes kind e u xs old new x
 goes_fed kind e u xs old new x holds few output printed fed = record {
   fed = fed;
   later = omega (arith, printed);
@@ -124,7 +131,8 @@ pub state_held : (old new : Moment) (x : State) → Stays old new → IsDrum new
 state_held old new x still drum holds = subst (λ (s : Settings). IsStateOf s x) still.settings (held_state new.store.images new.parts.urls x drum.settings holds)
 
 -- the state that is held is the one that is told, and that every stop leaves
-abbrev strands_fed : (e : ℕ) (u : ℕ → ℕ) (xs : List Tuple) (old new : Moment) (x : State) → IsConsistent new.store → IsDrum new.parts.urls → Stays old new → Fed e u xs old new x → Stranded e u xs old new x
+abbrev strands_fed : (e : ℕ) (u : ℕ → ℕ) (xs : List Tuple) (old new : Moment) (x : State) → IsConsistent new.store → IsDrum new.parts.urls → Stays old new → Fed e u xs old new x
+    → Stranded e u xs old new x
 strands_fed e u xs old new x law drum still fed = record {
   state = fed.state;
   most = fed.state;
@@ -138,7 +146,13 @@ strands_fed e u xs old new x law drum still fed = record {
   kept_front = same_fronts fed.state;
   kept_legal = state_held old new fed.state still drum fed.holds;
   keeps = fed.keeps;
-  now = λ image left. (fed.state, held_has new.store.images new.parts.urls fed.state image drum fed.holds left, same_fronts fed.state, same_fronts fed.state, few_same old.parts.urls.settings fed.state);
+  now = λ image left. (
+    fed.state,
+    held_has new.store.images new.parts.urls fed.state image drum fed.holds left,
+    same_fronts fed.state,
+    same_fronts fed.state,
+    few_same old.parts.urls.settings fed.state,
+  );
   takes = λ b within. (waiting_at new.arrays b, sym (fed.keeps b within));
   stops = fed.stops;
   records_stop = fed.records_stop;
@@ -150,10 +164,12 @@ pub record Closes (kind : LineKind) (old new : Place) (ending : Ending) (state :
   pub written : Appends old.output.bytes new.output.bytes text
   pub prints : IsPrefixOf text (unprinted kind old.printed state.urls)
   pub prints_all : IsAllPrinted ending → text ≡ unprinted kind old.printed state.urls
-  pub full : (b : ℕ) → ending ≡ Full b → (b < old.moment.parts.urls.settings.buckets) × (1 ≤ length (waiting_at new.moment.arrays b)) × (old.moment.parts.urls.settings.cap < length_at state.urls b + length (waiting_at new.moment.arrays b))
+  pub full : (b : ℕ) → ending ≡ Full b → (b < old.moment.parts.urls.settings.buckets) × (1 ≤ length (waiting_at new.moment.arrays b))
+      × (old.moment.parts.urls.settings.cap < length_at state.urls b + length (waiting_at new.moment.arrays b))
   pub done : ending ≡ Done → ((b : ℕ) → waiting_at new.moment.arrays b ≡ []) × (judged_cut state.urls ≡ lengths_of state.urls)
 
-pub ends_fed : (kind : LineKind) (e : ℕ) (u : ℕ → ℕ) (xs : List Tuple) (old new : Place) (ending : Ending) (x : State) → IsConsistent new.moment.store → IsDrum new.moment.parts.urls → Stays old.moment new.moment → FewWait old.moment.parts.urls.settings new.moment.arrays
+pub ends_fed : (kind : LineKind) (e : ℕ) (u : ℕ → ℕ) (xs : List Tuple) (old new : Place) (ending : Ending) (x : State) → IsConsistent new.moment.store → IsDrum new.moment.parts.urls
+    → Stays old.moment new.moment → FewWait old.moment.parts.urls.settings new.moment.arrays
     → (fed : Fed e u xs old.moment new.moment x) → Closes kind old new ending fed.state → Ends kind e u xs old new ending x
 ends_fed kind e u xs old new ending x law drum still few fed closes =
     let settings = old.moment.parts.urls.settings in
@@ -167,7 +183,13 @@ ends_fed kind e u xs old new ending x law drum still few fed closes =
       few = few;
       keeps = fed.keeps;
       settled = λ not. (refl, refl);
-      now = λ image left. (fed.state, held_has new.moment.store.images new.moment.parts.urls fed.state image drum fed.holds left, same_fronts fed.state, same_fronts fed.state, few_same settings fed.state);
+      now = λ image left. (
+        fed.state,
+        held_has new.moment.store.images new.moment.parts.urls fed.state image drum fed.holds left,
+        same_fronts fed.state,
+        same_fronts fed.state,
+        few_same settings fed.state,
+      );
       text = closes.text;
       written = closes.written;
       prints = closes.prints;
@@ -203,7 +225,8 @@ disk_plain = record {
 }
 
 -- the store failed
-pub ends_stranded : (kind : LineKind) (e : ℕ) (u : ℕ → ℕ) (xs : List Tuple) (old new : Place) (x : State) → FewWait old.moment.parts.urls.settings new.moment.arrays → new.output.bytes ≡ old.output.bytes → Stranded e u xs old.moment new.moment x → Ends kind e u xs old new DiskFault x
+pub ends_stranded : (kind : LineKind) (e : ℕ) (u : ℕ → ℕ) (xs : List Tuple) (old new : Place) (x : State) → FewWait old.moment.parts.urls.settings new.moment.arrays
+    → new.output.bytes ≡ old.output.bytes → Stranded e u xs old.moment new.moment x → Ends kind e u xs old new DiskFault x
 ends_stranded kind e u xs old new x few output strands =
     let closes = closes_plain kind old new DiskFault strands.kept disk_plain output in
     record {
@@ -226,13 +249,15 @@ ends_stranded kind e u xs old new x few output strands =
     }
 
 -- ---- the same of each state that was held
-pub goes_on_both : (kind : LineKind) (e d : ℕ) (u v : ℕ → ℕ) (xs ys : List Tuple) (old mid new : Place) → Stays old.moment mid.moment → GoesOn kind e u xs old mid → GoesOn kind d v ys mid new → GoesOn kind (e + d) (λ b. u b + v b) (xs ++ ys) old new
+pub goes_on_both : (kind : LineKind) (e d : ℕ) (u v : ℕ → ℕ) (xs ys : List Tuple) (old mid new : Place) → Stays old.moment mid.moment → GoesOn kind e u xs old mid → GoesOn kind d v ys mid new
+    → GoesOn kind (e + d) (λ b. u b + v b) (xs ++ ys) old new
 goes_on_both kind e d u v xs ys old mid new still first second = λ files told x holds few.
     let one = first files told x holds few in
     let after = tells_on _ old.moment.store.files mid.moment.store.files files still.others told in
     goes_both kind e d u v xs ys old mid new x still one (second after.0 after.1 one.fed.state one.fed.holds one.ahead)
 
-pub goes_on_ends : (kind : LineKind) (e d : ℕ) (u v : ℕ → ℕ) (xs ys : List Tuple) (old mid new : Place) (ending : Ending) → Stays old.moment mid.moment → GoesOn kind e u xs old mid → EndsWith kind d v ys mid new ending → EndsWith kind (e + d) (λ b. u b + v b) (xs ++ ys) old new ending
+pub goes_on_ends : (kind : LineKind) (e d : ℕ) (u v : ℕ → ℕ) (xs ys : List Tuple) (old mid new : Place) (ending : Ending) → Stays old.moment mid.moment → GoesOn kind e u xs old mid
+    → EndsWith kind d v ys mid new ending → EndsWith kind (e + d) (λ b. u b + v b) (xs ++ ys) old new ending
 goes_on_ends kind e d u v xs ys old mid new ending still first second = λ files told x holds few.
     let one = first files told x holds few in
     let after = tells_on _ old.moment.store.files mid.moment.store.files files still.others told in
@@ -245,7 +270,8 @@ none_before kind e u xs old mid still first none = λ files told x holds few.
     let after = tells_on _ old.moment.store.files mid.moment.store.files files still.others told in
     none after.0 after.1 one.fed.state one.fed.holds one.ahead
 
-pub reason_then : (kind : LineKind) (e : ℕ) (u : ℕ → ℕ) (xs : List Tuple) (old mid new : Place) (before ending : Ending) → IsConsistent mid.moment.store → GoesOn kind e u xs old mid → HasReason old mid before → HasReason mid new ending → HasReason old new ending
+pub reason_then : (kind : LineKind) (e : ℕ) (u : ℕ → ℕ) (xs : List Tuple) (old mid new : Place) (before ending : Ending) → IsConsistent mid.moment.store → GoesOn kind e u xs old mid
+    → HasReason old mid before → HasReason mid new ending → HasReason old new ending
 reason_then kind e u xs old mid new before ending law first one two = record {
   stays = stays_both old.moment mid.moment new.moment law one.stays two.stays;
   disk = record { later = omega (arith, one.disk.later, two.disk.later); rose = λ is. omega (arith, one.disk.later, two.disk.rose is) };

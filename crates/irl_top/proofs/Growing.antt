@@ -11,7 +11,8 @@ use Rattle.irl_offer.specs.declared.offer.Rule.TheVariants.{Keep}
 use Rattle.irl_offer.specs.declared.settings.Asked.{Asked}
 use Rattle.irl_offer.specs.declared.settings.Settings.{Settings}
 use Rattle.irl_model.specs.Book.{Book, ArePrefixes, IsPrefixOf, blank_book, part, judged_cut}
-use Rattle.irl_model.specs.State.{State, AreFronts, blank_state}
+use Rattle.irl_events.specs.Events.{Happened}
+use Rattle.irl_events.specs.State.{State, AreFronts, blank_state}
 use Rattle.irl_disk.specs.Disk.{Files}
 use Rattle.irl_yard.specs.Standing.{HasState}
 use Rattle.irl_yard.specs.Opening.{entered_state}
@@ -45,7 +46,8 @@ pub front_list : (x y : State) (b : ℕ) → AreFronts x y → IsPrefixOf (list_
 front_list x y b front = list_prefix x.urls.lists y.urls.lists b front.urls.lists
 
 -- what a list has got is a prefix of what was handed in, and so of more
-pub adds_some : (buckets b : ℕ) (x y : State) (xs ys : List Tuple) → AreFronts x y → IsPrefixOf (list_at y.urls b) ((list_at x.urls b ++ []) ++ part buckets b xs) → IsPrefixOf xs ys → (news : List Tuple) × (list_at y.urls b ≡ list_at x.urls b ++ news) × IsPrefixOf news (part buckets b ys)
+pub adds_some : (buckets b : ℕ) (x y : State) (xs ys : List Tuple) → AreFronts x y → IsPrefixOf (list_at y.urls b) ((list_at x.urls b ++ []) ++ part buckets b xs) → IsPrefixOf xs ys
+    → (news : List Tuple) × (list_at y.urls b ≡ list_at x.urls b ++ news) × IsPrefixOf news (part buckets b ys)
 adds_some buckets b x y xs ys front takes prefix =
     let old = list_at x.urls b in
     let takes_plain : IsPrefixOf (list_at y.urls b) (old ++ part buckets b xs) = subst (λ (l : List Tuple). IsPrefixOf (list_at y.urls b) (l ++ part buckets b xs)) (append-nil old) takes in
@@ -61,12 +63,20 @@ no_length : {X : Type 0} (xs : List X) → length xs ≡ 0 → xs ≡ []
 no_length [] e = refl
 no_length (x ∷ xs) e = absurd (omega (arith, e))
 
-fits_between : (settings : Settings) (x z y : State) (b : ℕ) → AreFronts x z → AreFronts z y → (list_at y.urls b ≡ list_at x.urls b) ⊎ (length_at y.urls b ≤ settings.cap) → (list_at z.urls b ≡ list_at x.urls b) ⊎ (length_at z.urls b ≤ settings.cap)
+fits_between : (settings : Settings) (x z y : State) (b : ℕ) → AreFronts x z → AreFronts z y → (list_at y.urls b ≡ list_at x.urls b) ⊎ (length_at y.urls b ≤ settings.cap)
+    → (list_at z.urls b ≡ list_at x.urls b) ⊎ (length_at z.urls b ≤ settings.cap)
 fits_between settings x z y b first second (inl same) =
     let one = front_list x z b first in
     let two = front_list z y b second in
     let counts : length one.0 ≡ 0 =
-    omega (arith, ap (λ (l : List Tuple). length l) same, ap (λ (l : List Tuple). length l) one.1, ap (λ (l : List Tuple). length l) two.1, length-append (list_at x.urls b) one.0, length-append (list_at z.urls b) two.0) in
+    omega (
+      arith,
+      ap (λ (l : List Tuple). length l) same,
+      ap (λ (l : List Tuple). length l) one.1,
+      ap (λ (l : List Tuple). length l) two.1,
+      length-append (list_at x.urls b) one.0,
+      length-append (list_at z.urls b) two.0,
+    ) in
     inl (one.1 ∙ ap (λ (l : List Tuple). list_at x.urls b ++ l) (no_length one.0 counts) ∙ append-nil (list_at x.urls b))
 fits_between settings x z y b first second (inr fits) =
     let two = front_list z y b second in
@@ -78,7 +88,8 @@ pub grows_between : (settings : Settings) (early : ℕ) (x z y : State) → AreF
 grows_between settings early x z y first second few grows =
     let one = first.urls.cuts in
     let two = second.urls.cuts in
-    let cuts : grows.cuts ≡ one.0 ++ two.0 = append_cancel_left x.urls.cuts grows.cuts (one.0 ++ two.0) (sym grows.cuts_are ∙ two.1 ∙ ap (λ (l : List (List ℕ)). l ++ two.0) one.1 ∙ append_assoc x.urls.cuts one.0 two.0) in
+    let cuts : grows.cuts ≡ one.0 ++ two.0 = append_cancel_left x.urls.cuts grows.cuts (one.0 ++ two.0) (sym grows.cuts_are ∙ two.1 ∙ ap (λ (l : List (List ℕ)). l ++ two.0) one.1
+    ∙ append_assoc x.urls.cuts one.0 two.0) in
     let from = judged_cut x.urls in
     record {
       front = first;
@@ -90,12 +101,13 @@ grows_between settings early x z y first second few grows =
     }
 
 -- ---- what entering makes of a state
-settings_made : (asked : Asked) (o : Option Settings) (urls pairs : Book) (s : Settings) → (entered_state asked (record { settings = o; urls = urls; pairs = pairs })).settings ≡ Some s → s ≡ unwrap_or o (settings_of asked)
-settings_made asked None urls pairs s is = cc
-settings_made asked (Some kept) urls pairs s is = cc
+settings_made : (asked : Asked) (o : Option Settings) (urls pairs : Book) (events : List Happened) (s : Settings)
+    → (entered_state asked (record { settings = o; urls = urls; pairs = pairs; events = events })).settings ≡ Some s → s ≡ unwrap_or o (settings_of asked)
+settings_made asked None urls pairs events s is = cc
+settings_made asked (Some kept) urls pairs events s is = cc
 
 pub settings_entered : (asked : Asked) (x : State) (s : Settings) → (entered_state asked x).settings ≡ Some s → s ≡ settings_in asked x
-settings_entered asked x s is = settings_made asked x.settings x.urls x.pairs s is
+settings_entered asked x s is = settings_made asked x.settings x.urls x.pairs x.events s is
 
 abbrev list_in : List (List Tuple) → ℕ → List Tuple
 list_in lists b = get_or lists b []

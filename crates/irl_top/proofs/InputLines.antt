@@ -4,7 +4,7 @@ use Rattle.std.proofs.lemmas.Bool.Decides.{nat_tests}
 use Rattle.std.specs.Option.{is_none}
 use Rattle.std.specs.Prelude.{unwrap_or}
 use Rattle.std.specs.List.{before_first}
-use Rattle.irl_offer.specs.Limits.{max_text}
+use Rattle.irl_base.specs.Limits.{max_text}
 use Rattle.irl_io.specs.Lines.{lines, most_lines, is_line_feed, IsLine}
 use Rattle.std.specs.Io.KnownBytes.{prepend_known}
 use Rattle.irl_offer.specs.Tuple.{Tuple}
@@ -44,19 +44,23 @@ refused_as kind n line is few =
     ap (λ (b : Bool). b || is_none (line_offers kind line)) fits
 
 -- what a line that is given offers, and where it is refused
-pub offered_line : (kind : LineKind) (n : ℕ) (line before after : List ℕ) (news : List Tuple) → TakesLine line before after → IsLine line → n < most_lines → line_offers kind line ≡ Some news → offered_from kind (n + 1) (lines before) ≡ news ++ offered_from kind (n + 1 + 1) (lines after)
+pub offered_line : (kind : LineKind) (n : ℕ) (line before after : List ℕ) (news : List Tuple) → TakesLine line before after → IsLine line → n < most_lines → line_offers kind line ≡ Some news
+    → offered_from kind (n + 1) (lines before) ≡ news ++ offered_from kind (n + 1 + 1) (lines after)
 offered_line kind n line before after news takes is few offers =
     let first = ap (λ (o : Option (List Tuple)). unwrap_or o [] ++ offered_from kind (n + 1 + 1) (lines after)) offers in
     rw (takes.law, refused_as kind n line is few, offers) first
 
-pub refused_line : (kind : LineKind) (n : ℕ) (line before after : List ℕ) (news : List Tuple) → TakesLine line before after → IsLine line → n < most_lines → line_offers kind line ≡ Some news → refused_from kind (n + 1) (lines before) ≡ refused_from kind (n + 1 + 1) (lines after)
+pub refused_line : (kind : LineKind) (n : ℕ) (line before after : List ℕ) (news : List Tuple) → TakesLine line before after → IsLine line → n < most_lines → line_offers kind line ≡ Some news
+    → refused_from kind (n + 1) (lines before) ≡ refused_from kind (n + 1 + 1) (lines after)
 refused_line kind n line before after news takes is few offers = rw (takes.law, refused_as kind n line is few, offers) refl
 
-pub bad_line : (kind : LineKind) (n : ℕ) (line before after : List ℕ) → TakesLine line before after → IsLine line → n < most_lines → line_offers kind line ≡ None → (offered_from kind (n + 1) (lines before) ≡ []) × (refused_from kind (n + 1) (lines before) ≡ Some (n + 1))
+pub bad_line : (kind : LineKind) (n : ℕ) (line before after : List ℕ) → TakesLine line before after → IsLine line → n < most_lines → line_offers kind line ≡ None
+    → (offered_from kind (n + 1) (lines before) ≡ []) × (refused_from kind (n + 1) (lines before) ≡ Some (n + 1))
 bad_line kind n line before after takes is few offers = (rw (takes.law, refused_as kind n line is few, offers) refl, rw (takes.law, refused_as kind n line is few, offers) refl)
 
 -- a line that is not given is the first that is refused
-pub first_refused : (kind : LineKind) (n : ℕ) (before after : List ℕ) → RefusesLine (n + 1) before after → (offered_from kind (n + 1) (lines before) ≡ []) × (refused_from kind (n + 1) (lines before) ≡ Some (n + 1))
+pub first_refused : (kind : LineKind) (n : ℕ) (before after : List ℕ) → RefusesLine (n + 1) before after → (offered_from kind (n + 1) (lines before) ≡ [])
+    × (refused_from kind (n + 1) (lines before) ≡ Some (n + 1))
 first_refused kind n before after refuses =
     let first = before_first is_line_feed before in
     let much : (nat_lt max_text (length first) || nat_lt most_lines (n + 1)) ≡ true =
@@ -88,19 +92,23 @@ pub told_none : (kind : LineKind) (a : Progress) (x : Option (List ℕ)) → Rea
 told_none kind a x = λ before tells. (before, tells, record { offers = refl; refuses = refl })
 
 -- ---- a line that was read
-line_read : (kind : LineKind) (old new : Progress) (line before after : List ℕ) (news : List Tuple) → TakesLine line before after → IsLine line → old.number < most_lines → new.number ≡ old.number + 1 → line_offers kind line ≡ Some news → ReadsOn kind old new before after news
+line_read : (kind : LineKind) (old new : Progress) (line before after : List ℕ) (news : List Tuple) → TakesLine line before after → IsLine line → old.number < most_lines → new.number ≡ old.number + 1
+    → line_offers kind line ≡ Some news → ReadsOn kind old new before after news
 line_read kind old new line before after news takes is few number offers = record {
   offers = offered_line kind old.number line before after news takes is few offers ∙ ap (λ (n : ℕ). news ++ offered_from kind (n + 1) (lines after)) (sym number);
   refuses = refused_line kind old.number line before after news takes is few offers ∙ ap (λ (n : ℕ). refused_from kind (n + 1) (lines after)) (sym number);
 }
 
 -- behind lines that offered nothing
-pub line_told : (kind : LineKind) (a b c : Progress) (x y z : Option (List ℕ)) (line : List ℕ) (news : List Tuple) → ReadsOnTold kind a b x y [] → OfKnown (TakesLine line) (prepend_known b.ahead y) (prepend_known c.ahead z) → IsLine line → b.number < most_lines → c.number ≡ b.number + 1 → line_offers kind line ≡ Some news → ReadsOnTold kind a c x z news
+pub line_told : (kind : LineKind) (a b c : Progress) (x y z : Option (List ℕ)) (line : List ℕ) (news : List Tuple) → ReadsOnTold kind a b x y []
+    → OfKnown (TakesLine line) (prepend_known b.ahead y) (prepend_known c.ahead z) → IsLine line → b.number < most_lines → c.number ≡ b.number + 1 → line_offers kind line ≡ Some news
+    → ReadsOnTold kind a c x z news
 line_told kind a b c x y z line news reads step is few number offers = told_both kind a b c x y z [] news reads (λ before tells.
     let moved = of_some (TakesLine line) before _ (subst (λ (known : Option (List ℕ)). OfKnown (TakesLine line) known (prepend_known c.ahead z)) tells step) in
     (moved.0, moved.1, line_read kind b c line before moved.0 news moved.2 is few number offers))
 
-pub line_refused : (kind : LineKind) (a b : Progress) (ahead : List ℕ) (x y z : Option (List ℕ)) (line : List ℕ) → ReadsOnTold kind a b x y [] → OfKnown (TakesLine line) (prepend_known b.ahead y) (prepend_known ahead z) → IsLine line → b.number < most_lines → line_offers kind line ≡ None → RefusesTold kind a x (b.number + 1)
+pub line_refused : (kind : LineKind) (a b : Progress) (ahead : List ℕ) (x y z : Option (List ℕ)) (line : List ℕ) → ReadsOnTold kind a b x y []
+    → OfKnown (TakesLine line) (prepend_known b.ahead y) (prepend_known ahead z) → IsLine line → b.number < most_lines → line_offers kind line ≡ None → RefusesTold kind a x (b.number + 1)
 line_refused kind a b ahead x y z line reads step is few none = λ before tells.
     let so_far = reads before tells in
     let moved = of_some (TakesLine line) so_far.0 _ (subst (λ (known : Option (List ℕ)). OfKnown (TakesLine line) known (prepend_known ahead z)) so_far.1 step) in
@@ -113,7 +121,9 @@ no_bytes ahead None h = let no : ⊥ = cc in absurd no
 no_bytes [] (Some bytes) h = h
 no_bytes (b ∷ ahead) (Some bytes) h = let no : ⊥ = cc in absurd no
 
-pub of_end : (kind : LineKind) (old new : Progress) (before rest ahead : List ℕ) (left : Option (List ℕ)) → ReadsOn kind old new before rest [] → OfKnown (λ x y. (x ≡ []) × (y ≡ [])) (Some rest) (prepend_known ahead left) → (left ≡ Some []) × (offered_from kind (old.number + 1) (lines before) ≡ []) × (refused_from kind (old.number + 1) (lines before) ≡ None)
+pub of_end : (kind : LineKind) (old new : Progress) (before rest ahead : List ℕ) (left : Option (List ℕ)) → ReadsOn kind old new before rest []
+    → OfKnown (λ x y. (x ≡ []) × (y ≡ [])) (Some rest) (prepend_known ahead left) → (left ≡ Some []) × (offered_from kind (old.number + 1) (lines before) ≡ [])
+    × (refused_from kind (old.number + 1) (lines before) ≡ None)
 of_end kind old new before rest ahead left reads ends =
     let moved = of_some (λ x y. (x ≡ []) × (y ≡ [])) rest (prepend_known ahead left) ends in
     let none : lines rest ≡ [] = ap lines moved.2.0 in (
@@ -123,7 +133,8 @@ of_end kind old new before rest ahead left reads ends =
     )
 
 -- ---- a whole input
-pub read_some : (kind : LineKind) (now : Progress) (before left after : Option (List ℕ)) (news : List Tuple) (ending : Ending) → ReadsOnTold kind start now before left news → (ending ≢ Done) → ((n : ℕ) → ending ≡ LineRefused n → RefusesTold kind now left n) → HasRead kind news before after ending
+pub read_some : (kind : LineKind) (now : Progress) (before left after : Option (List ℕ)) (news : List Tuple) (ending : Ending) → ReadsOnTold kind start now before left news → (ending ≢ Done)
+    → ((n : ℕ) → ending ≡ LineRefused n → RefusesTold kind now left n) → HasRead kind news before after ending
 read_some kind now before left after news ending reads not_done refuses = record {
   offers = λ input tells. let r = reads input (ap (prepend_known []) tells) in (offered_from kind (now.number + 1) (lines r.0), r.2.offers);
   done = λ is. absurd (not_done is);
@@ -133,7 +144,8 @@ read_some kind now before left after news ending reads not_done refuses = record
       (sym (append-nil news) ∙ ap (λ (l : List Tuple). news ++ l) (sym e.0) ∙ sym r.2.offers, r.2.refuses ∙ e.1);
 }
 
-pub read_all : (kind : LineKind) (now : Progress) (before left after : Option (List ℕ)) (news : List Tuple) (ending : Ending) → ReadsOnTold kind start now before left news → EndsTold kind now left after → ((n : ℕ) → ending ≢ LineRefused n) → HasRead kind news before after ending
+pub read_all : (kind : LineKind) (now : Progress) (before left after : Option (List ℕ)) (news : List Tuple) (ending : Ending) → ReadsOnTold kind start now before left news
+    → EndsTold kind now left after → ((n : ℕ) → ending ≢ LineRefused n) → HasRead kind news before after ending
 read_all kind now before left after news ending reads ends no_line = record {
   offers = λ input tells. let r = reads input (ap (prepend_known []) tells) in (offered_from kind (now.number + 1) (lines r.0), r.2.offers);
   done = λ is input tells.

@@ -32,9 +32,11 @@ on_err_always (Ok x) P h = tt
 on_err_always (Err e) P h = h
 
 -- the pieces before this one, and a prefix of it
-pub pieces_part : {X : Type 0} (f : X → List ℕ) (pieces : List X) (i : ℕ) (d : X) (a b c : Option (List ℕ)) → i < length pieces → Appends a b (flat_map f (take i pieces)) → AppendsPrefix b c (f (get_or pieces i d)) → AppendsPrefix a c (flat_map f pieces)
+pub pieces_part : {X : Type 0} (f : X → List ℕ) (pieces : List X) (i : ℕ) (d : X) (a b c : Option (List ℕ)) → i < length pieces → Appends a b (flat_map f (take i pieces))
+    → AppendsPrefix b c (f (get_or pieces i d)) → AppendsPrefix a c (flat_map f pieces)
 pieces_part f pieces i d a b c within before part =
     let rest = drop (suc i) pieces in
     let whole : flat_map f pieces ≡ flat_map f (take i pieces) ++ (f (get_or pieces i d) ++ flat_map f rest) =
-    ap (λ l. flat_map f l) (split_at pieces i d within) ∙ flat_map-append f (take i pieces) (get_or pieces i d ∷ rest) ∙ ap (λ (l : List ℕ). flat_map f (take i pieces) ++ l) (flat_map-cons f (get_or pieces i d) rest) in
+    ap (λ l. flat_map f l) (split_at pieces i d within) ∙ flat_map-append f (take i pieces) (get_or pieces i d ∷ rest)
+    ∙ ap (λ (l : List ℕ). flat_map f (take i pieces) ++ l) (flat_map-cons f (get_or pieces i d) rest) in
     subst (λ (l : List ℕ). AppendsPrefix a c l) (sym whole) (then_prefix a b c _ _ before (prefix_more b c _ _ part))

@@ -2,9 +2,9 @@
 use Rattle.std.specs.Prelude.{◌≡◌, ◌⊎◌, ◌≤◌, ℕ, ◌+◌, ◌/◌, ◌%◌, nat_eq, if◌then◌else◌, List, [], ◌∷◌, ◌++◌, codes, Result, Ok, Err}
 use Rattle.std.specs.Fmt.{decimal}
 use Rattle.std.specs.Io.KnownBytes.{Appends}
-use Rattle.irl_offer.specs.Faults.{Rose}
-use Rattle.irl_offer.specs.declared.receipt.Fault.{Fault}
-use Rattle.irl_offer.specs.declared.receipt.Fault.TheVariants.{Failed as StoreFailed, Memory as StoreMemory, Full as StoreFull, Damaged as StoreDamaged}
+use Rattle.irl_base.specs.Faults.{Rose}
+use Rattle.irl_base.specs.declared.fault.Fault.{Fault}
+use Rattle.irl_base.specs.declared.fault.Fault.TheVariants.{Failed as StoreFailed, Memory as StoreMemory, Full as StoreFull, Damaged as StoreDamaged}
 use Rattle.irl_io.specs.Written.{AppendsPrefix}
 use Rattle.irl_yard.specs.declared.open_fault.OpenFault.{OpenFault}
 use Rattle.irl_yard.specs.declared.open_fault.OpenFault.TheVariants.{NotOurs as OpenNotOurs, Damaged as OpenDamaged, OtherSettings as OpenOtherSettings, BadSettings as OpenBadSettings, Failed as OpenFailed, Memory as OpenMemory}
@@ -28,7 +28,8 @@ status_of (Full b) = 8
 
 -- an ending that refuses the store as it is
 abbrev pub IsUnopened : Ending → Type 0
-IsUnopened ending = ((n : ℕ) × (ending ≡ BadSettings n)) ⊎ ((at : ℕ) × (ending ≡ NotOurs at)) ⊎ ((n kept wanted : ℕ) × (ending ≡ OtherSettings n kept wanted))
+IsUnopened ending = ((n : ℕ) × (ending ≡ BadSettings n)) ⊎ ((at : ℕ) × (ending ≡ NotOurs at))
+    ⊎ ((n kept wanted : ℕ) × (ending ≡ OtherSettings n kept wanted))
 
 -- an ending that comes of the input: it was read to its end, a line of it is refused, or the source failed
 abbrev pub IsEndOfInput : Ending → Type 0
@@ -72,7 +73,8 @@ message (BadSettings n) = refusal (option_of n)
 message (LineRefused n) = codes "line " ++ decimal n ++ (codes " refused" ++ 10 ∷ [])
 message (NotOurs at) = codes "not a store: byte " ++ decimal at ++ (codes " of file 0000" ++ 10 ∷ [])
 message (Damaged f at) = codes "damaged: byte " ++ decimal at ++ (codes " of file " ++ file_name f ++ 10 ∷ [])
-message (OtherSettings n kept wanted) = codes "other setting " ++ decimal n ++ (codes ": kept " ++ decimal kept ++ (codes ", asked " ++ decimal wanted ++ 10 ∷ []))
+message (OtherSettings n kept wanted) = codes "other setting " ++ decimal n
+    ++ (codes ": kept " ++ decimal kept ++ (codes ", asked " ++ decimal wanted ++ 10 ∷ []))
 message DiskFault = codes "disk fault" ++ 10 ∷ []
 message InputFault = codes "input fault" ++ 10 ∷ []
 message OutputFault = codes "output fault" ++ 10 ∷ []
@@ -82,7 +84,8 @@ message (Full b) = codes "bucket " ++ decimal b ++ (codes " full" ++ 10 ∷ [])
 -- a text was written, or a prefix of it where the sink failed
 pub record Says (text : List ℕ) (before after : Stream) : Type 0 where
   pub later : before.faults ≤ after.faults
-  pub written : Appends before.bytes after.bytes text ⊎ (AppendsPrefix before.bytes after.bytes text × Rose before.faults after.faults)
+  pub written : Appends before.bytes after.bytes text
+      ⊎ (AppendsPrefix before.bytes after.bytes text × Rose before.faults after.faults)
 
 -- what a refused opening, and a refused call on the store, end a run with
 abbrev pub ending_of_open : OpenFault → Ending

@@ -1,13 +1,12 @@
 -- What the program is lent, as it is told at one moment.
 use Rattle.std.specs.Prelude.{◌≡◌, ℕ, List, Option}
 use Rattle.irl_disk.specs.Disk.{Files}
-use Rattle.irl_disk.specs.Images.{Snapshot}
+use Rattle.irl_disk.specs.Images.{Told}
 use Rattle.irl_top.specs.Stream.{Stream}
 
--- what a command is lent tells at one moment, how often each has failed, and what a stop leaves of the store
+-- what a command is lent tells at one moment
 pub record Lent : Type 1 where
-  pub store : Snapshot
-  pub disk_faults : ℕ
+  pub store : Told
   pub input : Stream
   pub output : Stream
 
@@ -17,19 +16,20 @@ pub record Outside : Type 1 where
   pub errors : Stream
 
 -- what these objects tell
-abbrev pub lent : {S I O : Type 0} → (S → Snapshot) → (S → ℕ) → (I → Option (List ℕ)) → (I → ℕ) → (O → Option (List ℕ)) → (O → ℕ) → S → I → O → Lent
-lent snapshot faults left input_faults written output_faults store input output =
+abbrev pub lent : {S I O : Type 0} → (S → Told) → (I → Option (List ℕ)) → (I → ℕ) → (O → Option (List ℕ)) → (O → ℕ) → S
+    → I → O → Lent
+lent told left input_faults written output_faults store input output =
     record {
-      store = snapshot store;
-      disk_faults = faults store;
+      store = told store;
       input = record { bytes = left input; faults = input_faults input };
       output = record { bytes = written output; faults = output_faults output };
     }
 
-abbrev pub outside : {S I O E : Type 0} → (S → Snapshot) → (S → ℕ) → (I → Option (List ℕ)) → (I → ℕ) → (O → Option (List ℕ)) → (O → ℕ) → (E → Option (List ℕ)) → (E → ℕ) → S → I → O → E → Outside
-outside snapshot faults left input_faults written output_faults said error_faults store input output errors =
+abbrev pub outside : {S I O E : Type 0} → (S → Told) → (I → Option (List ℕ)) → (I → ℕ) → (O → Option (List ℕ)) → (O → ℕ)
+    → (E → Option (List ℕ)) → (E → ℕ) → S → I → O → E → Outside
+outside told left input_faults written output_faults said error_faults store input output errors =
     record {
-      lent = lent snapshot faults left input_faults written output_faults store input output;
+      lent = lent told left input_faults written output_faults store input output;
       errors = record { bytes = said errors; faults = error_faults errors };
     }
 
@@ -39,6 +39,7 @@ pub record IsUntouched (before after : Lent) : Type 0 where
   pub images : (image : Files) → after.store.images image → before.store.images image
   pub since : (t : ℕ) (image : Files) → after.store.since t image → before.store.since t image
   pub moment : after.store.moment ≡ before.store.moment
-  pub disk_faults : after.disk_faults ≡ before.disk_faults
+  pub taken : after.store.taken ≡ before.store.taken
+  pub faults : after.store.faults ≡ before.store.faults
   pub input : after.input ≡ before.input
   pub output : after.output ≡ before.output

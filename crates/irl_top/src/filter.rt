@@ -1,6 +1,6 @@
 ghost use Rattle.std.specs.Prelude.{◌≡◌, ◌≢◌, ◌+◌, ◌≤◌, List, ℕ, []};
 ghost use Rattle.std.specs.Option.{ForSome};
-ghost use Rattle.irl_offer.specs.Faults.{HasCause};
+ghost use Rattle.irl_base.specs.Faults.{HasCause};
 ghost use Rattle.irl_offer.specs.Tuple.{Tuple};
 ghost use Rattle.irl_model.specs.Book.{IsPrefixOf};
 ghost use Rattle.irl_yard.specs.Holding.{IsSound};
@@ -33,7 +33,7 @@ pub fn filter<I: Source, O: Sink, S: Store>(
     store: S,
 ) -> (Ending, S)
     requires lines { asked.now.kind ≢ Crawl }
-    ensures { let tells = lent S.snapshot S.faults I.left I.faults O.written O.faults in
+    ensures { let tells = lent S.told I.left I.faults O.written O.faults in
         Ran (line_task kind asked.now) (tells store input.old output.old) (tells result.1 input.new output.new) result.0 }
 {
     let yard = match Yard::enter(alloc, store, asked) {
@@ -61,11 +61,12 @@ fn take_in<I: Source, O: Sink, S: Store>(
 ) -> Result<(), Ending>
     requires sound { IsSound intake.old.yard.parts }
     requires whole { intake.old.yard.parts.urls.last.judged ≤ printed.old }
-    ensures ends { let at = place S.snapshot S.faults O.written O.faults in (news : List Tuple)
+    ensures ends { let at = place S.told O.written O.faults in (news : List Tuple)
         × HasRead kind news (I.left input.old) (I.left input.new) (ending_of result)
-        × EndsWith kind 1 one_more news (at intake.old.yard.store intake.old.yard.parts intake.old.arrays.items output.old printed.old)
+        × EndsWith kind 1 one_more news (at intake.old.yard.store intake.old.yard.parts intake.old.arrays.items
+        output.old printed.old)
         (at intake.new.yard.store intake.new.yard.parts intake.new.arrays.items output.new printed.new) (ending_of result) }
-    ensures reason { let at = place S.snapshot S.faults O.written O.faults in
+    ensures reason { let at = place S.told O.written O.faults in
         HasReason (at intake.old.yard.store intake.old.yard.parts intake.old.arrays.items output.old printed.old)
         (at intake.new.yard.store intake.new.yard.parts intake.new.arrays.items output.new printed.new) (ending_of result) }
     ensures cause { HasCause (ending_of result ≡ Ending.InputFault) (I.faults input.old) (I.faults input.new) }

@@ -1,5 +1,5 @@
 ghost use Rattle.std.specs.Prelude.{◌≡◌, ◌≤◌, length, IfOk};
-ghost use Rattle.irl_offer.specs.Limits.{max_text};
+ghost use Rattle.irl_base.specs.Limits.{max_text};
 ghost use Rattle.irl_top.specs.Input.{text_tuple, line_offers};
 ghost use Rattle.irl_top.specs.Reading.{offers_read};
 

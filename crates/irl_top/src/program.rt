@@ -2,7 +2,7 @@ ghost use Rattle.std.specs.Prelude.{◌≡◌, ◌≢◌, map};
 ghost use Rattle.irl_words.specs.Words.{IsInRange};
 ghost use Rattle.irl_top.specs.Message.{refused_status};
 ghost use Rattle.irl_top.specs.Outside.{outside, lent};
-ghost use Rattle.irl_top.specs.Run.{Runs, Obeys, Ran, task_of};
+ghost use Rattle.irl_top.specs.Run.{Runs, Obeys, Does};
 
 use crate::Ending;
 use crate::ending::REFUSED;
@@ -35,7 +35,7 @@ where
     O: Sink,
     E: Sink,
     S: Store,
-    ensures { let tells = outside S.snapshot S.faults I.left I.faults O.written O.faults E.written E.faults in
+    ensures { let tells = outside S.told I.left I.faults O.written O.faults E.written E.faults in
         Runs (map (λ word. word.now) words.now)
         (tells store input.old output.old errors.old) (tells result.1 input.new output.new errors.new) result.0 }
 {
@@ -65,8 +65,8 @@ pub fn plain<I: Source, O: Sink, E: Sink, S: Store>(
     store: S,
 ) -> (u8, S)
     requires { IsInRange command.now }
-    ensures obeys { let tells = outside S.snapshot S.faults I.left I.faults O.written O.faults E.written E.faults in
-        Obeys (task_of command.now)
+    ensures obeys { let tells = outside S.told I.left I.faults O.written O.faults E.written E.faults in
+        Obeys command.now
         (tells store input.old output.old errors.old) (tells result.1 input.new output.new errors.new) result.0 }
     ensures accepted { result.0 ≢ refused_status }
 {
@@ -84,8 +84,8 @@ fn carry_out<I: Source, O: Sink, S: Store>(
     store: S,
 ) -> (Ending, S)
     requires { IsInRange command.now }
-    ensures { let tells = lent S.snapshot S.faults I.left I.faults O.written O.faults in
-        Ran (task_of command.now) (tells store input.old output.old) (tells result.1 input.new output.new) result.0 }
+    ensures { let tells = lent S.told I.left I.faults O.written O.faults in
+        Does command.now (tells store input.old output.old) (tells result.1 input.new output.new) result.0 }
 {
     match command {
         Command::Seen(asked) => filter(alloc, LineKind::Text, asked, input, output, store),

@@ -1,5 +1,5 @@
 ghost use Rattle.std.specs.Prelude.{◌≡◌, ◌<◌, ◌≤◌, ◌⊎◌, ℕ, List, [], ◌∷◌, IfOk, IfErr, IfSome, None, IsErrOf};
-ghost use Rattle.irl_offer.specs.Faults.{HasCause};
+ghost use Rattle.irl_base.specs.Faults.{HasCause};
 ghost use Rattle.irl_io.specs.Lines.{most_lines};
 ghost use Rattle.irl_top.specs.Session.{ReadsOnTold, EndsTold, RefusesTold};
 ghost use Rattle.irl_top.specs.declared.ending.Ending.TheVariants.{NoMemory as NoMemoryEnding, InputFault as InputEnding, LineRefused as RefusedEnding};
@@ -24,7 +24,8 @@ pub fn next_offer<I: Source>(
     ensures none { IfOk result (λ found. found ≡ None → EndsTold kind lines.old (I.left input.old) (I.left input.new)) }
     ensures kinds { IfErr result (λ ending. (ending ≡ NoMemoryEnding) ⊎ (ending ≡ InputEnding)
         ⊎ ((n : ℕ) × (ending ≡ RefusedEnding n))) }
-    ensures refused { (n : ℕ) → IsErrOf result (Ending.LineRefused n) → RefusesTold kind lines.old (I.left input.old) n }
+    ensures refused { (n : ℕ) → IsErrOf result (Ending.LineRefused n)
+        → RefusesTold kind lines.old (I.left input.old) n }
     ensures cause { HasCause (IsErrOf result InputEnding) (I.faults input.old) (I.faults input.new) }
 {
     'lines: loop {

@@ -1,6 +1,6 @@
 ghost use Rattle.std.specs.Prelude.{◌≡◌, ◌≤◌, ◌⊎◌, ⊤, List, [], ◌∷◌, IfErr, OnOk, OnErr, IsErrOf};
 ghost use Rattle.std.specs.Io.KnownBytes.{Appends};
-ghost use Rattle.irl_offer.specs.Faults.{HasCause};
+ghost use Rattle.irl_base.specs.Faults.{HasCause};
 ghost use Rattle.irl_io.specs.Written.{AppendsPrefix};
 ghost use Rattle.irl_yard.specs.Holding.{IsSound};
 ghost use Rattle.irl_intake.specs.Schedule.{none_more, one_more};
@@ -32,16 +32,16 @@ pub fn take_offer<O: Sink, S: Store>(
     offer: Offer,
 ) -> Result<(), Ending>
     requires sound { IsSound intake.old.yard.parts }
-    ensures goes { OnOk result (let at = place S.snapshot S.faults O.written O.faults in
+    ensures goes { OnOk result (let at = place S.told O.written O.faults in
         GoesOn kind 0 none_more (offer ∷ []) (at intake.old.yard.store intake.old.yard.parts intake.old.arrays.items output.old printed.old)
         (at intake.new.yard.store intake.new.yard.parts intake.new.arrays.items output.new printed.new)) }
     ensures whole { OnOk result (intake.new.yard.parts.urls.last.judged ≤ printed.new) }
     ensures sound { OnOk result (IsSound intake.new.yard.parts) }
-    ensures ends { IfErr result (λ ending. let at = place S.snapshot S.faults O.written O.faults in
+    ensures ends { IfErr result (λ ending. let at = place S.told O.written O.faults in
         EndsWith kind 0 none_more [] (at intake.old.yard.store intake.old.yard.parts intake.old.arrays.items output.old printed.old)
         (at intake.new.yard.store intake.new.yard.parts intake.new.arrays.items output.new printed.new) ending) }
     ensures kinds { IfErr result (λ ending. IsEndOfInput ending → ⊥) }
-    ensures reason { let at = place S.snapshot S.faults O.written O.faults in
+    ensures reason { let at = place S.told O.written O.faults in
         HasReason (at intake.old.yard.store intake.old.yard.parts intake.old.arrays.items output.old printed.old)
         (at intake.new.yard.store intake.new.yard.parts intake.new.arrays.items output.new printed.new) (ending_of result) }
 {
@@ -67,11 +67,11 @@ pub fn end_input<O: Sink, S: Store>(
     output: &mut O,
 ) -> Result<(), Ending>
     requires sound { IsSound intake.old.yard.parts }
-    ensures ends { let at = place S.snapshot S.faults O.written O.faults in
+    ensures ends { let at = place S.told O.written O.faults in
         EndsWith kind 1 one_more [] (at intake.old.yard.store intake.old.yard.parts intake.old.arrays.items output.old printed.old)
         (at intake.new.yard.store intake.new.yard.parts intake.new.arrays.items output.new printed.new) (ending_of result) }
     ensures kinds { IfErr result (λ ending. IsEndOfInput ending → ⊥) }
-    ensures reason { let at = place S.snapshot S.faults O.written O.faults in
+    ensures reason { let at = place S.told O.written O.faults in
         HasReason (at intake.old.yard.store intake.old.yard.parts intake.old.arrays.items output.old printed.old)
         (at intake.new.yard.store intake.new.yard.parts intake.new.arrays.items output.new printed.new) (ending_of result) }
 {
@@ -95,18 +95,18 @@ fn print_new<O: Sink, S: Store>(
     output: &mut O,
 ) -> Result<(), Ending>
     requires sound { IsSound intake.old.yard.parts }
-    ensures goes { OnOk result (let at = place S.snapshot S.faults O.written O.faults in
+    ensures goes { OnOk result (let at = place S.told O.written O.faults in
         GoesOn kind 0 none_more [] (at intake.old.yard.store intake.old.yard.parts intake.old.arrays.items output.old printed.old)
         (at intake.new.yard.store intake.new.yard.parts intake.new.arrays.items output.new printed.new)) }
     ensures whole { OnOk result (intake.new.yard.parts.urls.last.judged ≤ printed.new) }
     ensures sound { OnOk result (IsSound intake.new.yard.parts) }
     ensures urls { intake.new.yard.parts.urls ≡ intake.old.yard.parts.urls }
     ensures arrays { intake.new.arrays ≡ intake.old.arrays }
-    ensures ends { IfErr result (λ ending. let at = place S.snapshot S.faults O.written O.faults in
+    ensures ends { IfErr result (λ ending. let at = place S.told O.written O.faults in
         EndsWith kind 0 none_more [] (at intake.old.yard.store intake.old.yard.parts intake.old.arrays.items output.old printed.old)
         (at intake.new.yard.store intake.new.yard.parts intake.new.arrays.items output.new printed.new) ending) }
     ensures kinds { IfErr result (λ ending. IsEndOfInput ending → ⊥) }
-    ensures reason { let at = place S.snapshot S.faults O.written O.faults in
+    ensures reason { let at = place S.told O.written O.faults in
         HasReason (at intake.old.yard.store intake.old.yard.parts intake.old.arrays.items output.old printed.old)
         (at intake.new.yard.store intake.new.yard.parts intake.new.arrays.items output.new printed.new) (ending_of result) }
 {
@@ -127,7 +127,8 @@ fn print_piece<O: Sink>(
     output: &mut O,
 ) -> Result<(), Ending>
     ensures ok { OnOk result (Appends (O.written output.old) (O.written output.new) (judged_lines kind judged.now)) }
-    ensures err { OnErr result (AppendsPrefix (O.written output.old) (O.written output.new) (judged_lines kind judged.now)) }
+    ensures err { OnErr result (AppendsPrefix (O.written output.old) (O.written output.new)
+        (judged_lines kind judged.now)) }
     ensures kinds { IfErr result (λ ending. (ending ≡ NoMemoryEnding) ⊎ (ending ≡ OutputEnding)) }
     ensures cause { HasCause (IsErrOf result OutputEnding) (O.faults output.old) (O.faults output.new) }
 {

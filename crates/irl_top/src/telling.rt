@@ -1,7 +1,7 @@
 ghost use Rattle.std.specs.Prelude.{◌≡◌, ◌++◌, List, ℕ, map, length, OnOk, OnErr, IsErr};
 ghost use Rattle.std.specs.List.{flat_map};
 ghost use Rattle.std.specs.Io.KnownBytes.{Appends};
-ghost use Rattle.irl_offer.specs.Faults.{HasCause};
+ghost use Rattle.irl_base.specs.Faults.{HasCause};
 ghost use Rattle.irl_io.specs.Written.{AppendsPrefix};
 ghost use Rattle.irl_top.specs.declared.ending.Ending.TheVariants.{OtherSettings};
 ghost use Rattle.irl_top.specs.Message.{message, refusal, option_of, file_name as name_of_file};

@@ -42,7 +42,8 @@ joined_more : (b : ℕ) (p : List ℕ × Option (List ℕ)) → joined (b ∷ p.
 joined_more b (front, None) = refl
 joined_more b (front, Some rest) = refl
 
-joined_by : (b : ℕ) (bytes : List ℕ) (test : Bool) → (test ≡ true → b ≡ 32) → joined (cut bytes) ≡ bytes → joined (cond {A = List ℕ × Option (List ℕ)} test ([], Some bytes) (b ∷ (cut bytes).0, (cut bytes).1)) ≡ b ∷ bytes
+joined_by : (b : ℕ) (bytes : List ℕ) (test : Bool) → (test ≡ true → b ≡ 32) → joined (cut bytes) ≡ bytes
+    → joined (cond {A = List ℕ × Option (List ℕ)} test ([], Some bytes) (b ∷ (cut bytes).0, (cut bytes).1)) ≡ b ∷ bytes
 joined_by b bytes true space later = ap (λ c. c ∷ bytes) (sym (space refl))
 joined_by b bytes false space later = joined_more b (cut bytes) ∙ ap (λ l. b ∷ l) later
 

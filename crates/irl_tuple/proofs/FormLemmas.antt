@@ -148,11 +148,14 @@ by_both : (line : List ℕ) (offer : Tuple) (test : Bool) → begins (codes "b "
 by_both line offer true is found = to_both line (drop 2 line) offer (begins_with (codes "b ") line is) found
 by_both line offer false is found = let no : ⊥ = cc in absurd no
 
-by_update : (line : List ℕ) (offer : Tuple) (test : Bool) → begins (codes "u ") line ≡ test → cond test (update_of (drop 2 line)) (cond (begins (codes "b ") line) (both_of (drop 2 line)) None) ≡ Some offer → IsTupleLine line offer
+by_update : (line : List ℕ) (offer : Tuple) (test : Bool) → begins (codes "u ") line ≡ test
+    → cond test (update_of (drop 2 line)) (cond (begins (codes "b ") line) (both_of (drop 2 line)) None) ≡ Some offer → IsTupleLine line offer
 by_update line offer true is found = to_update line (drop 2 line) offer (begins_with (codes "u ") line is) found
 by_update line offer false is found = by_both line offer (begins (codes "b ") line) refl found
 
-by_check : (line : List ℕ) (offer : Tuple) (test : Bool) → begins (codes "c ") line ≡ test → cond test (check_of (drop 2 line)) (cond (begins (codes "u ") line) (update_of (drop 2 line)) (cond (begins (codes "b ") line) (both_of (drop 2 line)) None)) ≡ Some offer → IsTupleLine line offer
+by_check : (line : List ℕ) (offer : Tuple) (test : Bool) → begins (codes "c ") line ≡ test
+    → cond test (check_of (drop 2 line)) (cond (begins (codes "u ") line) (update_of (drop 2 line)) (cond (begins (codes "b ") line) (both_of (drop 2 line)) None)) ≡ Some offer
+    → IsTupleLine line offer
 by_check line offer true is found = to_check line (drop 2 line) offer (begins_with (codes "c ") line is) found
 by_check line offer false is found = by_update line offer (begins (codes "u ") line) refl found
 

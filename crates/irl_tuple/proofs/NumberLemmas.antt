@@ -17,12 +17,14 @@ digit_is true d v e = (refl, cc)
 digit_is false d v e = let no : ⊥ = cc in absurd no
 
 -- one more digit
-pub number_more : (radix : ℕ) (bs : List ℕ) (i n r d : ℕ) → i < length bs → n ≡ digits_value radix (take i bs) → r ≡ radix → d ≡ digit_value (get_or bs i 0) → n * r + d ≡ digits_value radix (take (i + 1) bs)
+pub number_more : (radix : ℕ) (bs : List ℕ) (i n r d : ℕ) → i < length bs → n ≡ digits_value radix (take i bs) → r ≡ radix → d ≡ digit_value (get_or bs i 0)
+    → n * r + d ≡ digits_value radix (take (i + 1) bs)
 number_more radix bs i n r d inside is radix_is digit =
     ap (λ k. k * r + d) is ∙ ap (λ k. digits_value radix (take i bs) * k + d) radix_is ∙ ap (λ k. digits_value radix (take i bs) * radix + k) digit
     ∙ sym (digits_value_more radix bs i inside)
 
-pub digits_more : (radix : ℕ) (bs : List ℕ) (i : ℕ) → i < length bs → list_all (is_digit_of radix) (take i bs) ≡ true → is_digit_of radix (get_or bs i 0) ≡ true → list_all (is_digit_of radix) (take (i + 1) bs) ≡ true
+pub digits_more : (radix : ℕ) (bs : List ℕ) (i : ℕ) → i < length bs → list_all (is_digit_of radix) (take i bs) ≡ true → is_digit_of radix (get_or bs i 0) ≡ true
+    → list_all (is_digit_of radix) (take (i + 1) bs) ≡ true
 digits_more radix bs i inside before here = list_all_more (is_digit_of radix) bs i 0 inside ∙ and_from _ _ before here
 
 -- the first digits have a number that doesn't fit

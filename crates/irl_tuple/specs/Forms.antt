@@ -8,7 +8,8 @@ use Rattle.irl_offer.specs.declared.offer.Op.TheVariants as op
 use Rattle.irl_offer.specs.Tuple.{Tuple}
 use Rattle.irl_tuple.specs.Tuples.{tuple}
 
--- `c KEY` by the digits of KEY, `u KEY VALUE` by these and the value, `b KEY VALUE AUX` by these and AUX, which may be empty
+-- `c KEY` by the digits of KEY, `u KEY VALUE` by these and the value, `b KEY VALUE AUX` by these and AUX, which may be
+-- empty
 pub data Form : Type 0 where
   Check : List ℕ → Form
   Update : List ℕ → ℕ → Form

@@ -1,4 +1,5 @@
--- What a tuple line offers: `c KEY`, `u KEY VALUE`, `b KEY VALUE` or `b KEY VALUE AUX`. `Forms` has the same as it is written.
+-- What a tuple line offers: `c KEY`, `u KEY VALUE`, `b KEY VALUE` or `b KEY VALUE AUX`. `Forms` has the same as it is
+-- written.
 use Rattle.std.specs.Prelude.{ℕ, ◌^◌, nat_eq, nat_lt, nat_le, Bool, ◌&&◌, ◌||◌, ◌==◌, not, if◌then◌else◌, List, [], ◌∷◌, length, drop, slice_index, bytes_eq, codes, Option, None, Some}
 use Rattle.std.specs.Char.{is_digit, is_ascii_uppercase}
 use Rattle.std.specs.List.{starts_with, list_all}
@@ -20,7 +21,8 @@ is_digit_of radix b = is_digit b radix && not (is_ascii_uppercase b)
 -- the number that digits write, if they are digits and it has at most 64 bits
 abbrev pub number_of : ℕ → List ℕ → Option ℕ
 number_of radix digits =
-    if list_all (is_digit_of radix) digits && nat_lt (digits_value radix digits) (2 ^ 64) then Some (digits_value radix digits) else None
+    if list_all (is_digit_of radix) digits && nat_lt (digits_value radix digits) (2 ^ 64) then Some
+    (digits_value radix digits) else None
 
 -- KEY: 1 to 16 hexadecimal digits
 abbrev pub key_of : List ℕ → Option ℕ
@@ -29,7 +31,8 @@ key_of digits = if nat_le 1 (length digits) && nat_le (length digits) 16 then nu
 -- VALUE: `0`, or decimal digits of which the first isn't 0
 abbrev pub value_of : List ℕ → Option ℕ
 value_of digits =
-    if bytes_eq digits (codes "0") || (nat_le 1 (length digits) && not (slice_index digits 0 == 48)) then number_of 10 digits else None
+    if bytes_eq digits (codes "0") || (nat_le 1 (length digits) && not (slice_index digits 0 == 48)) then number_of 10
+    digits else None
 
 -- the bytes before the first space, and those behind it where there is one
 unfoldable pub cut : List ℕ → List ℕ × Option (List ℕ)

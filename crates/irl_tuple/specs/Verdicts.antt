@@ -1,5 +1,5 @@
--- The lines in which verdicts are told: `unique KEY`, `absent KEY` or `known KEY VALUE`, then a space and the text where it isn't
--- empty, and a line feed.
+-- The lines in which verdicts are told: `unique KEY`, `absent KEY` or `known KEY VALUE`, then a space and the text
+-- where it isn't empty, and a line feed.
 use Rattle.std.specs.Prelude.{ℕ, zero, suc, ◌/◌, ◌%◌, List, [], ◌∷◌, ◌++◌, codes, Option, None, Some}
 use Rattle.std.specs.Char.{digit_char}
 use Rattle.std.specs.Fmt.{decimal}

@@ -1,5 +1,5 @@
 ghost use Rattle.std.specs.Prelude.{◌≡◌, ◌+◌, ◌≤◌, length, option_map, option_copied, IfOk, IfSome};
-ghost use Rattle.irl_offer.specs.Limits.{max_text};
+ghost use Rattle.irl_base.specs.Limits.{max_text};
 ghost use Rattle.irl_tuple.specs.Tuples.{tuple_of, check_of, update_of, both_of, aux_of, cut as cut_at, tuple};
 
 use crate::number::{read_key, read_value};

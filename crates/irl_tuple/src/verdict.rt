@@ -34,7 +34,8 @@ pub fn push_verdict(
 }
 
 fn push_line(key: u64, verdict: Verdict, aux: &[u8], out: &mut Vec<u8>) -> Result<(), AllocError>
-    ensures ok { OnOk result (out.new.items ≡ out.old.items ++ (verdict_words key verdict ++ (spaced aux.now ++ 10 ∷ []))) }
+    ensures ok { OnOk result (out.new.items ≡ out.old.items
+        ++ (verdict_words key verdict ++ (spaced aux.now ++ 10 ∷ []))) }
     ensures err { OnErr result (take (vec_len out.old) out.new.items ≡ out.old.items) }
 {
     push_words(key, verdict, out)?;

@@ -2,7 +2,6 @@
 use Rattle.std.proofs.Common.{◌≡◌, ◌<◌, ◌≤◌, ◌^◌, ℕ, List, Option, Some, None, Result, Ok, Err, IfSome, refl, ap, arith, option_map, unwrap_or}
 use Rattle.std.specs.Str.Parse.{ParsesUnsigned, digits_value, without_leading_plus}
 use Rattle.clap.specs.Words.{IsUnsignedIn, ReadsOne, Row, one_of}
-use Rattle.irl_words.specs.Rows.{IsUpTo}
 use Rattle.irl_words.specs.Words.{number_in}
 
 -- a value that is a number of at most k bits is read as that number
@@ -20,7 +19,7 @@ number_read {E} G k most (Some t) r none some only fits range = go r (some t ref
         absurd (only t (Err h.0) h.1 (range.0, small))
 
 -- a size that is named lies in its range, where the default does
-pub size_in_range : (option : List ℕ) (most default : ℕ) (rows : List Row) → IsUpTo option most rows → 1 ≤ default → default ≤ most
+pub size_in_range : (option : List ℕ) (most default : ℕ) (rows : List Row) → IfSome (one_of option rows) (IsUnsignedIn 1 most) → 1 ≤ default → default ≤ most
     → (1 ≤ unwrap_or (number_in option rows) default) × (unwrap_or (number_in option rows) default ≤ most)
 size_in_range option most default rows range low high = go (one_of option rows) range
   where

@@ -24,56 +24,56 @@ use Rattle.clap.proofs.CallerLemmas.{entry_by_id}
 use Rattle.clap.proofs.SimpleLemmas.{HasPlainFields, plain_fields, simple_groups}
 use Rattle.clap.proofs.WalkLemmas.{both}
 
--- the parser takes the numbers from 1 to `most`
-abbrev pub is_up_to : ℕ → Option ValueParser → Bool
-is_up_to most (Some (Unsigned least greatest)) = (least == 1) && (greatest == most)
-is_up_to most _ = false
+-- the parser takes the numbers of a range
+abbrev pub is_between : ℕ → ℕ → Option ValueParser → Bool
+is_between least most (Some (Unsigned a b)) = (a == least) && (b == most)
+is_between least most _ = false
 
 -- an option of this id does
-abbrev pub takes_up_to : List ℕ → ℕ → Rule → Bool
-takes_up_to id most r = not (bytes_eq r.id id) || is_up_to most r.parser
+abbrev pub takes_between : List ℕ → ℕ → ℕ → Rule → Bool
+takes_between id least most r = not (bytes_eq r.id id) || is_between least most r.parser
 
-up_to_parser : (most : ℕ) (p : Option ValueParser) → is_up_to most p ≡ true → p ≡ Some (Unsigned 1 most)
-up_to_parser most (Some (Unsigned least greatest)) e =
-    let least_is : least ≡ 1 = eqb-true least 1 (both _ _ e).0 in
-    let most_is : greatest ≡ most = eqb-true greatest most (both _ _ e).1 in
+parser_between : (least most : ℕ) (p : Option ValueParser) → is_between least most p ≡ true → p ≡ Some (Unsigned least most)
+parser_between least most (Some (Unsigned a b)) e =
+    let least_is : a ≡ least = eqb-true a least (both _ _ e).0 in
+    let most_is : b ≡ most = eqb-true b most (both _ _ e).1 in
     rw (least_is, most_is) refl
-up_to_parser most _ e = cc
+parser_between least most _ e = cc
 
 by_id : (b c : Bool) → (not b || c) ≡ true → b ≡ true → c ≡ true
 by_id true c e f = e
 by_id false c e f = cc
 
-each_up_to : (id : List ℕ) (most : ℕ) (xs : List Arg) → list_all (takes_up_to id most) (map rule_of xs) ≡ true
-    → All (λ a. takes_up_to id most (rule_of a) ≡ true) xs
-each_up_to id most [] e k d lt = absurd (omega arith)
-each_up_to id most (x ∷ xs) e zero d lt = (both _ _ e).0
-each_up_to id most (x ∷ xs) e (suc k) d lt = each_up_to id most xs (both _ _ e).1 k d (omega arith)
+each_between : (id : List ℕ) (least most : ℕ) (xs : List Arg) → list_all (takes_between id least most) (map rule_of xs) ≡ true
+    → All (λ a. takes_between id least most (rule_of a) ≡ true) xs
+each_between id least most [] e k d lt = absurd (omega arith)
+each_between id least most (x ∷ xs) e zero d lt = (both _ _ e).0
+each_between id least most (x ∷ xs) e (suc k) d lt = each_between id least most xs (both _ _ e).1 k d (omega arith)
 
 -- what building keeps of an option: one of this id takes those numbers
-built_parser : (old : Command) (m : ArgMatches) (p : IsParsedFrom old m) (id : List ℕ) (most : ℕ)
-    → list_all (takes_up_to id most) (shape_of old).rules ≡ true
+built_parser : (old : Command) (m : ArgMatches) (p : IsParsedFrom old m) (id : List ℕ) (least most : ℕ)
+    → list_all (takes_between id least most) (shape_of old).rules ≡ true
     → bytes_eq (codes "help") id ≡ false → bytes_eq (codes "version") id ≡ false
     → (k : ℕ) (x : Arg) → k < length (args_of p.built) → slice_index_or (args_of p.built) k x ≡ x → bytes_eq x.id.now id ≡ true
-    → parser_of x ≡ Unsigned 1 most
-built_parser old m p id most each help version k x lt at same = go (cases_lt k (length (args_of old)))
+    → parser_of x ≡ Unsigned least most
+built_parser old m p id least most each help version k x lt at same = go (cases_lt k (length (args_of old)))
   where
     named : bytes_eq (slice_index_or (args_of p.built) k x).id.now id ≡ true
     named = rw at same
 
-    auto : IsAuto (slice_index_or (args_of p.built) k x) → parser_of x ≡ Unsigned 1 most
+    auto : IsAuto (slice_index_or (args_of p.built) k x) → parser_of x ≡ Unsigned least most
     auto (inl e) = let bad : false ≡ true = sym help ∙ (ap (λ t. bytes_eq t id) (sym e) ∙ named) in cc
     auto (inr e) = let bad : false ≡ true = sym version ∙ (ap (λ t. bytes_eq t id) (sym e) ∙ named) in cc
 
     kept : SameRules (slice_index_or (args_of old) k x) (slice_index_or (args_of p.built) k x) → k < length (args_of old)
-        → parser_of x ≡ Unsigned 1 most
+        → parser_of x ≡ Unsigned least most
     kept s below =
-        let here = each_up_to id most (args_of old) each k x below in
+        let here = each_between id least most (args_of old) each k x below in
         let was : bytes_eq (slice_index_or (args_of old) k x).id.now id ≡ true = subst (λ t. bytes_eq t.now id ≡ true) s.id named in
-        let parser = up_to_parser most (slice_index_or (args_of old) k x).value_parser (by_id _ _ here was) in
-        ap parser_of (sym at) ∙ ap parser_of_value (s.parser (Unsigned 1 most) parser)
+        let parser = parser_between least most (slice_index_or (args_of old) k x).value_parser (by_id _ _ here was) in
+        ap parser_of (sym at) ∙ ap parser_of_value (s.parser (Unsigned least most) parser)
 
-    go : ((k < length (args_of old)) ⊎ (length (args_of old) ≤ k)) → parser_of x ≡ Unsigned 1 most
+    go : ((k < length (args_of old)) ⊎ (length (args_of old) ≤ k)) → parser_of x ≡ Unsigned least most
     go (inl below) = kept (p.from.kept k x below).1 below
     go (inr past) = auto (p.from.extra k x past lt)
 
@@ -86,12 +86,12 @@ first_passes : (P : Bor (List ℕ) → Type 0) (Q : List ℕ → Type 0) (vs : L
 first_passes P Q [] all to = tt
 first_passes P Q (v ∷ vs) all to = to v (All-get_or P (v ∷ vs) 0 v (omega arith) all)
 
--- After a parse the value of an option that takes the numbers from 1 to `most`, where it has one, is such a number.
+-- After a parse the value of an option that takes the numbers of a range, where it has one, is such a number.
 pub value_in_range : (old : Command) (m : ArgMatches) → IsParsedFrom old m → has_simple_rules (shape_of old) ≡ true
-    → (id : List ℕ) (most : ℕ) → 0 < length id → list_all (takes_up_to id most) (shape_of old).rules ≡ true
+    → (id : List ℕ) (least most : ℕ) → 0 < length id → list_all (takes_between id least most) (shape_of old).rules ≡ true
     → bytes_eq (codes "help") id ≡ false → bytes_eq (codes "version") id ≡ false
-    → IfSome (one_text (found_of m) id) (IsUnsignedIn 1 most)
-value_in_range old m p simple id most named each help version = go (matched_of (found_of m) id) refl
+    → IfSome (one_text (found_of m) id) (IsUnsignedIn least most)
+value_in_range old m p simple id least most named each help version = go (matched_of (found_of m) id) refl
   where
     plain : HasPlainFields old
     plain = plain_fields old (simple_parts (shape_of old) simple).0
@@ -100,10 +100,10 @@ value_in_range old m p simple id most named each help version = go (matched_of (
     no_groups = (p.from.same_groups (simple_groups old (simple_parts (shape_of old) simple).1)).1 ∙ plain.groups
 
     parser : (k : ℕ) (x : Arg) → k < length (args_of p.built) → slice_index_or (args_of p.built) k x ≡ x → bytes_eq x.id.now id ≡ true
-        → parser_of x ≡ Unsigned 1 most
-    parser = built_parser old m p id most each help version
+        → parser_of x ≡ Unsigned least most
+    parser = built_parser old m p id least most each help version
 
-    accepted : (v : Bor (List ℕ)) → PassesArg p.built id v.now → IsUnsignedIn 1 most v.now
+    accepted : (v : Bor (List ℕ)) → PassesArg p.built id v.now → IsUnsignedIn least most v.now
     accepted v (k, x, lt, at, (same, pass)) =
         subst (λ (q : ValueParser). Accepts x.ignore_case q v.now) (parser k x lt at same) pass
 
@@ -111,7 +111,7 @@ value_in_range old m p simple id most named each help version = go (matched_of (
     as_written r (k, x, lt, at, (same, is)) = sym is ∙ ap reading_of (parser k x lt at same)
 
     entry : (a : MatchedArg) (e : Entry) → e.1 ≡ a → e.0.now ≡ id → EntryPasses p.built e
-        → IfSome (option_map (λ s. read_as a.reading s.now) (slice_get a.vals.items 0)) (IsUnsignedIn 1 most)
+        → IfSome (option_map (λ s. read_as a.reading s.now) (slice_get a.vals.items 0)) (IsUnsignedIn least most)
     entry a e is key pass =
         let no_group : e.1.is_group ≡ true → ⊥ = λ g. elim (pass.3 g) [
           | inl empty ↦
@@ -129,9 +129,9 @@ value_in_range old m p simple id most named each help version = go (matched_of (
           | inl g ↦ absurd (no_group g)
           | inr h ↦ as_written a.reading (subst (λ (w : List ℕ). HasReading p.built w a.reading) key (rw is at h))
         ] in
-        rw reading (first_passes (λ v. PassesArg p.built id v.now) (IsUnsignedIn 1 most) a.vals.items values accepted)
+        rw reading (first_passes (λ v. PassesArg p.built id v.now) (IsUnsignedIn least most) a.vals.items values accepted)
 
-    go : (o : Option MatchedArg) → matched_of (found_of m) id ≡ o → IfSome (one_text (found_of m) id) (IsUnsignedIn 1 most)
+    go : (o : Option MatchedArg) → matched_of (found_of m) id ≡ o → IfSome (one_text (found_of m) id) (IsUnsignedIn least most)
     go None e = rw e tt
     go (Some a) e =
         let got = entry_by_id (EntryPasses p.built) (found_of m).entries.items id a (p.parsed (p.from.globals ∙ plain.globals)).values e in

@@ -1,104 +1,117 @@
 -- What a parse that takes a command's words gives, and what one that refuses them shows.
-use Rattle.std.proofs.Common.{◌≡◌, ◌∙◌, ◌<◌, ℕ, true, false, List, [], ◌∷◌, length, Some, IfSome, refl, ap, subst, arith, inl, inr, codes, suc, ne_eqb}
+use Rattle.std.proofs.Common.{◌≡◌, ◌∙◌, ◌<◌, ◌&&◌, ℕ, Bool, not, nat_lt, true, false, List, [], ◌∷◌, length, Option, Some, None, IfSome, refl, sym, ap, subst, arith, inl, inr, codes, suc, ne_eqb}
 use Rattle.std.specs.List.{list_all}
 use Rattle.std.specs.Str.{bytes_eq}
+use Rattle.std.proofs.lemmas.Bool.{ltb-true, not-true}
 use Rattle.clap.specs.Built.{IsParsedFrom}
 use Rattle.clap.specs.Simple.{has_simple_rules}
 use Rattle.clap.specs.Walk.{is_empty}
-use Rattle.clap.specs.Words.{App, HasKind, HasMatchesOf, IsUnsignedIn, Kinds, app_of, fault_of, found_of, is_simple, is_simple_and_free, kind_of, rows_of}
+use Rattle.clap.specs.Words.{App, HasKind, HasMatchesOf, IsUnsignedIn, Kinds, Row, Rule, app_of, fault_of, found_of, is_simple, is_simple_and_free, one_of, rows_of}
+use Rattle.clap.specs.Words.{kind_of as kind_of_error}
 use Rattle.clap.specs.declared.builder.command.Command.{Command}
+use Rattle.clap.specs.declared.builder.value_parser.ValueParser.{ValueParser}
+use Rattle.clap.specs.declared.builder.value_parser.ValueParser.TheVariants.{Unsigned}
 use Rattle.clap.specs.declared.error.Error.{Error}
 use Rattle.clap.specs.declared.error.kind.ErrorKind.TheVariants.{OutOfMemory}
 use Rattle.clap.specs.declared.parser.matches.ArgMatches.{ArgMatches}
-use Rattle.clap.proofs.WalkLemmas.{one_text-rows}
-use Rattle.irl_offer.specs.Settings.{AreValid, settings_of}
+use Rattle.clap.proofs.WalkLemmas.{both, one_text-rows}
+use Rattle.irl_offer.specs.Buckets.{IsBucketCount}
+use Rattle.irl_offer.specs.Settings.{AreValidBudgets, AreValidSizes, settings_of}
+use Rattle.irl_offer.specs.declared.offer.Rule.{Rule as ValueRule}
 use Rattle.irl_offer.specs.declared.settings.Asked.{Asked}
-use Rattle.irl_words.specs.Options.{options_of}
-use Rattle.irl_words.specs.Rows.{AreMatches, IsAskedBy, IsUpTo}
-use Rattle.irl_words.specs.Words.{IsInRange, command_asking}
+use Rattle.irl_offer.specs.declared.settings.Kind.{Kind}
+use Rattle.irl_words.specs.Options.{options_of, rules_of}
+use Rattle.irl_words.specs.Rows.{AreInRange, AreMatches, IsInParser}
+use Rattle.irl_words.specs.Words.{HasNoRule, IsInRange, asked_for, asked_of, kind_of, with_settings}
+use Rattle.irl_words.specs.declared.command.Command.{Command as Asking}
 use Rattle.irl_words.specs.declared.name.Name.{Name}
 use Rattle.irl_words.specs.declared.name.Name.TheVariants.{Seen, Drum}
-use Rattle.irl_words.proofs.Ranges.{takes_up_to, value_in_range}
+use Rattle.irl_words.proofs.Ranges.{takes_between, value_in_range}
 
--- each command is a simple one, whose options have no rule on one another
-simple : (name : Name) → is_simple (options_of name) ≡ true
-simple Seen = refl
-simple Drum = refl
+-- ---- the rows
+-- a rule of this id and parser is the only one of its id, and none that a reader adds
+abbrev is_only : List Rule → List ℕ → Option ValueParser → Bool
+is_only rules id (Some (Unsigned least most)) = list_all (takes_between id least most) rules
+is_only rules id _ = true
 
-pub simple_and_free : (name : Name) → is_simple_and_free (options_of name) ≡ true
-simple_and_free Seen = refl
-simple_and_free Drum = refl
+abbrev is_own : List Rule → Rule → Bool
+is_own rules rule =
+    nat_lt 0 (length rule.id) && (not (bytes_eq (codes "help") rule.id) && (not (bytes_eq (codes "version") rule.id) && is_only rules rule.id rule.parser))
 
-simple_rules : (name : Name) → has_simple_rules (options_of name).top ≡ true
-simple_rules Seen = refl
-simple_rules Drum = refl
+-- the command of a row is a simple one, whose options have no rule on one another
+record IsRow (name : Name) : Type 0 where
+  simple : is_simple (options_of name) ≡ true
+  free : is_simple_and_free (options_of name) ≡ true
+  rules : has_simple_rules (options_of name).top ≡ true
+  own : list_all (is_own (options_of name).top.rules) (rules_of name) ≡ true
 
--- each has the sizes as its options
-abbrev Declares : Name → List ℕ → ℕ → Type 0
-Declares name id most = list_all (takes_up_to id most) (options_of name).top.rules ≡ true
+row : (name : Name) → IsRow name
+row Seen = record { simple = refl; free = refl; rules = refl; own = refl }
+row Drum = record { simple = refl; free = refl; rules = refl; own = refl }
 
-buckets : (name : Name) → Declares name (codes "buckets") 64
-buckets Seen = refl
-buckets Drum = refl
+-- ---- the values of options
+any_value : (text : Option (List ℕ)) → IfSome text (λ t. Unit {0})
+any_value None = tt
+any_value (Some t) = tt
 
-array : (name : Name) → Declares name (codes "array") 8192
-array Seen = refl
-array Drum = refl
+-- the value of an option, where it is named, is one that its parser takes
+value : (command : Command) (m : ArgMatches) (id : List ℕ) (parser : Option ValueParser) → IsParsedFrom command m → has_simple_rules (app_of command).top ≡ true
+    → 0 < length id → bytes_eq (codes "help") id ≡ false → bytes_eq (codes "version") id ≡ false → is_only (app_of command).top.rules id parser ≡ true
+    → IfSome (one_of id (rows_of (found_of m))) (IsInParser parser)
+value command m id (Some (Unsigned least most)) p plain named help version only =
+    subst (λ v. IfSome v (IsUnsignedIn least most)) (one_text-rows (found_of m) id) (value_in_range command m p plain id least most named only help version)
+value command m id _ p plain named help version only = any_value (one_of id (rows_of (found_of m)))
 
-trigger : (name : Name) → Declares name (codes "trigger") 1048576
-trigger Seen = refl
-trigger Drum = refl
-
-block : (name : Name) → Declares name (codes "block") 65536
-block Seen = refl
-block Drum = refl
-
-cap : (name : Name) → Declares name (codes "cap") 1099511627776
-cap Seen = refl
-cap Drum = refl
-
--- the value of a size, where it is named, lies in its range
-in_range : (name : Name) (command : Command) (m : ArgMatches) → app_of command ≡ options_of name → IsParsedFrom command m
-    → (id : List ℕ) (most : ℕ) → 0 < length id → Declares name id most → bytes_eq (codes "help") id ≡ false → bytes_eq (codes "version") id ≡ false
-    → IsUpTo id most (rows_of (found_of m))
-in_range name command m is p id most named declared help version =
-    let plain = ap (λ (a : App). has_simple_rules a.top) is ∙ simple_rules name in
-    let each = ap (λ (a : App). list_all (takes_up_to id most) a.top.rules) is ∙ declared in
-    subst (λ v. IfSome v (IsUnsignedIn 1 most)) (one_text-rows (found_of m) id) (value_in_range command m p plain id most named each help version)
+values : (command : Command) (m : ArgMatches) (rules : List Rule) → IsParsedFrom command m → has_simple_rules (app_of command).top ≡ true
+    → list_all (is_own (app_of command).top.rules) rules ≡ true → AreInRange rules (rows_of (found_of m))
+values command m [] p plain own = tt
+values command m (rule ∷ rules) p plain own =
+    let first = both _ _ own in
+    let named = both _ _ first.0 in
+    let help = both _ _ named.1 in
+    let version = both _ _ help.1 in (
+      value command m rule.id rule.parser p plain (ltb-true 0 (length rule.id) named.0) (not-true _ help.0) (not-true _ version.0) version.1,
+      values command m rules p plain first.1,
+    )
 
 -- the matches of words that a command's options take
 pub taken : (name : Name) (words : List (List ℕ)) (command : Command) (m : ArgMatches) → app_of command ≡ options_of name
     → IsParsedFrom command m → HasMatchesOf (app_of command) words m
     → (is_simple_and_free (app_of command) ≡ true → fault_of (app_of command) words ≡ []) → AreMatches name words (Some m)
 taken name words command m is p matches faults =
-    let free = ap is_simple_and_free is ∙ simple_and_free name in
+    let free = ap is_simple_and_free is ∙ (row name).free in
     let none : fault_of (options_of name) words ≡ [] = subst (λ a. fault_of a words ≡ []) is (faults free) in
-    let same = subst (λ a. HasMatchesOf a words m) is matches in (
-      ap is_empty none,
-      (same (simple name)).0,
-      record {
-        buckets = in_range name command m is p (codes "buckets") 64 (omega arith) (buckets name) refl refl;
-        array = in_range name command m is p (codes "array") 8192 (omega arith) (array name) refl refl;
-        trigger = in_range name command m is p (codes "trigger") 1048576 (omega arith) (trigger name) refl refl;
-        block = in_range name command m is p (codes "block") 65536 (omega arith) (block name) refl refl;
-        cap = in_range name command m is p (codes "cap") 1099511627776 (omega arith) (cap name) refl refl;
-      },
-    )
+    let same = subst (λ a. HasMatchesOf a words m) is matches in
+    let plain = ap (λ (a : App). has_simple_rules a.top) is ∙ (row name).rules in
+    let own = ap (λ (a : App). list_all (is_own a.top.rules) (rules_of name)) is ∙ (row name).own in
+    (ap is_empty none, (same (row name).simple).0, values command m (rules_of name) p plain own)
 
 -- an error that isn't want of memory shows that there is a fault
-has_fault : (kinds : Kinds) (e : Error) → HasKind kinds e → (kind_of e ≡ OutOfMemory → ⊥) → is_empty kinds ≡ false
+has_fault : (kinds : Kinds) (e : Error) → HasKind kinds e → (kind_of_error e ≡ OutOfMemory → ⊥) → is_empty kinds ≡ false
 has_fault [] e (inl memory) other = absurd (other memory)
 has_fault [] e (inr none) other = absurd none
 has_fault (k ∷ kinds) e h other = ne_eqb _ _ (λ none. let bad : suc (length kinds) ≡ 0 = none in omega arith)
 
 pub refused : (name : Name) (words : List (List ℕ)) (command : Command) (e : Error) → app_of command ≡ options_of name
-    → (is_simple_and_free (app_of command) ≡ true → HasKind (fault_of (app_of command) words) e) → (kind_of e ≡ OutOfMemory → ⊥)
+    → (is_simple_and_free (app_of command) ≡ true → HasKind (fault_of (app_of command) words) e) → (kind_of_error e ≡ OutOfMemory → ⊥)
     → is_empty (fault_of (options_of name) words) ≡ false
 refused name words command e is faults other =
-    let free = ap is_simple_and_free is ∙ simple_and_free name in
+    let free = ap is_simple_and_free is ∙ (row name).free in
     has_fault (fault_of (options_of name) words) e (subst (λ a. HasKind (fault_of a words) e) is (faults free)) other
 
--- a command that asks for this is in range where a store can be made so
-pub asks_in_range : (name : Name) (asked : Asked) → IsAskedBy name asked → AreValid (settings_of asked) → IsInRange (command_asking name asked)
-asks_in_range Seen asked by valid = record { kind = by.kind; rule = by.rule; valid = valid }
-asks_in_range Drum asked by valid = record { kind = by.kind; rule = by.rule; valid = valid }
+-- ---- what a command asks
+-- a command that asks for the sizes of a store of its kind is in range
+pub sizes_in_range : (command : Asking) (kind : Kind) (rule : Option ValueRule) (rows : List Row) → asked_of command ≡ with_settings rows (asked_for kind rule)
+    → kind ≡ kind_of command → HasNoRule command → IsBucketCount (settings_of (asked_of command)).buckets → AreValidSizes (settings_of (asked_of command)) → IsInRange command
+sizes_in_range command kind rule rows is same none buckets sizes =
+    let budgets : AreValidBudgets (settings_of (with_settings rows (asked_for kind rule))) = record {
+      queues = (omega arith, omega arith);
+      base = (omega arith, omega arith);
+      most = (omega arith, omega arith);
+      ranks = (omega arith, omega arith);
+    } in
+    record {
+      kind = ap (λ (a : Asked). a.kind) is ∙ same;
+      rule = none;
+      valid = record { buckets = buckets; sizes = sizes; budgets = subst (λ (a : Asked). AreValidBudgets (settings_of a)) (sym is) budgets };
+    }

@@ -1,4 +1,5 @@
 pub mod Help
 pub mod Options
 pub mod Rows
+pub mod Tables
 pub mod Words

@@ -1,5 +1,5 @@
 -- The command that the words of a command line are, and why words are refused.
-use Rattle.std.specs.Prelude.{◌≡◌, ℕ, Bool, true, List, [], ◌∷◌, Option, Some, None, Result, Ok, Err, ⊤, codes, if◌then◌else◌, option_map}
+use Rattle.std.specs.Prelude.{◌≡◌, ℕ, nat_lt, Bool, true, false, not, List, [], ◌∷◌, Option, Some, None, Result, Ok, Err, ⊤, codes, if◌then◌else◌, option_map}
 use Rattle.std.specs.Str.{bytes_eq}
 use Rattle.std.specs.Option.{option_map_or}
 use Rattle.std.specs.Str.Parse.{digits_value, without_leading_plus}
@@ -20,11 +20,41 @@ use Rattle.irl_words.specs.declared.command.Command.TheVariants.{Seen, Drum}
 use Rattle.irl_words.specs.declared.command.WordFault.{WordFault}
 use Rattle.irl_words.specs.declared.command.WordFault.TheVariants.{Refused, Memory}
 
--- ---- what the options ask for
+-- ---- what the options ask for, by groups
 
 -- the number of an option, in decimal digits behind at most one `+`; nothing where the option isn't named
 abbrev pub number_in : List ℕ → List Row → Option ℕ
 number_in option rows = option_map (λ text. digits_value 10 (without_leading_plus text)) (one_of option rows)
+
+-- a store of this kind with this rule, and nothing else of it
+abbrev pub asked_for : Kind → Option Rule → Asked
+asked_for kind rule =
+    record {
+      kind = kind;
+      rule = rule;
+      buckets = None;
+      array = None;
+      trigger = None;
+      block = None;
+      cap = None;
+      queues = None;
+      base = None;
+      most = None;
+      ranks = None;
+    }
+
+-- the same with the sizes that the options name
+abbrev pub with_settings : List Row → Asked → Asked
+with_settings rows asked =
+    record asked {
+      buckets = number_in (codes "buckets") rows;
+      array = number_in (codes "array") rows;
+      trigger = number_in (codes "trigger") rows;
+      block = number_in (codes "block") rows;
+      cap = number_in (codes "cap") rows;
+    }
+
+-- ---- what the options of one command ask for
 
 -- the rule of a word
 abbrev pub rule_of_word : List ℕ → Option Rule
@@ -38,53 +68,47 @@ abbrev pub rule_in : Option (List ℕ) → Option (Option Rule)
 rule_in None = Some None
 rule_in (Some word) = option_map (λ rule. Some rule) (rule_of_word word)
 
--- what is asked of a store of this kind: the sizes that the options name
-abbrev pub sizes_in : Kind → Option Rule → List Row → Asked
-sizes_in kind rule rows =
-    record {
-      kind = kind;
-      rule = rule;
-      buckets = number_in (codes "buckets") rows;
-      array = number_in (codes "array") rows;
-      trigger = number_in (codes "trigger") rows;
-      block = number_in (codes "block") rows;
-      cap = number_in (codes "cap") rows;
-      queues = None;
-      base = None;
-      most = None;
-      ranks = None;
-    }
-
--- what a command with these options asks of a store; nothing where the value of `--rule` is no rule
-abbrev pub asked_in : Name → List Row → Option Asked
-asked_in name.Seen rows = Some (sizes_in Lines None rows)
-asked_in name.Drum rows = option_map (λ rule. sizes_in Tuples rule rows) (rule_in (first_of (codes "rule") rows))
-
--- ---- the command
-
-abbrev pub command_asking : Name → Asked → Command
-command_asking name.Seen asked = Seen asked
-command_asking name.Drum asked = Drum asked
+-- ---- the command, or the refused word
 
 -- the number of buckets, where it is asked, is a power of two
 abbrev pub has_bucket_count : Asked → Bool
 has_bucket_count asked = option_map_or is_bucket_count asked.buckets true
 
--- the command that asks for this, or the word with which its words are refused
-abbrev pub decided : Name → List ℕ → Option Asked → Result Command (List ℕ)
-decided name word None = Err word
-decided name word (Some asked) =
-    if has_bucket_count asked then Ok (command_asking name asked) else Err (codes "--buckets")
+-- the most that a domain may be given, where both are asked, is below the base
+abbrev pub has_most_below_base : Asked → Bool
+has_most_below_base asked =
+    option_map_or (λ base. option_map_or (λ most. nat_lt most base) asked.most false) asked.base false
+
+-- what is asked of a store, or the option with which it is refused: the first of these
+abbrev pub checked : Asked → Result Asked (List ℕ)
+checked asked =
+    if not (has_bucket_count asked) then Err (codes "--buckets")
+    else (if has_most_below_base asked then Err (codes "--most") else Ok asked)
+
+-- the command that asks for this, unless it is refused
+abbrev pub asking : (Asked → Command) → Result Asked (List ℕ) → Result Command (List ℕ)
+asking command (Ok asked) = Ok (command asked)
+asking command (Err word) = Err word
+
+-- The command of this name with these values of its options, or the word with which they are refused, the first of
+-- these: the command's own where the value of one of its options is none that it takes; then the option with which what
+-- is asked of a store is refused. Of a command that has more options the agent comes behind these, and then those that
+-- it alone has.
+abbrev pub decided : Name → List ℕ → List Row → Result Command (List ℕ)
+decided name.Seen word rows = asking Seen (checked (with_settings rows (asked_for Lines None)))
+decided name.Drum word rows =
+    option_map_or (λ rule. asking Drum (checked (with_settings rows (asked_for Tuples rule))))
+    (rule_in (first_of (codes "rule") rows)) (Err word)
 
 -- the same for the words of a command: they are refused with the first where its options don't take the others
 abbrev pub command_named : Name → List ℕ → List (List ℕ) → Result Command (List ℕ)
 command_named name word words =
     if is_empty (fault_of (options_of name) words)
-    then decided name word (asked_in name (matches_of (options_of name) words))
+    then decided name word (matches_of (options_of name) words)
     else Err word
 
--- The command that words are, or the word with which they are refused: `-` where there is none, and the first where it names
--- no command.
+-- The command that words are, or the word with which they are refused: `-` where there is none, and the first where it
+-- names no command.
 abbrev pub command_of : List (List ℕ) → Result Command (List ℕ)
 command_of [] = Err (codes "-")
 command_of (word ∷ words) = option_map_or (λ name. command_named name word (word ∷ words)) (name_of word) (Err word)

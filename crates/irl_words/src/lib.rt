@@ -2,6 +2,7 @@
 #![tactic(auto)]
 
 mod command;
+mod commands;
 mod name;
 mod options;
 mod usage;

@@ -1,8 +1,8 @@
 ghost use Rattle.std.specs.Prelude.{◌≡◌, map, IfOk, is_some};
 ghost use Rattle.irl_words.specs.Help.{asks_help, is_help_word};
 
+use crate::commands::command;
 use crate::name::Name;
-use crate::options::command;
 use irl_offer::Text;
 use std::alloc::{AllocError, Global};
 
@@ -20,14 +20,14 @@ pub fn help(alloc: Global, words: &[&str]) -> Result<Option<Text>, AllocError>
     }
 }
 
-/// Whether a word asks for help.
+// Whether a word asks for help.
 fn is_help(word: &str) -> bool
     ensures { result ≡ is_help_word word.now }
 {
     word == "--help" || word == "-h"
 }
 
-/// The help of this command.
+// The help of this command.
 fn help_of(alloc: Global, name: Name) -> Result<Text, AllocError> {
     let help = command(alloc, name)?.render_help()?;
     Ok(Text::from_vec(help.into_bytes()))

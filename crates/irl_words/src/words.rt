@@ -1,16 +1,18 @@
 ghost use Rattle.std.specs.Prelude.{◌≡◌, map, option_map, IfOk, IfErr, IfSome, Ok, Err};
-ghost use Rattle.clap.specs.Words.{first_of, found_of, one_of, rows_of, IsUnsignedIn};
-ghost use Rattle.irl_offer.specs.Settings.{AreValidSizes, AreValidBudgets, settings_of};
-ghost use Rattle.irl_words.specs.Rows.{AreInRange, AreMatches, IsAskedBy, IsUpTo};
-ghost use Rattle.irl_words.specs.Words.{asked_in, command_asking, command_named, command_of, decided, number_in, rule_in};
-ghost use Rattle.irl_words.specs.Words.{rule_of_word, sizes_in, IsCause, IsInRange, IsRefusedBy};
+ghost use Rattle.clap.specs.Words.{found_of, one_of, rows_of, IsUnsignedIn};
+ghost use Rattle.irl_offer.specs.Buckets.{is_bucket_count as is_bucket_count_of, IsBucketCount};
+ghost use Rattle.irl_offer.specs.Settings.{AreValidSizes, settings_of};
+ghost use Rattle.irl_words.specs.Options.{rules_of, settings_options};
+ghost use Rattle.irl_words.specs.Rows.{AreInRange, AreMatches};
+ghost use Rattle.irl_words.specs.Words.{asked_for as asked_for_of, checked as checked_of, decided, with_settings};
+ghost use Rattle.irl_words.specs.Words.{command_named, command_of, number_in, rule_in, IsCause, IsInRange, IsRefusedBy};
 
+use crate::commands::command;
 use crate::name::Name;
-use crate::options::command;
 use crate::{Command, WordFault};
 use clap::ArgMatches;
 use clap::error::ErrorKind;
-use irl_offer::{Asked, Kind, Rule, Settings, Text};
+use irl_offer::{Asked, Kind, Rule, Text};
 use std::alloc::{AllocError, Global};
 
 /// Reads the words behind the folder's. The first picks the command, and the others are its options: each takes one value,
@@ -33,7 +35,7 @@ pub fn read_words(alloc: Global, words: &[&str]) -> Result<Command, WordFault>
     }
 }
 
-/// The fault of words that are refused with this one.
+// The fault of words that are refused with this one.
 fn refusal(alloc: Global, word: &str) -> WordFault
     ensures { IsRefusedBy (Err word.now) result }
 {
@@ -43,7 +45,7 @@ fn refusal(alloc: Global, word: &str) -> WordFault
     }
 }
 
-/// Reads the words of a command, of which this is the first.
+// Reads the words of a command, of which this is the first.
 fn read_command(alloc: Global, name: Name, word: &str, words: &[&str]) -> Result<Command, WordFault>
     ensures command { IfOk result (λ command.
         command_named name word.now (map (λ word. word.now) words.now) ≡ Ok command) }
@@ -51,12 +53,15 @@ fn read_command(alloc: Global, name: Name, word: &str, words: &[&str]) -> Result
     ensures refused { IfErr result (IsRefusedBy (command_named name word.now (map (λ word. word.now) words.now))) }
 {
     match take(alloc, name, words)? {
-        Some(matches) => decide(alloc, name, word, asked(name, &matches)),
+        Some(matches) => match decide(name, word, &matches) {
+            Ok(command) => Ok(command),
+            Err(word) => Err(refusal(alloc, word)),
+        },
         None => Err(refusal(alloc, word)),
     }
 }
 
-/// The values that a command's words give its options, where they take the words.
+// The values that a command's words give its options, where they take the words.
 fn take<'a>(
     alloc: Global,
     name: Name,
@@ -71,19 +76,93 @@ fn take<'a>(
     }
 }
 
-/// What a command with these options asks of a store, if the value of `--rule` is a rule.
-fn asked(name: Name, matches: &ArgMatches) -> Option<Asked>
-    requires { AreInRange (rows_of (found_of matches.now)) }
-    ensures value { result ≡ asked_in name (rows_of (found_of matches.now)) }
-    ensures range { IfSome result (IsAskedBy name) }
+// The command of this name with these values of its options, or the word with which they are refused.
+fn decide<'a>(name: Name, word: &'a str, matches: &ArgMatches) -> Result<Command, &'a str>
+    requires { AreInRange (rules_of name) (rows_of (found_of matches.now)) }
+    ensures command { IfOk result (λ command. decided name word.now (rows_of (found_of matches.now)) ≡ Ok command) }
+    ensures range { IfOk result IsInRange }
+    ensures refused { IfErr result (λ refused.
+        decided name word.now (rows_of (found_of matches.now)) ≡ Err refused.now) }
 {
     match name {
-        Name::Seen => Some(sizes(Kind::Lines, None, matches)),
-        Name::Drum => Some(sizes(Kind::Tuples, rule(matches.get_str("rule"))?, matches)),
+        Name::Seen => {
+            let asked = settings(asked_for(Kind::Lines, None), matches);
+            Ok(Command::Seen(checked(asked)?))
+        }
+        Name::Drum => match rule(matches.get_str("rule")) {
+            Some(rule) => {
+                let asked = settings(asked_for(Kind::Tuples, rule), matches);
+                Ok(Command::Drum(checked(asked)?))
+            }
+            None => Err(word),
+        },
     }
 }
 
-/// The rule that the value of `--rule` asks for, none where it isn't named; nothing where the value is no rule.
+// What is asked of a store, or the option with which it is refused: the first of these.
+fn checked(asked: Asked) -> Result<Asked, &'static str>
+    ensures asked { IfOk result (λ same. checked_of asked ≡ Ok same) }
+    ensures same { IfOk result (λ same. same ≡ asked) }
+    ensures buckets { IfOk result (λ same. IsBucketCount (settings_of same).buckets) }
+    ensures refused { IfErr result (λ option. checked_of asked ≡ Err option.now) }
+{
+    match asked {
+        Asked {
+            buckets: Some(buckets),
+            ..
+        } if !is_bucket_count(buckets) => Err("--buckets"),
+        Asked {
+            base: Some(base),
+            most: Some(most),
+            ..
+        } if most < base => Err("--most"),
+        _ => Ok(asked),
+    }
+}
+
+// Whether this is a number of buckets: a power of two from 1 to 64.
+fn is_bucket_count(buckets: u32) -> bool
+    ensures { result ≡ is_bucket_count_of buckets }
+{
+    matches!(buckets, 1 | 2 | 4 | 8 | 16 | 32 | 64)
+}
+
+// A store of this kind with this rule, and nothing else of it.
+fn asked_for(kind: Kind, rule: Option<Rule>) -> Asked
+    ensures { result ≡ asked_for_of kind rule }
+{
+    Asked {
+        kind,
+        rule,
+        buckets: None,
+        array: None,
+        trigger: None,
+        block: None,
+        cap: None,
+        queues: None,
+        base: None,
+        most: None,
+        ranks: None,
+    }
+}
+
+// The same with the sizes that the options name.
+fn settings(asked: Asked, matches: &ArgMatches) -> Asked
+    requires { AreInRange settings_options (rows_of (found_of matches.now)) }
+    ensures value { result ≡ with_settings (rows_of (found_of matches.now)) asked }
+    ensures range { AreValidSizes (settings_of result) }
+{
+    Asked {
+        buckets: size(matches, "buckets"),
+        array: size(matches, "array"),
+        trigger: size(matches, "trigger"),
+        block: size(matches, "block"),
+        cap: large_size(matches, "cap"),
+        ..asked
+    }
+}
+
+// The rule that the value of `--rule` asks for, none where it isn't named; nothing where the value is no rule.
 fn rule(word: Option<&str>) -> Option<Option<Rule>>
     ensures { result ≡ rule_in (option_map (λ word. word.now) word.entry) }
 {
@@ -96,54 +175,18 @@ fn rule(word: Option<&str>) -> Option<Option<Rule>>
     }
 }
 
-/// What is asked of a store of this kind: the sizes that the options name.
-fn sizes(kind: Kind, rule: Option<Rule>, matches: &ArgMatches) -> Asked
-    requires { AreInRange (rows_of (found_of matches.now)) }
-    ensures value { result ≡ sizes_in kind rule (rows_of (found_of matches.now)) }
-    ensures range { AreValidSizes (settings_of result) × AreValidBudgets (settings_of result) }
-{
-    Asked {
-        kind,
-        rule,
-        buckets: size(matches, "buckets"),
-        array: size(matches, "array"),
-        trigger: size(matches, "trigger"),
-        block: size(matches, "block"),
-        cap: large_size(matches, "cap"),
-        queues: None,
-        base: None,
-        most: None,
-        ranks: None,
-    }
-}
-
-/// The size that an option names.
+// The size that an option names.
 fn size(matches: &ArgMatches, option: &str) -> Option<u32>
-    requires { IsUpTo option.now 4294967295 (rows_of (found_of matches.now)) }
+    requires { IfSome (one_of option.now (rows_of (found_of matches.now))) (IsUnsignedIn 1 4294967295) }
     ensures { result ≡ number_in option.now (rows_of (found_of matches.now)) }
 {
     matches.get_one::<u32>(option)
 }
 
-/// The same of an option that takes larger ones.
+// The same of an option that takes larger ones.
 fn large_size(matches: &ArgMatches, option: &str) -> Option<u64>
-    requires { IsUpTo option.now 18446744073709551615 (rows_of (found_of matches.now)) }
+    requires { IfSome (one_of option.now (rows_of (found_of matches.now))) (IsUnsignedIn 1 18446744073709551615) }
     ensures { result ≡ number_in option.now (rows_of (found_of matches.now)) }
 {
     matches.get_one::<u64>(option)
-}
-
-/// The command that asks for this, or the fault of its words.
-fn decide(alloc: Global, name: Name, word: &str, asked: Option<Asked>) -> Result<Command, WordFault>
-    requires { IfSome asked (IsAskedBy name) }
-    ensures command { IfOk result (λ command. decided name word.now asked ≡ Ok command) }
-    ensures range { IfOk result IsInRange }
-    ensures refused { IfErr result (IsRefusedBy (decided name word.now asked)) }
-{
-    match asked {
-        // All but the number of buckets was in range.
-        Some(asked) if Settings::of_new_store(&asked).is_valid() => Ok(name.asking(asked)),
-        Some(_) => Err(refusal(alloc, "--buckets")),
-        None => Err(refusal(alloc, word)),
-    }
 }

@@ -11,7 +11,8 @@ use Rattle.irl_yard.specs.Opening.{Agrees, IsOther, asked_numbers}
 abbrev pub AgreeBelow : ℕ → List (Option ℕ) → List ℕ → Type 0
 AgreeBelow i wanted kept = (m a k : ℕ) → m < i → slice_get wanted m ≡ Some (Some a) → slice_get kept m ≡ Some k → a ≡ k
 
-next_agrees : (i : ℕ) (wanted : List (Option ℕ)) (kept : List ℕ) → ((a k : ℕ) → slice_get wanted i ≡ Some (Some a) → slice_get kept i ≡ Some k → a ≡ k) → AgreeBelow i wanted kept → AgreeBelow (i + 1) wanted kept
+next_agrees : (i : ℕ) (wanted : List (Option ℕ)) (kept : List ℕ) → ((a k : ℕ) → slice_get wanted i ≡ Some (Some a) → slice_get kept i ≡ Some k → a ≡ k) → AgreeBelow i wanted kept
+    → AgreeBelow (i + 1) wanted kept
 next_agrees i wanted kept here before = λ m a k below asked_is kept_is.
     let split : (m < i) ⊎ (m ≡ i) = grind arith in
     ⊎_elim (λ (less : m < i). before m a k less asked_is kept_is)
@@ -34,13 +35,15 @@ in_list [] i x is = absurd cc
 in_list (y ∷ xs) zero x is = omega arith
 in_list (y ∷ xs) (suc i) x is = omega (arith, in_list xs i x is)
 
-pub all_agree : (asked : Asked) (settings : Settings) (i : ℕ) (wanted : List (Option ℕ)) (kept : List ℕ) → wanted ≡ asked_numbers asked → kept ≡ setting_numbers settings → 11 ≤ i → AgreeBelow i wanted kept → Agrees asked settings
+pub all_agree : (asked : Asked) (settings : Settings) (i : ℕ) (wanted : List (Option ℕ)) (kept : List ℕ) → wanted ≡ asked_numbers asked → kept ≡ setting_numbers settings → 11 ≤ i
+    → AgreeBelow i wanted kept → Agrees asked settings
 all_agree asked settings i wanted kept asked_are kept_are all agree = λ n a k asked_is kept_is.
     let below : n < 11 = in_list (setting_numbers settings) n k kept_is in
     agree n a k (omega (arith, below)) (ap (λ (l : List (Option ℕ)). slice_get l n) asked_are ∙ asked_is) (ap (λ (l : List ℕ). slice_get l n) kept_are ∙ kept_is)
 
 -- the first that differs
-pub first_differs : (asked : Asked) (settings : Settings) (i number : ℕ) (wanted : List (Option ℕ)) (kept : List ℕ) → wanted ≡ asked_numbers asked → kept ≡ setting_numbers settings → i < 11 → get_or wanted i None ≡ Some number → (number ≡ get_or kept i 0 → ⊥) → AgreeBelow i wanted kept
+pub first_differs : (asked : Asked) (settings : Settings) (i number : ℕ) (wanted : List (Option ℕ)) (kept : List ℕ) → wanted ≡ asked_numbers asked → kept ≡ setting_numbers settings → i < 11
+    → get_or wanted i None ≡ Some number → (number ≡ get_or kept i 0 → ⊥) → AgreeBelow i wanted kept
     → IsOther asked settings (i + 1) (get_or kept i 0) number
 first_differs asked settings i number wanted kept asked_are kept_are below is differs agree =
     let back : i + 1 - 1 ≡ i = omega arith in
@@ -51,5 +54,6 @@ first_differs asked settings i number wanted kept asked_are kept_are below is di
       kept_is = ap (slice_get (setting_numbers settings)) back ∙ ap (λ (l : List ℕ). slice_get l i) (sym kept_are) ∙ slice_get-get_or kept i 0 (omega arith);
       asked_is = ap (slice_get (asked_numbers asked)) back ∙ ap (λ (l : List (Option ℕ)). slice_get l i) (sym asked_are) ∙ slice_get-get_or wanted i None (omega arith) ∙ ap Some is;
       differ = λ same. differs (sym same);
-      before = λ m a k less asked_is kept_is. agree m a k (omega (arith, less)) (ap (λ (l : List (Option ℕ)). slice_get l m) asked_are ∙ asked_is) (ap (λ (l : List ℕ). slice_get l m) kept_are ∙ kept_is);
+      before = λ m a k less asked_is kept_is. agree m a k (omega (arith, less)) (ap (λ (l : List (Option ℕ)). slice_get l m) asked_are ∙ asked_is) (ap (λ (l : List ℕ). slice_get l m) kept_are
+          ∙ kept_is);
     }

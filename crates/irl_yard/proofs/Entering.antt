@@ -6,9 +6,9 @@ use Rattle.irl_offer.specs.Settings.{AreValid, settings_of}
 use Rattle.irl_offer.specs.declared.settings.Asked.{Asked}
 use Rattle.irl_offer.specs.declared.settings.Settings.{Settings}
 use Rattle.irl_offer.specs.declared.settings.Kind.TheVariants.{Crawl}
-use Rattle.irl_model.specs.State.{State, blank_state}
-use Rattle.irl_disk.specs.Disk.{Files, Changes, ChangesFile}
-use Rattle.irl_disk.specs.Images.{Snapshot, IsConsistent, Follows, Leaves, LeavesBy, LeavesSame}
+use Rattle.irl_events.specs.State.{State, blank_state}
+use Rattle.irl_disk.specs.Disk.{Files, Changes, ChangesFile, TellsBy}
+use Rattle.irl_disk.specs.Images.{Told, IsConsistent, Follows, Leaves, LeavesBy, LeavesSame}
 use Rattle.irl_disk.specs.Taken.{TakesAmong, TakesOnly}
 use Rattle.irl_disk.proofs.Before.{below_or_above}
 use Rattle.irl_disk.proofs.Frames.{takes_only}
@@ -21,7 +21,6 @@ use Rattle.irl_bay.specs.BayFiles.{file_of, IsFileOf}
 use Rattle.irl_bay.specs.Commits.{Commit, IsCommit, first_commit, last_commit, live_side, side_of}
 use Rattle.irl_bay.specs.declared.layout.files.BayFile.TheVariants.{Manifest, Cache, Judged, Texts, Journal, Aux}
 use Rattle.irl_bay.specs.Damage.{IsAdopted}
-use Rattle.irl_bay.specs.Holding.{TellsBy}
 use Rattle.irl_bay.specs.Making.{IsJournalOn, IsJournalOf, Makes}
 use Rattle.irl_bay.proofs.Adopted.{takes_wider}
 use Rattle.irl_bay.proofs.Apart.{stands_kept, unmade_stands, journal_files}
@@ -56,7 +55,12 @@ beyond buckets side b f low small above is (Manifest, part, e) = omega (arith, i
 beyond buckets side b f low small above is (Cache other, part, e) = omega (arith, is, e, part)
 beyond buckets side b f low small above is (Judged, part, e) = omega (arith, is, e)
 beyond buckets side b f low small above is (Texts, part, e) = omega (arith, is, e)
-beyond buckets side b f low small above is (Journal other c, part, e) = omega (arith, above, part.1, same_place side other b c low part.0 small (omega (arith, part.1, above, small)) (omega (arith, is, e)))
+beyond buckets side b f low small above is (Journal other c, part, e) = omega (
+  arith,
+  above,
+  part.1,
+  same_place side other b c low part.0 small (omega (arith, part.1, above, small)) (omega (arith, is, e)),
+)
 beyond buckets side b f low small above is (Aux other c, part, e) = omega (arith, is, e)
 
 journal_or_none : (buckets f : ℕ) → IsJournalOf urls_base 64 f → IsJournalOf urls_base buckets f ⊎ (IsFileOf urls_base buckets f → ⊥)
@@ -101,13 +105,15 @@ adopted_opens buckets old new small step =
     record {
       changed = λ f is. ⊎_elim
           (λ (e : f ≡ head_file). inl (adopted.others f (λ journal. head_no_journal buckets small (subst (IsJournalOf urls_base buckets) e journal))))
-          (λ (journal : IsJournalOf urls_base 64 f). ⊎_elim (λ within. adopted.changed f within) (λ out. inl (adopted.others f (λ within. out (journal_files urls_base buckets f within)))) (journal_or_none buckets f journal))
+          (λ (journal : IsJournalOf urls_base 64 f). ⊎_elim (λ within. adopted.changed f within) (λ out. inl (adopted.others f (λ within. out (journal_files urls_base buckets f within))))
+          (journal_or_none buckets f journal))
           is;
       others = λ f out. adopted.others f (λ within. out (inr (journal_wider buckets f small within)));
     }
 
 -- ---- a step of making
-pub makes_then : (settings : Settings) (x y z : Files) → settings.buckets ≤ 64 → Makes urls_base settings.buckets x y → ChangesFile head_file (GainsFirst (head_bytes settings)) y z → MakesStore settings x z
+pub makes_then : (settings : Settings) (x y z : Files) → settings.buckets ≤ 64 → Makes urls_base settings.buckets x y → ChangesFile head_file (GainsFirst (head_bytes settings)) y z
+    → MakesStore settings x z
 makes_then settings x y z small makes gains = record {
   others = λ f no out. gains.others f no ∙ makes.others f (λ journal. out (one_side 0 settings.buckets f (omega arith) journal));
   unmade = λ unmade f is. subst (λ (file : List ℕ). length file ≤ 1) (sym (gains.others f (head_no_urls urls_base settings.buckets f refl small is))) (makes.unmade unmade f is);
@@ -129,10 +135,11 @@ head_enters : (asked : Asked) (told : Option Files) (x y z : Files) → ChangesF
 head_enters asked told x y z first (inl opens) = inl (head_opens x y z first opens)
 head_enters asked told x y z first (inr (blank, valid, makes)) = inr (blank, valid, head_makes (settings_of asked) x y z (few (settings_of asked) valid) first makes)
 
-pub head_alone : (asked : Asked) (told : Option Files) (old new : Snapshot) → LeavesBy (ChangesFile head_file IsOpened) old new → LeavesBy (Enters asked told) old new
+pub head_alone : (asked : Asked) (told : Option Files) (old new : Told) → LeavesBy (ChangesFile head_file IsOpened) old new → LeavesBy (Enters asked told) old new
 head_alone asked told old new look = widens_by old new _ _ look (λ x y first. inl (head_opens x y y first (opens_none y)))
 
-pub entered_then : (asked : Asked) (told : Option Files) (old mid new : Snapshot) → IsConsistent mid → LeavesBy (ChangesFile head_file IsOpened) old mid → LeavesBy (Enters asked told) mid new → LeavesBy (Enters asked told) old new
+pub entered_then : (asked : Asked) (told : Option Files) (old mid new : Told) → IsConsistent mid → LeavesBy (ChangesFile head_file IsOpened) old mid → LeavesBy (Enters asked told) mid new
+    → LeavesBy (Enters asked told) old new
 entered_then asked told old mid new law look enters =
     joins old mid new (Follows (Enters asked told) old.images) (head_alone asked told old mid look)
     (widens mid new (Follows (Enters asked told) mid.images) (Follows (Enters asked told) old.images) enters (λ image from.
@@ -140,7 +147,7 @@ entered_then asked told old mid new law look enters =
     (was.0, was.1, head_enters asked told was.0 from.0 image was.2 from.2)))
 
 -- a stretch that changes nothing enters
-pub same_enters : (asked : Asked) (told : Option Files) (old new : Snapshot) → LeavesSame old new → LeavesBy (Enters asked told) old new
+pub same_enters : (asked : Asked) (told : Option Files) (old new : Told) → LeavesSame old new → LeavesBy (Enters asked told) old new
 same_enters asked told old new same = same_by old new (Enters asked told) (λ files. inl (opens_none files)) same
 
 pub tells_wider : (step wide : Files → Files → Type 0) (old new : Option Files) → ((x y : Files) → step x y → wide x y) → TellsBy step old new → TellsBy wide old new
@@ -148,17 +155,21 @@ tells_wider step wide None new allows tells = tells
 tells_wider step wide (Some old) new allows tells = (tells.0, tells.1, allows old tells.0 tells.2)
 
 -- ---- making a store
-makes_enters : (asked : Asked) (told : Option Files) (settings : Settings) (x y : Files) → settings ≡ settings_of asked → ForSome told IsBlank → AreValid settings → MakesStore settings x y → Enters asked told x y
+makes_enters : (asked : Asked) (told : Option Files) (settings : Settings) (x y : Files) → settings ≡ settings_of asked → ForSome told IsBlank → AreValid settings → MakesStore settings x y
+    → Enters asked told x y
 makes_enters asked told settings x y new blank valid makes = inr (blank, subst AreValid new valid, subst (λ (s : Settings). MakesStore s x y) new makes)
 
 -- its bay is made behind calls that change nothing
-pub made_steps : (asked : Asked) (told : Option Files) (settings : Settings) (old mid new : Snapshot) → settings ≡ settings_of asked → ForSome told IsBlank → AreValid settings → IsConsistent mid → LeavesSame old mid → LeavesBy (Makes urls_base settings.buckets) mid new → LeavesBy (Enters asked told) old new
+pub made_steps : (asked : Asked) (told : Option Files) (settings : Settings) (old mid new : Told) → settings ≡ settings_of asked → ForSome told IsBlank → AreValid settings → IsConsistent mid
+    → LeavesSame old mid → LeavesBy (Makes urls_base settings.buckets) mid new → LeavesBy (Enters asked told) old new
 made_steps asked told settings old mid new is_new blank valid law same makes =
     same_then old mid new (Enters asked told) law (λ x. inl (opens_none x)) same
-    (widens_by mid new (Makes urls_base settings.buckets) (Enters asked told) makes (λ x y step. makes_enters asked told settings x y is_new blank valid (makes_alone settings x y (few settings valid) step)))
+    (widens_by mid new (Makes urls_base settings.buckets) (Enters asked told) makes (λ x y step.
+    makes_enters asked told settings x y is_new blank valid (makes_alone settings x y (few settings valid) step)))
 
 -- and then its head is written
-pub written_steps : (asked : Asked) (told : Option Files) (settings : Settings) (old mid made new : Snapshot) → settings ≡ settings_of asked → ForSome told IsBlank → AreValid settings → IsConsistent mid → IsConsistent made → LeavesSame old mid → LeavesBy (Makes urls_base settings.buckets) mid made
+pub written_steps : (asked : Asked) (told : Option Files) (settings : Settings) (old mid made new : Told) → settings ≡ settings_of asked → ForSome told IsBlank → AreValid settings → IsConsistent mid
+    → IsConsistent made → LeavesSame old mid → LeavesBy (Makes urls_base settings.buckets) mid made
     → LeavesBy (ChangesFile head_file (GainsFirst (head_bytes settings))) made new → LeavesBy (Enters asked told) old new
 written_steps asked told settings old mid made new is_new blank valid law law_made same makes gains =
     let small = few settings valid in
@@ -171,22 +182,27 @@ written_steps asked told settings old mid made new is_new blank valid law law_ma
     (widens_by mid new (MakesStore settings) (Enters asked told) stores (λ x y step. makes_enters asked told settings x y is_new blank valid step))
 
 -- the same of what is told
-pub made_told : (asked : Asked) (told : Option Files) (settings : Settings) (old mid new : Option Files) → settings ≡ settings_of asked → ForSome told IsBlank → AreValid settings → mid ≡ old → TellsBy (Makes urls_base settings.buckets) mid new → TellsBy (Enters asked told) old new
+pub made_told : (asked : Asked) (told : Option Files) (settings : Settings) (old mid new : Option Files) → settings ≡ settings_of asked → ForSome told IsBlank → AreValid settings → mid ≡ old
+    → TellsBy (Makes urls_base settings.buckets) mid new → TellsBy (Enters asked told) old new
 made_told asked told settings old mid new is_new blank valid same makes =
     subst (λ (from : Option Files). TellsBy (Enters asked told) from new) same
-    (tells_wider (Makes urls_base settings.buckets) (Enters asked told) mid new (λ x y step. makes_enters asked told settings x y is_new blank valid (makes_alone settings x y (few settings valid) step)) makes)
+    (tells_wider (Makes urls_base settings.buckets) (Enters asked told) mid new (λ x y step.
+    makes_enters asked told settings x y is_new blank valid (makes_alone settings x y (few settings valid) step)) makes)
 
-both_told : (settings : Settings) (mid made new : Option Files) → settings.buckets ≤ 64 → TellsBy (Makes urls_base settings.buckets) mid made → Changes head_file (GainsFirst (head_bytes settings)) made new → TellsBy (MakesStore settings) mid new
+both_told : (settings : Settings) (mid made new : Option Files) → settings.buckets ≤ 64 → TellsBy (Makes urls_base settings.buckets) mid made
+    → Changes head_file (GainsFirst (head_bytes settings)) made new → TellsBy (MakesStore settings) mid new
 both_told settings None made new small makes gains = subst (λ (m : Option Files). Changes head_file (GainsFirst (head_bytes settings)) m new) makes gains
 both_told settings (Some mid) made new small makes gains =
     let next = subst (λ (m : Option Files). Changes head_file (GainsFirst (head_bytes settings)) m new) makes.1 gains in
     (next.0, next.1, makes_then settings mid makes.0 next.0 small makes.2 next.2)
 
-pub written_told : (asked : Asked) (told : Option Files) (settings : Settings) (old mid made new : Option Files) → settings ≡ settings_of asked → ForSome told IsBlank → AreValid settings → mid ≡ old → TellsBy (Makes urls_base settings.buckets) mid made → Changes head_file (GainsFirst (head_bytes settings)) made new
+pub written_told : (asked : Asked) (told : Option Files) (settings : Settings) (old mid made new : Option Files) → settings ≡ settings_of asked → ForSome told IsBlank → AreValid settings → mid ≡ old
+    → TellsBy (Makes urls_base settings.buckets) mid made → Changes head_file (GainsFirst (head_bytes settings)) made new
     → TellsBy (Enters asked told) old new
 written_told asked told settings old mid made new is_new blank valid same makes gains =
     subst (λ (from : Option Files). TellsBy (Enters asked told) from new) same
-    (tells_wider (MakesStore settings) (Enters asked told) mid new (λ x y step. makes_enters asked told settings x y is_new blank valid step) (both_told settings mid made new (few settings valid) makes gains))
+    (tells_wider (MakesStore settings) (Enters asked told) mid new (λ x y step. makes_enters asked told settings x y is_new blank valid step)
+    (both_told settings mid made new (few settings valid) makes gains))
 
 -- ---- the state
 opens_blank : (old new : Files) → OpensStore old new → IsBlank old → IsBlank new
@@ -212,6 +228,7 @@ opens_made settings state old new opens made = record {
   }) made.urls;
   crawl = stays crawl_file (inl refl) made.crawl;
   pairs_are = made.pairs_are;
+  events_are = made.events_are;
   pairs = λ f is. stays f (pairs_rest settings.buckets f is) (made.pairs f is);
 }
   where
@@ -256,6 +273,7 @@ makes_state settings old new valid kind makes blank =
         urls = unmade_stands urls_base settings new valid (λ f is. others f (urls_other settings.buckets f small is));
         crawl = others crawl_file (omega arith, omega arith);
         pairs_are = refl;
+        events_are = refl;
         pairs = λ f is. others f (pairs_other settings.buckets f small is);
       },
     )))
@@ -266,7 +284,8 @@ blank_still state files is (inl blank) = blank.0
 blank_still state files is (inr (settings, made)) = let no : None ≡ Some settings = sym (ap (λ (s : State). s.settings) is) ∙ made.settings_are in cc
 
 -- so entering leaves the state, or of a store that wasn't made the new store's
-pub enters_keeps : (asked : Asked) (told : Option Files) (files : Files) (state : State) (old new : Files) → asked.kind ≢ Crawl → told ≡ Some files → HasState state files → HasState state old → Enters asked told old new → HasOneOf state (entered_state asked state) new
+pub enters_keeps : (asked : Asked) (told : Option Files) (files : Files) (state : State) (old new : Files) → asked.kind ≢ Crawl → told ≡ Some files → HasState state files → HasState state old
+    → Enters asked told old new → HasOneOf state (entered_state asked state) new
 enters_keeps asked told files state old new kind is_told has_told has (inl opens) = inl (opens_keeps state old new opens has)
 enters_keeps asked told files state old new kind is_told has_told has (inr (blank, valid, makes)) =
     let was = blank files is_told in
@@ -277,7 +296,8 @@ enters_keeps asked told files state old new kind is_told has_told has (inr (blan
     (makes_state (settings_of asked) old new valid kind makes (blank_still state old same has))
 
 -- what is told
-pub told_keeps : (asked : Asked) (old new : Option Files) (state : State) → asked.kind ≢ Crawl → TellsBy (Enters asked old) old new → ForSome old (λ files. HasState state files → ForSome new (HasOneOf state (entered_state asked state)))
+pub told_keeps : (asked : Asked) (old new : Option Files) (state : State) → asked.kind ≢ Crawl → TellsBy (Enters asked old) old new
+    → ForSome old (λ files. HasState state files → ForSome new (HasOneOf state (entered_state asked state)))
 told_keeps asked None new state kind tells = λ files told. cc
 told_keeps asked (Some old) new state kind tells = λ files told has after is.
     let same : old ≡ files = cc in
@@ -286,7 +306,8 @@ told_keeps asked (Some old) new state kind tells = λ files told has after is.
     subst (HasOneOf state (entered_state asked state)) here (enters_keeps asked (Some old) old state old tells.0 kind refl was was tells.2)
 
 -- and what stops leave
-pub stops_keep : (asked : Asked) (old new : Snapshot) (state : State) → asked.kind ≢ Crawl → IsConsistent old → LeavesBy (Enters asked old.files) old new → ((image : Files) → old.images image → HasState state image) → Leaves old new (HasOneOf state (entered_state asked state))
+pub stops_keep : (asked : Asked) (old new : Told) (state : State) → asked.kind ≢ Crawl → IsConsistent old → LeavesBy (Enters asked old.files) old new
+    → ((image : Files) → old.images image → HasState state image) → Leaves old new (HasOneOf state (entered_state asked state))
 stops_keep asked old new state kind law enters has =
     widens old new (Follows (Enters asked old.files) old.images) (HasOneOf state (entered_state asked state)) enters (λ image from.
     let told = law.tells from.0 from.1 in
@@ -297,14 +318,14 @@ stops_keep asked old new state kind law enters has =
 looks_blank : (old new : Files) → ChangesFile head_file IsOpened old new → KeepsBlank old new
 looks_blank old new look = opens_blank old new (head_opens old new new look (opens_none new))
 
-pub looked_blank : (old new : Snapshot) → LeavesBy (ChangesFile head_file IsOpened) old new → LeavesBy KeepsBlank old new
+pub looked_blank : (old new : Told) → LeavesBy (ChangesFile head_file IsOpened) old new → LeavesBy KeepsBlank old new
 looked_blank old new look = widens_by old new (ChangesFile head_file IsOpened) KeepsBlank look looks_blank
 
-pub looks_then : (old mid new : Snapshot) → IsConsistent mid → LeavesBy (ChangesFile head_file IsOpened) old mid → LeavesBy KeepsBlank mid new → LeavesBy KeepsBlank old new
+pub looks_then : (old mid new : Told) → IsConsistent mid → LeavesBy (ChangesFile head_file IsOpened) old mid → LeavesBy KeepsBlank mid new → LeavesBy KeepsBlank old new
 looks_then old mid new law look keeps = joins_by old mid new KeepsBlank law (λ x y z first second blank. second (first blank)) (looked_blank old mid look) keeps
 
 -- while nothing changes,
-pub same_blank : (old new : Snapshot) → LeavesSame old new → LeavesBy KeepsBlank old new
+pub same_blank : (old new : Told) → LeavesSame old new → LeavesBy KeepsBlank old new
 same_blank old new same = same_by old new KeepsBlank (λ files blank. blank) same
 
 pub told_same : (old new : Option Files) → new ≡ old → TellsBy KeepsBlank old new
@@ -318,7 +339,8 @@ makes_blank settings old new small makes blank = record {
   others = makes_short settings old new small (makes_alone settings old new small makes) blank;
 }
 
-pub bay_blank : (settings : Settings) (old mid new : Snapshot) → settings.buckets ≤ 64 → IsConsistent mid → LeavesSame old mid → LeavesBy (Makes urls_base settings.buckets) mid new → LeavesBy KeepsBlank old new
+pub bay_blank : (settings : Settings) (old mid new : Told) → settings.buckets ≤ 64 → IsConsistent mid → LeavesSame old mid → LeavesBy (Makes urls_base settings.buckets) mid new
+    → LeavesBy KeepsBlank old new
 bay_blank settings old mid new small law same makes =
     same_then old mid new KeepsBlank law (λ x blank. blank) same
     (widens_by mid new (Makes urls_base settings.buckets) KeepsBlank makes (λ x y step. makes_blank settings x y small step))
@@ -329,17 +351,20 @@ bay_told settings old mid new small same makes =
     (tells_wider (Makes urls_base settings.buckets) KeepsBlank mid new (λ x y step. makes_blank settings x y small step) makes)
 
 -- and while one is entered that was made
-enters_blank : (asked : Asked) (told : Option Files) (settings : Settings) (files x y : Files) → told ≡ Some files → StandsFor (files head_file) (head_bytes settings ∷ []) → Enters asked told x y → KeepsBlank x y
+enters_blank : (asked : Asked) (told : Option Files) (settings : Settings) (files x y : Files) → told ≡ Some files → StandsFor (files head_file) (head_bytes settings ∷ []) → Enters asked told x y
+    → KeepsBlank x y
 enters_blank asked told settings files x y is head (inl opens) = opens_blank x y opens
 enters_blank asked told settings files x y is head (inr (blank, valid, makes)) = absurd (none_or_one (files head_file) (head_bytes settings) (blank files is).head head)
 
-pub opened_blank : (asked : Asked) (settings : Settings) (old new : Snapshot) → IsConsistent old → ForSome old.files (λ files. StandsFor (files head_file) (head_bytes settings ∷ [])) → LeavesBy (Enters asked old.files) old new → LeavesBy KeepsBlank old new
+pub opened_blank : (asked : Asked) (settings : Settings) (old new : Told) → IsConsistent old → ForSome old.files (λ files. StandsFor (files head_file) (head_bytes settings ∷ []))
+    → LeavesBy (Enters asked old.files) old new → LeavesBy KeepsBlank old new
 opened_blank asked settings old new law head enters =
     widens old new (Follows (Enters asked old.files) old.images) (Follows KeepsBlank old.images) enters (λ image from.
     let told = law.tells from.0 from.1 in
     (from.0, from.1, enters_blank asked old.files settings told.0 from.0 image told.1 (head told.0 told.1) from.2))
 
-pub opened_told : (asked : Asked) (settings : Settings) (old new : Option Files) → ForSome old (λ files. StandsFor (files head_file) (head_bytes settings ∷ [])) → TellsBy (Enters asked old) old new → TellsBy KeepsBlank old new
+pub opened_told : (asked : Asked) (settings : Settings) (old new : Option Files) → ForSome old (λ files. StandsFor (files head_file) (head_bytes settings ∷ [])) → TellsBy (Enters asked old) old new
+    → TellsBy KeepsBlank old new
 opened_told asked settings None new head tells = tells
 opened_told asked settings (Some old) new head tells = (tells.0, tells.1, enters_blank asked (Some old) settings old old tells.0 refl (head old refl) tells.2)
 
@@ -351,16 +376,18 @@ blank_told (Some old) new tells = λ files told blank after is.
     let here : tells.0 ≡ after = cc in
     subst IsBlank here (tells.2 (subst IsBlank (sym same) blank))
 
-pub blank_stops : (old new : Snapshot) → LeavesBy KeepsBlank old new → ((image : Files) → old.images image → IsBlank image) → Leaves old new IsBlank
+pub blank_stops : (old new : Told) → LeavesBy KeepsBlank old new → ((image : Files) → old.images image → IsBlank image) → Leaves old new IsBlank
 blank_stops old new keeps blank = widens old new (Follows KeepsBlank old.images) IsBlank keeps (λ image from. from.2 (blank from.0 from.1))
 
 -- ---- bytes taken
 pub head_takes : (old new : Option (ℕ → ℕ)) → TakesOnly head_file old new → TakesAmong IsStoreJournal old new
 head_takes old new takes = takes_only IsStoreJournal head_file old new (inl refl) takes
 
-pub adopted_takes : (buckets : ℕ) (old mid new : Option (ℕ → ℕ)) → buckets ≤ 64 → mid ≡ old → (side : ℕ) × (side ≤ 1) × TakesAmong (IsJournalOn urls_base side buckets) mid new → TakesAmong IsStoreJournal old new
+pub adopted_takes : (buckets : ℕ) (old mid new : Option (ℕ → ℕ)) → buckets ≤ 64 → mid ≡ old → (side : ℕ) × (side ≤ 1) × TakesAmong (IsJournalOn urls_base side buckets) mid new
+    → TakesAmong IsStoreJournal old new
 adopted_takes buckets old mid new small same takes =
-    subst (λ (from : Option (ℕ → ℕ)). TakesAmong IsStoreJournal from new) same (takes_wider (IsJournalOn urls_base takes.0 buckets) IsStoreJournal mid new (λ f is. inr (journal_wider buckets f small (one_side takes.0 buckets f takes.1 is))) takes.2)
+    subst (λ (from : Option (ℕ → ℕ)). TakesAmong IsStoreJournal from new) same (takes_wider (IsJournalOn urls_base takes.0 buckets) IsStoreJournal mid new (λ f is.
+    inr (journal_wider buckets f small (one_side takes.0 buckets f takes.1 is))) takes.2)
 
 -- ---- the records of a bucket
 live_low : (live : Option ℕ) → IfSome live (λ side. side ≤ 1) → side_of live ≤ 1
@@ -377,7 +404,8 @@ short_stands old new payloads short also (inl none) = inl (also, none.1)
 short_stands old new payloads short also (inr has) = inl (also, few_bytes old payloads short has)
 
 -- entering leaves those of a store with a state, in its files and in each image
-pub enters_records : (asked : Asked) (told : Option Files) (files : Files) (state : State) (old new : Files) (buckets b : ℕ) (payloads : List (List ℕ)) → told ≡ Some files → HasState state files → HasState state old → Enters asked told old new → b < 64
+pub enters_records : (asked : Asked) (told : Option Files) (files : Files) (state : State) (old new : Files) (buckets b : ℕ) (payloads : List (List ℕ)) → told ≡ Some files → HasState state files
+    → HasState state old → Enters asked told old new → b < 64
     → HasLiveJournal urls_base buckets b payloads old → HasLiveJournal urls_base buckets b payloads new
 enters_records asked told files state old new buckets b payloads is_told has_told has enters within journal = record {
   commits = journal.commits;

@@ -41,7 +41,8 @@ stays_refused : (payloads : List (List ℕ)) (from place : ℕ) (old new : Headi
 stays_refused [] from place old new was took = ap (λ (h : Heading). h.found) took ∙ was
 stays_refused (payload ∷ payloads) from place old new was took = stays_refused payloads _ place took.0 new (took.1.none place was) took.2
 
-found_then : (read : Result Settings ℕ) (payloads : List (List ℕ)) (from : ℕ) (old new : Heading) → old.found ≡ Some read → TakesAll Taken old (placed_from from payloads) new → new.found ≡ Some (found_after read payloads)
+found_then : (read : Result Settings ℕ) (payloads : List (List ℕ)) (from : ℕ) (old new : Heading) → old.found ≡ Some read → TakesAll Taken old (placed_from from payloads) new
+    → new.found ≡ Some (found_after read payloads)
 found_then read [] from old new was took = ap (λ (h : Heading). h.found) took ∙ was
 found_then (Ok settings) (payload ∷ payloads) from old new was took = stays_refused payloads _ 105 took.0 new (took.1.second settings was) took.2
 found_then (Err at) (payload ∷ payloads) from old new was took = stays_refused payloads _ at took.0 new (took.1.none at was) took.2
@@ -55,7 +56,8 @@ found_in (payload ∷ payloads) from old new none took =
 
 -- ---- what was found tells the records
 -- settings: there is one record, which has them
-pub found_settings : (payloads : List (List ℕ)) (found : Option (Result Settings ℕ)) (settings : Settings) → found ≡ Some (Ok settings) → IsFoundIn payloads found → (payloads ≡ head_bytes settings ∷ []) × AreValid settings
+pub found_settings : (payloads : List (List ℕ)) (found : Option (Result Settings ℕ)) (settings : Settings) → found ≡ Some (Ok settings) → IsFoundIn payloads found
+    → (payloads ≡ head_bytes settings ∷ []) × AreValid settings
 found_settings [] found settings is none = cc
 found_settings (payload ∷ []) found settings is (Ok other, read, e) =
     let same : other ≡ settings = cc in
@@ -71,12 +73,18 @@ found_none [] found is none = refl
 found_none (payload ∷ payloads) found is (read, is_read, e) = cc
 
 -- a place: by it the store is of another make
-first_whole : (file payload : List ℕ) (payloads : List (List ℕ)) (gate : ℕ) (rest : List ℕ) → AllByRecursion IsPayload (payload ∷ payloads) → file ≡ records_text (payload ∷ payloads) ++ gate ∷ rest → (next : ℕ) × HasFirst file payload next × ((payloads ≡ [] → next ≡ gate) × ((payloads ≡ [] → ⊥) → next ≡ open_gate))
-first_whole file payload [] gate rest each bytes = (gate, record { rest = rest; bytes = bytes ∙ append_assoc (record_text payload) [] (gate ∷ rest); fits = each.0 }, (λ e. refl, λ no. absurd (no refl)))
+first_whole : (file payload : List ℕ) (payloads : List (List ℕ)) (gate : ℕ) (rest : List ℕ) → AllByRecursion IsPayload (payload ∷ payloads) → file ≡ records_text (payload ∷ payloads) ++ gate ∷ rest
+    → (next : ℕ) × HasFirst file payload next × ((payloads ≡ [] → next ≡ gate) × ((payloads ≡ [] → ⊥) → next ≡ open_gate))
+first_whole file payload [] gate rest each bytes = (
+  gate,
+  record { rest = rest; bytes = bytes ∙ append_assoc (record_text payload) [] (gate ∷ rest); fits = each.0 },
+  (λ e. refl, λ no. absurd (no refl)),
+)
 first_whole file payload (more ∷ payloads) gate rest each bytes =
     (open_gate, record { rest = _; bytes = bytes ∙ append_assoc (record_text payload) (records_text (more ∷ payloads)) (gate ∷ rest); fits = each.0 }, (λ e. absurd cc, λ no. refl))
 
-pub found_place : (files : Files) (payloads : List (List ℕ)) (found : Option (Result Settings ℕ)) (at gate : ℕ) (rest : List ℕ) → found ≡ Some (Err at) → IsFoundIn payloads found → AllByRecursion IsPayload payloads → files head_file ≡ records_text payloads ++ gate ∷ rest → IsNotOursAt files at
+pub found_place : (files : Files) (payloads : List (List ℕ)) (found : Option (Result Settings ℕ)) (at gate : ℕ) (rest : List ℕ) → found ≡ Some (Err at) → IsFoundIn payloads found
+    → AllByRecursion IsPayload payloads → files head_file ≡ records_text payloads ++ gate ∷ rest → IsNotOursAt files at
 found_place files [] found at gate rest is none each bytes = cc
 found_place files (payload ∷ []) found at gate rest is (Ok settings, read, e) each bytes = cc
 found_place files (payload ∷ []) found at gate rest is (Err place, read, e) each bytes =
@@ -93,7 +101,8 @@ found_place files (payload ∷ (more ∷ payloads)) found at gate rest is (Ok se
     inr (inr (settings, read.found.0, first.0, subst (λ (p : List ℕ). HasFirst (files head_file) p first.0) (read.found.1) first.1, first.2.1 (λ no. cc), same))
 
 -- so is one whose records are whole
-pub stands_not_ours : (files : Files) (payloads : List (List ℕ)) (found : Option (Result Settings ℕ)) (at : ℕ) → found ≡ Some (Err at) → IsFoundIn payloads found → StandsFor (files head_file) payloads → IsNotOursAt files at
+pub stands_not_ours : (files : Files) (payloads : List (List ℕ)) (found : Option (Result Settings ℕ)) (at : ℕ) → found ≡ Some (Err at) → IsFoundIn payloads found → StandsFor (files head_file) payloads
+    → IsNotOursAt files at
 stands_not_ours files payloads found at is found_is (inl none) = let no : found ≡ None = subst (λ (ps : List (List ℕ)). IsFoundIn ps found) none.1 found_is in cc
 stands_not_ours files payloads found at is found_is (inr has) = found_place files payloads found at has.gate has.rest is found_is has.each has.bytes
 
@@ -101,13 +110,16 @@ stands_not_ours files payloads found at is found_is (inr has) = found_place file
 none_yet : Heading
 none_yet = record { found = None }
 
-first_settings : (files : Files) (payloads : List (List ℕ)) (settings : Settings) (at : ℕ) (rest : List ℕ) → AreValid settings → payloads ≡ head_bytes settings ∷ [] → AllByRecursion IsPayload payloads → files head_file ≡ records_text payloads ++ open_gate ∷ rest → at ≡ length (records_text payloads) → IsNotOursAt files at
+first_settings : (files : Files) (payloads : List (List ℕ)) (settings : Settings) (at : ℕ) (rest : List ℕ) → AreValid settings → payloads ≡ head_bytes settings ∷ [] → AllByRecursion IsPayload payloads
+    → files head_file ≡ records_text payloads ++ open_gate ∷ rest → at ≡ length (records_text payloads) → IsNotOursAt files at
 first_settings files payloads settings at rest valid one each bytes place =
-    let first = first_whole (files head_file) (head_bytes settings) [] open_gate rest (subst (λ (ps : List (List ℕ)). AllByRecursion IsPayload ps) one each) (subst (λ (ps : List (List ℕ)). files head_file ≡ records_text ps ++ open_gate ∷ rest) one bytes) in
+    let first = first_whole (files head_file) (head_bytes settings) [] open_gate rest (subst (λ (ps : List (List ℕ)). AllByRecursion IsPayload ps) one each)
+    (subst (λ (ps : List (List ℕ)). files head_file ≡ records_text ps ++ open_gate ∷ rest) one bytes) in
     inr (inr (settings, valid, first.0, first.1, first.2.0 refl, place ∙ ap (λ (ps : List (List ℕ)). length (records_text ps)) one))
 
 -- behind a record
-pub broken_not_ours : (files : Files) (new : Heading) (found : Option (Result Settings ℕ)) (fault : JournalFault) (at : ℕ) → new.found ≡ found → ((place : ℕ) → fault ≡ JournalDamaged place → IsBrokenFor Taken (record { found = None }) new (files head_file) place) → fault_in_head found fault ≡ NotOurs at → IsNotOursAt files at
+pub broken_not_ours : (files : Files) (new : Heading) (found : Option (Result Settings ℕ)) (fault : JournalFault) (at : ℕ) → new.found ≡ found
+    → ((place : ℕ) → fault ≡ JournalDamaged place → IsBrokenFor Taken (record { found = None }) new (files head_file) place) → fault_in_head found fault ≡ NotOurs at → IsNotOursAt files at
 broken_not_ours files new found JournalFailed at told broken is = cc
 broken_not_ours files new found JournalMemory at told broken is = cc
 broken_not_ours files new None (JournalDamaged place) at told broken is = cc
@@ -119,10 +131,12 @@ broken_not_ours files new (Some (Ok settings)) (JournalDamaged place) at told br
 broken_not_ours files new (Some (Err kept)) (JournalDamaged place) at told broken is =
     let same : kept ≡ at = cc in
     let b = broken place refl in
-    subst (IsNotOursAt files) same (found_place files b.broken.payloads new.found kept open_gate b.broken.rest told (found_in b.broken.payloads 0 (record { found = None }) new refl b.took) b.broken.each b.broken.bytes)
+    subst (IsNotOursAt files) same (found_place files b.broken.payloads new.found kept open_gate b.broken.rest told (found_in b.broken.payloads 0 (record { found = None }) new refl b.took)
+    b.broken.each b.broken.bytes)
 
 -- or at once
-pub broken_at_once : (files : Files) (new : Heading) (found : Option (Result Settings ℕ)) (fault : JournalFault) (f at : ℕ) → new.found ≡ found → ((place : ℕ) → fault ≡ JournalDamaged place → IsBrokenFor Taken (record { found = None }) new (files head_file) place) → fault_in_head found fault ≡ Damaged f at
+pub broken_at_once : (files : Files) (new : Heading) (found : Option (Result Settings ℕ)) (fault : JournalFault) (f at : ℕ) → new.found ≡ found
+    → ((place : ℕ) → fault ≡ JournalDamaged place → IsBrokenFor Taken (record { found = None }) new (files head_file) place) → fault_in_head found fault ≡ Damaged f at
     → (f ≡ head_file) × (at ≡ 0) × IsBrokenAt (files head_file) 0
 broken_at_once files new found JournalFailed f at told broken is = cc
 broken_at_once files new found JournalMemory f at told broken is = cc
@@ -137,7 +151,8 @@ broken_at_once files new None (JournalDamaged place) f at told broken is =
     (file, same ∙ first, subst (IsBrokenAt (files head_file)) first b.broken)
 
 -- ---- what is said of a journal that was read whole
-pub said_settings : (found : Option (Result Settings ℕ)) (result : Result (Option Settings) OpenFault) (P : Settings → Type 0) → result ≡ found_in_head found → ((settings : Settings) → found ≡ Some (Ok settings) → P settings) → IfOk result (λ f. IfSome f P)
+pub said_settings : (found : Option (Result Settings ℕ)) (result : Result (Option Settings) OpenFault) (P : Settings → Type 0) → result ≡ found_in_head found
+    → ((settings : Settings) → found ≡ Some (Ok settings) → P settings) → IfOk result (λ f. IfSome f P)
 said_settings found (Err fault) P is gives = tt
 said_settings found (Ok None) P is gives = tt
 said_settings None (Ok (Some settings)) P is gives = cc
@@ -167,7 +182,8 @@ opened_same (Some old) new n is long changes = changes.1 ∙ ap (λ (files : Fil
 
 -- ---- a journal was damaged where its refusal says so
 pub damaged_then : (found : Option (Result Settings ℕ)) (fault : JournalFault)
-    → ((at : ℕ) → fault_in_head found fault ≡ NotOurs at → (place : ℕ) × (fault ≡ JournalDamaged place)) × ((f at : ℕ) → fault_in_head found fault ≡ Damaged f at → (place : ℕ) × (fault ≡ JournalDamaged place))
+    → ((at : ℕ) → fault_in_head found fault ≡ NotOurs at → (place : ℕ) × (fault ≡ JournalDamaged place))
+    × ((f at : ℕ) → fault_in_head found fault ≡ Damaged f at → (place : ℕ) × (fault ≡ JournalDamaged place))
 damaged_then found JournalFailed = (λ at is. absurd cc, λ f at is. absurd cc)
 damaged_then found JournalMemory = (λ at is. absurd cc, λ f at is. absurd cc)
 damaged_then found (JournalDamaged place) = (λ at is. (place, refl), λ f at is. (place, refl))

@@ -4,10 +4,11 @@ use Rattle.std.specs.Option.{ForSome}
 use Rattle.irl_offer.specs.Settings.{AreValid}
 use Rattle.irl_offer.specs.declared.settings.Asked.{Asked}
 use Rattle.irl_offer.specs.declared.settings.Settings.{Settings}
-use Rattle.irl_offer.specs.declared.receipt.Fault.{Fault}
-use Rattle.irl_offer.specs.declared.receipt.Fault.TheVariants.{Failed as BayFailed, Memory as BayMemory, Full as BayFull, Damaged as BayDamaged}
+use Rattle.irl_base.specs.declared.fault.Fault.{Fault}
+use Rattle.irl_base.specs.declared.fault.Fault.TheVariants.{Failed as BayFailed, Memory as BayMemory, Full as BayFull, Damaged as BayDamaged}
 use Rattle.irl_model.specs.Book.{Book}
-use Rattle.irl_model.specs.State.{State, blank_state}
+use Rattle.irl_events.specs.Events.{Happened}
+use Rattle.irl_events.specs.State.{State, blank_state}
 use Rattle.irl_disk.specs.Disk.{Files}
 use Rattle.irl_journal.specs.Format.{StandsFor, IsBrokenAt, HasNoRecord, records_text, open_gate, body_text}
 use Rattle.irl_journal.proofs.Lists.{one_list, whole_list, record_behind, records-cons, same_bodies}
@@ -38,7 +39,8 @@ none_first file payload gate none first =
 one_first : (file x payload : List ℕ) (gate : ℕ) → StandsFor file (x ∷ []) → HasFirst file payload gate → (payload ≡ x) × (gate ≢ open_gate)
 one_first file x payload gate (inl few) first = let no : x ∷ [] ≡ [] = few.1 in cc
 one_first file x payload gate (inr has) first =
-    let apart : open_gate ∷ (body_text x ++ (has.gate ∷ has.rest)) ≡ open_gate ∷ (body_text payload ++ (gate ∷ first.rest)) = sym (records-cons x [] (has.gate ∷ has.rest)) ∙ sym has.bytes ∙ first.bytes in
+    let apart : open_gate ∷ (body_text x ++ (has.gate ∷ has.rest)) ≡ open_gate ∷ (body_text payload ++ (gate ∷ first.rest)) = sym (records-cons x [] (has.gate ∷ has.rest)) ∙ sym has.bytes
+    ∙ first.bytes in
     let parts = same_bodies x payload (has.gate ∷ has.rest) (gate ∷ first.rest) has.each.0 first.fits (ap (drop 1) apart) in
     let gates : has.gate ≡ gate = let behind = parts.1 in cc in
     (sym parts.0, λ is. has.closed (gates ∙ is))
@@ -67,13 +69,14 @@ made_has settings state files head (inl blank) = absurd (none_or_one (files head
 made_has settings state files head (inr (other, made)) =
     subst (λ (s : Settings). IsMade s state files) (one_head other settings files (made_head other state files made) head) made
 
-entered_as : (asked : Asked) (settings : Settings) (kept : Option Settings) (urls pairs : Book) → kept ≡ Some settings → entered_state asked (record { settings = kept; urls = urls; pairs = pairs }) ≡ record { settings = kept; urls = urls; pairs = pairs }
-entered_as asked settings None urls pairs is = cc
-entered_as asked settings (Some kept) urls pairs is = refl
+entered_as : (asked : Asked) (settings : Settings) (kept : Option Settings) (urls pairs : Book) (events : List Happened) → kept ≡ Some settings
+    → entered_state asked (record { settings = kept; urls = urls; pairs = pairs; events = events }) ≡ record { settings = kept; urls = urls; pairs = pairs; events = events }
+entered_as asked settings None urls pairs events is = cc
+entered_as asked settings (Some kept) urls pairs events is = refl
 
 -- a store that was made stays
 pub entered_made : (asked : Asked) (settings : Settings) (state : State) → state.settings ≡ Some settings → entered_state asked state ≡ state
-entered_made asked settings state is = entered_as asked settings state.settings state.urls state.pairs is
+entered_made asked settings state is = entered_as asked settings state.settings state.urls state.pairs state.events is
 
 -- ---- what is ours
 pub blank_ours : (files : Files) (at : ℕ) → IsBlank files → IsNotOursAt files at → ⊥
@@ -120,8 +123,10 @@ ground_denies asked told Memory ground denies = absurd denies
 
 -- ---- the grounds of the parts' refusals
 -- the head's journal
-pub found_ground : {T : Type 0} (asked : Asked) (told : Option Files) (result : Result T OpenFault) (fault : OpenFault) → result ≡ Err fault → ((at : ℕ) → IsErrOf result (NotOurs at) → ForSome told (λ files. IsNotOursAt files at))
-    → ((f at : ℕ) → IsErrOf result (Damaged f at) → ForSome told (λ files. (f ≡ head_file) × (at ≡ 0) × IsBrokenAt (files head_file) 0)) → ((n kept wanted : ℕ) → IsErrOf result (OtherSettings n kept wanted) → ⊥) → ((n : ℕ) → IsErrOf result (BadSettings n) → ⊥) → HasGround asked told fault
+pub found_ground : {T : Type 0} (asked : Asked) (told : Option Files) (result : Result T OpenFault) (fault : OpenFault) → result ≡ Err fault
+    → ((at : ℕ) → IsErrOf result (NotOurs at) → ForSome told (λ files. IsNotOursAt files at))
+    → ((f at : ℕ) → IsErrOf result (Damaged f at) → ForSome told (λ files. (f ≡ head_file) × (at ≡ 0) × IsBrokenAt (files head_file) 0))
+    → ((n kept wanted : ℕ) → IsErrOf result (OtherSettings n kept wanted) → ⊥) → ((n : ℕ) → IsErrOf result (BadSettings n) → ⊥) → HasGround asked told fault
 found_ground asked told result (NotOurs at) is ours damaged other bad = ours at is
 found_ground asked told result (Damaged f at) is ours damaged other bad = λ files t. inl (damaged f at is files t)
 found_ground asked told result (OtherSettings n kept wanted) is ours damaged other bad = absurd (other n kept wanted is)
@@ -130,7 +135,8 @@ found_ground asked told result Failed is ours damaged other bad = tt
 found_ground asked told result Memory is ours damaged other bad = tt
 
 -- the bay of URLs of a store that was made as is asked
-pub bay_ground : (asked : Asked) (told : Option Files) (settings : Settings) (fault : Fault) → ForSome told (HasHead settings) → Agrees asked settings → ((f at : ℕ) → fault ≡ BayDamaged f at → ForSome told (λ files. IsDamagedAt urls_base settings files f at)) → HasGround asked told (fault_of_bay fault)
+pub bay_ground : (asked : Asked) (told : Option Files) (settings : Settings) (fault : Fault) → ForSome told (HasHead settings) → Agrees asked settings
+    → ((f at : ℕ) → fault ≡ BayDamaged f at → ForSome told (λ files. IsDamagedAt urls_base settings files f at)) → HasGround asked told (fault_of_bay fault)
 bay_ground asked told settings BayFailed head agrees damaged = tt
 bay_ground asked told settings BayMemory head agrees damaged = tt
 bay_ground asked told settings (BayFull n) head agrees damaged = tt
@@ -138,7 +144,8 @@ bay_ground asked told settings (BayDamaged f at) head agrees damaged = λ files 
 
 -- ---- no two kinds of refusal have their grounds in the same files
 -- a record that is whole isn't broken
-first_whole : (file payload : List ℕ) (gate : ℕ) (payloads : List (List ℕ)) (rest : List ℕ) → HasFirst file payload gate → file ≡ records_text payloads ++ (open_gate ∷ rest) → 0 ≡ length (records_text payloads) → HasNoRecord (open_gate ∷ rest) → ⊥
+first_whole : (file payload : List ℕ) (gate : ℕ) (payloads : List (List ℕ)) (rest : List ℕ) → HasFirst file payload gate → file ≡ records_text payloads ++ (open_gate ∷ rest)
+    → 0 ≡ length (records_text payloads) → HasNoRecord (open_gate ∷ rest) → ⊥
 first_whole file payload gate [] rest first bytes place none = none payload first.rest gate first.fits (sym bytes ∙ first.bytes)
 first_whole file payload gate (x ∷ xs) rest first bytes place none = omega (arith, place)
 

@@ -27,11 +27,13 @@ numbers_are (suc n) at bytes (x ∷ numbers) long each =
     let here : at + 8 * 0 ≡ at = omega arith in
     let first : x ≡ little_number 8 (drop at bytes) = each 0 (omega arith) ∙ ap (λ (k : ℕ). little_number 8 (drop k bytes)) here in
     let more : numbers_in n (drop (at + 8) bytes) ≡ numbers =
-    numbers_are n (at + 8) bytes numbers (omega arith) (λ k below. let place : at + 8 * suc k ≡ at + 8 + 8 * k = omega arith in each (suc k) (omega arith) ∙ ap (λ (j : ℕ). little_number 8 (drop j bytes)) place) in
+    numbers_are n (at + 8) bytes numbers (omega arith) (λ k below. let place : at + 8 * suc k ≡ at + 8 + 8 * k = omega arith in each (suc k) (omega arith)
+    ∙ ap (λ (j : ℕ). little_number 8 (drop j bytes)) place) in
     rw (drop-drop 8 at bytes, more, first) refl
 
 -- and a payload with the name, the version and these numbers is theirs
-pub head_written : (payload numbers : List ℕ) → length payload ≡ 100 → AreBytes payload → take 8 payload ≡ head_name → little_number 4 (drop 8 payload) ≡ head_version → length numbers ≡ 11 → AreNumbersIn payload numbers
+pub head_written : (payload numbers : List ℕ) → length payload ≡ 100 → AreBytes payload → take 8 payload ≡ head_name → little_number 4 (drop 8 payload) ≡ head_version → length numbers ≡ 11
+    → AreNumbersIn payload numbers
     → payload ≡ head_name ++ (little_bytes 4 head_version ++ flat_map (little_bytes 8) numbers)
 head_written payload numbers long small name version eleven are =
     let each : (k : ℕ) → k < 11 → slice_index numbers k ≡ little_number 8 (drop (12 + 8 * k) payload) = λ k below. (let same : k + 1 - 1 ≡ k = omega arith in
@@ -41,7 +43,8 @@ head_written payload numbers long small name version eleven are =
     let four : take 4 (drop 8 payload) ≡ little_bytes 4 head_version =
     sym (bytes_back 4 (drop 8 payload) (omega (arith, length-drop 8 payload)) (bytes-drop 8 payload small)) ∙ ap (little_bytes 4) version in
     let behind : drop 8 payload ≡ little_bytes 4 head_version ++ flat_map (little_bytes 8) numbers =
-    sym (take-append-drop 4 (drop 8 payload)) ∙ ap (λ (l : List ℕ). take 4 (drop 8 payload) ++ l) (drop-drop 4 8 payload ∙ numbered) ∙ ap (λ (l : List ℕ). l ++ flat_map (little_bytes 8) numbers) four in
+    sym (take-append-drop 4 (drop 8 payload)) ∙ ap (λ (l : List ℕ). take 4 (drop 8 payload) ++ l) (drop-drop 4 8 payload ∙ numbered)
+    ∙ ap (λ (l : List ℕ). l ++ flat_map (little_bytes 8) numbers) four in
     sym (take-append-drop 8 payload) ∙ ap (λ (l : List ℕ). take 8 payload ++ l) behind ∙ ap (λ (l : List ℕ). l ++ (little_bytes 4 head_version ++ flat_map (little_bytes 8) numbers)) name
 
 -- settings whose numbers lie in their ranges are valid
@@ -66,8 +69,10 @@ valid_settings settings within = record {
 pub bad_setting : (payload numbers : List ℕ) (n : ℕ) → AreNumbersIn payload numbers → IsBadNumber numbers n → IsBadSetting payload n
 bad_setting payload numbers n are is =
     let base : slice_index numbers 8 ≡ number_in payload 9 = are 9 (omega arith) (omega arith) in
-    let moved = λ (m : ℕ) (from : 1 ≤ m) (to : m ≤ 11) (within : IsInRange (slice_index numbers 8) m (slice_index numbers (m - 1))). subst (λ (x : ℕ). IsInRange x m (number_in payload m)) base (subst (IsInRange (slice_index numbers 8) m) (are m from to) within) in
-    let back = λ (within : IsInRange (number_in payload 9) n (number_in payload n)). subst (λ (x : ℕ). IsInRange x n (slice_index numbers (n - 1))) (sym base) (subst (IsInRange (number_in payload 9) n) (sym (are n is.within.0 is.within.1)) within) in
+    let moved = λ (m : ℕ) (from : 1 ≤ m) (to : m ≤ 11) (within : IsInRange (slice_index numbers 8) m (slice_index numbers (m - 1))).
+    subst (λ (x : ℕ). IsInRange x m (number_in payload m)) base (subst (IsInRange (slice_index numbers 8) m) (are m from to) within) in
+    let back = λ (within : IsInRange (number_in payload 9) n (number_in payload n)).
+    subst (λ (x : ℕ). IsInRange x n (slice_index numbers (n - 1))) (sym base) (subst (IsInRange (number_in payload 9) n) (sym (are n is.within.0 is.within.1)) within) in
     record {
       within = is.within;
       bad = λ within. is.bad (back within);
@@ -105,8 +110,31 @@ valid_numbers settings valid = λ n from to. record {
 }
 
 numbers_fit : (settings : Settings) → AreValid settings → AllByRecursion (λ (x : ℕ). x < 2 ^ 64) (setting_numbers settings)
-numbers_fit settings valid =
-    (omega (arith, (kind_range settings.kind).1), (omega (arith, rule_range settings.rule), (omega (arith, count_small settings.buckets valid.buckets), (omega (arith, valid.sizes.array.1), (omega (arith, valid.sizes.trigger.1), (omega (arith, valid.sizes.block.1), (omega (arith, valid.sizes.cap.1), (omega (arith, valid.budgets.queues.1), (omega (arith, valid.budgets.base.1), (omega (arith, valid.budgets.most.1), (omega (arith, valid.budgets.ranks.1), tt)))))))))))
+numbers_fit settings valid = (
+  omega (arith, (kind_range settings.kind).1),
+  (
+    omega (arith, rule_range settings.rule),
+    (
+      omega (arith, count_small settings.buckets valid.buckets),
+      (
+        omega (arith, valid.sizes.array.1),
+        (
+          omega (arith, valid.sizes.trigger.1),
+          (
+            omega (arith, valid.sizes.block.1),
+            (
+              omega (arith, valid.sizes.cap.1),
+              (
+                omega (arith, valid.budgets.queues.1),
+                (omega (arith, valid.budgets.base.1), (omega (arith, valid.budgets.most.1), (omega (arith, valid.budgets.ranks.1), tt))),
+              ),
+            ),
+          ),
+        ),
+      ),
+    ),
+  ),
+)
 
 number_at : (n k : ℕ) (bytes : List ℕ) → k < n → slice_index (numbers_in n bytes) k ≡ little_number 8 (drop (8 * k) bytes)
 number_at zero k bytes below = absurd (omega arith)
@@ -174,7 +202,8 @@ same_rule Add Keep e = absurd (omega arith)
 same_rule Add Replace e = absurd (omega arith)
 same_rule Add Add e = refl
 
-each_same : (x : Settings) (kind : Kind) (rule : Rule) (buckets array trigger block cap queues base most ranks : ℕ) → x.kind ≡ kind → x.rule ≡ rule → x.buckets ≡ buckets → x.array ≡ array → x.trigger ≡ trigger → x.block ≡ block → x.cap ≡ cap → x.queues ≡ queues → x.base ≡ base → x.most ≡ most → x.ranks ≡ ranks
+each_same : (x : Settings) (kind : Kind) (rule : Rule) (buckets array trigger block cap queues base most ranks : ℕ) → x.kind ≡ kind → x.rule ≡ rule → x.buckets ≡ buckets → x.array ≡ array
+    → x.trigger ≡ trigger → x.block ≡ block → x.cap ≡ cap → x.queues ≡ queues → x.base ≡ base → x.most ≡ most → x.ranks ≡ ranks
     → x ≡ record { kind = kind; rule = rule; buckets = buckets; array = array; trigger = trigger; block = block; cap = cap; queues = queues; base = base; most = most; ranks = ranks }
 each_same x kind rule buckets array trigger block cap queues base most ranks a b c d e f g h i j k = rw (← a, ← b, ← c, ← d, ← e, ← f, ← g, ← h, ← i, ← j, ← k) refl
 

@@ -4,16 +4,16 @@ use Rattle.irl_offer.specs.declared.settings.Settings.{Settings}
 use Rattle.irl_offer.specs.declared.offer.Rule.TheVariants.{Keep}
 use Rattle.irl_offer.specs.Buckets.{IsBucketCount}
 use Rattle.irl_model.specs.Book.{Book, blank_book}
-use Rattle.irl_model.specs.State.{State}
-use Rattle.irl_disk.specs.Disk.{Files}
-use Rattle.irl_disk.specs.Images.{Snapshot, IsConsistent, Follows, Leaves, LeavesBy, LeavesSame}
+use Rattle.irl_events.specs.State.{State}
+use Rattle.irl_disk.specs.Disk.{Files, ChangesOnly}
+use Rattle.irl_disk.specs.Images.{Told, IsConsistent, Follows, Leaves, LeavesBy, LeavesSame}
 use Rattle.irl_disk.proofs.Stretches.{widens, left_now}
 use Rattle.irl_journal.specs.Format.{HasRecords}
 use Rattle.irl_bay.specs.BayFiles.{IsFileOf}
 use Rattle.irl_bay.specs.Making.{IsUnmade}
 use Rattle.irl_bay.specs.Standing.{Stands}
 use Rattle.irl_bay.specs.Drum.{Drum, IsDrum}
-use Rattle.irl_bay.specs.Holding.{Holds, ChangesOnly, Becomes}
+use Rattle.irl_bay.specs.Holding.{Holds, Becomes}
 use Rattle.irl_bay.proofs.MergeFrames.{holds_fewer}
 use Rattle.irl_bay.proofs.Standing.{holds_stands}
 use Rattle.irl_bay.proofs.Apart.{files_within, files_of_both}
@@ -52,7 +52,8 @@ rest_kept among urls old new law base are changes rest = record {
     apart f one two = files_of_both urls.settings.buckets f few (subst (λ (n : ℕ). IsFileOf n urls.settings.buckets f) base one) two
 
 -- files that stand for a book of URLs, beside the rest
-pub has_state : (images : Files → Type 0) (urls : Drum) (state : State) (book : Book) (image : Files) → IsDrum urls → HoldsUrls images urls state → HasRest urls image → Stands urls.base urls.settings book image → HasState (with_urls book state) image
+pub has_state : (images : Files → Type 0) (urls : Drum) (state : State) (book : Book) (image : Files) → IsDrum urls → HoldsUrls images urls state → HasRest urls image
+    → Stands urls.base urls.settings book image → HasState (with_urls book state) image
 has_state images urls state book image law holds rest stands = inr (
   urls.settings,
   record {
@@ -63,6 +64,7 @@ has_state images urls state book image law holds rest stands = inr (
     urls = subst (λ (base : ℕ). Stands base urls.settings book image) holds.base stands;
     crawl = rest.crawl;
     pairs_are = holds.pairs_are;
+    events_are = holds.events_are;
     pairs = rest.pairs;
   },
 )
@@ -73,7 +75,7 @@ held_has images urls state image law holds left = has_state images urls state st
 
 -- ---- a call on the bay of URLs
 -- at its end the store holds the state with the book that the bay then holds
-pub holds_after : (among : ℕ → Type 0) (old new : Snapshot) (was now : Drum) (state : State) (book : Book) → IsDrum was → IsConsistent new → AreOfUrls was among → LeavesBy (ChangesOnly among) old new
+pub holds_after : (among : ℕ → Type 0) (old new : Told) (was now : Drum) (state : State) (book : Book) → IsDrum was → IsConsistent new → AreOfUrls was among → LeavesBy (ChangesOnly among) old new
     → now.base ≡ was.base → now.settings ≡ was.settings → HoldsUrls old.images was state → Holds new.images now book → HoldsUrls new.images now (with_urls book state)
 holds_after among old new was now state book law consistent are stops base settings holds after = record {
   settings = holds.settings ∙ ap (λ (s : Settings). Some s) (sym settings);
@@ -81,6 +83,7 @@ holds_after among old new was now state book law consistent are stops base setti
   kind = λ is. holds.kind (ap (λ (s : Settings). s.kind) (sym settings) ∙ is);
   urls_hold = after;
   pairs_are = holds.pairs_are ∙ ap (λ (s : Settings). blank_book s.buckets Keep) (sym settings);
+  events_are = holds.events_are;
   rest = λ image left.
       let from = left_now old new _ consistent stops image left in
       let rest = rest_kept among was from.0 image law holds.base are from.2 (holds.rest from.0 from.1) in
@@ -92,7 +95,7 @@ holds_after among old new was now state book law consistent are stops base setti
 }
 
 -- and a stop in it leaves the state, with the book before it or the one that it makes
-pub stops_one_of : (among : ℕ → Type 0) (old new : Snapshot) (urls : Drum) (state : State) (book : Book) → IsDrum urls → AreOfUrls urls among → HoldsUrls old.images urls state
+pub stops_one_of : (among : ℕ → Type 0) (old new : Told) (urls : Drum) (state : State) (book : Book) → IsDrum urls → AreOfUrls urls among → HoldsUrls old.images urls state
     → LeavesBy (Becomes among urls.base urls.settings state.urls book) old new → Leaves old new (HasOneOf state (with_urls book state))
 stops_one_of among old new urls state book law are holds stops =
     widens old new (Follows (Becomes among urls.base urls.settings state.urls book) old.images) _ stops (λ image from.
@@ -103,18 +106,19 @@ stops_one_of among old new urls state book law are holds stops =
 
 -- ---- a call that changes nothing
 -- at its end the store holds the state
-pub holds_same : (old new : Snapshot) (urls : Drum) (state : State) → IsDrum urls → IsConsistent new → LeavesSame old new → HoldsUrls old.images urls state → HoldsUrls new.images urls state
+pub holds_same : (old new : Told) (urls : Drum) (state : State) → IsDrum urls → IsConsistent new → LeavesSame old new → HoldsUrls old.images urls state → HoldsUrls new.images urls state
 holds_same old new urls state law consistent same holds = record {
   settings = holds.settings;
   base = holds.base;
   kind = holds.kind;
   urls_hold = holds_fewer old.images new.images urls state.urls law (left_now old new old.images consistent same) holds.urls_hold;
   pairs_are = holds.pairs_are;
+  events_are = holds.events_are;
   rest = λ image left. holds.rest image (left_now old new old.images consistent same image left);
 }
 
 -- and each stop in it leaves the state
-pub stops_same : (old new : Snapshot) (urls : Drum) (state : State) → IsDrum urls → HoldsUrls old.images urls state → LeavesSame old new → Leaves old new (HasState state)
+pub stops_same : (old new : Told) (urls : Drum) (state : State) → IsDrum urls → HoldsUrls old.images urls state → LeavesSame old new → Leaves old new (HasState state)
 stops_same old new urls state law holds same = widens old new old.images (HasState state) same (λ image left. held_has old.images urls state image law holds left)
 
 -- ---- results

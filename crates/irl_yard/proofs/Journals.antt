@@ -1,12 +1,12 @@
 -- The live journals of the buckets of an open store keep their records where a call changes other files alone.
 use Rattle.std.proofs.Common.{◌≡◌, ◌≢◌, ◌∙◌, ◌⊎◌, inl, inr, ⊎_elim, ℕ, zero, suc, ◌+◌, ◌-◌, ◌≤◌, ◌<◌, List, ◌++◌, map, Option, Some, None, IfSome, Result, Ok, Err, OnOk, OnErr, IsErrOf, refl, sym, ap, subst, arith}
 use Rattle.std.specs.List.{AllByRecursion}
-use Rattle.irl_offer.specs.declared.receipt.Fault.{Fault}
-use Rattle.irl_offer.specs.declared.receipt.Fault.TheVariants.{Failed, Memory, Full, Damaged}
+use Rattle.irl_base.specs.declared.fault.Fault.{Fault}
+use Rattle.irl_base.specs.declared.fault.Fault.TheVariants.{Failed, Memory, Full, Damaged}
 use Rattle.irl_model.specs.Book.{Book}
-use Rattle.irl_model.specs.State.{State}
-use Rattle.irl_disk.specs.Disk.{Files}
-use Rattle.irl_disk.specs.Images.{Snapshot, IsConsistent, Follows, Leaves, LeavesBy}
+use Rattle.irl_events.specs.State.{State}
+use Rattle.irl_disk.specs.Disk.{Files, ChangesOnly}
+use Rattle.irl_disk.specs.Images.{Told, IsConsistent, Follows, Leaves, LeavesBy}
 use Rattle.irl_disk.proofs.Stretches.{widens, left_now}
 use Rattle.irl_journal.specs.Appending.{Ends}
 use Rattle.irl_journal.specs.Format.{HasRecords, StandsFor}
@@ -15,7 +15,7 @@ use Rattle.irl_bay.specs.BayFiles.{file_of, IsBucketFile}
 use Rattle.irl_bay.specs.Commits.{Commit, IsCommit, HasCommits, HasLiveRecords, commit_bytes, first_commit, last_commit, live_side, side_of}
 use Rattle.irl_bay.specs.declared.layout.files.BayFile.TheVariants.{Manifest, Journal}
 use Rattle.irl_bay.specs.Drum.{Drum, IsDrum, bucket_at}
-use Rattle.irl_bay.specs.Holding.{Holds, ChangesOnly}
+use Rattle.irl_bay.specs.Holding.{Holds}
 use Rattle.irl_bay.specs.Merging.{IsMergeFile}
 use Rattle.irl_bay.specs.Runs.{run_bytes}
 use Rattle.irl_yard.specs.Holding.{HoldsUrls, HasJournal, HasLiveJournal}
@@ -85,7 +85,8 @@ module _ (images : Files → Type 0) (urls : Drum) (book : Book) (law : IsDrum u
   }
 
   -- what a stop now may leave
-  pub left_records : (b : ℕ) (payloads : List (List ℕ)) (image : Files) → b < urls.settings.buckets → HasJournal images urls b payloads → images image → HasLiveRecords urls.base urls.settings.buckets b payloads image
+  pub left_records : (b : ℕ) (payloads : List (List ℕ)) (image : Files) → b < urls.settings.buckets → HasJournal images urls b payloads → images image
+      → HasLiveRecords urls.base urls.settings.buckets b payloads image
   left_records b payloads image within has left =
       live_in b payloads image (commits_in image left) (subst (λ (f : ℕ). HasRecords (image f) payloads) (law.buckets b within).journal (has image left).records)
 
@@ -125,14 +126,15 @@ records_follow among images urls b payloads image law within out has from =
     (subst (λ (f : ℕ). HasRecords (from.0 f) payloads) (law.buckets b within).journal (has from.0 from.1).records)
 
 -- so a stop in a call that changes other files leaves them
-pub records_stay : (among : ℕ → Type 0) (old new : Snapshot) (urls : Drum) (book : Book) (b : ℕ) (payloads : List (List ℕ)) → IsDrum urls → Holds old.images urls book → b < urls.settings.buckets → IsApart among urls b → (among (file_of urls.base 0 Manifest) → ⊥)
+pub records_stay : (among : ℕ → Type 0) (old new : Told) (urls : Drum) (book : Book) (b : ℕ) (payloads : List (List ℕ)) → IsDrum urls → Holds old.images urls book → b < urls.settings.buckets
+    → IsApart among urls b → (among (file_of urls.base 0 Manifest) → ⊥)
     → LeavesBy (ChangesOnly among) old new → HasJournal old.images urls b payloads → Leaves old new (HasLiveRecords urls.base urls.settings.buckets b payloads)
 records_stay among old new urls book b payloads law holds within out manifest stops has =
     widens old new (Follows (ChangesOnly among) old.images) (HasLiveRecords urls.base urls.settings.buckets b payloads) stops
     (λ image from. moved_records old.images urls book law holds among b payloads image manifest from (records_follow among old.images urls b payloads image law within out has from))
 
 -- two facts of what stops leave, together
-pub leaves_pair : (old new : Snapshot) (P Q : Files → Type 0) → Leaves old new P → Leaves old new Q → Leaves old new (λ image. P image × Q image)
+pub leaves_pair : (old new : Told) (P Q : Files → Type 0) → Leaves old new P → Leaves old new Q → Leaves old new (λ image. P image × Q image)
 leaves_pair old new P Q one two = record {
   later = one.later;
   each = λ image since. (one.each image since, two.each image since);
@@ -145,7 +147,8 @@ leaves_pair old new P Q one two = record {
     both A B C (inr b) (inr c) = inr (b, c)
 
 -- in a flush the bucket's own journal has its records, or one more
-pub gains_stay : (old new : Snapshot) (urls : Drum) (book : Book) (b : ℕ) (payloads more : List (List ℕ)) → IsDrum urls → Holds old.images urls book → LeavesBy (ChangesOnly (IsBucketFile urls.base (live_side urls.last) b)) old new
+pub gains_stay : (old new : Told) (urls : Drum) (book : Book) (b : ℕ) (payloads more : List (List ℕ)) → IsDrum urls → Holds old.images urls book
+    → LeavesBy (ChangesOnly (IsBucketFile urls.base (live_side urls.last) b)) old new
     → Leaves old new (λ image. HasRecords (image (file_of urls.base 0 (Journal (live_side urls.last) b))) payloads ⊎ HasRecords (image (file_of urls.base 0 (Journal (live_side urls.last) b))) more)
     → Leaves old new (λ image. HasLiveRecords urls.base urls.settings.buckets b payloads image ⊎ HasLiveRecords urls.base urls.settings.buckets b more image)
 gains_stay old new urls book b payloads more law holds stops gains =
@@ -155,11 +158,11 @@ gains_stay old new urls book b payloads more law holds stops gains =
     widens old new _ _ (leaves_pair old new _ _ stops gains) (λ image from. ⊎_elim (λ same. inl (has payloads image out from.0 same)) (λ grown. inr (has more image out from.0 grown)) from.1)
 
 -- some state is held, over a store that tells
-abbrev pub HoldsSome : Snapshot → Snapshot → Drum → Type 0
+abbrev pub HoldsSome : Told → Told → Drum → Type 0
 HoldsSome old new urls = (files : Files) → old.files ≡ Some files → (state : State) × HoldsUrls new.images urls state
 
 -- and where the store holds a state afterwards, the journal ends behind them
-pub journal_stays : (among : ℕ → Type 0) (old new : Snapshot) (was now : Drum) (b : ℕ) (payloads : List (List ℕ)) → IsDrum was → IsDrum now → IsConsistent old → IsConsistent new → b < was.settings.buckets
+pub journal_stays : (among : ℕ → Type 0) (old new : Told) (was now : Drum) (b : ℕ) (payloads : List (List ℕ)) → IsDrum was → IsDrum now → IsConsistent old → IsConsistent new → b < was.settings.buckets
     → IsApart among was b → LeavesBy (ChangesOnly among) old new → now.base ≡ was.base → now.settings ≡ was.settings → now.last ≡ was.last → HoldsSome old new now
     → HasJournal old.images was b payloads → HasJournal new.images now b payloads
 journal_stays among old new was now b payloads law law_now consistent consistent_new within out stops base settings last holds has = λ image left.
@@ -177,22 +180,25 @@ journal_stays among old new was now b payloads law law_now consistent consistent
     subst (λ (l : List (List ℕ)). Ends (bucket_at now b).journal.end (image (bucket_at now b).journal.file) l) same ends
 
 -- it is as it was where nothing changed
-pub journal_same : (old new : Snapshot) (was now : Drum) (b : ℕ) (payloads : List (List ℕ)) → new ≡ old → now ≡ was → HasJournal old.images was b payloads → HasJournal new.images now b payloads
+pub journal_same : (old new : Told) (was now : Drum) (b : ℕ) (payloads : List (List ℕ)) → new ≡ old → now ≡ was → HasJournal old.images was b payloads → HasJournal new.images now b payloads
 journal_same old new was now b payloads same_store same has =
-    subst (λ (s : Snapshot). HasJournal s.images now b payloads) (sym same_store) (subst (λ (urls : Drum). HasJournal old.images urls b payloads) (sym same) has)
+    subst (λ (s : Told). HasJournal s.images now b payloads) (sym same_store) (subst (λ (urls : Drum). HasJournal old.images urls b payloads) (sym same) has)
 
 -- ---- a merge that is refused
-pub merge_keeps : (old new : Snapshot) (was now : Drum) (state : State) (b : ℕ) (payloads : List (List ℕ)) → IsDrum was → IsDrum now → IsConsistent old → IsConsistent new → b < was.settings.buckets → LeavesBy (ChangesOnly (IsMergeFile was)) old new → now ≡ was
+pub merge_keeps : (old new : Told) (was now : Drum) (state : State) (b : ℕ) (payloads : List (List ℕ)) → IsDrum was → IsDrum now → IsConsistent old → IsConsistent new → b < was.settings.buckets
+    → LeavesBy (ChangesOnly (IsMergeFile was)) old new → now ≡ was
     → HoldsUrls old.images was state → Holds new.images now state.urls → HasJournal old.images was b payloads → HasJournal new.images now b payloads
 merge_keeps old new was now state b payloads law law_now consistent consistent_new within stops same holds held has =
     let base = ap (λ (d : Drum). d.base) same in
     let settings = ap (λ (d : Drum). d.settings) same in
-    journal_stays (IsMergeFile was) old new was now b payloads law law_now consistent consistent_new within (merge_apart was b _ law within (inl refl)) stops base settings (ap (λ (d : Drum). d.last) same)
+    journal_stays (IsMergeFile was) old new was now b payloads law law_now consistent consistent_new within (merge_apart was b _ law within (inl refl)) stops base settings
+    (ap (λ (d : Drum). d.last) same)
     (λ files told. (_, holds_after (IsMergeFile was) old new was now state state.urls law consistent_new (merge_files was) stops base settings holds held)) has
 
 -- ---- results
 -- of a call that didn't fail, what each other answer gives
-pub unless_failed : {T : Type 0} (result : Result T Fault) (P : Type 0) → (IsErrOf result Failed → ⊥) → OnOk result P → (IsErrOf result Memory → P) → ((n : ℕ) → IsErrOf result (Full n) → P) → ((f at : ℕ) → IsErrOf result (Damaged f at) → P) → P
+pub unless_failed : {T : Type 0} (result : Result T Fault) (P : Type 0) → (IsErrOf result Failed → ⊥) → OnOk result P → (IsErrOf result Memory → P) → ((n : ℕ) → IsErrOf result (Full n) → P)
+    → ((f at : ℕ) → IsErrOf result (Damaged f at) → P) → P
 unless_failed (Ok value) P sound ok memory full damaged = ok
 unless_failed (Err Failed) P sound ok memory full damaged = absurd (sound refl)
 unless_failed (Err Memory) P sound ok memory full damaged = memory refl
@@ -200,7 +206,8 @@ unless_failed (Err (Full n)) P sound ok memory full damaged = full n refl
 unless_failed (Err (Damaged f at)) P sound ok memory full damaged = damaged f at refl
 
 -- of a refusal
-pub unless_ok : {T : Type 0} (result : Result T Fault) (P : Type 0) → (IsErrOf result Failed → P) → (IsErrOf result Memory → P) → ((n : ℕ) → IsErrOf result (Full n) → P) → ((f at : ℕ) → IsErrOf result (Damaged f at) → P) → OnErr result P
+pub unless_ok : {T : Type 0} (result : Result T Fault) (P : Type 0) → (IsErrOf result Failed → P) → (IsErrOf result Memory → P) → ((n : ℕ) → IsErrOf result (Full n) → P)
+    → ((f at : ℕ) → IsErrOf result (Damaged f at) → P) → OnErr result P
 unless_ok (Ok value) P failed memory full damaged = tt
 unless_ok (Err Failed) P failed memory full damaged = failed refl
 unless_ok (Err Memory) P failed memory full damaged = memory refl

@@ -1,10 +1,9 @@
 -- A store that wasn't made yet, while it is made.
 use Rattle.std.proofs.Common.{◌≡◌, ℕ, ◌≤◌, List, [], length, refl, sym, subst, arith, Option, None, Some, zero, suc, Result, Ok, Err}
-use Rattle.irl_disk.specs.Disk.{Files}
+use Rattle.irl_disk.specs.Disk.{Files, TellsBy}
 use Rattle.irl_journal.specs.Format.{StandsFor}
 use Rattle.irl_bay.specs.BayFiles.{IsFileOf}
 use Rattle.irl_bay.specs.Making.{Makes}
-use Rattle.irl_bay.specs.Holding.{TellsBy}
 use Rattle.irl_offer.specs.Settings.{settings_of}
 use Rattle.irl_offer.specs.declared.settings.Asked.{Asked}
 use Rattle.irl_offer.specs.declared.offer.Rule.{Rule}
@@ -29,7 +28,8 @@ pub blank_both : (files : Files) → StandsFor (files head_file) [] → ((f : �
 blank_both files head others = record { head = head; others = others }
 
 -- ---- what is told
-pub no_record_yet : (buckets : ℕ) (old new : Option Files) → buckets ≤ 64 → TellsBy (Makes urls_base buckets) old new → ForSome old (λ files. StandsFor (files head_file) []) → ForSome new (λ files. StandsFor (files head_file) [])
+pub no_record_yet : (buckets : ℕ) (old new : Option Files) → buckets ≤ 64 → TellsBy (Makes urls_base buckets) old new → ForSome old (λ files. StandsFor (files head_file) [])
+    → ForSome new (λ files. StandsFor (files head_file) [])
 no_record_yet buckets None new small makes blank = λ files told. cc
 no_record_yet buckets (Some old) new small makes blank = λ files told.
     let same : makes.0 ≡ files = cc in

@@ -66,11 +66,13 @@ pub head_no_side : (buckets : ℕ) → buckets ≤ 64 → IsJournalOn urls_base 
 head_no_side buckets few is = head_no_journal buckets few (one_side 0 buckets head_file (omega arith) is)
 
 -- ---- a joint image with the head, and the rest as it was told
-pub rest_has : (urls : Drum) (settings : Settings) (files image : Files) → urls.settings ≡ settings → HasRecords (image head_file) (head_bytes settings ∷ []) → ((f : ℕ) → IsRestFile settings.buckets f → image f ≡ files f) → length (files crawl_file) ≤ 1 → IsUnmade pairs_base settings.buckets files → HasRest urls image
+pub rest_has : (urls : Drum) (settings : Settings) (files image : Files) → urls.settings ≡ settings → HasRecords (image head_file) (head_bytes settings ∷ [])
+    → ((f : ℕ) → IsRestFile settings.buckets f → image f ≡ files f) → length (files crawl_file) ≤ 1 → IsUnmade pairs_base settings.buckets files → HasRest urls image
 rest_has urls settings files image same head as_told crawl pairs = record {
   head = subst (λ (s : Settings). HasRecords (image head_file) (head_bytes s ∷ [])) (sym same) head;
   crawl = subst (λ (file : List ℕ). length file ≤ 1) (sym (as_told crawl_file (inl refl))) crawl;
-  pairs = subst (λ (s : Settings). IsUnmade pairs_base s.buckets image) (sym same) (λ f is. subst (λ (file : List ℕ). length file ≤ 1) (sym (as_told f (pairs_rest settings.buckets f is))) (pairs f is));
+  pairs = subst (λ (s : Settings). IsUnmade pairs_base s.buckets image) (sym same) (λ f is.
+      subst (λ (file : List ℕ). length file ≤ 1) (sym (as_told f (pairs_rest settings.buckets f is))) (pairs f is));
 }
 
 -- ---- none of them is the head
@@ -80,7 +82,8 @@ rest_no_head buckets f (inr (inl above)) = λ is. omega (arith, above.0, is)
 rest_no_head buckets f (inr (inr above)) = λ is. omega (arith, above.0, is)
 
 -- ---- they are synced
-pub rest_synced : (images : Files → Type 0) (buckets : ℕ) (files : Files) → ((image : Files) → images image → image crawl_file ≡ files crawl_file) → AreSyncedWithin images pairs_base (pairs_base + 10 + 2 * buckets) files
+pub rest_synced : (images : Files → Type 0) (buckets : ℕ) (files : Files) → ((image : Files) → images image → image crawl_file ≡ files crawl_file)
+    → AreSyncedWithin images pairs_base (pairs_base + 10 + 2 * buckets) files
     → AreSyncedWithin images (pairs_base + 500) (pairs_base + 500 + 2 * buckets) files → AreSynced images buckets files
 rest_synced images buckets files crawl low high = λ image left f is. each image left f is
   where

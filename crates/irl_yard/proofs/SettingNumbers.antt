@@ -11,7 +11,8 @@ count_small n is = grind (arith, nat_tests)
 
 -- eleven numbers, one by one
 pub eleven : (xs : List ℕ) → length xs ≡ 11
-    → slice_index xs 0 ∷ slice_index xs 1 ∷ slice_index xs 2 ∷ slice_index xs 3 ∷ slice_index xs 4 ∷ slice_index xs 5 ∷ slice_index xs 6 ∷ slice_index xs 7 ∷ slice_index xs 8 ∷ slice_index xs 9 ∷ slice_index xs 10 ∷ [] ≡ xs
+    → slice_index xs 0 ∷ slice_index xs 1 ∷ slice_index xs 2 ∷ slice_index xs 3 ∷ slice_index xs 4 ∷ slice_index xs 5 ∷ slice_index xs 6 ∷ slice_index xs 7 ∷ slice_index xs 8 ∷ slice_index xs 9
+    ∷ slice_index xs 10 ∷ [] ≡ xs
 eleven [] long = absurd (omega arith)
 eleven (a ∷ []) long = absurd (omega arith)
 eleven (a ∷ b ∷ []) long = absurd (omega arith)

@@ -5,8 +5,9 @@ use Rattle.irl_offer.specs.declared.settings.Asked.{Asked}
 use Rattle.irl_offer.specs.declared.settings.Settings.{Settings}
 use Rattle.irl_offer.specs.Tuple.{Tuple}
 use Rattle.irl_model.specs.Book.{Book, IsPrefixOf, blank_book, judged}
-use Rattle.irl_model.specs.State.{State, IsFrontState}
-use Rattle.irl_model.proofs.FrontLaws.{front_same, front_both, judged_front, flushed_front, merged_front}
+use Rattle.irl_events.specs.Events.{Happened}
+use Rattle.irl_events.specs.State.{State, IsFrontState}
+use Rattle.irl_model.proofs.FrontLaws.{prefix_same, prefix_both, front_same, front_both, judged_front, flushed_front, merged_front}
 use Rattle.irl_disk.specs.Disk.{Files}
 use Rattle.irl_journal.proofs.Lists.{one_list}
 use Rattle.irl_bay.specs.Standing.{Stands}
@@ -26,8 +27,9 @@ one_payload p q same = cc
 no_payload : (p : List ℕ) → [] ≡ p ∷ [] → ⊥
 no_payload p same = cc
 
-same_parts : (settings : Option Settings) (urls pairs : Book) (state : State) → settings ≡ state.settings → urls ≡ state.urls → pairs ≡ state.pairs → record { settings = settings; urls = urls; pairs = pairs } ≡ state
-same_parts settings urls pairs state p q r = rw (p, q, r) refl
+same_parts : (settings : Option Settings) (urls pairs : Book) (events : List Happened) (state : State) → settings ≡ state.settings → urls ≡ state.urls → pairs ≡ state.pairs → events ≡ state.events
+    → record { settings = settings; urls = urls; pairs = pairs; events = events } ≡ state
+same_parts settings urls pairs events state p q r s = rw (p, q, r, s) refl
 
 -- a store that wasn't made is none that was
 blank_or_made : (settings : Settings) (state : State) (files : Files) → IsBlank files → IsMade settings state files → ⊥
@@ -38,8 +40,8 @@ made_alike s t x y files for_x for_y =
     let bytes : head_bytes s ≡ head_bytes t = one_payload _ _ (one_list (files head_file) _ _ for_x.head for_y.head) in
     let same : s ≡ t = one_settings s t for_x.valid for_y.valid bytes in
     let urls : x.urls ≡ y.urls = one_book urls_base s x.urls y.urls files for_x.urls (subst (λ (c : Settings). Stands urls_base c y.urls files) (sym same) for_y.urls) in
-    same_parts x.settings x.urls x.pairs y (for_x.settings_are ∙ ap (λ (c : Settings). Some c) same ∙ sym for_y.settings_are) urls
-    (for_x.pairs_are ∙ ap (λ (c : Settings). blank_book c.buckets Keep) same ∙ sym for_y.pairs_are)
+    same_parts x.settings x.urls x.pairs x.events y (for_x.settings_are ∙ ap (λ (c : Settings). Some c) same ∙ sym for_y.settings_are) urls
+    (for_x.pairs_are ∙ ap (λ (c : Settings). blank_book c.buckets Keep) same ∙ sym for_y.pairs_are) (for_x.events_are ∙ sym for_y.events_are)
 
 pub one_state : (x y : State) (files : Files) → HasState x files → HasState y files → x ≡ y
 one_state x y files (inl a) (inl b) = a.1 ∙ sym b.1
@@ -49,7 +51,7 @@ one_state x y files (inr a) (inr b) = made_alike a.0 b.0 x y files a.1 b.1
 
 -- ---- fronts
 pub state_same : (state : State) → IsFrontState state state
-state_same state = inr (record { settings = refl; urls = front_same state.urls; pairs = front_same state.pairs })
+state_same state = inr (record { settings = refl; urls = front_same state.urls; pairs = front_same state.pairs; events = prefix_same state.events })
 
 pub state_both : (x y z : State) → IsFrontState x y → IsFrontState y z → IsFrontState x z
 state_both x y z (inl none) second = inl none
@@ -58,20 +60,22 @@ state_both x y z (inr first) (inr second) = inr (record {
   settings = second.settings ∙ first.settings;
   urls = front_both x.urls y.urls z.urls first.urls second.urls;
   pairs = front_both x.pairs y.pairs z.pairs first.pairs second.pairs;
+  events = prefix_both x.events y.events z.events first.events second.events;
 })
 
 pub offers_front : (b : ℕ) (news : List Tuple) (state : State) → IsFrontState state (with_offers b news state)
-offers_front b news state = inr (record { settings = refl; urls = flushed_front b news state.urls; pairs = front_same state.pairs })
+offers_front b news state = inr (record { settings = refl; urls = flushed_front b news state.urls; pairs = front_same state.pairs; events = prefix_same state.events })
 
 pub cut_front : (state : State) → IsFrontState state (with_cut state)
-cut_front state = inr (record { settings = refl; urls = merged_front state.urls; pairs = front_same state.pairs })
+cut_front state = inr (record { settings = refl; urls = merged_front state.urls; pairs = front_same state.pairs; events = prefix_same state.events })
 
-entered_of : (asked : Asked) (settings : Option Settings) (urls pairs : Book) → IsFrontState (record { settings = settings; urls = urls; pairs = pairs }) (entered_state asked (record { settings = settings; urls = urls; pairs = pairs }))
-entered_of asked None urls pairs = inl refl
-entered_of asked (Some settings) urls pairs = state_same (record { settings = Some settings; urls = urls; pairs = pairs })
+entered_of : (asked : Asked) (settings : Option Settings) (urls pairs : Book) (events : List Happened)
+    → IsFrontState (record { settings = settings; urls = urls; pairs = pairs; events = events }) (entered_state asked (record { settings = settings; urls = urls; pairs = pairs; events = events }))
+entered_of asked None urls pairs events = inl refl
+entered_of asked (Some settings) urls pairs events = state_same (record { settings = Some settings; urls = urls; pairs = pairs; events = events })
 
 pub entered_front : (asked : Asked) (state : State) → IsFrontState state (entered_state asked state)
-entered_front asked state = entered_of asked state.settings state.urls state.pairs
+entered_front asked state = entered_of asked state.settings state.urls state.pairs state.events
 
 -- ---- what was judged stays
 no_settings : (settings : Settings) → Some settings ≡ None → ⊥

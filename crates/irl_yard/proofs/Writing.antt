@@ -2,7 +2,7 @@
 use Rattle.std.proofs.Common.{◌≡◌, ◌∙◌, ⊎_elim, inl, inr, ℕ, List, [], ◌∷◌, ◌++◌, subst, Option, None, Some}
 use Rattle.std.specs.Option.{ForSome}
 use Rattle.irl_disk.specs.Disk.{Files, Changes, ChangesFile}
-use Rattle.irl_disk.specs.Images.{Snapshot, IsConsistent, Follows, LeavesBy}
+use Rattle.irl_disk.specs.Images.{Told, IsConsistent, Follows, LeavesBy}
 use Rattle.irl_disk.proofs.Frames.{told_from}
 use Rattle.irl_disk.proofs.Stretches.{goes_on, widens_by}
 use Rattle.irl_journal.specs.Appending.{Tail, IsOpen, HasOrGains}
@@ -21,7 +21,8 @@ then_gains f payload old mid new first second = record {
 }
 
 -- a journal is opened and appended to
-pub opens_and_gains : (f : ℕ) (payload : List ℕ) (old mid new : Snapshot) → IsConsistent mid → LeavesBy (ChangesFile f IsOpened) old mid → LeavesBy (ChangesFile f (HasOrGains [] payload)) mid new → LeavesBy (ChangesFile f (GainsFirst payload)) old new
+pub opens_and_gains : (f : ℕ) (payload : List ℕ) (old mid new : Told) → IsConsistent mid → LeavesBy (ChangesFile f IsOpened) old mid → LeavesBy (ChangesFile f (HasOrGains [] payload)) mid new
+    → LeavesBy (ChangesFile f (GainsFirst payload)) old new
 opens_and_gains f payload old mid new law first second =
     goes_on old mid new (Follows (ChangesFile f (GainsFirst payload)) old.images) (ChangesFile f (HasOrGains [] payload)) law
     (widens_by old mid (ChangesFile f IsOpened) (ChangesFile f (GainsFirst payload)) first (λ x y changes. opened_gains f payload x y changes))
@@ -48,7 +49,8 @@ none_refused takes refuses visitor after at one = no one.first one.payload one.m
     no (x ∷ first) payload more e = cc
 
 -- a journal without a record is open on none once it is opened
-pub empty_open : (old mid : Snapshot) (head : Tail) (f : ℕ) → IsConsistent mid → Changes f IsOpened old.files mid.files → ForSome old.files (λ files. StandsFor (files f) []) → ForSome old.files (λ files. StandsFor (files f) [] → IsOpen mid.images head []) → IsOpen mid.images head []
+pub empty_open : (old mid : Told) (head : Tail) (f : ℕ) → IsConsistent mid → Changes f IsOpened old.files mid.files → ForSome old.files (λ files. StandsFor (files f) [])
+    → ForSome old.files (λ files. StandsFor (files f) [] → IsOpen mid.images head []) → IsOpen mid.images head []
 empty_open old mid head f law changes blank opens = λ image left.
     let now = law.tells image left in
     let was = told_from f IsOpened old.files mid.files now.0 changes now.1 in

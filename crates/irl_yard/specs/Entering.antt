@@ -1,7 +1,7 @@
 -- What the parts of opening a store do.
 use Rattle.std.specs.Prelude.{◌≡◌, ◌≢◌, ◌⊎◌, ℕ, ◌+◌, ◌*◌, ◌<◌, ◌≤◌, List, [], ◌∷◌, Option, None, Some, Result, Ok, Err, ⊤}
-use Rattle.irl_offer.specs.declared.receipt.Fault.{Fault}
-use Rattle.irl_offer.specs.declared.receipt.Fault.TheVariants.{Failed as BayFailed, Memory as BayMemory, Full as BayFull, Damaged as BayDamaged}
+use Rattle.irl_base.specs.declared.fault.Fault.{Fault}
+use Rattle.irl_base.specs.declared.fault.Fault.TheVariants.{Failed as BayFailed, Memory as BayMemory, Full as BayFull, Damaged as BayDamaged}
 use Rattle.irl_offer.specs.declared.settings.Settings.{Settings}
 use Rattle.std.specs.Option.{ForSome}
 use Rattle.irl_offer.specs.Settings.{AreValid, settings_of}
@@ -28,7 +28,8 @@ IsRestFile buckets f =
 
 -- a stop leaves of the files from one on and below another what is told
 abbrev pub AreSyncedWithin : (Files → Type 0) → ℕ → ℕ → Files → Type 0
-AreSyncedWithin images from end files = (image : Files) → images image → (f : ℕ) → from ≤ f → f < end → image f ≡ files f
+AreSyncedWithin images from end files = (image : Files) → images image → (f : ℕ) → from ≤ f → f < end
+    → image f ≡ files f
 
 -- a stop leaves of the files of a state beside these what is told
 abbrev pub AreSynced : (Files → Type 0) → ℕ → Files → Type 0
@@ -51,16 +52,18 @@ IsStoreJournal f = (f ≡ head_file) ⊎ IsJournalOf urls_base 64 f
 abbrev pub OpensStore : Files → Files → Type 0
 OpensStore old new = ChangesAmong IsStoreJournal (λ f. IsOpened) old new
 
--- A store is made: only the head and the journals of the bay change. A bay that wasn't made isn't made yet, and a head without a
--- record has none, or these settings.
+-- A store is made: only the head and the journals of the bay change. A bay that wasn't made isn't made yet, and a head
+-- without a record has none, or these settings.
 pub record MakesStore (settings : Settings) (old new : Files) : Type 0 where
   pub others : (f : ℕ) → f ≢ head_file → (IsJournalOf urls_base settings.buckets f → ⊥) → new f ≡ old f
   pub unmade : IsUnmade urls_base settings.buckets old → IsUnmade urls_base settings.buckets new
   pub head : GainsFirst (head_bytes settings) (old head_file) (new head_file)
 
--- A store is entered whose files were told as these: it is opened, or it is made where a store was told that wasn't made yet.
+-- A store is entered whose files were told as these: it is opened, or it is made where a store was told that wasn't
+-- made yet.
 abbrev pub Enters : Asked → Option Files → Files → Files → Type 0
-Enters asked told old new = OpensStore old new ⊎ (ForSome told IsBlank × AreValid (settings_of asked) × MakesStore (settings_of asked) old new)
+Enters asked told old new = OpensStore old new ⊎ (ForSome told IsBlank × AreValid (settings_of asked)
+    × MakesStore (settings_of asked) old new)
 
 -- a store that wasn't made yet isn't made yet
 abbrev pub KeepsBlank : Files → Files → Type 0
@@ -72,7 +75,8 @@ abbrev pub HasGround : Asked → Option Files → OpenFault → Type 0
 HasGround asked told (NotOurs at) = ForSome told (λ files. IsNotOursAt files at)
 HasGround asked told (Damaged f at) = ForSome told (λ files. IsStoreDamagedAt asked files f at)
 HasGround asked told (OtherSettings n kept wanted) = ForSome told (λ files. IsKeptOtherwise asked files n kept wanted)
-HasGround asked told (BadSettings n) = ForSome told (λ files. IsBadStore asked files n) × IsBadAsked (settings_of asked) n
+HasGround asked told (BadSettings n) = ForSome told (λ files. IsBadStore asked files n)
+    × IsBadAsked (settings_of asked) n
 HasGround asked told Failed = ⊤
 HasGround asked told Memory = ⊤
 

@@ -22,7 +22,8 @@ rule_number Add = 2
 -- the settings as numbers, setting 1 first
 abbrev pub setting_numbers : Settings → List ℕ
 setting_numbers s =
-    kind_number s.kind ∷ rule_number s.rule ∷ s.buckets ∷ s.array ∷ s.trigger ∷ s.block ∷ s.cap ∷ s.queues ∷ s.base ∷ s.most ∷ s.ranks ∷ []
+    kind_number s.kind ∷ rule_number s.rule ∷ s.buckets ∷ s.array ∷ s.trigger ∷ s.block ∷ s.cap ∷ s.queues ∷ s.base
+    ∷ s.most ∷ s.ranks ∷ []
 
 -- `IRLSTORE`, and the version
 abbrev pub head_name : List ℕ
@@ -66,11 +67,13 @@ pub record IsBadName (payload : List ℕ) (i : ℕ) : Type 0 where
   pub before : take i payload ≡ take i head_name
   pub differs : slice_index payload i ≢ slice_index head_name i
 
--- The place in the head's file of what makes a payload none, the first of these: its length, which stands at 1; a byte of the name; the
--- version; a setting.
+-- The place in the head's file of what makes a payload none, the first of these: its length, which stands at 1; a byte
+-- of the name; the version; a setting.
 abbrev pub IsNoHeadAt : List ℕ → ℕ → Type 0
 IsNoHeadAt payload at =
     ((length payload ≢ 100) × (at ≡ 1))
     ⊎ ((length payload ≡ 100) × (i : ℕ) × IsBadName payload i × (at ≡ 5 + i))
-    ⊎ ((length payload ≡ 100) × (take 8 payload ≡ head_name) × (little_number 4 (drop 8 payload) ≢ head_version) × (at ≡ 13))
-    ⊎ ((length payload ≡ 100) × (take 8 payload ≡ head_name) × (little_number 4 (drop 8 payload) ≡ head_version) × (n : ℕ) × IsBadSetting payload n × (at ≡ 17 + 8 * (n - 1)))
+    ⊎ ((length payload ≡ 100) × (take 8 payload ≡ head_name) × (little_number 4 (drop 8 payload) ≢ head_version)
+    × (at ≡ 13))
+    ⊎ ((length payload ≡ 100) × (take 8 payload ≡ head_name) × (little_number 4 (drop 8 payload) ≡ head_version)
+    × (n : ℕ) × IsBadSetting payload n × (at ≡ 17 + 8 * (n - 1)))

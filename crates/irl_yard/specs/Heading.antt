@@ -19,7 +19,8 @@ pub record IsReadAs (payload : List ℕ) (read : Result Settings ℕ) : Type 0 w
   pub found : IfOk read (λ settings. AreValid settings × (payload ≡ head_bytes settings))
   pub none : (at : ℕ) → IsErrOf read at → IsNoHeadAt payload at
 
--- What was found in the head becomes this by one record more: the first is read, and a second makes the store of another make.
+-- What was found in the head becomes this by one record more: the first is read, and a second makes the store of
+-- another make.
 pub record Finds (old : Option (Result Settings ℕ)) (payload : List ℕ) (new : Option (Result Settings ℕ)) : Type 0 where
   pub some : IsSome new
   pub first : old ≡ None → IfSome new (IsReadAs payload)

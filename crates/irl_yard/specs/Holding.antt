@@ -1,10 +1,11 @@
--- An open store holds a state: what it keeps in memory is the state's, and each joint image that a stop now may leave stands for it.
+-- An open store holds a state: what it keeps in memory is the state's, and each joint image that a stop now may leave
+-- stands for it.
 use Rattle.std.specs.Prelude.{◌≡◌, ◌≢◌, ◌⊎◌, ℕ, ◌≤◌, List, [], ◌∷◌, length, true, false, Some}
 use Rattle.std.specs.List.{AllByRecursion}
 use Rattle.irl_offer.specs.declared.offer.Rule.TheVariants.{Keep}
 use Rattle.irl_offer.specs.declared.settings.Kind.TheVariants.{Crawl}
 use Rattle.irl_model.specs.Book.{blank_book, flushed, merged}
-use Rattle.irl_model.specs.State.{State}
+use Rattle.irl_events.specs.State.{State}
 use Rattle.irl_offer.specs.Tuple.{Tuple}
 use Rattle.irl_disk.specs.Disk.{Files}
 use Rattle.irl_journal.specs.Appending.{IsOpen}
@@ -37,6 +38,7 @@ pub record HoldsUrls (images : Files → Type 0) (urls : Drum) (state : State) :
   pub kind : urls.settings.kind ≢ Crawl
   pub urls_hold : Holds images urls state.urls
   pub pairs_are : state.pairs ≡ blank_book urls.settings.buckets Keep
+  pub events_are : state.events ≡ []
   pub rest : (image : Files) → images image → HasRest urls image
 
 -- an open store holds a state
@@ -60,10 +62,11 @@ HasOneOf x y image = HasState x image ⊎ HasState y image
 abbrev pub HasJournal : (Files → Type 0) → Drum → ℕ → List (List ℕ) → Type 0
 HasJournal images urls b payloads = IsOpen images (bucket_at urls b).journal payloads
 
--- A joint image has these records in it: on the side that the last commit of the manifest leaves live. A journal without a record may
--- have no closed gate yet.
+-- A joint image has these records in it: on the side that the last commit of the manifest leaves live. A journal
+-- without a record may have no closed gate yet.
 pub record HasLiveJournal (base buckets b : ℕ) (payloads : List (List ℕ)) (image : Files) : Type 0 where
   pub commits : List Commit
   pub form : AllByRecursion (IsCommit buckets) commits
   pub manifest : HasCommits base commits image
-  pub records : StandsFor (image (file_of base 0 (Journal (live_side (last_commit (first_commit buckets) commits)) b))) payloads
+  pub records : StandsFor (image (file_of base 0 (Journal (live_side (last_commit (first_commit buckets) commits)) b)))
+      payloads

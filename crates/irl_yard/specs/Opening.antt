@@ -6,7 +6,7 @@ use Rattle.irl_offer.specs.declared.settings.Asked.{Asked}
 use Rattle.irl_offer.specs.declared.settings.Settings.{Settings}
 use Rattle.irl_offer.specs.declared.offer.Rule.TheVariants.{Keep}
 use Rattle.irl_model.specs.Book.{blank_book}
-use Rattle.irl_model.specs.State.{State}
+use Rattle.irl_events.specs.State.{State}
 use Rattle.irl_disk.specs.Disk.{Files}
 use Rattle.irl_journal.specs.Format.{StandsFor, IsBrokenAt, IsPayload, record_text, open_gate}
 use Rattle.irl_bay.specs.Damage.{IsDamagedAt}
@@ -16,7 +16,12 @@ use Rattle.irl_yard.specs.Head.{kind_number, rule_number, setting_numbers, head_
 
 -- the state of a store that was just made with these settings
 abbrev pub new_state : Settings → State
-new_state settings = record { settings = Some settings; urls = blank_book settings.buckets settings.rule; pairs = blank_book settings.buckets Keep }
+new_state settings = record {
+  settings = Some settings;
+  urls = blank_book settings.buckets settings.rule;
+  pairs = blank_book settings.buckets Keep;
+  events = [];
+}
 
 -- what a store that stood for a state stands for once it is opened: a store that wasn't made is made
 abbrev pub entered_state : Asked → State → State
@@ -29,7 +34,8 @@ entered_state asked state = made state.settings
 -- what is asked of each setting, setting 1 first
 abbrev pub asked_numbers : Asked → List (Option ℕ)
 asked_numbers asked =
-    Some (kind_number asked.kind) ∷ option_map rule_number asked.rule ∷ asked.buckets ∷ asked.array ∷ asked.trigger ∷ asked.block ∷ asked.cap ∷ asked.queues ∷ asked.base ∷ asked.most ∷ asked.ranks ∷ []
+    Some (kind_number asked.kind) ∷ option_map rule_number asked.rule ∷ asked.buckets ∷ asked.array ∷ asked.trigger
+    ∷ asked.block ∷ asked.cap ∷ asked.queues ∷ asked.base ∷ asked.most ∷ asked.ranks ∷ []
 
 -- ---- what is kept
 -- the head has settings, which lie in their ranges
@@ -48,13 +54,14 @@ pub record HasFirst (file payload : List ℕ) (gate : ℕ) : Type 0 where
   pub bytes : file ≡ record_text payload ++ gate ∷ rest
   pub fits : IsPayload payload
 
--- The store is of another make: its head has no record and another file has more than one byte; or its first record is no head, by its
--- first place that isn't; or a second record is open.
+-- The store is of another make: its head has no record and another file has more than one byte; or its first record is
+-- no head, by its first place that isn't; or a second record is open.
 abbrev pub IsNotOursAt : Files → ℕ → Type 0
 IsNotOursAt files at =
     (StandsFor (files head_file) [] × ((f : ℕ) × IsOtherFile f × (1 < length (files f))) × (at ≡ 0))
     ⊎ ((payload : List ℕ) × (gate : ℕ) × HasFirst (files head_file) payload gate × IsNoHeadAt payload at)
-    ⊎ ((settings : Settings) × AreValid settings × (gate : ℕ) × HasFirst (files head_file) (head_bytes settings) gate × (gate ≡ open_gate) × (at ≡ 105))
+    ⊎ ((settings : Settings) × AreValid settings × (gate : ℕ) × HasFirst (files head_file) (head_bytes settings) gate
+    × (gate ≡ open_gate) × (at ≡ 105))
 
 -- setting n is the first that was asked for otherwise than it is kept
 pub record IsOther (asked : Asked) (settings : Settings) (n kept wanted : ℕ) : Type 0 where
@@ -62,15 +69,18 @@ pub record IsOther (asked : Asked) (settings : Settings) (n kept wanted : ℕ) :
   pub kept_is : slice_get (setting_numbers settings) (n - 1) ≡ Some kept
   pub asked_is : slice_get (asked_numbers asked) (n - 1) ≡ Some (Some wanted)
   pub differ : kept ≢ wanted
-  pub before : (m a k : ℕ) → m < n - 1 → slice_get (asked_numbers asked) m ≡ Some (Some a) → slice_get (setting_numbers settings) m ≡ Some k → a ≡ k
+  pub before : (m a k : ℕ) → m < n - 1 → slice_get (asked_numbers asked) m ≡ Some (Some a)
+      → slice_get (setting_numbers settings) m ≡ Some k → a ≡ k
 
 -- what was asked is as it is kept
 abbrev pub Agrees : Asked → Settings → Type 0
-Agrees asked settings = (n a k : ℕ) → slice_get (asked_numbers asked) n ≡ Some (Some a) → slice_get (setting_numbers settings) n ≡ Some k → a ≡ k
+Agrees asked settings = (n a k : ℕ) → slice_get (asked_numbers asked) n ≡ Some (Some a)
+    → slice_get (setting_numbers settings) n ≡ Some k → a ≡ k
 
 -- the store was made otherwise than is asked
 abbrev pub IsKeptOtherwise : Asked → Files → ℕ → ℕ → ℕ → Type 0
-IsKeptOtherwise asked files n kept wanted = (settings : Settings) × HasHead settings files × IsOther asked settings n kept wanted
+IsKeptOtherwise asked files n kept wanted = (settings : Settings) × HasHead settings files
+    × IsOther asked settings n kept wanted
 
 -- setting n is the first that is out of its range
 pub record IsBadAsked (settings : Settings) (n : ℕ) : Type 0 where
@@ -86,4 +96,5 @@ IsBadStore asked files n = IsBlank files × IsBadAsked (settings_of asked) n
 abbrev pub IsStoreDamagedAt : Asked → Files → ℕ → ℕ → Type 0
 IsStoreDamagedAt asked files f at =
     ((f ≡ head_file) × (at ≡ 0) × IsBrokenAt (files head_file) 0)
-    ⊎ ((settings : Settings) × HasHead settings files × Agrees asked settings × IsDamagedAt urls_base settings files f at)
+    ⊎ ((settings : Settings) × HasHead settings files × Agrees asked settings
+    × IsDamagedAt urls_base settings files f at)

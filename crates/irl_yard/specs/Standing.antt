@@ -5,7 +5,7 @@ use Rattle.irl_offer.specs.declared.offer.Rule.TheVariants.{Keep}
 use Rattle.irl_offer.specs.declared.settings.Kind.TheVariants.{Crawl}
 use Rattle.irl_offer.specs.declared.settings.Settings.{Settings}
 use Rattle.irl_model.specs.Book.{blank_book}
-use Rattle.irl_model.specs.State.{State, blank_state}
+use Rattle.irl_events.specs.State.{State, blank_state}
 use Rattle.irl_disk.specs.Disk.{Files}
 use Rattle.irl_journal.specs.Format.{StandsFor}
 use Rattle.irl_bay.specs.Making.{IsUnmade}
@@ -30,6 +30,7 @@ pub record IsMade (settings : Settings) (state : State) (files : Files) : Type 0
   -- what this kind of store lacks is empty
   pub crawl : length (files crawl_file) ≤ 1
   pub pairs_are : state.pairs ≡ blank_book settings.buckets Keep
+  pub events_are : state.events ≡ []
   pub pairs : IsUnmade pairs_base settings.buckets files
 
 -- the files stand for a state

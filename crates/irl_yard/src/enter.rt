@@ -3,21 +3,21 @@
 ghost use Rattle.std.specs.Prelude.{◌≡◌, ◌≢◌, ◌⊎◌, ◌<◌, ◌≤◌, ℕ, List, [], ◌∷◌, true, false, length, None, Some};
 ghost use Rattle.std.specs.Prelude.{IfOk, IfErr, IfSome, OnOk, IsErr, IsErrOf};
 ghost use Rattle.std.specs.Option.{ForSome};
-ghost use Rattle.irl_offer.specs.Faults.{HasCause};
+ghost use Rattle.irl_base.specs.Faults.{HasCause};
 ghost use Rattle.irl_offer.specs.Settings.{AreValid, settings_of};
-ghost use Rattle.irl_offer.specs.declared.receipt.Fault.TheVariants.{Failed as BayFailed, Memory as BayMemory};
-ghost use Rattle.irl_offer.specs.declared.receipt.Fault.TheVariants.{Full as BayFull, Damaged as BayDamaged};
+ghost use Rattle.irl_base.specs.declared.fault.Fault.TheVariants.{Failed as BayFailed, Memory as BayMemory};
+ghost use Rattle.irl_base.specs.declared.fault.Fault.TheVariants.{Full as BayFull, Damaged as BayDamaged};
 ghost use Rattle.irl_offer.specs.declared.settings.Asked.{Asked as AskedValue};
 ghost use Rattle.irl_offer.specs.declared.settings.Kind.TheVariants.{Crawl};
-ghost use Rattle.irl_model.specs.State.{State};
-ghost use Rattle.irl_disk.specs.Disk.{Files, Changes, ChangesFile};
+ghost use Rattle.irl_events.specs.State.{State};
+ghost use Rattle.irl_disk.specs.Disk.{Files, Changes, ChangesFile, TellsBy};
 ghost use Rattle.irl_disk.specs.Images.{Leaves, LeavesBy, LeavesSame};
 ghost use Rattle.irl_disk.specs.Taken.{TakesAmong, TakesOnly};
 ghost use Rattle.irl_journal.specs.Format.{StandsFor, HasRecords, IsBrokenAt};
 ghost use Rattle.irl_journal.specs.Visiting.{IsOpened};
 ghost use Rattle.irl_bay.specs.Damage.{IsDamagedAt};
 ghost use Rattle.irl_bay.specs.Drum.{IsDrum};
-ghost use Rattle.irl_bay.specs.Holding.{IsLong, TellsBy};
+ghost use Rattle.irl_bay.specs.Holding.{IsLong};
 ghost use Rattle.irl_yard.specs.StoreFiles.{head_file, urls_base, IsOtherFile};
 ghost use Rattle.irl_yard.specs.Head.{head_bytes};
 ghost use Rattle.irl_yard.specs.Standing.{HasState, IsBlank};
@@ -51,58 +51,58 @@ impl<S: Store> Yard<S> {
         requires kind { asked.now.kind ≢ Crawl }
         // A store that stands for a state is opened as it, and one that wasn't made yet is made; each stop from then on
         // leaves that.
-        ensures holds { IfOk result (λ yard. ForSome (S.snapshot store).files (λ files. (state : State) →
+        ensures holds { IfOk result (λ yard. ForSome (S.told store).files (λ files. (state : State) →
             HasState state files →
-            HoldsState (S.snapshot yard.store).images yard.parts (entered_state asked.now state))) }
+            HoldsState (S.told yard.store).images yard.parts (entered_state asked.now state))) }
         ensures sound { IfOk result (λ yard. IsSound yard.parts) }
         ensures drum { IfOk result (λ yard. IsDrum yard.parts.urls) }
         ensures base { IfOk result (λ yard. yard.parts.urls.base ≡ urls_base) }
-        ensures settings { IfOk result (λ yard. ForSome (S.snapshot store).files (λ files.
+        ensures settings { IfOk result (λ yard. ForSome (S.told store).files (λ files.
             HasSettings asked.now files yard.parts.urls.settings)) }
         ensures agrees { IfOk result (λ yard. Agrees asked.now yard.parts.urls.settings) }
         // What is of another make or damaged is refused.
-        ensures ours { IfOk result (λ _. ForSome (S.snapshot store).files (λ files. (at : ℕ) →
+        ensures ours { IfOk result (λ _. ForSome (S.told store).files (λ files. (at : ℕ) →
             IsNotOursAt files at → ⊥)) }
-        ensures undamaged { IfOk result (λ _. ForSome (S.snapshot store).files (λ files. (f at : ℕ) →
+        ensures undamaged { IfOk result (λ _. ForSome (S.told store).files (λ files. (f at : ℕ) →
             IsStoreDamagedAt asked.now files f at → ⊥)) }
         // Each refusal has its ground in what is told. No store that stands for a state is of another make or damaged.
-        ensures ground { IfErr result (λ e. HasGround asked.now (S.snapshot store).files e.0) }
-        ensures whole { IfErr result (λ e. DeniesState e.0 → ForSome (S.snapshot store).files (λ files.
+        ensures ground { IfErr result (λ e. HasGround asked.now (S.told store).files e.0) }
+        ensures whole { IfErr result (λ e. DeniesState e.0 → ForSome (S.told store).files (λ files.
             (state : State) → HasState state files → ⊥)) }
         // What isn't ours, or was asked otherwise, stays as it is told; and a stop leaves it, but for the head's gate.
-        ensures same { IfErr result (λ e. IsUnwanted e.0 → (S.snapshot e.1).files ≡ (S.snapshot store).files) }
+        ensures same { IfErr result (λ e. IsUnwanted e.0 → (S.told e.1).files ≡ (S.told store).files) }
         ensures same_stops { IfErr result (λ e. IsUnwanted e.0 →
-            LeavesBy (ChangesFile head_file IsOpened) (S.snapshot store) (S.snapshot e.1)) }
+            LeavesBy (ChangesFile head_file IsOpened) (S.told store) (S.told e.1)) }
         // Whatever the answer, the store is entered at most; and a stop at any moment leaves no more.
-        ensures files { IfOk result (λ yard. TellsBy (Enters asked.now (S.snapshot store).files)
-            (S.snapshot store).files (S.snapshot yard.store).files) }
-        ensures files_err { IfErr result (λ e. TellsBy (Enters asked.now (S.snapshot store).files)
-            (S.snapshot store).files (S.snapshot e.1).files) }
-        ensures steps { IfOk result (λ yard. LeavesBy (Enters asked.now (S.snapshot store).files)
-            (S.snapshot store) (S.snapshot yard.store)) }
-        ensures steps_err { IfErr result (λ e. LeavesBy (Enters asked.now (S.snapshot store).files)
-            (S.snapshot store) (S.snapshot e.1)) }
+        ensures files { IfOk result (λ yard. TellsBy (Enters asked.now (S.told store).files)
+            (S.told store).files (S.told yard.store).files) }
+        ensures files_err { IfErr result (λ e. TellsBy (Enters asked.now (S.told store).files)
+            (S.told store).files (S.told e.1).files) }
+        ensures steps { IfOk result (λ yard. LeavesBy (Enters asked.now (S.told store).files)
+            (S.told store) (S.told yard.store)) }
+        ensures steps_err { IfErr result (λ e. LeavesBy (Enters asked.now (S.told store).files)
+            (S.told store) (S.told e.1)) }
         // So a made store's state stays, and one that wasn't made is that or the new store's: as it is told at a
         // refusal, and as a stop at any moment leaves it.
-        ensures told_err { (state : State) → IfErr result (λ e. ForSome (S.snapshot store).files (λ files.
-            HasState state files → ForSome (S.snapshot e.1).files (HasOneOf state (entered_state asked.now state)))) }
-        ensures stops { (state : State) → ((image : Files) → (S.snapshot store).images image → HasState state image) →
-            IfOk result (λ yard. Leaves (S.snapshot store) (S.snapshot yard.store)
+        ensures told_err { (state : State) → IfErr result (λ e. ForSome (S.told store).files (λ files.
+            HasState state files → ForSome (S.told e.1).files (HasOneOf state (entered_state asked.now state)))) }
+        ensures stops { (state : State) → ((image : Files) → (S.told store).images image → HasState state image) →
+            IfOk result (λ yard. Leaves (S.told store) (S.told yard.store)
             (HasOneOf state (entered_state asked.now state))) }
-        ensures stops_err { (state : State) → ((image : Files) → (S.snapshot store).images image →
-            HasState state image) → IfErr result (λ e. Leaves (S.snapshot store) (S.snapshot e.1)
+        ensures stops_err { (state : State) → ((image : Files) → (S.told store).images image →
+            HasState state image) → IfErr result (λ e. Leaves (S.told store) (S.told e.1)
             (HasOneOf state (entered_state asked.now state))) }
         // A store that wasn't made yet still isn't at a refusal, but that a failed one may have made it.
-        ensures blank_err { IfErr result (λ e. e.0 ≢ OpenFailed → ForSome (S.snapshot store).files (λ files.
-            IsBlank files → ForSome (S.snapshot e.1).files IsBlank)) }
+        ensures blank_err { IfErr result (λ e. e.0 ≢ OpenFailed → ForSome (S.told store).files (λ files.
+            IsBlank files → ForSome (S.told e.1).files IsBlank)) }
         ensures blank_stops_err { IfErr result (λ e. e.0 ≢ OpenFailed → ((image : Files) →
-            (S.snapshot store).images image → IsBlank image) →
-            Leaves (S.snapshot store) (S.snapshot e.1) IsBlank) }
+            (S.told store).images image → IsBlank image) →
+            Leaves (S.told store) (S.told e.1) IsBlank) }
         // No byte is read but of journals.
-        ensures taken { IfOk result (λ yard. TakesAmong IsStoreJournal (S.taken store) (S.taken yard.store)) }
-        ensures taken_err { IfErr result (λ e. TakesAmong IsStoreJournal (S.taken store) (S.taken e.1)) }
-        ensures cause { IfErr result (λ e. HasCause (e.0 ≡ OpenFailed) (S.faults store) (S.faults e.1)) }
-        ensures cause_ok { IfOk result (λ yard. HasCause ⊥ (S.faults store) (S.faults yard.store)) }
+        ensures taken { IfOk result (λ yard. TakesAmong IsStoreJournal (S.told store).taken (S.told yard.store).taken) }
+        ensures taken_err { IfErr result (λ e. TakesAmong IsStoreJournal (S.told store).taken (S.told e.1).taken) }
+        ensures cause { IfErr result (λ e. HasCause (e.0 ≡ OpenFailed) (S.told store).faults (S.told e.1).faults) }
+        ensures cause_ok { IfOk result (λ yard. HasCause ⊥ (S.told store).faults (S.told yard.store).faults) }
     {
         let mut store = store;
         match open(alloc, &mut store, asked) {
@@ -121,35 +121,35 @@ impl<S: Store> Yard<S> {
 // Opens the bay of URLs of a store, or makes it and the head.
 fn open<S: Store>(alloc: Global, store: &mut S, asked: &Asked) -> Result<Bay, OpenFault>
     requires kind { asked.now.kind ≢ Crawl }
-    ensures holds { IfOk result (λ urls. ForSome (S.snapshot store.old).files (λ files. (state : State) →
+    ensures holds { IfOk result (λ urls. ForSome (S.told store.old).files (λ files. (state : State) →
         HasState state files →
-        HoldsUrls (S.snapshot store.new).images urls (entered_state asked.now state))) }
-    ensures long { IfOk result (λ urls. (files : Files) → (S.snapshot store.new).files ≡ Some files →
+        HoldsUrls (S.told store.new).images urls (entered_state asked.now state))) }
+    ensures long { IfOk result (λ urls. (files : Files) → (S.told store.new).files ≡ Some files →
         IsLong urls files) }
     ensures sound { IfOk result (λ urls. urls.is_sound ≡ true) }
     ensures drum { IfOk result (λ urls. IsDrum urls) }
     ensures base { IfOk result (λ urls. urls.base ≡ urls_base) }
-    ensures settings { IfOk result (λ urls. ForSome (S.snapshot store.old).files (λ files.
+    ensures settings { IfOk result (λ urls. ForSome (S.told store.old).files (λ files.
         HasSettings asked.now files urls.settings)) }
     ensures agrees { IfOk result (λ urls. Agrees asked.now urls.settings) }
-    ensures undamaged { OnOk result (ForSome (S.snapshot store.old).files (λ files. (f at : ℕ) →
+    ensures undamaged { OnOk result (ForSome (S.told store.old).files (λ files. (f at : ℕ) →
         IsStoreDamagedAt asked.now files f at → ⊥)) }
-    ensures ground { IfErr result (HasGround asked.now (S.snapshot store.old).files) }
+    ensures ground { IfErr result (HasGround asked.now (S.told store.old).files) }
     ensures same { IfErr result (λ fault. IsUnwanted fault →
-        (S.snapshot store.new).files ≡ (S.snapshot store.old).files) }
+        (S.told store.new).files ≡ (S.told store.old).files) }
     ensures same_stops { IfErr result (λ fault. IsUnwanted fault →
-        LeavesBy (ChangesFile head_file IsOpened) (S.snapshot store.old) (S.snapshot store.new)) }
-    ensures files { TellsBy (Enters asked.now (S.snapshot store.old).files)
-        (S.snapshot store.old).files (S.snapshot store.new).files }
-    ensures steps { LeavesBy (Enters asked.now (S.snapshot store.old).files)
-        (S.snapshot store.old) (S.snapshot store.new) }
+        LeavesBy (ChangesFile head_file IsOpened) (S.told store.old) (S.told store.new)) }
+    ensures files { TellsBy (Enters asked.now (S.told store.old).files)
+        (S.told store.old).files (S.told store.new).files }
+    ensures steps { LeavesBy (Enters asked.now (S.told store.old).files)
+        (S.told store.old) (S.told store.new) }
     // A store that wasn't made yet still isn't, but that a failed call may have made it.
     ensures blank_files { IfErr result (λ fault. fault ≢ OpenFailed →
-        TellsBy KeepsBlank (S.snapshot store.old).files (S.snapshot store.new).files) }
+        TellsBy KeepsBlank (S.told store.old).files (S.told store.new).files) }
     ensures blank_steps { IfErr result (λ fault. fault ≢ OpenFailed →
-        LeavesBy KeepsBlank (S.snapshot store.old) (S.snapshot store.new)) }
-    ensures taken { TakesAmong IsStoreJournal (S.taken store.old) (S.taken store.new) }
-    ensures cause { HasCause (IsErrOf result OpenFailed) (S.faults store.old) (S.faults store.new) }
+        LeavesBy KeepsBlank (S.told store.old) (S.told store.new)) }
+    ensures taken { TakesAmong IsStoreJournal (S.told store.old).taken (S.told store.new).taken }
+    ensures cause { HasCause (IsErrOf result OpenFailed) (S.told store.old).faults (S.told store.new).faults }
 {
     match find_head(alloc, store)? {
         Some(settings) => adopt(alloc, store, asked, &settings),
@@ -161,22 +161,22 @@ fn open<S: Store>(alloc: Global, store: &mut S, asked: &Asked) -> Result<Bay, Op
 fn find_head<S: Store>(alloc: Global, store: &mut S) -> Result<Option<Settings>, OpenFault>
     ensures valid { IfOk result (λ found. IfSome found (λ settings. AreValid settings)) }
     // The head has these settings, and from then on each stop leaves it;
-    ensures made { IfOk result (λ found. IfSome found (λ settings. ForSome (S.snapshot store.old).files (λ files.
+    ensures made { IfOk result (λ found. IfSome found (λ settings. ForSome (S.told store.old).files (λ files.
         StandsFor (files head_file) (head_bytes settings ∷ [])))) }
-    ensures kept { IfOk result (λ found. IfSome found (λ settings. KeepsHead (S.snapshot store.new).images settings)) }
+    ensures kept { IfOk result (λ found. IfSome found (λ settings. KeepsHead (S.told store.new).images settings)) }
     // or it has no record.
-    ensures blank { IfOk result (λ found. found ≡ None → ForSome (S.snapshot store.old).files (λ files.
+    ensures blank { IfOk result (λ found. found ≡ None → ForSome (S.told store.old).files (λ files.
         StandsFor (files head_file) [])) }
     ensures not_ours { (at : ℕ) → IsErrOf result (NotOurs at) →
-        ForSome (S.snapshot store.old).files (λ files. IsNotOursAt files at) }
+        ForSome (S.told store.old).files (λ files. IsNotOursAt files at) }
     ensures damaged { (f at : ℕ) → IsErrOf result (Damaged f at) →
-        ForSome (S.snapshot store.old).files (λ files. (f ≡ head_file) × (at ≡ 0) × IsBrokenAt (files head_file) 0) }
+        ForSome (S.told store.old).files (λ files. (f ≡ head_file) × (at ≡ 0) × IsBrokenAt (files head_file) 0) }
     ensures other { (n kept wanted : ℕ) → IsErrOf result (OtherSettings n kept wanted) → ⊥ }
     ensures bad { (n : ℕ) → IsErrOf result (BadSettings n) → ⊥ }
-    ensures same { (S.snapshot store.new).files ≡ (S.snapshot store.old).files }
-    ensures stops { LeavesBy (ChangesFile head_file IsOpened) (S.snapshot store.old) (S.snapshot store.new) }
-    ensures taken { TakesOnly head_file (S.taken store.old) (S.taken store.new) }
-    ensures cause { HasCause (IsErrOf result OpenFailed) (S.faults store.old) (S.faults store.new) }
+    ensures same { (S.told store.new).files ≡ (S.told store.old).files }
+    ensures stops { LeavesBy (ChangesFile head_file IsOpened) (S.told store.old) (S.told store.new) }
+    ensures taken { TakesOnly head_file (S.told store.old).taken (S.told store.new).taken }
+    ensures cause { HasCause (IsErrOf result OpenFailed) (S.told store.old).faults (S.told store.new).faults }
 {
     if store.length(HEAD)? <= 1 {
         return Ok(None);
@@ -221,29 +221,29 @@ fn adopt<S: Store>(
     asked: &Asked,
     settings: &Settings,
 ) -> Result<Bay, OpenFault>
-    requires head { ForSome (S.snapshot store.old).files (HasHead settings.now) }
+    requires head { ForSome (S.told store.old).files (HasHead settings.now) }
     requires valid { AreValid settings.now }
-    requires kept { KeepsHead (S.snapshot store.old).images settings.now }
-    ensures holds { IfOk result (λ urls. ForSome (S.snapshot store.old).files (λ files. (state : State) →
+    requires kept { KeepsHead (S.told store.old).images settings.now }
+    ensures holds { IfOk result (λ urls. ForSome (S.told store.old).files (λ files. (state : State) →
         HasState state files →
-        HoldsUrls (S.snapshot store.new).images urls (entered_state asked.now state))) }
-    ensures long { IfOk result (λ urls. (files : Files) → (S.snapshot store.new).files ≡ Some files →
+        HoldsUrls (S.told store.new).images urls (entered_state asked.now state))) }
+    ensures long { IfOk result (λ urls. (files : Files) → (S.told store.new).files ≡ Some files →
         IsLong urls files) }
     ensures sound { IfOk result (λ urls. urls.is_sound ≡ true) }
     ensures drum { IfOk result (λ urls. IsDrum urls) }
     ensures base { IfOk result (λ urls. urls.base ≡ urls_base) }
     ensures settings { IfOk result (λ urls. urls.settings ≡ settings.now) }
     ensures agrees { IfOk result (λ urls. Agrees asked.now urls.settings) }
-    ensures undamaged { OnOk result (ForSome (S.snapshot store.old).files (λ files. (f at : ℕ) →
+    ensures undamaged { OnOk result (ForSome (S.told store.old).files (λ files. (f at : ℕ) →
         IsDamagedAt urls_base settings.now files f at → ⊥)) }
-    ensures ground { IfErr result (HasGround asked.now (S.snapshot store.old).files) }
+    ensures ground { IfErr result (HasGround asked.now (S.told store.old).files) }
     ensures same { IfErr result (λ fault. IsUnwanted fault → store.new ≡ store.old) }
-    ensures files { TellsBy (Enters asked.now (S.snapshot store.old).files)
-        (S.snapshot store.old).files (S.snapshot store.new).files }
-    ensures steps { LeavesBy (Enters asked.now (S.snapshot store.old).files)
-        (S.snapshot store.old) (S.snapshot store.new) }
-    ensures taken { TakesAmong IsStoreJournal (S.taken store.old) (S.taken store.new) }
-    ensures cause { HasCause (IsErrOf result OpenFailed) (S.faults store.old) (S.faults store.new) }
+    ensures files { TellsBy (Enters asked.now (S.told store.old).files)
+        (S.told store.old).files (S.told store.new).files }
+    ensures steps { LeavesBy (Enters asked.now (S.told store.old).files)
+        (S.told store.old) (S.told store.new) }
+    ensures taken { TakesAmong IsStoreJournal (S.told store.old).taken (S.told store.new).taken }
+    ensures cause { HasCause (IsErrOf result OpenFailed) (S.told store.old).faults (S.told store.new).faults }
 {
     if let Some((n, kept, wanted)) = first_other(asked, settings) {
         return Err(OpenFault::OtherSettings(n, kept, wanted));
@@ -271,32 +271,32 @@ fn bay_fault(fault: Fault) -> OpenFault
 // Makes a store: the bay of URLs, and at last the head.
 fn make<S: Store>(alloc: Global, store: &mut S, asked: &Asked) -> Result<Bay, OpenFault>
     requires kind { asked.now.kind ≢ Crawl }
-    requires blank { ForSome (S.snapshot store.old).files (λ files. StandsFor (files head_file) []) }
-    ensures holds { IfOk result (λ urls. HoldsUrls (S.snapshot store.new).images urls
+    requires blank { ForSome (S.told store.old).files (λ files. StandsFor (files head_file) []) }
+    ensures holds { IfOk result (λ urls. HoldsUrls (S.told store.new).images urls
         (new_state (settings_of asked.now))) }
-    ensures long { IfOk result (λ urls. (files : Files) → (S.snapshot store.new).files ≡ Some files →
+    ensures long { IfOk result (λ urls. (files : Files) → (S.told store.new).files ≡ Some files →
         IsLong urls files) }
     ensures sound { IfOk result (λ urls. urls.is_sound ≡ true) }
     ensures drum { IfOk result (λ urls. IsDrum urls) }
     ensures base { IfOk result (λ urls. urls.base ≡ urls_base) }
     ensures settings { IfOk result (λ urls. urls.settings ≡ settings_of asked.now) }
-    ensures blank { OnOk result (ForSome (S.snapshot store.old).files IsBlank) }
-    ensures ground { IfErr result (HasGround asked.now (S.snapshot store.old).files) }
+    ensures blank { OnOk result (ForSome (S.told store.old).files IsBlank) }
+    ensures ground { IfErr result (HasGround asked.now (S.told store.old).files) }
     ensures same { IfErr result (λ fault. IsUnwanted fault →
-        (S.snapshot store.new).files ≡ (S.snapshot store.old).files) }
+        (S.told store.new).files ≡ (S.told store.old).files) }
     ensures same_stops { IfErr result (λ fault. IsUnwanted fault →
-        LeavesSame (S.snapshot store.old) (S.snapshot store.new)) }
-    ensures files { TellsBy (Enters asked.now (S.snapshot store.old).files)
-        (S.snapshot store.old).files (S.snapshot store.new).files }
-    ensures steps { LeavesBy (Enters asked.now (S.snapshot store.old).files)
-        (S.snapshot store.old) (S.snapshot store.new) }
+        LeavesSame (S.told store.old) (S.told store.new)) }
+    ensures files { TellsBy (Enters asked.now (S.told store.old).files)
+        (S.told store.old).files (S.told store.new).files }
+    ensures steps { LeavesBy (Enters asked.now (S.told store.old).files)
+        (S.told store.old) (S.told store.new) }
     // A store that wasn't made yet still isn't, but that a failed call may have made it.
     ensures blank_files { IfErr result (λ fault. fault ≢ OpenFailed →
-        TellsBy KeepsBlank (S.snapshot store.old).files (S.snapshot store.new).files) }
+        TellsBy KeepsBlank (S.told store.old).files (S.told store.new).files) }
     ensures blank_steps { IfErr result (λ fault. fault ≢ OpenFailed →
-        LeavesBy KeepsBlank (S.snapshot store.old) (S.snapshot store.new)) }
-    ensures taken { TakesOnly head_file (S.taken store.old) (S.taken store.new) }
-    ensures cause { HasCause (IsErrOf result OpenFailed) (S.faults store.old) (S.faults store.new) }
+        LeavesBy KeepsBlank (S.told store.old) (S.told store.new)) }
+    ensures taken { TakesOnly head_file (S.told store.old).taken (S.told store.new).taken }
+    ensures cause { HasCause (IsErrOf result OpenFailed) (S.told store.old).faults (S.told store.new).faults }
 {
     if has_others(store)? {
         return Err(OpenFault::NotOurs(0));
@@ -317,14 +317,14 @@ fn make<S: Store>(alloc: Global, store: &mut S, asked: &Asked) -> Result<Bay, Op
 
 // Whether a file behind the head has more than one byte.
 fn has_others<S: Store>(store: &mut S) -> Result<bool, Failed>
-    ensures others { IfOk result (λ has. has ≡ true → ForSome (S.snapshot store.old).files (λ files.
+    ensures others { IfOk result (λ has. has ≡ true → ForSome (S.told store.old).files (λ files.
         (f : ℕ) × IsOtherFile f × (1 < length (files f)))) }
-    ensures none { IfOk result (λ has. has ≡ false → ForSome (S.snapshot store.old).files (λ files.
+    ensures none { IfOk result (λ has. has ≡ false → ForSome (S.told store.old).files (λ files.
         (f : ℕ) → IsOtherFile f → length (files f) ≤ 1)) }
-    ensures same { (S.snapshot store.new).files ≡ (S.snapshot store.old).files }
-    ensures stops { LeavesSame (S.snapshot store.old) (S.snapshot store.new) }
-    ensures taken { S.taken store.new ≡ S.taken store.old }
-    ensures cause { HasCause (IsErr result) (S.faults store.old) (S.faults store.new) }
+    ensures same { (S.told store.new).files ≡ (S.told store.old).files }
+    ensures stops { LeavesSame (S.told store.old) (S.told store.new) }
+    ensures taken { (S.told store.new).taken ≡ (S.told store.old).taken }
+    ensures cause { HasCause (IsErr result) (S.told store.old).faults (S.told store.new).faults }
 {
     for f in 1..FILES {
         if store.length(f)? > 1 {
@@ -345,25 +345,25 @@ fn head_frame(alloc: Global, settings: &Settings) -> Result<Frame, AllocError>
 
 // Appends the head's record to its journal, which has none.
 fn write_head<S: Store>(alloc: Global, store: &mut S, frame: &mut Frame) -> Result<(), OpenFault>
-    requires blank { ForSome (S.snapshot store.old).files (λ files. StandsFor (files head_file) []) }
+    requires blank { ForSome (S.told store.old).files (λ files. StandsFor (files head_file) []) }
     // From then on each stop leaves it.
-    ensures kept { OnOk result ((image : Files) → (S.snapshot store.new).images image →
+    ensures kept { OnOk result ((image : Files) → (S.told store.new).images image →
         HasRecords (image head_file) (frame.old.bytes ∷ [])) }
     ensures changes { Changes head_file (GainsFirst frame.old.bytes)
-        (S.snapshot store.old).files (S.snapshot store.new).files }
+        (S.told store.old).files (S.told store.new).files }
     ensures stops { LeavesBy (ChangesFile head_file (GainsFirst frame.old.bytes))
-        (S.snapshot store.old) (S.snapshot store.new) }
+        (S.told store.old) (S.told store.new) }
     ensures not_ours { (at : ℕ) → IsErrOf result (NotOurs at) → ⊥ }
-    ensures damaged { (f at : ℕ) → IsErrOf result (Damaged f at) → ForSome (S.snapshot store.old).files (λ _. ⊥) }
+    ensures damaged { (f at : ℕ) → IsErrOf result (Damaged f at) → ForSome (S.told store.old).files (λ _. ⊥) }
     ensures other { (n kept wanted : ℕ) → IsErrOf result (OtherSettings n kept wanted) → ⊥ }
     ensures bad { (n : ℕ) → IsErrOf result (BadSettings n) → ⊥ }
     // Only a failed call changes what there is.
     ensures same { IfErr result (λ fault. fault ≢ OpenFailed →
-        (S.snapshot store.new).files ≡ (S.snapshot store.old).files) }
+        (S.told store.new).files ≡ (S.told store.old).files) }
     ensures same_stops { IfErr result (λ fault. fault ≢ OpenFailed →
-        LeavesSame (S.snapshot store.old) (S.snapshot store.new)) }
-    ensures taken { TakesOnly head_file (S.taken store.old) (S.taken store.new) }
-    ensures cause { HasCause (IsErrOf result OpenFailed) (S.faults store.old) (S.faults store.new) }
+        LeavesSame (S.told store.old) (S.told store.new)) }
+    ensures taken { TakesOnly head_file (S.told store.old).taken (S.told store.new).taken }
+    ensures cause { HasCause (IsErrOf result OpenFailed) (S.told store.old).faults (S.told store.new).faults }
 {
     let mut heading = Heading { found: None };
     let mut head = match Journal::visit(alloc, store, HEAD, &mut heading) {
@@ -377,12 +377,12 @@ fn write_head<S: Store>(alloc: Global, store: &mut S, frame: &mut Frame) -> Resu
 // Syncs the files that a store of lines or tuples lacks, so that a stop leaves of them what is told.
 fn sync_rest<S: Store>(store: &mut S, buckets: u32) -> Result<(), Failed>
     requires { buckets ≤ 64 }
-    ensures synced { OnOk result (ForSome (S.snapshot store.old).files (λ files.
-        AreSynced (S.snapshot store.new).images buckets files)) }
-    ensures same { (S.snapshot store.new).files ≡ (S.snapshot store.old).files }
-    ensures stops { LeavesSame (S.snapshot store.old) (S.snapshot store.new) }
-    ensures taken { S.taken store.new ≡ S.taken store.old }
-    ensures cause { HasCause (IsErr result) (S.faults store.old) (S.faults store.new) }
+    ensures synced { OnOk result (ForSome (S.told store.old).files (λ files.
+        AreSynced (S.told store.new).images buckets files)) }
+    ensures same { (S.told store.new).files ≡ (S.told store.old).files }
+    ensures stops { LeavesSame (S.told store.old) (S.told store.new) }
+    ensures taken { (S.told store.new).taken ≡ (S.told store.old).taken }
+    ensures cause { HasCause (IsErr result) (S.told store.old).faults (S.told store.new).faults }
 {
     store.sync(CRAWL)?;
     sync_files(store, PAIRS_BASE, PAIRS_BASE + 10 + 2 * buckets as u16)?;
@@ -396,12 +396,12 @@ fn sync_rest<S: Store>(store: &mut S, buckets: u32) -> Result<(), Failed>
 // Syncs the files from one on and below another.
 fn sync_files<S: Store>(store: &mut S, from: u16, end: u16) -> Result<(), Failed>
     requires { end ≤ 10000 }
-    ensures synced { OnOk result (ForSome (S.snapshot store.old).files (λ files.
-        AreSyncedWithin (S.snapshot store.new).images from end files)) }
-    ensures same { (S.snapshot store.new).files ≡ (S.snapshot store.old).files }
-    ensures stops { LeavesSame (S.snapshot store.old) (S.snapshot store.new) }
-    ensures taken { S.taken store.new ≡ S.taken store.old }
-    ensures cause { HasCause (IsErr result) (S.faults store.old) (S.faults store.new) }
+    ensures synced { OnOk result (ForSome (S.told store.old).files (λ files.
+        AreSyncedWithin (S.told store.new).images from end files)) }
+    ensures same { (S.told store.new).files ≡ (S.told store.old).files }
+    ensures stops { LeavesSame (S.told store.old) (S.told store.new) }
+    ensures taken { (S.told store.new).taken ≡ (S.told store.old).taken }
+    ensures cause { HasCause (IsErr result) (S.told store.old).faults (S.told store.new).faults }
 {
     for f in from..end {
         store.sync(f)?;

@@ -4,7 +4,7 @@ ghost use Rattle.irl_offer.specs.Tuple.{Tuple};
 ghost use Rattle.irl_offer.specs.declared.settings.Asked.{Asked};
 ghost use Rattle.irl_offer.specs.declared.settings.Settings.{Settings};
 ghost use Rattle.irl_model.specs.Book.{IsPrefixOf, judged};
-ghost use Rattle.irl_model.specs.State.{State, IsFrontState};
+ghost use Rattle.irl_events.specs.State.{State, IsFrontState};
 ghost use Rattle.irl_disk.specs.Disk.{Files};
 ghost use Rattle.irl_bay.specs.BayFiles.{IsBucketFile};
 ghost use Rattle.irl_bay.specs.Commits.{live_offers, live_side};
@@ -34,15 +34,15 @@ pub fn one_state()
 /// bucket's live journal has in its records the offers of the bucket's list that the last commit leaves to the live side.
 pub fn what_is_held_has_its_state<S: Store>(store: &S, parts: &Parts)
     ensures left { (state : State) (image : Files) → IsDrum parts.now.urls →
-        HoldsState (S.snapshot store.now).images parts.now state → (S.snapshot store.now).images image →
+        HoldsState (S.told store.now).images parts.now state → (S.told store.now).images image →
         HasState state image }
     ensures told { (state : State) (files : Files) → IsDrum parts.now.urls →
-        HoldsState (S.snapshot store.now).images parts.now state → (S.snapshot store.now).files ≡ Some files →
+        HoldsState (S.told store.now).images parts.now state → (S.told store.now).files ≡ Some files →
         HasState state files }
-    ensures records { (state : State) (b : ℕ) → HoldsState (S.snapshot store.now).images parts.now state →
+    ensures records { (state : State) (b : ℕ) → HoldsState (S.told store.now).images parts.now state →
         b < parts.now.urls.settings.buckets → (runs : List (List Tuple))
         × AreRuns parts.now.urls.settings.array (live_offers state.urls parts.now.urls.last b) runs
-        × HasJournal (S.snapshot store.now).images parts.now.urls b (map run_bytes runs) }
+        × HasJournal (S.told store.now).images parts.now.urls b (map run_bytes runs) }
 {}
 
 /// A state is a front of what opening, flushes and merges make of it, and what was judged of a front stays.

@@ -33,7 +33,15 @@ impl Model for Commit {
 
     ghost Value = { Commit };
 
-    ghost view = { λ c. record { side = c.side; live = c.live; entries = c.entries; judged = c.judged; unique = c.unique; texts = c.texts; cut = c.cut.items } };
+    ghost view = { λ c. record {
+      side = c.side;
+      live = c.live;
+      entries = c.entries;
+      judged = c.judged;
+      unique = c.unique;
+      texts = c.texts;
+      cut = c.cut.items;
+    } };
 }
 
 /// How many bytes the record of a commit has.

@@ -1,6 +1,6 @@
 ghost use Rattle.std.specs.Prelude.{◌≡◌, ⊤, true, IsTrue, IfOk, OnOk};
 ghost use Rattle.irl_model.specs.Book.{Book};
-ghost use Rattle.irl_disk.specs.Memory.{snapshot_of};
+ghost use Rattle.irl_disk.specs.Memory.{told_by};
 ghost use Rattle.irl_bay.specs.Drum.{SomePending};
 ghost use Rattle.irl_bay.specs.Holding.{Holds};
 
@@ -21,8 +21,8 @@ fn can_merge(bay: &Bay) -> bool
 
 // Judges the offers that were flushed.
 fn merge(kept: &mut Waiting) -> Result<u64, Fault>
-    requires { (book : Book) × Holds (snapshot_of kept.old.store).images kept.old.bay book }
-    ensures { OnOk result ((book : Book) × Holds (snapshot_of kept.new.store).images kept.new.bay book) }
+    requires { (book : Book) × Holds (told_by kept.old.store).images kept.old.bay book }
+    ensures { OnOk result ((book : Book) × Holds (told_by kept.new.store).images kept.new.bay book) }
 {
     if !can_merge(&kept.bay) {
         return Err(Fault::Memory);
@@ -32,7 +32,7 @@ fn merge(kept: &mut Waiting) -> Result<u64, Fault>
 
 // A bay of one bucket with two offers of key 1, which were flushed in calls 4 to 9.
 fn flushed(alloc: Global, failing: Vec<u64>) -> Result<Waiting, Fault>
-    ensures { IfOk result (λ kept. (book : Book) × Holds (snapshot_of kept.store).images kept.bay book) }
+    ensures { IfOk result (λ kept. (book : Book) × Holds (told_by kept.store).images kept.bay book) }
 {
     let mut kept = made(alloc, failing, &settings_of(1, 2, 1_000))?;
     put(alloc, &mut kept, 1, b"p")?;

@@ -1,6 +1,6 @@
 ghost use Rattle.std.specs.Prelude.{◌≡◌, ◌<◌, true, IsTrue, IfOk, OnOk};
 ghost use Rattle.irl_model.specs.Book.{Book};
-ghost use Rattle.irl_disk.specs.Memory.{snapshot_of};
+ghost use Rattle.irl_disk.specs.Memory.{told_by};
 ghost use Rattle.irl_bay.specs.Drum.{SomePending};
 ghost use Rattle.irl_bay.specs.Holding.{Holds};
 
@@ -73,8 +73,8 @@ fn offer_of(alloc: Global, bucket: u32, i: u32) -> Result<Offer, AllocError> {
 
 // Lets an offer wait.
 fn wait(kept: &mut Waiting, offer: Offer)
-    requires { (book : Book) × Holds (snapshot_of kept.old.store).images kept.old.bay book }
-    ensures { (book : Book) × Holds (snapshot_of kept.new.store).images kept.new.bay book }
+    requires { (book : Book) × Holds (told_by kept.old.store).images kept.old.bay book }
+    ensures { (book : Book) × Holds (told_by kept.new.store).images kept.new.bay book }
 {
     if !kept.array.is_full() {
         kept.array.push(offer);
@@ -89,8 +89,8 @@ fn put_three(
     bucket: u32,
     turn: u32,
 ) -> Result<(), AllocError>
-    requires { (book : Book) × Holds (snapshot_of kept.old.store).images kept.old.bay book }
-    ensures { (book : Book) × Holds (snapshot_of kept.new.store).images kept.new.bay book }
+    requires { (book : Book) × Holds (told_by kept.old.store).images kept.old.bay book }
+    ensures { (book : Book) × Holds (told_by kept.new.store).images kept.new.bay book }
 {
     for i in 0..3 {
         let i = turn.wrapping_mul(3).wrapping_add(i);
@@ -110,8 +110,8 @@ pub(super) fn can_merge(bay: &Bay, b: u32) -> bool
 
 // Judges what was flushed.
 fn merge(kept: &mut Waiting, b: u32) -> Result<u64, Fault>
-    requires { (book : Book) × Holds (snapshot_of kept.old.store).images kept.old.bay book }
-    ensures { OnOk result ((book : Book) × Holds (snapshot_of kept.new.store).images kept.new.bay book) }
+    requires { (book : Book) × Holds (told_by kept.old.store).images kept.old.bay book }
+    ensures { OnOk result ((book : Book) × Holds (told_by kept.new.store).images kept.new.bay book) }
 {
     if !can_merge(&kept.bay, b) {
         return Err(Fault::Memory);
@@ -121,8 +121,8 @@ fn merge(kept: &mut Waiting, b: u32) -> Result<u64, Fault>
 
 // Flushes three offers, and judges all that wait at each fifth turn.
 fn take_turn(alloc: Global, kept: &mut Waiting, given: &mut Given, turn: u32) -> Result<(), Fault>
-    requires { (book : Book) × Holds (snapshot_of kept.old.store).images kept.old.bay book }
-    ensures { OnOk result ((book : Book) × Holds (snapshot_of kept.new.store).images kept.new.bay book) }
+    requires { (book : Book) × Holds (told_by kept.old.store).images kept.old.bay book }
+    ensures { OnOk result ((book : Book) × Holds (told_by kept.new.store).images kept.new.bay book) }
 {
     // Some merges find no offer of bucket 2, or of others.
     let bucket = match turn % 7 {
@@ -143,7 +143,7 @@ fn take_turn(alloc: Global, kept: &mut Waiting, given: &mut Given, turn: u32) ->
 
 // So many turns.
 fn take_turns(alloc: Global, kept: &mut Waiting, given: &mut Given, turns: u32) -> Result<(), Fault>
-    requires { (book : Book) × Holds (snapshot_of kept.old.store).images kept.old.bay book }
+    requires { (book : Book) × Holds (told_by kept.old.store).images kept.old.bay book }
 {
     for turn in 0..turns {
         take_turn(alloc, kept, given, turn)?;
@@ -223,8 +223,8 @@ fn put_many(
     bucket: u32,
     turn: u32,
 ) -> Result<(), AllocError>
-    requires { (book : Book) × Holds (snapshot_of kept.old.store).images kept.old.bay book }
-    ensures { (book : Book) × Holds (snapshot_of kept.new.store).images kept.new.bay book }
+    requires { (book : Book) × Holds (told_by kept.old.store).images kept.old.bay book }
+    ensures { (book : Book) × Holds (told_by kept.new.store).images kept.new.bay book }
 {
     for i in 0..1_000 {
         wait(kept, many_of(alloc, bucket, turn, i)?);
@@ -240,8 +240,8 @@ fn take_long_turn(
     given: &mut Given,
     turn: u32,
 ) -> Result<(), Fault>
-    requires { (book : Book) × Holds (snapshot_of kept.old.store).images kept.old.bay book }
-    ensures { OnOk result ((book : Book) × Holds (snapshot_of kept.new.store).images kept.new.bay book) }
+    requires { (book : Book) × Holds (told_by kept.old.store).images kept.old.bay book }
+    ensures { OnOk result ((book : Book) × Holds (told_by kept.new.store).images kept.new.bay book) }
 {
     let bucket = turn % 4;
     put_many(alloc, kept, given, bucket, turn)?;
@@ -261,7 +261,7 @@ fn take_long_turns(
     given: &mut Given,
     turns: u32,
 ) -> Result<(), Fault>
-    requires { (book : Book) × Holds (snapshot_of kept.old.store).images kept.old.bay book }
+    requires { (book : Book) × Holds (told_by kept.old.store).images kept.old.bay book }
 {
     for turn in 0..turns {
         take_long_turn(alloc, kept, given, turn)?;

@@ -63,11 +63,7 @@ fn copy(over: &mut [u8], at: usize, bytes: &[u8]) {
 }
 
 impl Store for Quiet {
-    ghost snapshot = { λ _. silent };
-
-    ghost faults = { λ store. store.faults };
-
-    ghost taken = { λ _. None };
+    ghost told = { λ store. silent store.faults };
 
     ghost is_consistent = { Prim.search rules };
 

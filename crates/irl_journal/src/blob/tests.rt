@@ -1,5 +1,5 @@
 ghost use Rattle.std.specs.Prelude.{◌≤◌, List, ℕ, IfOk};
-ghost use Rattle.irl_disk.specs.Memory.{snapshot_of};
+ghost use Rattle.irl_disk.specs.Memory.{told_by};
 ghost use Rattle.irl_journal.specs.Blob.{IsCommitted};
 
 use super::*;
@@ -16,7 +16,7 @@ struct Kept {
 
 // A blob of `ab`, which was appended in calls 0 and 1 of its store.
 fn append_first(alloc: Global, failing: Vec<u64>) -> Result<Kept, Fail>
-    ensures { IfOk result (λ kept. (held : List ℕ) × IsCommitted (snapshot_of kept.store).images kept.blob held) }
+    ensures { IfOk result (λ kept. (held : List ℕ) × IsCommitted (told_by kept.store).images kept.blob held) }
 {
     let mut store = MemStore::new(alloc, failing);
     let mut blob = Blob::at(7, 0);
@@ -26,8 +26,8 @@ fn append_first(alloc: Global, failing: Vec<u64>) -> Result<Kept, Fail>
 
 // Appends `cde`, in calls 2 and 3 where it is the second.
 fn append_more(kept: &mut Kept) -> Result<(), Failed>
-    requires { (held : List ℕ) × IsCommitted (snapshot_of kept.old.store).images kept.old.blob held }
-    ensures { (held : List ℕ) × IsCommitted (snapshot_of kept.new.store).images kept.new.blob held }
+    requires { (held : List ℕ) × IsCommitted (told_by kept.old.store).images kept.old.blob held }
+    ensures { (held : List ℕ) × IsCommitted (told_by kept.new.store).images kept.new.blob held }
 {
     kept.blob.append(&mut kept.store, b"cde")
 }
@@ -35,8 +35,8 @@ fn append_more(kept: &mut Kept) -> Result<(), Failed>
 // Takes back what was appended since the blob had this length.
 fn take_back(kept: &mut Kept, length: u64)
     requires length { length ≤ kept.old.blob.length }
-    requires held { (held : List ℕ) × IsCommitted (snapshot_of kept.old.store).images kept.old.blob held }
-    ensures { (held : List ℕ) × IsCommitted (snapshot_of kept.new.store).images kept.new.blob held }
+    requires held { (held : List ℕ) × IsCommitted (told_by kept.old.store).images kept.old.blob held }
+    ensures { (held : List ℕ) × IsCommitted (told_by kept.new.store).images kept.new.blob held }
 {
     kept.blob.rewind(length);
 }

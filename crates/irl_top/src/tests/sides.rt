@@ -1,5 +1,5 @@
 ghost use Rattle.std.specs.Prelude.{Some};
-ghost use Rattle.irl_disk.specs.Memory.{counts_of, fault_count, snapshot_of};
+ghost use Rattle.irl_disk.specs.Memory.{counts_of, fault_count, told_by};
 ghost use Rattle.irl_disk.specs.MemoryLaws.{consistent};
 
 use super::{Case, NEW_OF_ROW, NONE, ONE_BUCKET, ROW, SEEN, check, new_store, refusal, writes};
@@ -89,11 +89,7 @@ struct Counting {
 }
 
 impl Store for Counting {
-    ghost snapshot = { λ counting. snapshot_of counting.store };
-
-    ghost faults = { λ counting. fault_count counting.store };
-
-    ghost taken = { λ counting. Some (counts_of counting.store.taken) };
+    ghost told = { λ counting. told_by counting.store };
 
     ghost is_consistent = { λ counting. consistent counting.store };
 

@@ -22,7 +22,8 @@ first_above-requires-then-not-is_sum_within-clause-above g c = λ files tells.
       subst (λ (k : ℕ). RiseFrom k (first_commit k) last.0) (sym says.buckets) last.2,
       λ within.
           let cut : c.deref-3.result.now ≡ (last_commit (first_commit c.reaching-reaching-2.result.buckets) last.0).cut =
-          c.deref-3.ensures.value ∙ ap (λ (x : Commit). x.cut) (ap (λ (h : History). h.last) c.history.view_is ∙ last.3) ∙ ap (λ (k : ℕ). (last_commit (first_commit k) last.0).cut) (sym says.buckets) in
+          c.deref-3.ensures.value ∙ ap (λ (x : Commit). x.cut) (ap (λ (h : History). h.last) c.history.view_is ∙ last.3)
+          ∙ ap (λ (k : ℕ). (last_commit (first_commit k) last.0).cut) (sym says.buckets) in
           let yes = c.is_sum_within.ensures.1 (subst (λ (l : List ℕ). sum l ≤ c.reaching-reaching-2.result.most) (sym cut) within.all) in
           let never = subst IsTrue c.if-not-is_sum_within.true yes in
           cc,

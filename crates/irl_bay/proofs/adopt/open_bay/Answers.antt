@@ -2,10 +2,10 @@
 use Rattle.std.proofs.Common.{◌≡◌, ◌∙◌, ℕ, ◌≤◌, List, length, map, inl, inr, refl, sym, ap, subst, arith, rules}
 use Rattle.std.proofs.lemmas.List.{length-map}
 use Rattle.std.proofs.lemmas.Result.{err_from_is_err_and}
-use Rattle.irl_offer.specs.declared.receipt.Fault.TheVariants.{Damaged as StoreDamaged}
+use Rattle.irl_base.specs.declared.fault.Fault.TheVariants.{Damaged as StoreDamaged}
 use Rattle.irl_model.specs.Book.{IsBelow}
 use Rattle.irl_disk.specs.Disk.{ChangesFile}
-use Rattle.irl_disk.specs.Images.{Snapshot}
+use Rattle.irl_disk.specs.Images.{Told}
 use Rattle.irl_bay.specs.Holding.{Holds}
 use Rattle.std.specs.List.{AllByRecursion}
 use Rattle.irl_disk.proofs.Stretches.{left_now}
@@ -28,104 +28,132 @@ use Rattle.irl_bay.proofs.adopt.open_bay.Goals as goal
 
 -- ---- what changes
 pub returns-in-Err-clause-adopts : goal.returns-in-Err-clause-adopts
-returns-in-Err-clause-adopts g c = adopts_first c.args.base c.args.settings.now.buckets c.number-f.result _ _ c.number-f.ensures.value c.in-Err.ensures.changes c.in-Err.ensures.stops
+returns-in-Err-clause-adopts g c = adopts_first c.args.base c.args.settings.now.buckets c.number-f.result _ _ c.number-f.ensures.value c.in-Err.ensures.changes.told c.in-Err.ensures.changes.stops
 
 pub returns-in_err-open_fronts-clause-adopts : goal.returns-in_err-open_fronts-clause-adopts
 returns-in_err-open_fronts-clause-adopts g c =
-    let tell = g.S.Store.snapshot in
+    let tell = g.S.Store.told in
     let law = g.met.S.Store.is_consistent in
     adopts_same c.args.base c.args.settings.now.buckets (tell c.args.store.now) (tell c.visit.new.store) (tell c.open_fronts.new.store) (law c.visit.new.store)
-    (adopts_first c.args.base c.args.settings.now.buckets c.number-f.result (tell c.args.store.now) (tell c.visit.new.store) c.number-f.ensures.value c.in-Ok.ensures.changes c.in-Ok.ensures.stops) c.in_err-open_fronts.ensures.same c.in_err-open_fronts.ensures.stops
+    (adopts_first c.args.base c.args.settings.now.buckets c.number-f.result (tell c.args.store.now) (tell c.visit.new.store) c.number-f.ensures.value c.in-Ok.ensures.changes.told
+    c.in-Ok.ensures.changes.stops) c.in_err-open_fronts.ensures.same c.in_err-open_fronts.ensures.stops
 
 pub returns-in_err-buckets-clause-adopts : goal.returns-in_err-buckets-clause-adopts
 returns-in_err-buckets-clause-adopts g c =
-    let tell = g.S.Store.snapshot in
+    let tell = g.S.Store.told in
     let law = g.met.S.Store.is_consistent in
-    let visit = visited c.args.base c.args.settings.now.buckets c.number-f.result (tell c.args.store.now) (tell c.visit.new.store) c.in-Ok.manifest c.in_ok-history.history c.visit.new.visitor _ (law c.visit.new.store) c.number-f.ensures.value c.in-Ok.ensures.journal.0
-    c.in_ok-history.ensures.buckets c.in_ok-history.ensures.last c.in_ok-history.ensures.count refl c.in-Ok.ensures.changes c.in-Ok.ensures.stops c.in-Ok.ensures.found c.in-Ok.ensures.records c.in-Ok.ensures.took in
-    adopts_buckets c.args.base _ c.args.settings.now.buckets (tell c.args.store.now) (tell c.visit.new.store) (tell c.open_fronts.new.store) (tell c.open_buckets.new.store) visit (law c.visit.new.store) (law c.open_fronts.new.store) c.in_ok-open_fronts.ensures.same c.in_ok-open_fronts.ensures.stops c.in_err-buckets.ensures.files c.in_err-buckets.ensures.stops
+    let visit = visited c.args.base c.args.settings.now.buckets c.number-f.result (tell c.args.store.now) (tell c.visit.new.store) c.in-Ok.manifest c.in_ok-history.history c.visit.new.visitor _
+    (law c.visit.new.store) c.number-f.ensures.value c.in-Ok.ensures.journal.0
+    c.in_ok-history.ensures.buckets c.in_ok-history.ensures.last c.in_ok-history.ensures.count refl c.in-Ok.ensures.changes.told c.in-Ok.ensures.changes.stops (λ files tells.
+    (c.in-Ok.ensures.visited files tells).found) (λ files tells. (c.in-Ok.ensures.visited files tells).records) c.in-Ok.ensures.took in
+    adopts_buckets c.args.base _ c.args.settings.now.buckets (tell c.args.store.now) (tell c.visit.new.store) (tell c.open_fronts.new.store) (tell c.open_buckets.new.store) visit
+    (law c.visit.new.store) (law c.open_fronts.new.store) c.in_ok-open_fronts.ensures.same c.in_ok-open_fronts.ensures.stops c.in_err-buckets.ensures.files c.in_err-buckets.ensures.stops
 
 pub returns-in_err-lengths-clause-adopts : goal.returns-in_err-lengths-clause-adopts
 returns-in_err-lengths-clause-adopts g c =
-    let tell = g.S.Store.snapshot in
+    let tell = g.S.Store.told in
     let law = g.met.S.Store.is_consistent in
-    let visit = visited c.args.base c.args.settings.now.buckets c.number-f.result (tell c.args.store.now) (tell c.visit.new.store) c.in-Ok.manifest c.in_ok-history.history c.visit.new.visitor _ (law c.visit.new.store) c.number-f.ensures.value c.in-Ok.ensures.journal.0
-    c.in_ok-history.ensures.buckets c.in_ok-history.ensures.last c.in_ok-history.ensures.count refl c.in-Ok.ensures.changes c.in-Ok.ensures.stops c.in-Ok.ensures.found c.in-Ok.ensures.records c.in-Ok.ensures.took in
-    adopts_buckets c.args.base _ c.args.settings.now.buckets (tell c.args.store.now) (tell c.visit.new.store) (tell c.open_fronts.new.store) (tell c.open_buckets.new.store) visit (law c.visit.new.store) (law c.open_fronts.new.store) c.in_ok-open_fronts.ensures.same c.in_ok-open_fronts.ensures.stops c.in_ok-buckets.ensures.files c.in_ok-buckets.ensures.stops
+    let visit = visited c.args.base c.args.settings.now.buckets c.number-f.result (tell c.args.store.now) (tell c.visit.new.store) c.in-Ok.manifest c.in_ok-history.history c.visit.new.visitor _
+    (law c.visit.new.store) c.number-f.ensures.value c.in-Ok.ensures.journal.0
+    c.in_ok-history.ensures.buckets c.in_ok-history.ensures.last c.in_ok-history.ensures.count refl c.in-Ok.ensures.changes.told c.in-Ok.ensures.changes.stops (λ files tells.
+    (c.in-Ok.ensures.visited files tells).found) (λ files tells. (c.in-Ok.ensures.visited files tells).records) c.in-Ok.ensures.took in
+    adopts_buckets c.args.base _ c.args.settings.now.buckets (tell c.args.store.now) (tell c.visit.new.store) (tell c.open_fronts.new.store) (tell c.open_buckets.new.store) visit
+    (law c.visit.new.store) (law c.open_fronts.new.store) c.in_ok-open_fronts.ensures.same c.in_ok-open_fronts.ensures.stops c.in_ok-buckets.ensures.files c.in_ok-buckets.ensures.stops
 
 pub returns-in_err-check_cuts-clause-adopts : goal.returns-in_err-check_cuts-clause-adopts
 returns-in_err-check_cuts-clause-adopts g c =
-    let tell = g.S.Store.snapshot in
+    let tell = g.S.Store.told in
     let law = g.met.S.Store.is_consistent in
-    let visit = visited c.args.base c.args.settings.now.buckets c.number-f.result (tell c.args.store.now) (tell c.visit.new.store) c.in-Ok.manifest c.in_ok-history.history c.visit.new.visitor _ (law c.visit.new.store) c.number-f.ensures.value c.in-Ok.ensures.journal.0
-    c.in_ok-history.ensures.buckets c.in_ok-history.ensures.last c.in_ok-history.ensures.count refl c.in-Ok.ensures.changes c.in-Ok.ensures.stops c.in-Ok.ensures.found c.in-Ok.ensures.records c.in-Ok.ensures.took in
+    let visit = visited c.args.base c.args.settings.now.buckets c.number-f.result (tell c.args.store.now) (tell c.visit.new.store) c.in-Ok.manifest c.in_ok-history.history c.visit.new.visitor _
+    (law c.visit.new.store) c.number-f.ensures.value c.in-Ok.ensures.journal.0
+    c.in_ok-history.ensures.buckets c.in_ok-history.ensures.last c.in_ok-history.ensures.count refl c.in-Ok.ensures.changes.told c.in-Ok.ensures.changes.stops (λ files tells.
+    (c.in-Ok.ensures.visited files tells).found) (λ files tells. (c.in-Ok.ensures.visited files tells).records) c.in-Ok.ensures.took in
     adopts_same c.args.base c.args.settings.now.buckets (tell c.args.store.now) (tell c.open_buckets.new.store) (tell c.check_cuts.new.store) (law c.open_buckets.new.store)
-    (adopts_buckets c.args.base _ c.args.settings.now.buckets (tell c.args.store.now) (tell c.visit.new.store) (tell c.open_fronts.new.store) (tell c.open_buckets.new.store) visit (law c.visit.new.store) (law c.open_fronts.new.store) c.in_ok-open_fronts.ensures.same c.in_ok-open_fronts.ensures.stops c.in_ok-buckets.ensures.files c.in_ok-buckets.ensures.stops)
+    (adopts_buckets c.args.base _ c.args.settings.now.buckets (tell c.args.store.now) (tell c.visit.new.store) (tell c.open_fronts.new.store) (tell c.open_buckets.new.store) visit
+    (law c.visit.new.store) (law c.open_fronts.new.store) c.in_ok-open_fronts.ensures.same c.in_ok-open_fronts.ensures.stops c.in_ok-buckets.ensures.files c.in_ok-buckets.ensures.stops)
     c.in_err-check_cuts.ensures.same c.in_err-check_cuts.ensures.stops
 
 pub returns-clause-adopts : goal.returns-clause-adopts
 returns-clause-adopts g c =
-    let tell = g.S.Store.snapshot in
+    let tell = g.S.Store.told in
     let law = g.met.S.Store.is_consistent in
-    let visit = visited c.args.base c.args.settings.now.buckets c.number-f.result (tell c.args.store.now) (tell c.visit.new.store) c.in-Ok.manifest c.in_ok-history.history c.visit.new.visitor _ (law c.visit.new.store) c.number-f.ensures.value c.in-Ok.ensures.journal.0
-    c.in_ok-history.ensures.buckets c.in_ok-history.ensures.last c.in_ok-history.ensures.count refl c.in-Ok.ensures.changes c.in-Ok.ensures.stops c.in-Ok.ensures.found c.in-Ok.ensures.records c.in-Ok.ensures.took in
+    let visit = visited c.args.base c.args.settings.now.buckets c.number-f.result (tell c.args.store.now) (tell c.visit.new.store) c.in-Ok.manifest c.in_ok-history.history c.visit.new.visitor _
+    (law c.visit.new.store) c.number-f.ensures.value c.in-Ok.ensures.journal.0
+    c.in_ok-history.ensures.buckets c.in_ok-history.ensures.last c.in_ok-history.ensures.count refl c.in-Ok.ensures.changes.told c.in-Ok.ensures.changes.stops (λ files tells.
+    (c.in-Ok.ensures.visited files tells).found) (λ files tells. (c.in-Ok.ensures.visited files tells).records) c.in-Ok.ensures.took in
     adopts_same c.args.base c.args.settings.now.buckets (tell c.args.store.now) (tell c.open_buckets.new.store) (tell c.check_cuts.new.store) (law c.open_buckets.new.store)
-    (adopts_buckets c.args.base _ c.args.settings.now.buckets (tell c.args.store.now) (tell c.visit.new.store) (tell c.open_fronts.new.store) (tell c.open_buckets.new.store) visit (law c.visit.new.store) (law c.open_fronts.new.store) c.in_ok-open_fronts.ensures.same c.in_ok-open_fronts.ensures.stops c.in_ok-buckets.ensures.files c.in_ok-buckets.ensures.stops)
+    (adopts_buckets c.args.base _ c.args.settings.now.buckets (tell c.args.store.now) (tell c.visit.new.store) (tell c.open_fronts.new.store) (tell c.open_buckets.new.store) visit
+    (law c.visit.new.store) (law c.open_fronts.new.store) c.in_ok-open_fronts.ensures.same c.in_ok-open_fronts.ensures.stops c.in_ok-buckets.ensures.files c.in_ok-buckets.ensures.stops)
     c.in_ok-check_cuts.ensures.same c.in_ok-check_cuts.ensures.stops
 
 -- ---- what is read
 pub returns-in-Err-clause-taken : goal.returns-in-Err-clause-taken
-returns-in-Err-clause-taken g c = takes_first c.args.base c.args.settings.now.buckets c.number-f.result _ _ _ c.number-f.ensures.value c.in-Err.ensures.taken
+returns-in-Err-clause-taken g c = takes_first c.args.base c.args.settings.now.buckets c.number-f.result _ _ _ c.number-f.ensures.value c.in-Err.ensures.changes.taken
 
 pub returns-in_err-open_fronts-clause-taken : goal.returns-in_err-open_fronts-clause-taken
-returns-in_err-open_fronts-clause-taken g c = takes_first_alone c.args.base c.args.settings.now.buckets c.number-f.result _ _ _ _ c.number-f.ensures.value c.in-Ok.ensures.taken c.in_err-open_fronts.ensures.taken
+returns-in_err-open_fronts-clause-taken g c = takes_first_alone c.args.base c.args.settings.now.buckets c.number-f.result _ _ _ _ c.number-f.ensures.value c.in-Ok.ensures.changes.taken
+    c.in_err-open_fronts.ensures.taken
 
 pub returns-in_err-buckets-clause-taken : goal.returns-in_err-buckets-clause-taken
 returns-in_err-buckets-clause-taken g c =
-    let tell = g.S.Store.snapshot in
+    let tell = g.S.Store.told in
     let law = g.met.S.Store.is_consistent in
-    let visit = visited c.args.base c.args.settings.now.buckets c.number-f.result (tell c.args.store.now) (tell c.visit.new.store) c.in-Ok.manifest c.in_ok-history.history c.visit.new.visitor _ (law c.visit.new.store) c.number-f.ensures.value c.in-Ok.ensures.journal.0
-    c.in_ok-history.ensures.buckets c.in_ok-history.ensures.last c.in_ok-history.ensures.count refl c.in-Ok.ensures.changes c.in-Ok.ensures.stops c.in-Ok.ensures.found c.in-Ok.ensures.records c.in-Ok.ensures.took in
-    takes_buckets c.args.base _ c.args.settings.now.buckets c.number-f.result (tell c.args.store.now) (tell c.visit.new.store) _ _ _ _ c.number-f.ensures.value visit c.in-Ok.ensures.taken c.in_ok-open_fronts.ensures.taken c.in_err-buckets.ensures.taken
+    let visit = visited c.args.base c.args.settings.now.buckets c.number-f.result (tell c.args.store.now) (tell c.visit.new.store) c.in-Ok.manifest c.in_ok-history.history c.visit.new.visitor _
+    (law c.visit.new.store) c.number-f.ensures.value c.in-Ok.ensures.journal.0
+    c.in_ok-history.ensures.buckets c.in_ok-history.ensures.last c.in_ok-history.ensures.count refl c.in-Ok.ensures.changes.told c.in-Ok.ensures.changes.stops (λ files tells.
+    (c.in-Ok.ensures.visited files tells).found) (λ files tells. (c.in-Ok.ensures.visited files tells).records) c.in-Ok.ensures.took in
+    takes_buckets c.args.base _ c.args.settings.now.buckets c.number-f.result (tell c.args.store.now) (tell c.visit.new.store) _ _ _ _ c.number-f.ensures.value visit c.in-Ok.ensures.changes.taken
+    c.in_ok-open_fronts.ensures.taken c.in_err-buckets.ensures.taken
 
 pub returns-in_err-lengths-clause-taken : goal.returns-in_err-lengths-clause-taken
 returns-in_err-lengths-clause-taken g c =
-    let tell = g.S.Store.snapshot in
+    let tell = g.S.Store.told in
     let law = g.met.S.Store.is_consistent in
-    let visit = visited c.args.base c.args.settings.now.buckets c.number-f.result (tell c.args.store.now) (tell c.visit.new.store) c.in-Ok.manifest c.in_ok-history.history c.visit.new.visitor _ (law c.visit.new.store) c.number-f.ensures.value c.in-Ok.ensures.journal.0
-    c.in_ok-history.ensures.buckets c.in_ok-history.ensures.last c.in_ok-history.ensures.count refl c.in-Ok.ensures.changes c.in-Ok.ensures.stops c.in-Ok.ensures.found c.in-Ok.ensures.records c.in-Ok.ensures.took in
-    takes_buckets c.args.base _ c.args.settings.now.buckets c.number-f.result (tell c.args.store.now) (tell c.visit.new.store) _ _ _ _ c.number-f.ensures.value visit c.in-Ok.ensures.taken c.in_ok-open_fronts.ensures.taken c.in_ok-buckets.ensures.taken
+    let visit = visited c.args.base c.args.settings.now.buckets c.number-f.result (tell c.args.store.now) (tell c.visit.new.store) c.in-Ok.manifest c.in_ok-history.history c.visit.new.visitor _
+    (law c.visit.new.store) c.number-f.ensures.value c.in-Ok.ensures.journal.0
+    c.in_ok-history.ensures.buckets c.in_ok-history.ensures.last c.in_ok-history.ensures.count refl c.in-Ok.ensures.changes.told c.in-Ok.ensures.changes.stops (λ files tells.
+    (c.in-Ok.ensures.visited files tells).found) (λ files tells. (c.in-Ok.ensures.visited files tells).records) c.in-Ok.ensures.took in
+    takes_buckets c.args.base _ c.args.settings.now.buckets c.number-f.result (tell c.args.store.now) (tell c.visit.new.store) _ _ _ _ c.number-f.ensures.value visit c.in-Ok.ensures.changes.taken
+    c.in_ok-open_fronts.ensures.taken c.in_ok-buckets.ensures.taken
 
 pub returns-in_err-check_cuts-clause-taken : goal.returns-in_err-check_cuts-clause-taken
 returns-in_err-check_cuts-clause-taken g c =
-    let tell = g.S.Store.snapshot in
+    let tell = g.S.Store.told in
     let law = g.met.S.Store.is_consistent in
-    let visit = visited c.args.base c.args.settings.now.buckets c.number-f.result (tell c.args.store.now) (tell c.visit.new.store) c.in-Ok.manifest c.in_ok-history.history c.visit.new.visitor _ (law c.visit.new.store) c.number-f.ensures.value c.in-Ok.ensures.journal.0
-    c.in_ok-history.ensures.buckets c.in_ok-history.ensures.last c.in_ok-history.ensures.count refl c.in-Ok.ensures.changes c.in-Ok.ensures.stops c.in-Ok.ensures.found c.in-Ok.ensures.records c.in-Ok.ensures.took in
+    let visit = visited c.args.base c.args.settings.now.buckets c.number-f.result (tell c.args.store.now) (tell c.visit.new.store) c.in-Ok.manifest c.in_ok-history.history c.visit.new.visitor _
+    (law c.visit.new.store) c.number-f.ensures.value c.in-Ok.ensures.journal.0
+    c.in_ok-history.ensures.buckets c.in_ok-history.ensures.last c.in_ok-history.ensures.count refl c.in-Ok.ensures.changes.told c.in-Ok.ensures.changes.stops (λ files tells.
+    (c.in-Ok.ensures.visited files tells).found) (λ files tells. (c.in-Ok.ensures.visited files tells).records) c.in-Ok.ensures.took in
     takes_more c.args.base c.args.settings.now.buckets c.in-Ok.manifest.file _ _ _ _ (c.in-Ok.ensures.journal.0 ∙ c.number-f.ensures.value)
-    (takes_buckets c.args.base _ c.args.settings.now.buckets c.number-f.result (tell c.args.store.now) (tell c.visit.new.store) _ _ _ _ c.number-f.ensures.value visit c.in-Ok.ensures.taken c.in_ok-open_fronts.ensures.taken c.in_ok-buckets.ensures.taken)
+    (takes_buckets c.args.base _ c.args.settings.now.buckets c.number-f.result (tell c.args.store.now) (tell c.visit.new.store) _ _ _ _ c.number-f.ensures.value visit c.in-Ok.ensures.changes.taken
+    c.in_ok-open_fronts.ensures.taken c.in_ok-buckets.ensures.taken)
     c.in_err-check_cuts.ensures.taken
 
 pub returns-clause-taken : goal.returns-clause-taken
 returns-clause-taken g c =
-    let tell = g.S.Store.snapshot in
+    let tell = g.S.Store.told in
     let law = g.met.S.Store.is_consistent in
-    let visit = visited c.args.base c.args.settings.now.buckets c.number-f.result (tell c.args.store.now) (tell c.visit.new.store) c.in-Ok.manifest c.in_ok-history.history c.visit.new.visitor _ (law c.visit.new.store) c.number-f.ensures.value c.in-Ok.ensures.journal.0
-    c.in_ok-history.ensures.buckets c.in_ok-history.ensures.last c.in_ok-history.ensures.count refl c.in-Ok.ensures.changes c.in-Ok.ensures.stops c.in-Ok.ensures.found c.in-Ok.ensures.records c.in-Ok.ensures.took in
+    let visit = visited c.args.base c.args.settings.now.buckets c.number-f.result (tell c.args.store.now) (tell c.visit.new.store) c.in-Ok.manifest c.in_ok-history.history c.visit.new.visitor _
+    (law c.visit.new.store) c.number-f.ensures.value c.in-Ok.ensures.journal.0
+    c.in_ok-history.ensures.buckets c.in_ok-history.ensures.last c.in_ok-history.ensures.count refl c.in-Ok.ensures.changes.told c.in-Ok.ensures.changes.stops (λ files tells.
+    (c.in-Ok.ensures.visited files tells).found) (λ files tells. (c.in-Ok.ensures.visited files tells).records) c.in-Ok.ensures.took in
     takes_more c.args.base c.args.settings.now.buckets c.in-Ok.manifest.file _ _ _ _ (c.in-Ok.ensures.journal.0 ∙ c.number-f.ensures.value)
-    (takes_buckets c.args.base _ c.args.settings.now.buckets c.number-f.result (tell c.args.store.now) (tell c.visit.new.store) _ _ _ _ c.number-f.ensures.value visit c.in-Ok.ensures.taken c.in_ok-open_fronts.ensures.taken c.in_ok-buckets.ensures.taken)
+    (takes_buckets c.args.base _ c.args.settings.now.buckets c.number-f.result (tell c.args.store.now) (tell c.visit.new.store) _ _ _ _ c.number-f.ensures.value visit c.in-Ok.ensures.changes.taken
+    c.in_ok-open_fronts.ensures.taken c.in_ok-buckets.ensures.taken)
     c.in_ok-check_cuts.ensures.taken
 
 -- ---- what the commit says
 pub open_fronts-requires-clause-side : goal.open_fronts-requires-clause-side
 open_fronts-requires-clause-side g c =
-    let took = took_commits c.args.settings.now.buckets 0 c.in_ok-history.history c.visit.new.visitor c.in-Ok.ensures.took.payloads c.in_ok-history.ensures.buckets (omega (arith, c.in_ok-history.ensures.count)) c.in-Ok.ensures.took.took in
+    let took = took_commits c.args.settings.now.buckets 0 c.in_ok-history.history c.visit.new.visitor c.in-Ok.ensures.took.payloads c.in_ok-history.ensures.buckets
+    (omega (arith, c.in_ok-history.ensures.count)) c.in-Ok.ensures.took.took in
     let is = took_is c.args.settings.now.buckets c.in_ok-history.history.last c.in_ok-history.history.count c.in-Ok.ensures.took.payloads c.visit.new.visitor c.in_ok-history.ensures.last took in
     omega (arith, is.side)
 
 pub open_buckets-requires-clause-commit : goal.open_buckets-requires-clause-commit
 open_buckets-requires-clause-commit g c =
-    let took = took_commits c.args.settings.now.buckets 0 c.in_ok-history.history c.visit.new.visitor c.in-Ok.ensures.took.payloads c.in_ok-history.ensures.buckets (omega (arith, c.in_ok-history.ensures.count)) c.in-Ok.ensures.took.took in
+    let took = took_commits c.args.settings.now.buckets 0 c.in_ok-history.history c.visit.new.visitor c.in-Ok.ensures.took.payloads c.in_ok-history.ensures.buckets
+    (omega (arith, c.in_ok-history.ensures.count)) c.in-Ok.ensures.took.took in
     took_is c.args.settings.now.buckets c.in_ok-history.history.last c.in_ok-history.history.count c.in-Ok.ensures.took.payloads c.visit.new.visitor c.in_ok-history.ensures.last took
 
 -- ---- what is damaged
@@ -136,18 +164,20 @@ returns-in-Err-clause-damaged g c = λ f at e files tells.
     inl (
       sym out.1 ∙ c.number-f.ensures.value,
       subst (λ (n : ℕ). IsDamagedJournal (AreCommitPayloads c.args.settings.now.buckets) (files n) at) out.1
-          (damaged_commits c.args.settings.now.buckets c.in_ok-history.history c.visit.new.visitor (files c.number-f.result) at c.in_ok-history.ensures.buckets c.in_ok-history.ensures.last (omega (arith, c.in_ok-history.ensures.count)) (c.in-Err.ensures.damaged at (search rules) files tells)),
+          (damaged_commits c.args.settings.now.buckets c.in_ok-history.history c.visit.new.visitor (files c.number-f.result) at c.in_ok-history.ensures.buckets c.in_ok-history.ensures.last
+          (omega (arith, c.in_ok-history.ensures.count)) (c.in-Err.ensures.damaged at (search rules) files tells).why),
     )
 
 pub returns-in_err-open_fronts-clause-damaged : goal.returns-in_err-open_fronts-clause-damaged
 returns-in_err-open_fronts-clause-damaged g c = λ f at e files tells.
     let out = err_from_is_err_and c.from_residual-in_err-open_fronts.result c.from_residual-in_err-open_fronts.ensures.1 in
     let is = rw (out.1, out.2) at e in
-    let found = c.in-Ok.ensures.found files tells in
-    let read = c.in-Ok.ensures.records files tells found.0 found.1 in
-    let told = manifest_of c.args.base c.args.settings.now.buckets c.number-f.result files c.in_ok-history.history.last c.in_ok-history.history.count found.0 c.visit.new.visitor c.number-f.ensures.value c.in_ok-history.ensures.last c.in_ok-history.ensures.count found.1
+    let found = (c.in-Ok.ensures.visited files tells).found in
+    let read = (c.in-Ok.ensures.visited files tells).records found.0 found.1 in
+    let told = manifest_of c.args.base c.args.settings.now.buckets c.number-f.result files c.in_ok-history.history.last c.in_ok-history.history.count found.0 c.visit.new.visitor
+    c.number-f.ensures.value c.in_ok-history.ensures.last c.in_ok-history.ensures.count found.1
     (took_commits c.args.settings.now.buckets 0 c.in_ok-history.history c.visit.new.visitor found.0 c.in_ok-history.ensures.buckets (omega (arith, c.in_ok-history.ensures.count)) read.1) in
-    let changed = rw tells at c.in-Ok.ensures.changes in
+    let changed = rw tells at c.in-Ok.ensures.changes.told in
     let step = subst (λ (n : ℕ). ChangesFile n IsOpened files changed.0) c.number-f.ensures.value changed.2 in
     let named = c.in_err-open_fronts.ensures.damaged f at (search rules) changed.0 changed.1 in
     inr (told.commits, told.has, inl (front_back_as c.args.base _ _ files changed.0 f at told.last_is step named))
@@ -156,11 +186,12 @@ pub returns-in_err-buckets-clause-damaged : goal.returns-in_err-buckets-clause-d
 returns-in_err-buckets-clause-damaged g c = λ f at e files tells.
     let out = err_from_is_err_and c.from_residual-in_err-buckets.result c.from_residual-in_err-buckets.ensures.1 in
     let is = rw (out.1, out.2) at e in
-    let found = c.in-Ok.ensures.found files tells in
-    let read = c.in-Ok.ensures.records files tells found.0 found.1 in
-    let told = manifest_of c.args.base c.args.settings.now.buckets c.number-f.result files c.in_ok-history.history.last c.in_ok-history.history.count found.0 c.visit.new.visitor c.number-f.ensures.value c.in_ok-history.ensures.last c.in_ok-history.ensures.count found.1
+    let found = (c.in-Ok.ensures.visited files tells).found in
+    let read = (c.in-Ok.ensures.visited files tells).records found.0 found.1 in
+    let told = manifest_of c.args.base c.args.settings.now.buckets c.number-f.result files c.in_ok-history.history.last c.in_ok-history.history.count found.0 c.visit.new.visitor
+    c.number-f.ensures.value c.in_ok-history.ensures.last c.in_ok-history.ensures.count found.1
     (took_commits c.args.settings.now.buckets 0 c.in_ok-history.history c.visit.new.visitor found.0 c.in_ok-history.ensures.buckets (omega (arith, c.in_ok-history.ensures.count)) read.1) in
-    let changed = rw tells at c.in-Ok.ensures.changes in
+    let changed = rw tells at c.in-Ok.ensures.changes.told in
     let step = subst (λ (n : ℕ). ChangesFile n IsOpened files changed.0) c.number-f.ensures.value changed.2 in
     let named = c.in_err-buckets.ensures.damaged f at (search rules) changed.0 (c.in_ok-open_fronts.ensures.same ∙ changed.1) in
     let fronts = fronts_back c.args.base _ files changed.0 step (c.in_ok-open_fronts.ensures.has changed.0 changed.1) in
@@ -168,35 +199,48 @@ returns-in_err-buckets-clause-damaged g c = λ f at e files tells.
       told.commits,
       told.has,
       subst (λ (x : Commit). IsDamagedBehind c.args.base c.args.settings.now files told.commits x f at) told.last_is
-          (inr (fronts, inl (named.0, named.1, (λ b below. whole_back c.args.base _ c.args.settings.now b files changed.0 step (named.2 b below)), bucket_back c.args.base _ c.args.settings.now named.0 files changed.0 f at step named.3))),
+          (inr (
+            fronts,
+            inl (
+              named.0,
+              named.1,
+              (λ b below. whole_back c.args.base _ c.args.settings.now b files changed.0 step (named.2 b below)),
+              bucket_back c.args.base _ c.args.settings.now named.0 files changed.0 f at step named.3,
+            ),
+          )),
     )
 
 -- ---- the cuts
 pub check_cuts-requires-clause-count : goal.check_cuts-requires-clause-count
 check_cuts-requires-clause-count g c =
-    let took = took_commits c.args.settings.now.buckets 0 c.in_ok-history.history c.visit.new.visitor c.in-Ok.ensures.took.payloads c.in_ok-history.ensures.buckets (omega (arith, c.in_ok-history.ensures.count)) c.in-Ok.ensures.took.took in
-    let many : c.in_ok-lengths.lengths.items ≡ map (λ (bucket : Bucket). bucket.durable) c.in_ok-buckets.buckets.items = c.in_ok-lengths.ensures ∙ ap (map (λ (bucket : Bucket). bucket.durable)) c.deref.ensures.value in
+    let took = took_commits c.args.settings.now.buckets 0 c.in_ok-history.history c.visit.new.visitor c.in-Ok.ensures.took.payloads c.in_ok-history.ensures.buckets
+    (omega (arith, c.in_ok-history.ensures.count)) c.in-Ok.ensures.took.took in
+    let many : c.in_ok-lengths.lengths.items ≡ map (λ (bucket : Bucket). bucket.durable) c.in_ok-buckets.buckets.items = c.in_ok-lengths.ensures
+    ∙ ap (map (λ (bucket : Bucket). bucket.durable)) c.deref.ensures.value in
     omega (arith, ap (λ (l : List ℕ). length l) many, length-map c.in_ok-buckets.buckets.items (λ (bucket : Bucket). bucket.durable), c.in_ok-buckets.ensures.count, took.buckets_are)
 
 -- the manifest's records stand in what is told after the buckets were opened
 pub check_cuts-requires-clause-last : goal.check_cuts-requires-clause-last
 check_cuts-requires-clause-last g c = λ now tells_now.
-    let took = took_commits c.args.settings.now.buckets 0 c.in_ok-history.history c.visit.new.visitor c.in-Ok.ensures.took.payloads c.in_ok-history.ensures.buckets (omega (arith, c.in_ok-history.ensures.count)) c.in-Ok.ensures.took.took in
-    let tell = g.S.Store.snapshot in
+    let took = took_commits c.args.settings.now.buckets 0 c.in_ok-history.history c.visit.new.visitor c.in-Ok.ensures.took.payloads c.in_ok-history.ensures.buckets
+    (omega (arith, c.in_ok-history.ensures.count)) c.in-Ok.ensures.took.took in
+    let tell = g.S.Store.told in
     let law = g.met.S.Store.is_consistent in
     let mid = tells_from (OpensBelow c.args.base _ c.args.settings.now.buckets) _ _ now c.in_ok-buckets.ensures.files tells_now in
     let mid_told = sym c.in_ok-open_fronts.ensures.same ∙ mid.1 in
-    let old = told_from c.number-f.result IsOpened _ _ mid.0 c.in-Ok.ensures.changes mid_told in
+    let old = told_from c.number-f.result IsOpened _ _ mid.0 c.in-Ok.ensures.changes.told mid_told in
     let files = old.0 in
     let tells = old.1 in
-    let found = c.in-Ok.ensures.found files tells in
-    let read = c.in-Ok.ensures.records files tells found.0 found.1 in
-    let told = manifest_of c.args.base c.args.settings.now.buckets c.number-f.result files c.in_ok-history.history.last c.in_ok-history.history.count found.0 c.visit.new.visitor c.number-f.ensures.value c.in_ok-history.ensures.last c.in_ok-history.ensures.count found.1
+    let found = (c.in-Ok.ensures.visited files tells).found in
+    let read = (c.in-Ok.ensures.visited files tells).records found.0 found.1 in
+    let told = manifest_of c.args.base c.args.settings.now.buckets c.number-f.result files c.in_ok-history.history.last c.in_ok-history.history.count found.0 c.visit.new.visitor
+    c.number-f.ensures.value c.in_ok-history.ensures.last c.in_ok-history.ensures.count found.1
     (took_commits c.args.settings.now.buckets 0 c.in_ok-history.history c.visit.new.visitor found.0 c.in_ok-history.ensures.buckets (omega (arith, c.in_ok-history.ensures.count)) read.1) in
     let ends = read.2 mid.0 ((law c.visit.new.store).told mid.0 mid_told) in
     let stays = below_same c.args.base _ c.args.settings.now.buckets c.in-Ok.manifest.file mid.0 now mid.2 (omega (arith, c.in-Ok.ensures.journal.0, c.number-f.ensures.value)) in (
       told.commits,
-      subst (λ (file : List ℕ). Ends c.in-Ok.manifest.end file (map commit_bytes told.commits)) (sym stays) (subst (λ (ps : List (List ℕ)). Ends c.in-Ok.manifest.end (mid.0 c.in-Ok.manifest.file) ps) told.payloads_are ends),
+      subst (λ (file : List ℕ). Ends c.in-Ok.manifest.end file (map commit_bytes told.commits)) (sym stays)
+          (subst (λ (ps : List (List ℕ)). Ends c.in-Ok.manifest.end (mid.0 c.in-Ok.manifest.file) ps) told.payloads_are ends),
       subst (λ (k : ℕ). RiseFrom k (first_commit k) told.commits) (sym took.buckets_are) told.has.rise,
       told.last_is ∙ ap (λ (k : ℕ). last_commit (first_commit k) told.commits) (sym took.buckets_are),
     )
@@ -205,23 +249,29 @@ pub returns-in_err-check_cuts-clause-damaged : goal.returns-in_err-check_cuts-cl
 returns-in_err-check_cuts-clause-damaged g c = λ f at e files tells.
     let out = err_from_is_err_and c.from_residual-in_err-check_cuts.result c.from_residual-in_err-check_cuts.ensures.1 in
     let is = rw (out.1, out.2) at e in
-    let took = took_commits c.args.settings.now.buckets 0 c.in_ok-history.history c.visit.new.visitor c.in-Ok.ensures.took.payloads c.in_ok-history.ensures.buckets (omega (arith, c.in_ok-history.ensures.count)) c.in-Ok.ensures.took.took in
-    let tell = g.S.Store.snapshot in
+    let took = took_commits c.args.settings.now.buckets 0 c.in_ok-history.history c.visit.new.visitor c.in-Ok.ensures.took.payloads c.in_ok-history.ensures.buckets
+    (omega (arith, c.in_ok-history.ensures.count)) c.in-Ok.ensures.took.took in
+    let tell = g.S.Store.told in
     let law = g.met.S.Store.is_consistent in
-    let found = c.in-Ok.ensures.found files tells in
-    let read = c.in-Ok.ensures.records files tells found.0 found.1 in
-    let told = manifest_of c.args.base c.args.settings.now.buckets c.number-f.result files c.in_ok-history.history.last c.in_ok-history.history.count found.0 c.visit.new.visitor c.number-f.ensures.value c.in_ok-history.ensures.last c.in_ok-history.ensures.count found.1
+    let found = (c.in-Ok.ensures.visited files tells).found in
+    let read = (c.in-Ok.ensures.visited files tells).records found.0 found.1 in
+    let told = manifest_of c.args.base c.args.settings.now.buckets c.number-f.result files c.in_ok-history.history.last c.in_ok-history.history.count found.0 c.visit.new.visitor
+    c.number-f.ensures.value c.in_ok-history.ensures.last c.in_ok-history.ensures.count found.1
     (took_commits c.args.settings.now.buckets 0 c.in_ok-history.history c.visit.new.visitor found.0 c.in_ok-history.ensures.buckets (omega (arith, c.in_ok-history.ensures.count)) read.1) in
-    let changed = rw tells at c.in-Ok.ensures.changes in
+    let changed = rw tells at c.in-Ok.ensures.changes.told in
     let step = subst (λ (n : ℕ). ChangesFile n IsOpened files changed.0) c.number-f.ensures.value changed.2 in
-    let many : c.in_ok-lengths.lengths.items ≡ map (λ (bucket : Bucket). bucket.durable) c.in_ok-buckets.buckets.items = c.in_ok-lengths.ensures ∙ ap (map (λ (bucket : Bucket). bucket.durable)) c.deref.ensures.value in
+    let many : c.in_ok-lengths.lengths.items ≡ map (λ (bucket : Bucket). bucket.durable) c.in_ok-buckets.buckets.items = c.in_ok-lengths.ensures
+    ∙ ap (map (λ (bucket : Bucket). bucket.durable)) c.deref.ensures.value in
     let fronts = subst (λ (x : Commit). HasFronts c.args.base x files) told.last_is (fronts_back c.args.base _ files changed.0 step (c.in_ok-open_fronts.ensures.has changed.0 changed.1)) in
     let now = rw (c.in_ok-open_fronts.ensures.same ∙ changed.1) at c.in_ok-buckets.ensures.files in
     let ends = read.2 changed.0 ((law c.visit.new.store).told changed.0 changed.1) in
     let stays = below_same c.args.base _ c.args.settings.now.buckets c.in-Ok.manifest.file changed.0 now.0 now.2 (omega (arith, c.in-Ok.ensures.journal.0, c.number-f.ensures.value)) in
     let named = c.in_err-check_cuts.ensures.damaged f at (search rules) in
-    let first = named.1 now.0 now.1 told.commits (subst (λ (file : List ℕ). Ends c.in-Ok.manifest.end file (map commit_bytes told.commits)) (sym stays) (subst (λ (ps : List (List ℕ)). Ends c.in-Ok.manifest.end (changed.0 c.in-Ok.manifest.file) ps) told.payloads_are ends)) (subst (λ (k : ℕ). RiseFrom k (first_commit k) told.commits) (sym took.buckets_are) told.has.rise) in
-    let are = whole_of c.args.base c.args.settings.now files changed.0 _ (last_commit (first_commit c.args.settings.now.buckets) told.commits) c.in_ok-buckets.buckets.items told.last_is step c.in_ok-buckets.ensures.count c.in_ok-buckets.ensures.opened (c.in_ok-buckets.ensures.found changed.0 (c.in_ok-open_fronts.ensures.same ∙ changed.1)) in
+    let first = named.1 now.0 now.1 told.commits (subst (λ (file : List ℕ). Ends c.in-Ok.manifest.end file (map commit_bytes told.commits)) (sym stays)
+    (subst (λ (ps : List (List ℕ)). Ends c.in-Ok.manifest.end (changed.0 c.in-Ok.manifest.file) ps) told.payloads_are ends))
+    (subst (λ (k : ℕ). RiseFrom k (first_commit k) told.commits) (sym took.buckets_are) told.has.rise) in
+    let are = whole_of c.args.base c.args.settings.now files changed.0 _ (last_commit (first_commit c.args.settings.now.buckets) told.commits) c.in_ok-buckets.buckets.items told.last_is step
+    c.in_ok-buckets.ensures.count c.in_ok-buckets.ensures.opened (c.in_ok-buckets.ensures.found changed.0 (c.in_ok-open_fronts.ensures.same ∙ changed.1)) in
     inr (
       told.commits,
       told.has,
@@ -238,35 +288,42 @@ returns-in_err-check_cuts-clause-damaged g c = λ f at e files tells.
 -- ---- the open bay
 pub invariant_of-result : goal.invariant_of-result
 invariant_of-result g c =
-    let took = took_commits c.args.settings.now.buckets 0 c.in_ok-history.history c.visit.new.visitor c.in-Ok.ensures.took.payloads c.in_ok-history.ensures.buckets (omega (arith, c.in_ok-history.ensures.count)) c.in-Ok.ensures.took.took in
+    let took = took_commits c.args.settings.now.buckets 0 c.in_ok-history.history c.visit.new.visitor c.in-Ok.ensures.took.payloads c.in_ok-history.ensures.buckets
+    (omega (arith, c.in_ok-history.ensures.count)) c.in-Ok.ensures.took.took in
     let is = took_is c.args.settings.now.buckets c.in_ok-history.history.last c.in_ok-history.history.count c.in-Ok.ensures.took.payloads c.visit.new.visitor c.in_ok-history.ensures.last took in
-    let many : c.in_ok-lengths.lengths.items ≡ map (λ (bucket : Bucket). bucket.durable) c.in_ok-buckets.buckets.items = c.in_ok-lengths.ensures ∙ ap (map (λ (bucket : Bucket). bucket.durable)) c.deref.ensures.value in
-    drum_is c.args.base c.args.settings.now c.in-Ok.manifest _ _ c.in_ok-buckets.buckets.items c.requires.base c.requires.settings is c.in_ok-open_fronts.ensures.judged c.in_ok-open_fronts.ensures.entries
+    let many : c.in_ok-lengths.lengths.items ≡ map (λ (bucket : Bucket). bucket.durable) c.in_ok-buckets.buckets.items = c.in_ok-lengths.ensures
+    ∙ ap (map (λ (bucket : Bucket). bucket.durable)) c.deref.ensures.value in
+    drum_is c.args.base c.args.settings.now c.in-Ok.manifest _ _ c.in_ok-buckets.buckets.items c.requires.base c.requires.settings is c.in_ok-open_fronts.ensures.judged
+    c.in_ok-open_fronts.ensures.entries
     (c.in-Ok.ensures.journal.0 ∙ c.number-f.ensures.value) c.in-Ok.ensures.journal.1 (omega (arith, c.min-cuts.ensures, c.end.ensures)) c.in_ok-buckets.ensures.count c.in_ok-buckets.ensures.opened
     (subst (λ (y : List ℕ). IsBelow c.visit.new.visitor.last.cut y) many c.in_ok-check_cuts.ensures.within.lists)
 
 pub returns-clause-drum : goal.returns-clause-drum
 returns-clause-drum g c =
-    let took = took_commits c.args.settings.now.buckets 0 c.in_ok-history.history c.visit.new.visitor c.in-Ok.ensures.took.payloads c.in_ok-history.ensures.buckets (omega (arith, c.in_ok-history.ensures.count)) c.in-Ok.ensures.took.took in
+    let took = took_commits c.args.settings.now.buckets 0 c.in_ok-history.history c.visit.new.visitor c.in-Ok.ensures.took.payloads c.in_ok-history.ensures.buckets
+    (omega (arith, c.in_ok-history.ensures.count)) c.in-Ok.ensures.took.took in
     let is = took_is c.args.settings.now.buckets c.in_ok-history.history.last c.in_ok-history.history.count c.in-Ok.ensures.took.payloads c.visit.new.visitor c.in_ok-history.ensures.last took in
-    let many : c.in_ok-lengths.lengths.items ≡ map (λ (bucket : Bucket). bucket.durable) c.in_ok-buckets.buckets.items = c.in_ok-lengths.ensures ∙ ap (map (λ (bucket : Bucket). bucket.durable)) c.deref.ensures.value in
-    drum_is c.args.base c.args.settings.now c.in-Ok.manifest _ _ c.in_ok-buckets.buckets.items c.requires.base c.requires.settings is c.in_ok-open_fronts.ensures.judged c.in_ok-open_fronts.ensures.entries
+    let many : c.in_ok-lengths.lengths.items ≡ map (λ (bucket : Bucket). bucket.durable) c.in_ok-buckets.buckets.items = c.in_ok-lengths.ensures
+    ∙ ap (map (λ (bucket : Bucket). bucket.durable)) c.deref.ensures.value in
+    drum_is c.args.base c.args.settings.now c.in-Ok.manifest _ _ c.in_ok-buckets.buckets.items c.requires.base c.requires.settings is c.in_ok-open_fronts.ensures.judged
+    c.in_ok-open_fronts.ensures.entries
     (c.in-Ok.ensures.journal.0 ∙ c.number-f.ensures.value) c.in-Ok.ensures.journal.1 (omega (arith, c.min-cuts.ensures, c.end.ensures)) c.in_ok-buckets.ensures.count c.in_ok-buckets.ensures.opened
     (subst (λ (y : List ℕ). IsBelow c.visit.new.visitor.last.cut y) many c.in_ok-check_cuts.ensures.within.lists)
 
 pub returns-clause-long : goal.returns-clause-long
 returns-clause-long g c = λ now tells_after.
-    let tell = g.S.Store.snapshot in
+    let tell = g.S.Store.told in
     let law = g.met.S.Store.is_consistent in
     let tells_now = sym c.in_ok-check_cuts.ensures.same ∙ tells_after in
     let mid = tells_from (OpensBelow c.args.base _ c.args.settings.now.buckets) _ _ now c.in_ok-buckets.ensures.files tells_now in
     let mid_told = sym c.in_ok-open_fronts.ensures.same ∙ mid.1 in
-    let old = told_from c.number-f.result IsOpened _ _ mid.0 c.in-Ok.ensures.changes mid_told in
+    let old = told_from c.number-f.result IsOpened _ _ mid.0 c.in-Ok.ensures.changes.told mid_told in
     let files = old.0 in
     let tells = old.1 in
-    let found = c.in-Ok.ensures.found files tells in
-    let read = c.in-Ok.ensures.records files tells found.0 found.1 in
-    let took = took_commits c.args.settings.now.buckets 0 c.in_ok-history.history c.visit.new.visitor c.in-Ok.ensures.took.payloads c.in_ok-history.ensures.buckets (omega (arith, c.in_ok-history.ensures.count)) c.in-Ok.ensures.took.took in
+    let found = (c.in-Ok.ensures.visited files tells).found in
+    let read = (c.in-Ok.ensures.visited files tells).records found.0 found.1 in
+    let took = took_commits c.args.settings.now.buckets 0 c.in_ok-history.history c.visit.new.visitor c.in-Ok.ensures.took.payloads c.in_ok-history.ensures.buckets
+    (omega (arith, c.in_ok-history.ensures.count)) c.in-Ok.ensures.took.took in
     let is = took_is c.args.settings.now.buckets c.in_ok-history.history.last c.in_ok-history.history.count c.in-Ok.ensures.took.payloads c.visit.new.visitor c.in_ok-history.ensures.last took in
     let ends = read.2 mid.0 ((law c.visit.new.store).told mid.0 mid_told) in
     let stays = below_same c.args.base _ c.args.settings.now.buckets c.in-Ok.manifest.file mid.0 now mid.2 (omega (arith, c.in-Ok.ensures.journal.0, c.number-f.ensures.value)) in
@@ -276,40 +333,47 @@ returns-clause-long g c = λ now tells_after.
 -- ---- the book
 pub returns-clause-holds : goal.returns-clause-holds
 returns-clause-holds g c = λ files tells book stands.
-    let tell = g.S.Store.snapshot in
+    let tell = g.S.Store.told in
     let law = g.met.S.Store.is_consistent in
     let payloads = map commit_bytes stands.commits in
     let here = subst (λ (n : ℕ). StandsFor (files n) payloads) (sym c.number-f.ensures.value) stands.manifest in
-    let read = c.in-Ok.ensures.records files tells payloads here in
-    let told = manifest_of c.args.base c.args.settings.now.buckets c.number-f.result files c.in_ok-history.history.last c.in_ok-history.history.count payloads c.visit.new.visitor c.number-f.ensures.value c.in_ok-history.ensures.last c.in_ok-history.ensures.count here
+    let read = (c.in-Ok.ensures.visited files tells).records payloads here in
+    let told = manifest_of c.args.base c.args.settings.now.buckets c.number-f.result files c.in_ok-history.history.last c.in_ok-history.history.count payloads c.visit.new.visitor
+    c.number-f.ensures.value c.in_ok-history.ensures.last c.in_ok-history.ensures.count here
     (took_commits c.args.settings.now.buckets 0 c.in_ok-history.history c.visit.new.visitor payloads c.in_ok-history.ensures.buckets (omega (arith, c.in_ok-history.ensures.count)) read.1) in
     let form = subst (λ (k : ℕ). AllByRecursion (IsCommit k) stands.commits) stands.book_is.buckets stands.commits_are.form in
     let same : stands.commits ≡ told.commits = same_commits c.args.settings.now.buckets stands.commits told.commits form told.each told.payloads_are in
-    let changed = rw tells at c.in-Ok.ensures.changes in
+    let changed = rw tells at c.in-Ok.ensures.changes.told in
     let step = subst (λ (n : ℕ). ChangesFile n IsOpened files changed.0) c.number-f.ensures.value changed.2 in
     let mid_told = c.in_ok-open_fronts.ensures.same ∙ changed.1 in
     let last = told.last_is ∙ ap (λ (l : List Commit). last_commit (first_commit c.args.settings.now.buckets) l) (sym same) in
     let few : length told.commits ≤ c.in-Ok.manifest.end = omega (arith, read.0, few_commits told.commits, ap (λ (ps : List (List ℕ)). length (records_text ps)) told.payloads_are) in
     let synced = left_now _ _ _ (law c.open_fronts.new.store) c.in_ok-open_fronts.ensures.stops in
     let kept = left_now _ _ _ (law c.open_buckets.new.store) c.in_ok-buckets.ensures.stops in
-    subst (λ (s : Snapshot). Holds s.images (opened_drum c.args.base c.args.settings.now c.in-Ok.manifest c.visit.new.visitor.last c.min-cuts.result c.in_ok-buckets.buckets.items) book) (sym (ap tell c.in_ok-check_cuts.ensures.idle))
-    (holds_is c.args.base c.args.settings.now c.in-Ok.manifest _ _ c.in_ok-buckets.buckets.items (tell c.open_fronts.new.store).images (tell c.open_buckets.new.store).images files changed.0 book stands step kept
+    subst (λ (s : Told). Holds s.images (opened_drum c.args.base c.args.settings.now c.in-Ok.manifest c.visit.new.visitor.last c.min-cuts.result c.in_ok-buckets.buckets.items) book)
+    (sym (ap tell c.in_ok-check_cuts.ensures.idle))
+    (holds_is c.args.base c.args.settings.now c.in-Ok.manifest _ _ c.in_ok-buckets.buckets.items (tell c.open_fronts.new.store).images (tell c.open_buckets.new.store).images files changed.0 book
+    stands step kept
     (c.in-Ok.ensures.journal.0 ∙ c.number-f.ensures.value) (λ image left. read.2 image (synced image left)) last
     (omega (arith, told.counted, few, c.end.ensures, c.end.type_inv, c.min-cuts.ensures, ap (λ (l : List Commit). length l) same))
-    c.in_ok-open_fronts.ensures.judged (c.in_ok-open_fronts.ensures.committed changed.0 changed.1) c.in_ok-buckets.ensures.count c.in_ok-buckets.ensures.opened (c.in_ok-buckets.ensures.holds changed.0 mid_told))
+    c.in_ok-open_fronts.ensures.judged (c.in_ok-open_fronts.ensures.committed changed.0 changed.1) c.in_ok-buckets.ensures.count c.in_ok-buckets.ensures.opened
+    (c.in_ok-buckets.ensures.holds changed.0 mid_told))
 
 -- ---- no damage
 pub returns-clause-sane : goal.returns-clause-sane
 returns-clause-sane g c = λ files tells f at.
-    let found = c.in-Ok.ensures.found files tells in
-    let read = c.in-Ok.ensures.records files tells found.0 found.1 in
-    let told = manifest_of c.args.base c.args.settings.now.buckets c.number-f.result files c.in_ok-history.history.last c.in_ok-history.history.count found.0 c.visit.new.visitor c.number-f.ensures.value c.in_ok-history.ensures.last c.in_ok-history.ensures.count found.1
+    let found = (c.in-Ok.ensures.visited files tells).found in
+    let read = (c.in-Ok.ensures.visited files tells).records found.0 found.1 in
+    let told = manifest_of c.args.base c.args.settings.now.buckets c.number-f.result files c.in_ok-history.history.last c.in_ok-history.history.count found.0 c.visit.new.visitor
+    c.number-f.ensures.value c.in_ok-history.ensures.last c.in_ok-history.ensures.count found.1
     (took_commits c.args.settings.now.buckets 0 c.in_ok-history.history c.visit.new.visitor found.0 c.in_ok-history.ensures.buckets (omega (arith, c.in_ok-history.ensures.count)) read.1) in
-    let changed = rw tells at c.in-Ok.ensures.changes in
+    let changed = rw tells at c.in-Ok.ensures.changes.told in
     let step = subst (λ (n : ℕ). ChangesFile n IsOpened files changed.0) c.number-f.ensures.value changed.2 in
-    let many : c.in_ok-lengths.lengths.items ≡ map (λ (bucket : Bucket). bucket.durable) c.in_ok-buckets.buckets.items = c.in_ok-lengths.ensures ∙ ap (map (λ (bucket : Bucket). bucket.durable)) c.deref.ensures.value in
+    let many : c.in_ok-lengths.lengths.items ≡ map (λ (bucket : Bucket). bucket.durable) c.in_ok-buckets.buckets.items = c.in_ok-lengths.ensures
+    ∙ ap (map (λ (bucket : Bucket). bucket.durable)) c.deref.ensures.value in
     let end : Commit = last_commit (first_commit c.args.settings.now.buckets) told.commits in
-    let are = whole_of c.args.base c.args.settings.now files changed.0 _ end c.in_ok-buckets.buckets.items told.last_is step c.in_ok-buckets.ensures.count c.in_ok-buckets.ensures.opened (c.in_ok-buckets.ensures.found changed.0 (c.in_ok-open_fronts.ensures.same ∙ changed.1)) in
+    let are = whole_of c.args.base c.args.settings.now files changed.0 _ end c.in_ok-buckets.buckets.items told.last_is step c.in_ok-buckets.ensures.count c.in_ok-buckets.ensures.opened
+    (c.in_ok-buckets.ensures.found changed.0 (c.in_ok-open_fronts.ensures.same ∙ changed.1)) in
     undamaged c.args.base c.args.settings.now files told.commits end f at
     (record {
       manifest = told.has;

@@ -30,33 +30,38 @@ returns-in_err-bucket-clause-damaged g c = λ f at e files tells.
       c.loop-b.b,
       c.loop-b-test.true,
       λ k below. let whole = c.loop-b.invariant.found files tells k below in (whole.runs, whole.has, whole.texts),
-      damaged_back c.args.base (live_side c.args.last.now) c.args.settings.now c.loop-b.b files mid.0 f at mid.2 (subst (λ (side : ℕ). IsDamagedBucket c.args.base side c.args.settings.now c.loop-b.b mid.0 f at) c.live_of.ensures.side named),
+      damaged_back c.args.base (live_side c.args.last.now) c.args.settings.now c.loop-b.b files mid.0 f at mid.2
+          (subst (λ (side : ℕ). IsDamagedBucket c.args.base side c.args.settings.now c.loop-b.b mid.0 f at) c.live_of.ensures.side named),
     )
 
 pub returns-in_err-bucket-clause-files : goal.returns-in_err-bucket-clause-files
 returns-in_err-bucket-clause-files g c =
-    let tell = g.S.Store.snapshot in
+    let tell = g.S.Store.told in
     tells_wider c.args.base (live_side c.args.last.now) (c.loop-b.b + 1) c.args.settings.now.buckets (tell c.args.store.now).files (tell c.adopt.new.store).files (omega (arith, c.loop-b-test.true))
     (tells_more c.args.base (live_side c.args.last.now) c.loop-b.b (tell c.args.store.now).files (tell c.loop-b.store).files (tell c.adopt.new.store).files c.loop-b.invariant.files
-    (subst (λ (side : ℕ). Changes (file_of c.args.base 0 (Journal side c.loop-b.b)) IsOpened (tell c.loop-b.store).files (tell c.adopt.new.store).files) c.live_of.ensures.side c.in_err-bucket.ensures.changes))
+    (subst (λ (side : ℕ). Changes (file_of c.args.base 0 (Journal side c.loop-b.b)) IsOpened (tell c.loop-b.store).files (tell c.adopt.new.store).files) c.live_of.ensures.side
+    c.in_err-bucket.ensures.changes))
 
 pub returns-in_err-bucket-clause-stops : goal.returns-in_err-bucket-clause-stops
 returns-in_err-bucket-clause-stops g c =
-    let tell = g.S.Store.snapshot in
+    let tell = g.S.Store.told in
     stops_wider c.args.base (live_side c.args.last.now) (c.loop-b.b + 1) c.args.settings.now.buckets (tell c.args.store.now) (tell c.adopt.new.store) (omega (arith, c.loop-b-test.true))
-    (stops_more c.args.base (live_side c.args.last.now) c.loop-b.b (tell c.args.store.now) (tell c.loop-b.store) (tell c.adopt.new.store) (g.met.S.Store.is_consistent c.loop-b.store) c.loop-b.invariant.stops
-    (subst (λ (side : ℕ). LeavesBy (ChangesFile (file_of c.args.base 0 (Journal side c.loop-b.b)) IsOpened) (tell c.loop-b.store) (tell c.adopt.new.store)) c.live_of.ensures.side c.in_err-bucket.ensures.stops))
+    (stops_more c.args.base (live_side c.args.last.now) c.loop-b.b (tell c.args.store.now) (tell c.loop-b.store) (tell c.adopt.new.store) (g.met.S.Store.is_consistent c.loop-b.store)
+    c.loop-b.invariant.stops
+    (subst (λ (side : ℕ). LeavesBy (ChangesFile (file_of c.args.base 0 (Journal side c.loop-b.b)) IsOpened) (tell c.loop-b.store) (tell c.adopt.new.store)) c.live_of.ensures.side
+    c.in_err-bucket.ensures.stops))
 
 pub returns-in_err-bucket-clause-taken : goal.returns-in_err-bucket-clause-taken
 returns-in_err-bucket-clause-taken g c =
     let side = live_side c.args.last.now in
     takes_both (IsJournalBelow c.args.base side c.args.settings.now.buckets) _ _ _ c.loop-b.invariant.taken
     (takes_only (IsJournalBelow c.args.base side c.args.settings.now.buckets) (file_of c.args.base 0 (Journal side c.loop-b.b)) _ _ (c.loop-b.b, c.loop-b-test.true, refl)
-    (subst (λ (s : ℕ). TakesOnly (file_of c.args.base 0 (Journal s c.loop-b.b)) (g.S.Store.taken c.loop-b.store) (g.S.Store.taken c.adopt.new.store)) c.live_of.ensures.side c.in_err-bucket.ensures.taken))
+    (subst (λ (s : ℕ). TakesOnly (file_of c.args.base 0 (Journal s c.loop-b.b)) ((g.S.Store.told c.loop-b.store).taken) (g.S.Store.told c.adopt.new.store).taken) c.live_of.ensures.side
+    c.in_err-bucket.ensures.taken))
 
 pub loop-b-preserved : goal.loop-b-preserved
 loop-b-preserved g c =
-    let tell = g.S.Store.snapshot in
+    let tell = g.S.Store.told in
     let law = g.met.S.Store.is_consistent in
     let before = c.loop-b.invariant in
     let base = c.args.base in
@@ -90,18 +95,21 @@ loop-b-preserved g c =
           (λ k below. long_on base side b k (start k) (get_or items k no_bucket) was.0 files below (before.opened k below) was.2 (before.long was.0 was.1 k below))
           (c.in_ok-bucket.ensures.long files tells);
       holds = λ files tells k list below is.
-          each_item (λ j one. (l : List Tuple) → HasListOf base side settings j (start j) (cut j) l files → HoldsBucket images settings.array (cut j) one l) items new bucket no_bucket b before.count c.push_reserved.ensures.items
-          (λ j under l has. holds_on base side b j (start j) settings.array (cut j) (get_or items j no_bucket) l (tell c.loop-b.store) (tell c.adopt.new.store) (law c.adopt.new.store) under (before.opened j under) stops (before.holds files tells j l under has))
+          each_item (λ j one. (l : List Tuple) → HasListOf base side settings j (start j) (cut j) l files
+          → HoldsBucket images settings.array (cut j) one l) items new bucket no_bucket b before.count c.push_reserved.ensures.items
+          (λ j under l has. holds_on base side b j (start j) settings.array (cut j) (get_or items j no_bucket) l (tell c.loop-b.store) (tell c.adopt.new.store) (law c.adopt.new.store) under
+          (before.opened j under) stops (before.holds files tells j l under has))
           (λ l has.
           let mid = rw tells at before.files in
-          as_live (λ s n m. HasListOf base s settings b n m l mid.0 → HoldsBucket images settings.array m bucket l) live last settings.buckets b says.side says.start says.judged count (c.in_ok-bucket.ensures.holds mid.0 mid.1 l)
+          as_live (λ s n m. HasListOf base s settings b n m l mid.0 → HoldsBucket images settings.array m bucket l) live last settings.buckets b says.side says.start says.judged count
+          (c.in_ok-bucket.ensures.holds mid.0 mid.1 l)
           (list_on base side settings b (start b) (cut b) l files mid.0 mid.2 has))
           k below list is;
       files = tells_more base side b (tell c.args.store.now).files (tell c.loop-b.store).files (tell c.adopt.new.store).files before.files changes;
       stops = stops_more base side b (tell c.args.store.now) (tell c.loop-b.store) (tell c.adopt.new.store) (law c.loop-b.store) before.stops stops;
       taken = takes_both (IsJournalBelow base side settings.buckets) _ _ _ before.taken
           (takes_only (IsJournalBelow base side settings.buckets) (file_of base 0 (Journal side b)) _ _ (b, c.loop-b-test.true, refl)
-          (subst (λ (s : ℕ). TakesOnly (file_of base 0 (Journal s b)) (g.S.Store.taken c.loop-b.store) (g.S.Store.taken c.adopt.new.store)) says.side c.in_ok-bucket.ensures.taken));
+          (subst (λ (s : ℕ). TakesOnly (file_of base 0 (Journal s b)) ((g.S.Store.told c.loop-b.store).taken) (g.S.Store.told c.adopt.new.store).taken) says.side c.in_ok-bucket.ensures.taken));
       later = omega (arith, before.later, c.in_ok-bucket.ensures.cause.later);
     }
 

@@ -9,7 +9,7 @@ use Rattle.irl_bay.proofs.adopt.open_fronts.Goals as goal
 pub returns-clause-committed : goal.returns-clause-committed
 returns-clause-committed g c = λ files tells.
     let law = g.met.S.Store.is_consistent in
-    let tell = g.S.Store.snapshot in
+    let tell = g.S.Store.told in
     let last = c.args.last.now in
     let third = left_now _ _ _ (law c.open_blob-3.new.store) c.in_ok-open_blob-3.ensures.stops in
     let second = left_now _ _ _ (law c.open_blob-2.new.store) c.in_ok-open_blob-2.ensures.stops in
@@ -19,7 +19,10 @@ returns-clause-committed g c = λ files tells.
     let texts : c.last.inside.texts ≡ last.texts = ap (λ (x : Commit). x.texts) c.last.view_is in
     let images = (tell c.open_blob-3.new.store).images in
     record {
-      cache = front_on (tell c.open_blob.new.store).images images files c.in_ok-open_blob.field-0 _ (file_of c.args.base 0 (Cache last.side)) _ (16 * last.entries) c.in_ok-open_blob.ensures.blob (c.number-cache.ensures.value ∙ side) (omega (arith, entries, c.from.ensures)) (c.in_ok-open_blob.ensures.committed files tells) (λ image left. second image (third image left));
-      judged = front_on (tell c.open_blob-2.new.store).images images files c.in_ok-open_blob-2.field-0 _ (file_of c.args.base 0 Judged) _ (48 * last.judged) c.in_ok-open_blob-2.ensures.blob c.number-judged.ensures.value (omega (arith, judged, c.from-2.ensures)) (c.in_ok-open_blob-2.ensures.committed files (c.in_ok-open_blob.ensures.same ∙ tells)) third;
-      texts = front_on images images files c.in_ok-open_blob-3.field-0 _ (file_of c.args.base 0 Texts) _ last.texts c.in_ok-open_blob-3.ensures.blob c.number-texts.ensures.value (c.from-3.ensures ∙ texts) (c.in_ok-open_blob-3.ensures.committed files (c.in_ok-open_blob-2.ensures.same ∙ c.in_ok-open_blob.ensures.same ∙ tells)) (λ image left. left);
+      cache = front_on (tell c.open_blob.new.store).images images files c.in_ok-open_blob.field-0 _ (file_of c.args.base 0 (Cache last.side)) _ (16 * last.entries) c.in_ok-open_blob.ensures.blob
+          (c.number-cache.ensures.value ∙ side) (omega (arith, entries, c.from.ensures)) (c.in_ok-open_blob.ensures.committed files tells) (λ image left. second image (third image left));
+      judged = front_on (tell c.open_blob-2.new.store).images images files c.in_ok-open_blob-2.field-0 _ (file_of c.args.base 0 Judged) _ (48 * last.judged) c.in_ok-open_blob-2.ensures.blob
+          c.number-judged.ensures.value (omega (arith, judged, c.from-2.ensures)) (c.in_ok-open_blob-2.ensures.committed files (c.in_ok-open_blob.ensures.same ∙ tells)) third;
+      texts = front_on images images files c.in_ok-open_blob-3.field-0 _ (file_of c.args.base 0 Texts) _ last.texts c.in_ok-open_blob-3.ensures.blob c.number-texts.ensures.value (c.from-3.ensures
+          ∙ texts) (c.in_ok-open_blob-3.ensures.committed files (c.in_ok-open_blob-2.ensures.same ∙ c.in_ok-open_blob.ensures.same ∙ tells)) (λ image left. left);
     }

@@ -9,7 +9,8 @@ loop-bytes-preserved-in-Some-decode c = record {
   bound = omega (arith, c.loop-bytes.invariant.bound, c.in-Some.ensures.cases, c.from-length.ensures);
   counted = λ buckets b entries each is.
       let left = c.loop-bytes.invariant.counted buckets b entries each is in
-      let next = next_entry buckets b left.0 c.loop-bytes.rest.now c.in-Some.bytes.now c.in-Some.behind.now left.1 left.2 (omega (arith, c.in-Some.ensures.cases)) c.in-Some.ensures.cases.0 c.in-Some.ensures.cases.1 in
+      let next = next_entry buckets b left.0 c.loop-bytes.rest.now c.in-Some.bytes.now c.in-Some.behind.now left.1 left.2 (omega (arith, c.in-Some.ensures.cases)) c.in-Some.ensures.cases.0
+      c.in-Some.ensures.cases.1 in
       let same : c.in-Some-decode.entry ≡ next.entry = cc (next.read, c.in-Some-decode.ensures) in
       let size : c.in-Some-decode.entry.aux_len ≡ next.entry.aux_len = ap (λ (e : Entry). e.aux_len) same in
       let whole : text_length left.0 ≡ next.entry.aux_len + text_length next.more = ap text_length next.left_are ∙ text_length-cons next.entry next.more in
@@ -21,7 +22,8 @@ loop-bytes-preserved c = record {
   bound = omega (arith, c.loop-bytes.invariant.bound, c.in-Some.ensures.cases);
   counted = λ buckets b entries each is.
       let left = c.loop-bytes.invariant.counted buckets b entries each is in
-      let next = next_entry buckets b left.0 c.loop-bytes.rest.now c.in-Some.bytes.now c.in-Some.behind.now left.1 left.2 (omega (arith, c.in-Some.ensures.cases)) c.in-Some.ensures.cases.0 c.in-Some.ensures.cases.1 in
+      let next = next_entry buckets b left.0 c.loop-bytes.rest.now c.in-Some.bytes.now c.in-Some.behind.now left.1 left.2 (omega (arith, c.in-Some.ensures.cases)) c.in-Some.ensures.cases.0
+      c.in-Some.ensures.cases.1 in
       absurd (cc (next.read, c.in_default-decode.ensures));
 }
 

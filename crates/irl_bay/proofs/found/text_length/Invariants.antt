@@ -8,7 +8,8 @@ use Rattle.irl_bay.proofs.found.text_length.Given as goal
 abbrev pub invariant-loop-bytes : goal.invariant-loop-bytes
 invariant-loop-bytes l = record {
   bound : l.length + 65536 * length l.rest ≤ 65536 * length l.run;
-  counted : (buckets b : ℕ) (entries : List Entry) → AllByRecursion (IsEntryOf buckets b) entries → l.run ≡ entries_bytes entries → (left : List Entry) × AllByRecursion (IsEntryOf buckets b) left × (l.rest ≡ entries_bytes left) × (l.length + text_length left ≡ text_length entries);
+  counted : (buckets b : ℕ) (entries : List Entry) → AllByRecursion (IsEntryOf buckets b) entries → l.run ≡ entries_bytes entries → (left : List Entry) × AllByRecursion (IsEntryOf buckets b) left
+      × (l.rest ≡ entries_bytes left) × (l.length + text_length left ≡ text_length entries);
 }
 
 abbrev pub decreases-loop-bytes : goal.decreases-loop-bytes

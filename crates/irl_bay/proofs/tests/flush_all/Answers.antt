@@ -1,5 +1,5 @@
 use Rattle.std.proofs.Common.{subst, sym}
-use Rattle.irl_disk.specs.Memory.{snapshot_of}
+use Rattle.irl_disk.specs.Memory.{told_by}
 use Rattle.irl_model.specs.Book.{Book}
 use Rattle.irl_bay.specs.Holding.{Holds}
 use Rattle.irl_bay.specs.declared.tests.Waiting.{Waiting}
@@ -9,6 +9,6 @@ use Rattle.irl_bay.proofs.tests.flush_all.Goals.{then-is_full+in_ok-flush, else-
 pub loop-i-preserved : goal.loop-i-preserved
 loop-i-preserved c =
     elim c.if-is_full.branch [
-      | then-is_full+in_ok-flush w ↦ subst (λ (kept : Waiting). (book : Book) × Holds (snapshot_of kept.store).images kept.bay book) (sym w.kept-is) w.in_ok-flush.ensures
-      | else-is_full+else-i-b w ↦ subst (λ (kept : Waiting). (book : Book) × Holds (snapshot_of kept.store).images kept.bay book) (sym w.kept-is) c.put.ensures
+      | then-is_full+in_ok-flush w ↦ subst (λ (kept : Waiting). (book : Book) × Holds (told_by kept.store).images kept.bay book) (sym w.kept-is) w.in_ok-flush.ensures
+      | else-is_full+else-i-b w ↦ subst (λ (kept : Waiting). (book : Book) × Holds (told_by kept.store).images kept.bay book) (sym w.kept-is) c.put.ensures
     ]

@@ -1,22 +1,9 @@
-use Rattle.std.proofs.Common.{◌≡◌, ◌<◌, ◌∙◌, ◌++◌, ◌∷◌, [], ℕ, List, length, sym, ap, rules}
-use Rattle.std.specs.Prelude.{Vec}
-use Rattle.irl_beast.specs.declared.item.Item.{Item}
-use Rattle.irl_model.proofs.QueueLemmas.{on_err, set_vec, at_vec, same_vec}
+use Rattle.std.proofs.Common.{◌≡◌, ◌∙◌, ℕ, List, ap, rules}
+use Rattle.irl_base.specs.Lists.{items_of, with_one}
 use Rattle.irl_beast.proofs.lists.push_copy.Goals as goal
 
 pub returns-clause-ok : goal.returns-clause-ok
 returns-clause-ok c =
-    let within : c.args.at < length c.args.lists.now.items = search rules in
-    let old = c.index_mut.result.now in
     let text : c.in_ok-copy.field-0 ≡ c.args.item.now.pld = search rules in
-    set_vec c.args.lists.now.items c.args.at c.push.new.self _
-    (c.in_ok-push.ensures.items
-    ∙ ap (λ (t : List ℕ). old.items ++ (record { number = c.args.item.now.number; pld = t }) ∷ []) text
-    ∙ ap (λ (t : List Item). t ++ c.args.item.now ∷ []) (ap (λ (v : Vec Item _). v.items) c.index_mut.ensures.value ∙ sym (at_vec c.args.lists.now.items c.args.at old within)))
-
-pub returns-in_err-push-clause-err : goal.returns-in_err-push-clause-err
-returns-in_err-push-clause-err c =
-    let within : c.args.at < length c.args.lists.now.items = search rules in
-    on_err c.from_residual-in_err-push.result _
-    (same_vec c.args.lists.now.items c.args.at c.push.new.self c.index_mut.result.now within
-    (c.in_err-push.ensures.items ∙ ap (λ (v : Vec Item _). v.items) c.index_mut.ensures.value))
+    c.in_ok-push_at.ensures.ok
+    ∙ ap (λ (t : List ℕ). with_one (items_of c.args.lists.now.items) c.args.at (record { number = c.args.item.now.number; pld = t })) text

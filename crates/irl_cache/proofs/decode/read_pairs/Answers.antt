@@ -22,8 +22,10 @@ loop-i-preserved c =
     let next : suc i ≡ i + 1 = omega arith in
     record {
       count = ap length is ∙ length-append items (pair ∷ []) ∙ ap (λ (n : ℕ). n + 1) c.loop-i.invariant.count;
-      bytes = ap (λ (l : List Pair). pairs_bytes (map pair_of l)) is ∙ piece_more bytes i items pair c.loop-i-test.true (λ k. omega (arith, c.type_inv.bytes k)) c.pair_at-pair.ensures.key c.pair_at-pair.ensures.value c.loop-i.invariant.bytes;
-      rising = subst (RisesFrom c.args.last) (sym is) (rise_both c.args.last items (pair ∷ []) c.loop-i.invariant.rising (subst (λ (last : Option ℕ). IsAbove last pair.key) c.loop-i.invariant.last above, tt));
+      bytes = ap (λ (l : List Pair). pairs_bytes (map pair_of l)) is
+          ∙ piece_more bytes i items pair c.loop-i-test.true (λ k. omega (arith, c.type_inv.bytes k)) c.pair_at-pair.ensures.key c.pair_at-pair.ensures.value c.loop-i.invariant.bytes;
+      rising = subst (RisesFrom c.args.last) (sym is) (rise_both c.args.last items (pair ∷ []) c.loop-i.invariant.rising
+          (subst (λ (last : Option ℕ). IsAbove last pair.key) c.loop-i.invariant.last above, tt));
       words = subst (λ (l : List Pair). AreWordPairs (map pair_of l)) (sym is) (words_joined items (pair ∷ []) c.loop-i.invariant.words (c.pair_at-pair.ensures.words, tt));
       last = sym (ap (last_from c.args.last) is ∙ last_both c.args.last items (pair ∷ []));
       before = ap Some c.pair_at-pair.ensures.key ∙ ap (λ (n : ℕ). last_at c.args.last n bytes) next;

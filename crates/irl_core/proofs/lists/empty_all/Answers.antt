@@ -1,7 +1,7 @@
 use Rattle.std.proofs.Common.{◌≡◌, ◌<◌, ◌∙◌, ℕ, length, ap, arith, rules}
 use Rattle.std.specs.Prelude.{vec_len}
 use Rattle.std.proofs.lemmas.List.{length-map}
-use Rattle.irl_model.specs.Plain.{items_of}
+use Rattle.irl_base.specs.Lists.{items_of}
 use Rattle.irl_core.proofs.Arrays.{emptied_first, emptied_more, all_emptied}
 use Rattle.irl_core.proofs.lists.empty_all.Goals as goal
 

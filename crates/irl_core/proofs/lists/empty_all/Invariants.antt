@@ -1,5 +1,5 @@
 use Rattle.std.proofs.Common.{◌≡◌, vec_len}
-use Rattle.irl_model.specs.Plain.{items_of}
+use Rattle.irl_base.specs.Lists.{items_of}
 use Rattle.irl_core.proofs.Arrays.{emptied_first}
 use Rattle.irl_core.proofs.lists.empty_all.Given as goal
 

@@ -1,4 +1,4 @@
-use Rattle.irl_model.proofs.QueueLemmas.{set_vec}
+use Rattle.irl_base.proofs.ListLemmas.{set_vec}
 use Rattle.irl_core.proofs.lists.empty_at.Goals as goal
 
 pub returns-clause-lists : goal.returns-clause-lists

@@ -1,5 +1,5 @@
 use Rattle.std.proofs.Common.{◌∙◌}
-use Rattle.irl_model.proofs.QueueLemmas.{vec_lengths}
+use Rattle.irl_base.proofs.ListLemmas.{vec_lengths}
 use Rattle.irl_core.proofs.lists.lengths.Goals as goal
 
 pub returns : goal.returns

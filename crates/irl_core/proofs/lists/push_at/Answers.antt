@@ -1,23 +1,7 @@
-use Rattle.std.proofs.Common.{◌<◌, ◌∙◌, ◌++◌, ◌∷◌, [], List, length, sym, ap, rules}
-use Rattle.std.specs.Prelude.{Vec}
-use Rattle.irl_offer.specs.Tuple.{Tuple}
-use Rattle.irl_model.specs.Plain.{items_of}
+use Rattle.std.proofs.Common.{◌∙◌, ◌∷◌, [], sym}
+use Rattle.irl_base.specs.Lists.{items_of}
 use Rattle.irl_model.proofs.Flushes.{flushed_lists-set}
-use Rattle.irl_model.proofs.QueueLemmas.{on_err, set_vec, at_vec, same_vec}
 use Rattle.irl_core.proofs.lists.push_at.Goals as goal
 
 pub returns-clause-ok : goal.returns-clause-ok
-returns-clause-ok c =
-    let within : c.args.at < length c.args.lists.now.items = search rules in
-    let old = c.index_mut.result.now in
-    set_vec c.args.lists.now.items c.args.at c.push.new.self _
-    (c.in_ok-push.ensures.items
-    ∙ ap (λ (t : List Tuple). t ++ c.args.offer ∷ []) (ap (λ (v : Vec Tuple _). v.items) c.index_mut.ensures.value ∙ sym (at_vec c.args.lists.now.items c.args.at old within)))
-    ∙ sym (flushed_lists-set c.args.at (c.args.offer ∷ []) (items_of c.args.lists.now.items))
-
-pub returns-in_err-push-clause-err : goal.returns-in_err-push-clause-err
-returns-in_err-push-clause-err c =
-    let within : c.args.at < length c.args.lists.now.items = search rules in
-    on_err c.from_residual.result _
-    (same_vec c.args.lists.now.items c.args.at c.push.new.self c.index_mut.result.now within
-    (c.in_err-push.ensures.items ∙ ap (λ (v : Vec Tuple _). v.items) c.index_mut.ensures.value))
+returns-clause-ok c = c.in_ok-push_at.ensures.ok ∙ sym (flushed_lists-set c.args.at (c.args.offer ∷ []) (items_of c.args.lists.now.items))

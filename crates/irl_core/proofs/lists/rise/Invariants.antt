@@ -1,5 +1,5 @@
 use Rattle.std.proofs.Common.{◌≡◌, drop}
-use Rattle.irl_model.specs.Legal.{one_rose}
+use Rattle.irl_events.specs.Legal.{one_rose}
 use Rattle.irl_core.proofs.lists.rise.Given as goal
 
 -- what holds of all holds of the rest

@@ -1,8 +1,8 @@
 use Rattle.std.proofs.Common.{[], sym, subst}
-use Rattle.irl_model.specs.Plain.{items_of}
-use Rattle.irl_model.specs.Queues.{Grown}
-use Rattle.irl_model.proofs.QueueLemmas.{grown_same, grown_put, delivered-none}
-use Rattle.irl_fate.proofs.Placing.{deliver_step}
+use Rattle.irl_base.specs.Lists.{items_of, Grown}
+use Rattle.irl_base.proofs.ListLemmas.{grown_same}
+use Rattle.irl_events.proofs.QueueLemmas.{grown_put, delivered-none}
+use Rattle.irl_events.proofs.Placing.{deliver_step}
 use Rattle.irl_fate.proofs.lists.put_all.Goals as goal
 
 pub loop-place-init : goal.loop-place-init

@@ -1,7 +1,7 @@
 use Rattle.std.proofs.Common.{◌≡◌, take, vec_len}
-use Rattle.irl_model.specs.Plain.{items_of}
-use Rattle.irl_model.specs.Events.{numbers_of}
-use Rattle.irl_model.specs.Queues.{delivered, Grown}
+use Rattle.irl_base.specs.Lists.{items_of, Grown}
+use Rattle.irl_events.specs.Events.{numbers_of}
+use Rattle.irl_events.specs.Queues.{delivered}
 use Rattle.irl_fate.proofs.lists.put_all.Given as goal
 
 -- the numbers so far are in their places

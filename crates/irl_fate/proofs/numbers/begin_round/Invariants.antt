@@ -1,5 +1,5 @@
 use Rattle.std.proofs.Common.{◌≡◌, ℕ, take, cond}
-use Rattle.irl_model.specs.Events.{has_number}
+use Rattle.irl_events.specs.Events.{has_number}
 use Rattle.irl_fate.specs.declared.fate.Fate.TheVariants.{Queue}
 use Rattle.irl_fate.specs.Kept.{fate_in}
 use Rattle.irl_fate.proofs.numbers.begin_round.Given as goal

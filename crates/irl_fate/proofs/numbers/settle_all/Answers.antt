@@ -3,7 +3,7 @@ use Rattle.std.specs.Prelude.{nat_eq}
 use Rattle.std.proofs.lemmas.List.{length-map, take-map, get_or-map}
 use Rattle.irl_offer.specs.declared.outcome.Outcome.{Outcome}
 use Rattle.irl_offer.specs.declared.outcome.Outcome.TheVariants.{Page}
-use Rattle.irl_model.specs.Events.{has_number}
+use Rattle.irl_events.specs.Events.{has_number}
 use Rattle.irl_fate.specs.declared.fate.Fate.TheVariants.{Done}
 use Rattle.irl_fate.specs.Kept.{fate_in, is_front}
 use Rattle.irl_fate.proofs.Marking.{entry_of, front_fresh, each_at, done_more, distinct_at, numbers_done}

@@ -8,8 +8,8 @@ use Rattle.std.proofs.lemmas.Bool.{false_from_ne_true, false≢true}
 use Rattle.std.proofs.lemmas.List.{length-map, get_or-map}
 use Rattle.irl_offer.specs.declared.outcome.Outcome.{Outcome}
 use Rattle.irl_offer.specs.declared.outcome.Outcome.TheVariants.{Page}
-use Rattle.irl_model.specs.Events.{has_number}
-use Rattle.irl_model.specs.Legal.{are_distinct}
+use Rattle.irl_events.specs.Events.{has_number}
+use Rattle.irl_events.specs.Legal.{are_distinct}
 use Rattle.irl_fate.proofs.Marking.{numbers_done, distinct_at}
 use Rattle.irl_fate.proofs.RuleLemmas.{distinct_more, seen_more}
 use Rattle.irl_fate.proofs.rules.differ.Goals as goal
@@ -49,7 +49,8 @@ loop-number-preserved c =
     ∙ sym (c.loop-number.invariant.seen n) ∙ ap (λ (o : Option _). is_some o) (sym c.in_ok-insert.ensures.old) ∙ sym c.is_some.ensures ∙ c.if-is_some.false in
     record {
       seen = λ q.
-          seen_more numbers i q (lookup (is_at (nat_cmp q)) c.loop-number.seen.entries) (lookup (is_at (nat_cmp q)) c.insert.new.self.entries) (within done i lt) (c.in_ok-insert.ensures.updates.0 q ∙ ap (λ (k : ℕ). cond (is_at (nat_cmp k) q) (Some true) (lookup (is_at (nat_cmp q)) c.loop-number.seen.entries)) (sym here))
+          seen_more numbers i q (lookup (is_at (nat_cmp q)) c.loop-number.seen.entries) (lookup (is_at (nat_cmp q)) c.insert.new.self.entries) (within done i lt) (c.in_ok-insert.ensures.updates.0 q
+          ∙ ap (λ (k : ℕ). cond (is_at (nat_cmp k) q) (Some true) (lookup (is_at (nat_cmp q)) c.loop-number.seen.entries)) (sym here))
           (c.loop-number.invariant.seen q ∙ ap (λ (t : List ℕ). has_number t q) (sym (before done i)))
           ∙ ap (λ (t : List ℕ). has_number t q) (before done (i + 1));
       differ = ap are_distinct (sym (before done (i + 1)))

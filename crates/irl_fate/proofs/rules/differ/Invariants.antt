@@ -3,8 +3,8 @@ use Rattle.std.specs.Prelude.{is_some}
 use Rattle.std.specs.Ordering.{nat_cmp}
 use Rattle.std.specs.BTreeMap.{is_at}
 use Rattle.std.specs.Map.{lookup}
-use Rattle.irl_model.specs.Events.{has_number}
-use Rattle.irl_model.specs.Legal.{are_distinct}
+use Rattle.irl_events.specs.Events.{has_number}
+use Rattle.irl_events.specs.Legal.{are_distinct}
 use Rattle.irl_fate.proofs.Marking.{numbers_done}
 use Rattle.irl_fate.proofs.rules.differ.Given as goal
 

@@ -1,6 +1,6 @@
 use Rattle.std.proofs.Common.{◌≡◌, drop}
-use Rattle.irl_model.specs.Events.{numbers_of}
-use Rattle.irl_model.specs.Legal.{are_rising}
+use Rattle.irl_events.specs.Events.{numbers_of}
+use Rattle.irl_events.specs.Legal.{are_rising}
 use Rattle.irl_fate.proofs.rules.numbers_rise.Given as goal
 
 -- all rises where the rest does

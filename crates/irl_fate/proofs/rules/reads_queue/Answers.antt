@@ -1,7 +1,7 @@
 use Rattle.std.proofs.Common.{◌<◌, length, sym, arith}
 use Rattle.std.proofs.lemmas.List.{length-map}
 use Rattle.irl_offer.specs.declared.place.Place.{Place}
-use Rattle.irl_model.specs.Events.{numbers_of}
+use Rattle.irl_events.specs.Events.{numbers_of}
 use Rattle.irl_fate.proofs.RuleLemmas.{read_short}
 use Rattle.irl_fate.proofs.rules.reads_queue.Goals as goal
 

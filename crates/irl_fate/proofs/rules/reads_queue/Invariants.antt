@@ -1,6 +1,6 @@
 use Rattle.std.proofs.Common.{◌≡◌, drop}
-use Rattle.irl_model.specs.Events.{numbers_of}
-use Rattle.irl_model.specs.Legal.{are_read}
+use Rattle.irl_events.specs.Events.{numbers_of}
+use Rattle.irl_events.specs.Legal.{are_read}
 use Rattle.irl_fate.proofs.rules.reads_queue.Given as goal
 
 -- all is read where the rest is

@@ -14,4 +14,5 @@ returns-in-Ok-Partial c =
 
 pub returns-in-Err : goal.returns-in-Err
 returns-in-Err c =
-    line_is_bad c.args.bytes.now c.min.result c.fewest_bad.result (omega arith) c.in-Err.ensures.invalid c.fewest_bad.ensures.some c.fewest_bad.ensures.within c.fewest_bad.ensures.bad c.fewest_bad.ensures.fewest
+    line_is_bad c.args.bytes.now c.min.result c.fewest_bad.result (omega arith) c.in-Err.ensures.invalid c.fewest_bad.ensures.some c.fewest_bad.ensures.within c.fewest_bad.ensures.bad
+    c.fewest_bad.ensures.fewest

@@ -23,14 +23,17 @@ loop-header-preserved c =
           let next = value_next name buf headers i d true c.loop-header-test.true (sym (w.if-has_name.ensures)) in
           let items : c.if-has_name.spans.items ≡ c.loop-header.spans.items ++ v ∷ [] = ap (λ s. s.items) w.spans-is ∙ w.in_ok-push.ensures.items in
           record {
-            told = subst (λ l. map (span_bytes buf) l ++ rest ≡ values name (map (header_bytes buf) headers)) (sym items) (value_pushed buf c.loop-header.spans.items v rest _ (ap (λ l. map (span_bytes buf) c.loop-header.spans.items ++ l) (sym next) ∙ told));
-            within = subst (All (IsWithin (length buf))) (sym items) (All-push (IsWithin (length buf)) c.loop-header.spans.items v c.loop-header.invariant.within (c.requires i d c.loop-header-test.true).1);
+            told = subst (λ l. map (span_bytes buf) l ++ rest ≡ values name (map (header_bytes buf) headers)) (sym items)
+                (value_pushed buf c.loop-header.spans.items v rest _ (ap (λ l. map (span_bytes buf) c.loop-header.spans.items ++ l) (sym next) ∙ told));
+            within = subst (All (IsWithin (length buf))) (sym items) (All-push (IsWithin (length buf)) c.loop-header.spans.items v c.loop-header.invariant.within
+                (c.requires i d c.loop-header-test.true).1);
           }
       | else-has_name w ↦
           let next = value_next name buf headers i d false c.loop-header-test.true (sym (w.if-has_name.ensures)) in
           let items : c.if-has_name.spans.items ≡ c.loop-header.spans.items = ap (λ s. s.items) w.spans-is in
           record {
-            told = subst (λ l. map (span_bytes buf) l ++ rest ≡ values name (map (header_bytes buf) headers)) (sym items) (ap (λ l. map (span_bytes buf) c.loop-header.spans.items ++ l) (sym next) ∙ told);
+            told = subst (λ l. map (span_bytes buf) l ++ rest ≡ values name (map (header_bytes buf) headers)) (sym items) (ap (λ l. map (span_bytes buf) c.loop-header.spans.items ++ l) (sym next)
+                ∙ told);
             within = subst (All (IsWithin (length buf))) (sym items) c.loop-header.invariant.within;
           }
     ]

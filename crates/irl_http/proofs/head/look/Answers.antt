@@ -20,7 +20,8 @@ returns-then-not-is_interim c =
         status = c.in_ok-head-in-Head.ensures.status ∙ told.code;
         location = c.in_ok-head-in-Head.ensures.location ∙ ap location_of told.fields;
         html = c.in_ok-head-in-Head.ensures.html ∙ ap html_of told.fields;
-        plan = c.in_ok-head-in-Head.ensures.plan ∙ ap (λ s. plan_by s (map (header_bytes c.in-Head.front.now) (take c.in-Head.spans.headers c.next_head.new.headers))) told.code ∙ ap (plan_by (status_code head)) told.fields;
+        plan = c.in_ok-head-in-Head.ensures.plan ∙ ap (λ s. plan_by s (map (header_bytes c.in-Head.front.now) (take c.in-Head.spans.headers c.next_head.new.headers))) told.code
+            ∙ ap (plan_by (status_code head)) told.fields;
       },
       ends_heads bytes at c.in-Head.front.now head c.in-Head.spans.len p c.loop-front.invariant.awaits c.loop-front.invariant.quiet c.in-Head.ensures.quiet final,
     )
@@ -50,9 +51,11 @@ loop-front-preserved c =
 pub returns-in-Bad : goal.returns-in-Bad
 returns-in-Bad c =
     let told = c.in-Bad.ensures in
-    tells_at c.args.bytes.now c.in-Bad.end _ (quiet_on c.args.bytes.now c.loop-front.at c.in-Bad.end c.loop-front.invariant.quiet told.0) told.1 (λ want. (shown c.args.bytes.now c.in-Bad.end told.1, inl told.2))
+    tells_at c.args.bytes.now c.in-Bad.end _ (quiet_on c.args.bytes.now c.loop-front.at c.in-Bad.end c.loop-front.invariant.quiet told.0) told.1 (λ want.
+    (shown c.args.bytes.now c.in-Bad.end told.1, inl told.2))
 
 pub returns-in-TooLarge : goal.returns-in-TooLarge
 returns-in-TooLarge c =
     let told = c.in-TooLarge.ensures in
-    tells_at c.args.bytes.now c.in-TooLarge.end _ (quiet_on c.args.bytes.now c.loop-front.at c.in-TooLarge.end c.loop-front.invariant.quiet told.0) told.1 (λ want. (shown c.args.bytes.now c.in-TooLarge.end told.1, inl (told.2, told.3)))
+    tells_at c.args.bytes.now c.in-TooLarge.end _ (quiet_on c.args.bytes.now c.loop-front.at c.in-TooLarge.end c.loop-front.invariant.quiet told.0) told.1 (λ want.
+    (shown c.args.bytes.now c.in-TooLarge.end told.1, inl (told.2, told.3)))

@@ -14,7 +14,10 @@ returns-in-Whole c =
     let front = take c.lines_end-end.result.0 (take (c.min.result - at) (drop at bytes)) in
     let within = c.in-Whole.ensures.0 in
     let read = c.in-Whole.ensures.1 in
-    let reads : ReadsHead front read.0 (drop c.in-Whole.spans.len front) = record { reads = read.1.reads; short = fits_room front c.parse.new.headers c.in-Whole.spans read.0 within read.1.fields (omega arith) } in
+    let reads : ReadsHead front read.0 (drop c.in-Whole.spans.len front) = record {
+      reads = read.1.reads;
+      short = fits_room front c.parse.new.headers c.in-Whole.spans read.0 within read.1.fields (omega arith);
+    } in
     record {
       front_is = f.is;
       early = f.early;
@@ -36,7 +39,8 @@ returns-in-Open c =
     let at = c.args.at in
     let f = make_front bytes at c.min.result c.lines_end-end.result.0 (omega arith) (omega arith) (omega arith) c.lines_end-end.ensures.within c.lines_end-end.ensures.before in
     let feeds : line_feeds (take c.lines_end-end.result.0 (take (c.min.result - at) (drop at bytes))) ≡ max_fields + 2 = rw c.if-last.true at c.lines_end-end.ensures.last in
-    next_long bytes at _ c.lines_end-end.result.0 f c.requires.awaits c.in-Open.ensures.0 c.in-Open.ensures.1 feeds (omega (arith, length-take c.lines_end-end.result.0 (take (c.min.result - at) (drop at bytes)), c.lines_end-end.ensures.within))
+    next_long bytes at _ c.lines_end-end.result.0 f c.requires.awaits c.in-Open.ensures.0 c.in-Open.ensures.1 feeds
+    (omega (arith, length-take c.lines_end-end.result.0 (take (c.min.result - at) (drop at bytes)), c.lines_end-end.ensures.within))
 
 pub returns-in-Open-2 : goal.returns-in-Open-2
 returns-in-Open-2 c =

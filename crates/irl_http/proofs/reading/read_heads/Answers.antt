@@ -32,7 +32,9 @@ loop-bytes-preserved g c =
     let told = subst (TellsHeads c.deref.result.now) c.in-Nothing.is c.in_ok-head.ensures in
     let same : c.deref.result.now ≡ c.read_more.new.bytes.items = c.deref.ensures.value in
     record {
-      gets = inr (subst (Reads IsQuiet (link.left c.args.link.now) (link.left c.read_more.new.link) (link.left_at_read c.read_more.new.link)) (sym e.1) (gets_read IsQuiet (link.left c.args.link.now) (link.left c.loop-bytes.link) (link.left c.read_more.new.link) (link.left_at_read c.args.link.now) (link.left_at_read c.loop-bytes.link) (link.left_at_read c.read_more.new.link) c.loop-bytes.bytes.items e.0 inv.gets inv.quiet e.2 c.read_more.ensures.last));
+      gets = inr (subst (Reads IsQuiet (link.left c.args.link.now) (link.left c.read_more.new.link) (link.left_at_read c.read_more.new.link)) (sym e.1)
+          (gets_read IsQuiet (link.left c.args.link.now) (link.left c.loop-bytes.link) (link.left c.read_more.new.link) (link.left_at_read c.args.link.now) (link.left_at_read c.loop-bytes.link)
+          (link.left_at_read c.read_more.new.link) c.loop-bytes.bytes.items e.0 inv.gets inv.quiet e.2 c.read_more.ensures.last));
       quiet = subst IsQuiet same told.0;
       open_head = subst HasNoHeadYet same told.2;
       few = omega (arith, ap length same, told.1);
@@ -50,14 +52,18 @@ returns-in_err-read_more-clause-read g c =
     let link = g.L.Link in
     let inv = c.loop-bytes.invariant in
     let e = c.in_err-read_more.ensures.memory refl in
-    heads_read (link.left c.args.link.now) (link.left c.loop-bytes.link) (link.left c.read_more.new.link) (link.left_at_read c.args.link.now) (link.left_at_read c.loop-bytes.link) (link.left_at_read c.read_more.new.link) c.loop-bytes.bytes.items e.0 _ c.from_residual.result inv.gets inv.quiet e.1 c.read_more.ensures.last (omega (arith, length-take c.min-room.result c.loop-bytes.piece, e.2, inv.few)) (IfOk-from_err c.from_residual.result _ c.from_residual.ensures.0)
+    heads_read (link.left c.args.link.now) (link.left c.loop-bytes.link) (link.left c.read_more.new.link) (link.left_at_read c.args.link.now) (link.left_at_read c.loop-bytes.link)
+    (link.left_at_read c.read_more.new.link) c.loop-bytes.bytes.items e.0 _ c.from_residual.result inv.gets inv.quiet e.1 c.read_more.ensures.last
+    (omega (arith, length-take c.min-room.result c.loop-bytes.piece, e.2, inv.few)) (IfOk-from_err c.from_residual.result _ c.from_residual.ensures.0)
 
 pub returns-in_err-head-clause-read : goal.returns-in_err-head-clause-read
 returns-in_err-head-clause-read g c =
     let link = g.L.Link in
     let inv = c.loop-bytes.invariant in
     let e = c.in_ok-read_more.ensures.ok in
-    heads_read (link.left c.args.link.now) (link.left c.loop-bytes.link) (link.left c.read_more.new.link) (link.left_at_read c.args.link.now) (link.left_at_read c.loop-bytes.link) (link.left_at_read c.read_more.new.link) c.loop-bytes.bytes.items e.0 _ c.from_residual-in_err-head.result inv.gets inv.quiet e.2 c.read_more.ensures.last (omega (arith, length-take c.min-room.result c.loop-bytes.piece, e.3, inv.few)) (IfOk-from_err c.from_residual-in_err-head.result _ c.from_residual-in_err-head.ensures.0)
+    heads_read (link.left c.args.link.now) (link.left c.loop-bytes.link) (link.left c.read_more.new.link) (link.left_at_read c.args.link.now) (link.left_at_read c.loop-bytes.link)
+    (link.left_at_read c.read_more.new.link) c.loop-bytes.bytes.items e.0 _ c.from_residual-in_err-head.result inv.gets inv.quiet e.2 c.read_more.ensures.last
+    (omega (arith, length-take c.min-room.result c.loop-bytes.piece, e.3, inv.few)) (IfOk-from_err c.from_residual-in_err-head.result _ c.from_residual-in_err-head.ensures.0)
 
 pub returns-in-Ended-clause-read : goal.returns-in-Ended-clause-read
 returns-in-Ended-clause-read g c =
@@ -65,7 +71,9 @@ returns-in-Ended-clause-read g c =
     let inv = c.loop-bytes.invariant in
     let e = c.in_ok-read_more.ensures.ok in
     let fill = subst (FillAs e.0 (link.left c.read_more.new.link)) c.in-Ended.is e.4 in
-    heads_ok (link.left c.args.link.now) (link.left c.loop-bytes.link) (link.left c.read_more.new.link) (link.left_at_read c.args.link.now) (link.left_at_read c.loop-bytes.link) (link.left_at_read c.read_more.new.link) c.loop-bytes.bytes.items e.0 _ (heads.Answer (Short c.len-in-Ended.result)) inv.gets inv.quiet e.2 c.read_more.ensures.last (omega (arith, length-take c.min-room.result c.loop-bytes.piece, e.3, inv.few)) e.1
+    heads_ok (link.left c.args.link.now) (link.left c.loop-bytes.link) (link.left c.read_more.new.link) (link.left_at_read c.args.link.now) (link.left_at_read c.loop-bytes.link)
+    (link.left_at_read c.read_more.new.link) c.loop-bytes.bytes.items e.0 _ (heads.Answer (Short c.len-in-Ended.result)) inv.gets inv.quiet e.2 c.read_more.ensures.last
+    (omega (arith, length-take c.min-room.result c.loop-bytes.piece, e.3, inv.few)) e.1
     (heads_short c.loop-bytes.bytes.items e.0 (link.left c.read_more.new.link) c.len-in-Ended.result inv.quiet inv.open_head fill.0 fill.1 (omega (arith, ap length e.1)))
 
 pub returns-in-Failed-clause-read : goal.returns-in-Failed-clause-read
@@ -74,7 +82,9 @@ returns-in-Failed-clause-read g c =
     let inv = c.loop-bytes.invariant in
     let e = c.in_ok-read_more.ensures.ok in
     let fill = subst (FillAs e.0 (link.left c.read_more.new.link)) c.in-Failed.is e.4 in
-    heads_ok (link.left c.args.link.now) (link.left c.loop-bytes.link) (link.left c.read_more.new.link) (link.left_at_read c.args.link.now) (link.left_at_read c.loop-bytes.link) (link.left_at_read c.read_more.new.link) c.loop-bytes.bytes.items e.0 _ (heads.Answer NoReply) inv.gets inv.quiet e.2 c.read_more.ensures.last (omega (arith, length-take c.min-room.result c.loop-bytes.piece, e.3, inv.few)) e.1
+    heads_ok (link.left c.args.link.now) (link.left c.loop-bytes.link) (link.left c.read_more.new.link) (link.left_at_read c.args.link.now) (link.left_at_read c.loop-bytes.link)
+    (link.left_at_read c.read_more.new.link) c.loop-bytes.bytes.items e.0 _ (heads.Answer NoReply) inv.gets inv.quiet e.2 c.read_more.ensures.last
+    (omega (arith, length-take c.min-room.result c.loop-bytes.piece, e.3, inv.few)) e.1
     (heads_fail c.loop-bytes.bytes.items e.0 (link.left c.read_more.new.link) inv.quiet fill)
 
 pub returns-in-Head-clause-read : goal.returns-in-Head-clause-read
@@ -84,7 +94,9 @@ returns-in-Head-clause-read g c =
     let e = c.in_ok-read_more.ensures.ok in
     let same : c.deref.result.now ≡ c.loop-bytes.bytes.items ++ e.0 = c.deref.ensures.value ∙ e.1 in
     let told = subst (TellsHeads c.deref.result.now) c.in-Head.is c.in_ok-head.ensures in
-    heads_ok (link.left c.args.link.now) (link.left c.loop-bytes.link) (link.left c.read_more.new.link) (link.left_at_read c.args.link.now) (link.left_at_read c.loop-bytes.link) (link.left_at_read c.read_more.new.link) c.loop-bytes.bytes.items e.0 _ (heads.Head c.in-Head.head c.in-Head.end) inv.gets inv.quiet e.2 c.read_more.ensures.last (omega (arith, length-take c.min-room.result c.loop-bytes.piece, e.3, inv.few)) e.1
+    heads_ok (link.left c.args.link.now) (link.left c.loop-bytes.link) (link.left c.read_more.new.link) (link.left_at_read c.args.link.now) (link.left_at_read c.loop-bytes.link)
+    (link.left_at_read c.read_more.new.link) c.loop-bytes.bytes.items e.0 _ (heads.Head c.in-Head.head c.in-Head.end) inv.gets inv.quiet e.2 c.read_more.ensures.last
+    (omega (arith, length-take c.min-room.result c.loop-bytes.piece, e.3, inv.few)) e.1
     (told.0, told.1, subst (λ b. EndsHeads b c.in-Head.end told.0) same told.2)
 
 pub returns-in-Bad-clause-read : goal.returns-in-Bad-clause-read
@@ -94,7 +106,9 @@ returns-in-Bad-clause-read g c =
     let e = c.in_ok-read_more.ensures.ok in
     let same : c.deref.result.now ≡ c.loop-bytes.bytes.items ++ e.0 = c.deref.ensures.value ∙ e.1 in
     let told = subst (TellsHeads c.deref.result.now) c.in-Bad.is c.in_ok-head.ensures in
-    heads_ok (link.left c.args.link.now) (link.left c.loop-bytes.link) (link.left c.read_more.new.link) (link.left_at_read c.args.link.now) (link.left_at_read c.loop-bytes.link) (link.left_at_read c.read_more.new.link) c.loop-bytes.bytes.items e.0 _ (heads.Answer (BadReply c.in-Bad.n)) inv.gets inv.quiet e.2 c.read_more.ensures.last (omega (arith, length-take c.min-room.result c.loop-bytes.piece, e.3, inv.few)) e.1
+    heads_ok (link.left c.args.link.now) (link.left c.loop-bytes.link) (link.left c.read_more.new.link) (link.left_at_read c.args.link.now) (link.left_at_read c.loop-bytes.link)
+    (link.left_at_read c.read_more.new.link) c.loop-bytes.bytes.items e.0 _ (heads.Answer (BadReply c.in-Bad.n)) inv.gets inv.quiet e.2 c.read_more.ensures.last
+    (omega (arith, length-take c.min-room.result c.loop-bytes.piece, e.3, inv.few)) e.1
     (λ want. inl (subst (λ b. Tells want b (BadReply c.in-Bad.n)) same (told want)))
 
 pub returns-in-TooLarge-clause-read : goal.returns-in-TooLarge-clause-read
@@ -104,5 +118,7 @@ returns-in-TooLarge-clause-read g c =
     let e = c.in_ok-read_more.ensures.ok in
     let same : c.deref.result.now ≡ c.loop-bytes.bytes.items ++ e.0 = c.deref.ensures.value ∙ e.1 in
     let told = subst (TellsHeads c.deref.result.now) c.in-TooLarge.is c.in_ok-head.ensures in
-    heads_ok (link.left c.args.link.now) (link.left c.loop-bytes.link) (link.left c.read_more.new.link) (link.left_at_read c.args.link.now) (link.left_at_read c.loop-bytes.link) (link.left_at_read c.read_more.new.link) c.loop-bytes.bytes.items e.0 _ (heads.Answer (TooLarge c.in-TooLarge.n)) inv.gets inv.quiet e.2 c.read_more.ensures.last (omega (arith, length-take c.min-room.result c.loop-bytes.piece, e.3, inv.few)) e.1
+    heads_ok (link.left c.args.link.now) (link.left c.loop-bytes.link) (link.left c.read_more.new.link) (link.left_at_read c.args.link.now) (link.left_at_read c.loop-bytes.link)
+    (link.left_at_read c.read_more.new.link) c.loop-bytes.bytes.items e.0 _ (heads.Answer (TooLarge c.in-TooLarge.n)) inv.gets inv.quiet e.2 c.read_more.ensures.last
+    (omega (arith, length-take c.min-room.result c.loop-bytes.piece, e.3, inv.few)) e.1
     (λ want. inl (subst (λ b. Tells want b (TooLarge c.in-TooLarge.n)) same (told want)))

@@ -23,7 +23,8 @@ loop-link-preserved g c =
       gets = (
         inv.gets.0 ++ e.0,
         e.1 ∙ ap (λ l. l ++ e.0) inv.gets.1 ∙ append_assoc first inv.gets.0 e.0,
-        inr (gets_read (λ early. length first + length early < c.args.target) (link.left c.args.link.now) (link.left c.loop-link.link) (link.left c.read_more.new.link) (link.left_at_read c.args.link.now) (link.left_at_read c.loop-link.link) (link.left_at_read c.read_more.new.link) inv.gets.0 e.0 inv.gets.2 had e.2 c.read_more.ensures.last),
+        inr (gets_read (λ early. length first + length early < c.args.target) (link.left c.args.link.now) (link.left c.loop-link.link) (link.left c.read_more.new.link)
+            (link.left_at_read c.args.link.now) (link.left_at_read c.loop-link.link) (link.left_at_read c.read_more.new.link) inv.gets.0 e.0 inv.gets.2 had e.2 c.read_more.ensures.last),
       );
       few = omega (arith, ap length e.1, length-append c.loop-link.bytes.items e.0, e.3, c.loop-link-test.true);
       calm = calm_on _ _ _ _ _ _ _ _ _ inv.calm c.read_more.ensures.undisturbed;
@@ -43,6 +44,7 @@ returns-in_err-other-clause-memory g c = λ failed.
     let e = c.in_err-other.ensures.memory refl in
     let had : length first + length inv.gets.0 < c.args.target = omega (arith, ap length inv.gets.1, length-append first inv.gets.0, c.loop-link-test.true) in (
       inv.gets.0 ++ e.0,
-      inr (gets_read (λ early. length first + length early < c.args.target) (link.left c.args.link.now) (link.left c.loop-link.link) (link.left c.read_more.new.link) (link.left_at_read c.args.link.now) (link.left_at_read c.loop-link.link) (link.left_at_read c.read_more.new.link) inv.gets.0 e.0 inv.gets.2 had e.1 c.read_more.ensures.last),
+      inr (gets_read (λ early. length first + length early < c.args.target) (link.left c.args.link.now) (link.left c.loop-link.link) (link.left c.read_more.new.link)
+          (link.left_at_read c.args.link.now) (link.left_at_read c.loop-link.link) (link.left_at_read c.read_more.new.link) inv.gets.0 e.0 inv.gets.2 had e.1 c.read_more.ensures.last),
       omega (arith, length-append inv.gets.0 e.0, e.2, had),
     )

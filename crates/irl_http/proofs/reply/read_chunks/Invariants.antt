@@ -9,7 +9,8 @@ abbrev pub invariant-loop-ahead : goal.invariant-loop-ahead
 invariant-loop-ahead g l =
     let link = g.L.Link in
     record {
-      read : ChunksRead l.want l.fn.rest.items l.ahead.items l.chunks.body.items l.chunks.due l.start l.done (link.left l.fn.link) (link.left l.link) (link.left_at_read l.fn.link) (link.left_at_read l.link);
+      read : ChunksRead l.want l.fn.rest.items l.ahead.items l.chunks.body.items l.chunks.due l.start l.done (link.left l.fn.link) (link.left l.link) (link.left_at_read l.fn.link)
+          (link.left_at_read l.link);
       room : length l.chunks.body.items < most_of l.want;
       far : l.done ≤ l.start + 271700000;
       few : length l.ahead.items ≤ 16640;

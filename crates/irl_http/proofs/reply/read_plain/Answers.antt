@@ -22,7 +22,8 @@ pub returns-in_err-read_until-clause-read : goal.returns-in_err-read_until-claus
 returns-in_err-read_until-clause-read g c = λ front h says i start is.
     let link = g.L.Link in
     let e = c.in_err-read_until.ensures.memory refl in
-    plain_memory c.args.want c.args.closes c.args.target front c.args.body.items e.0 h (link.left c.args.link.now) (link.left c.read_until.new.link) (link.left_at_read c.args.link.now) (link.left_at_read c.read_until.new.link) c.from_residual.result i is e.1
+    plain_memory c.args.want c.args.closes c.args.target front c.args.body.items e.0 h (link.left c.args.link.now) (link.left c.read_until.new.link) (link.left_at_read c.args.link.now)
+    (link.left_at_read c.read_until.new.link) c.from_residual.result i is e.1
     (plain_few c.args.want c.args.closes c.args.target front h (length c.args.body.items) (length c.args.piece.now) (length c.args.body.items + length e.0) i is e.2 c.requires.few c.requires.room.1)
     c.from_residual.ensures.0
 
@@ -32,7 +33,8 @@ returns-in-More-clause-read g c = λ front h says i start is.
     let now = c.read_until.new.bytes.items in
     let e = c.in_ok-read_until.ensures.ok in
     let fill = subst (UntilAs c.args.target (length now) (link.left c.read_until.new.link)) c.in-More.is e.4 in
-    plain_body c.args.want c.args.closes c.args.target front c.args.body.items e.0 now h (link.left c.args.link.now) (link.left c.read_until.new.link) (link.left_at_read c.args.link.now) (link.left_at_read c.read_until.new.link) (TooLarge (c.args.start + c.args.target)) i is e.1 e.2
+    plain_body c.args.want c.args.closes c.args.target front c.args.body.items e.0 now h (link.left c.args.link.now) (link.left c.read_until.new.link) (link.left_at_read c.args.link.now)
+    (link.left_at_read c.read_until.new.link) (TooLarge (c.args.start + c.args.target)) i is e.1 e.2
     (plain_few c.args.want c.args.closes c.args.target front h (length c.args.body.items) (length c.args.piece.now) (length now) i is e.3 c.requires.few c.requires.room.1)
     (fills_long c.args.want c.args.closes c.args.target front now h (c.args.start + c.args.target) _ i is fill c.if-target-gt-MAX_PAGE.true (omega (arith, start)))
 
@@ -42,9 +44,11 @@ returns-in-More-2-clause-read g c = λ front h says i start is.
     let now = c.read_until.new.bytes.items in
     let e = c.in_ok-read_until.ensures.ok in
     let fill = subst (UntilAs c.args.target (length now) (link.left c.read_until.new.link)) c.in-More.is e.4 in
-    plain_body c.args.want c.args.closes c.args.target front c.args.body.items e.0 now h (link.left c.args.link.now) (link.left c.read_until.new.link) (link.left_at_read c.args.link.now) (link.left_at_read c.read_until.new.link) (c.reply.result) i is e.1 e.2
+    plain_body c.args.want c.args.closes c.args.target front c.args.body.items e.0 now h (link.left c.args.link.now) (link.left c.read_until.new.link) (link.left_at_read c.args.link.now)
+    (link.left_at_read c.read_until.new.link) (c.reply.result) i is e.1 e.2
     (plain_few c.args.want c.args.closes c.args.target front h (length c.args.body.items) (length c.args.piece.now) (length now) i is e.3 c.requires.few c.requires.room.1)
-    (subst (AnswersTaken c.args.want (front ++ now) (IsAtEnd (link.left c.read_until.new.link))) (sym (c.reply.ensures.reply h says ∙ ap (λ b. Reply (received h b)) c.truncate.ensures.items)) (fills c.args.want c.args.closes c.args.target front now h (IsAtEnd (link.left c.read_until.new.link)) i is fill c.if-target-gt-MAX_PAGE.false))
+    (subst (AnswersTaken c.args.want (front ++ now) (IsAtEnd (link.left c.read_until.new.link))) (sym (c.reply.ensures.reply h says ∙ ap (λ b. Reply (received h b)) c.truncate.ensures.items))
+    (fills c.args.want c.args.closes c.args.target front now h (IsAtEnd (link.left c.read_until.new.link)) i is fill c.if-target-gt-MAX_PAGE.false))
 
 pub returns-in-Ended-clause-read : goal.returns-in-Ended-clause-read
 returns-in-Ended-clause-read g c = λ front h says i start is.
@@ -52,9 +56,11 @@ returns-in-Ended-clause-read g c = λ front h says i start is.
     let now = c.read_until.new.bytes.items in
     let e = c.in_ok-read_until.ensures.ok in
     let fill = subst (UntilAs c.args.target (length now) (link.left c.read_until.new.link)) c.in-Ended.is e.4 in
-    plain_body c.args.want c.args.closes c.args.target front c.args.body.items e.0 now h (link.left c.args.link.now) (link.left c.read_until.new.link) (link.left_at_read c.args.link.now) (link.left_at_read c.read_until.new.link) (c.reply-in-Ended.result) i is e.1 e.2
+    plain_body c.args.want c.args.closes c.args.target front c.args.body.items e.0 now h (link.left c.args.link.now) (link.left c.read_until.new.link) (link.left_at_read c.args.link.now)
+    (link.left_at_read c.read_until.new.link) (c.reply-in-Ended.result) i is e.1 e.2
     (plain_few c.args.want c.args.closes c.args.target front h (length c.args.body.items) (length c.args.piece.now) (length now) i is e.3 c.requires.few c.requires.room.1)
-    (subst (AnswersTaken c.args.want (front ++ now) (IsAtEnd (link.left c.read_until.new.link))) (sym (c.reply-in-Ended.ensures.reply h says)) (closes_whole c.args.want c.args.closes c.args.target front now h (IsAtEnd (link.left c.read_until.new.link)) i is fill.0 fill.1 c.if-closes.true))
+    (subst (AnswersTaken c.args.want (front ++ now) (IsAtEnd (link.left c.read_until.new.link))) (sym (c.reply-in-Ended.ensures.reply h says))
+    (closes_whole c.args.want c.args.closes c.args.target front now h (IsAtEnd (link.left c.read_until.new.link)) i is fill.0 fill.1 c.if-closes.true))
 
 pub returns-in-Ended-2-clause-read : goal.returns-in-Ended-2-clause-read
 returns-in-Ended-2-clause-read g c = λ front h says i start is.
@@ -62,9 +68,11 @@ returns-in-Ended-2-clause-read g c = λ front h says i start is.
     let now = c.read_until.new.bytes.items in
     let e = c.in_ok-read_until.ensures.ok in
     let fill = subst (UntilAs c.args.target (length now) (link.left c.read_until.new.link)) c.in-Ended.is e.4 in
-    plain_body c.args.want c.args.closes c.args.target front c.args.body.items e.0 now h (link.left c.args.link.now) (link.left c.read_until.new.link) (link.left_at_read c.args.link.now) (link.left_at_read c.read_until.new.link) (Short (c.args.start + c.len.result)) i is e.1 e.2
+    plain_body c.args.want c.args.closes c.args.target front c.args.body.items e.0 now h (link.left c.args.link.now) (link.left c.read_until.new.link) (link.left_at_read c.args.link.now)
+    (link.left_at_read c.read_until.new.link) (Short (c.args.start + c.len.result)) i is e.1 e.2
     (plain_few c.args.want c.args.closes c.args.target front h (length c.args.body.items) (length c.args.piece.now) (length now) i is e.3 c.requires.few c.requires.room.1)
-    (ends_short c.args.want c.args.closes c.args.target front now h (c.args.start + c.len.result) (IsAtEnd (link.left c.read_until.new.link)) i is fill.0 fill.1 c.if-closes.false (omega (arith, start, c.len.ensures)))
+    (ends_short c.args.want c.args.closes c.args.target front now h (c.args.start + c.len.result) (IsAtEnd (link.left c.read_until.new.link)) i is fill.0 fill.1 c.if-closes.false
+    (omega (arith, start, c.len.ensures)))
 
 pub returns-in-Failed-clause-read : goal.returns-in-Failed-clause-read
 returns-in-Failed-clause-read g c = λ front h says i start is.
@@ -72,7 +80,8 @@ returns-in-Failed-clause-read g c = λ front h says i start is.
     let now = c.read_until.new.bytes.items in
     let e = c.in_ok-read_until.ensures.ok in
     let fill = subst (UntilAs c.args.target (length now) (link.left c.read_until.new.link)) c.in-Failed.is e.4 in
-    plain_body c.args.want c.args.closes c.args.target front c.args.body.items e.0 now h (link.left c.args.link.now) (link.left c.read_until.new.link) (link.left_at_read c.args.link.now) (link.left_at_read c.read_until.new.link) (NoReply) i is e.1 e.2
+    plain_body c.args.want c.args.closes c.args.target front c.args.body.items e.0 now h (link.left c.args.link.now) (link.left c.read_until.new.link) (link.left_at_read c.args.link.now)
+    (link.left_at_read c.read_until.new.link) (NoReply) i is e.1 e.2
     (plain_few c.args.want c.args.closes c.args.target front h (length c.args.body.items) (length c.args.piece.now) (length now) i is e.3 c.requires.few c.requires.room.1)
     (fails c.args.want c.args.closes c.args.target front now h (IsAtEnd (link.left c.read_until.new.link)) i is fill)
 

@@ -102,7 +102,8 @@ returns-in-Head-clause-memory g c = λ failed.
 pub returns-in-Head-clause-cause : goal.returns-in-Head-clause-cause
 returns-in-Head-clause-cause g c =
     let link = g.L.Link in
-    cause_behind (c.read_body.result ≡ Ok NoReply) (link.faults c.args.link.now) (link.faults c.read_heads.new.link) (link.faults c.read_body.new.link) c.read_heads.ensures.undisturbed.faults c.read_body.ensures.cause
+    cause_behind (c.read_body.result ≡ Ok NoReply) (link.faults c.args.link.now) (link.faults c.read_heads.new.link) (link.faults c.read_body.new.link) c.read_heads.ensures.undisturbed.faults
+    c.read_body.ensures.cause
 
 pub returns-in-Head-clause-written : goal.returns-in-Head-clause-written
 returns-in-Head-clause-written g c =
@@ -112,4 +113,5 @@ returns-in-Head-clause-written g c =
 pub returns-in-Head-clause-connections : goal.returns-in-Head-clause-connections
 returns-in-Head-clause-connections g c =
     let link = g.L.Link in
-    stay_on (link.connections c.args.link.now) (link.connections c.read_heads.new.link) (link.connections c.read_body.new.link) c.read_heads.ensures.undisturbed.connections c.read_body.ensures.undisturbed.connections
+    stay_on (link.connections c.args.link.now) (link.connections c.read_heads.new.link) (link.connections c.read_body.new.link) c.read_heads.ensures.undisturbed.connections
+    c.read_body.ensures.undisturbed.connections

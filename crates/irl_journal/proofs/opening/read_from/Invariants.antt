@@ -10,13 +10,13 @@ abbrev pub invariant-loop-at : goal.invariant-loop-at
 invariant-loop-at g l =
     let store = g.S.Store in
     record {
-      same : (store.snapshot l.store).files ≡ (store.snapshot l.fn.store).files;
-      stops : LeavesSame (store.snapshot l.fn.store) (store.snapshot l.store);
-      taken : TakesOnly l.f (store.taken l.fn.store) (store.taken l.store);
-      later : store.faults l.fn.store ≤ store.faults l.store;
+      same : (store.told l.store).files ≡ (store.told l.fn.store).files;
+      stops : LeavesSame (store.told l.fn.store) (store.told l.store);
+      taken : TakesOnly l.f (store.told l.fn.store).taken (store.told l.store).taken;
+      later : (store.told l.fn.store).faults ≤ (store.told l.store).faults;
       took : TookUpTo g.V.Visit.takes l.fn.visitor l.visitor l.from l.at;
       piece : vec_len l.piece ≡ min l.left 16777222;
-      told : ForSome (store.snapshot l.fn.store).files (λ files. HasRead g.V.Visit.takes l.fn.visitor l.visitor l.from l.at (drop l.from (files l.f)));
+      told : ForSome (store.told l.fn.store).files (λ files. HasRead g.V.Visit.takes l.fn.visitor l.visitor l.from l.at (drop l.from (files l.f)));
     }
 
 abbrev pub decreases-loop-at : goal.decreases-loop-at

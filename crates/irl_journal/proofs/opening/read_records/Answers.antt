@@ -9,7 +9,8 @@ read_from-requires g c = record { file = c.requires.file; long = λ files tells.
 
 pub returns-clause-records : goal.returns-clause-records
 returns-clause-records g c =
-    IfOk-weaker c.read_from.result _ _ (λ end stops files tells. ends_handed g.V.Visit.takes c.args.visitor.now c.read_from.new.visitor (files c.args.f) end (stops files tells)) c.read_from.ensures.records
+    IfOk-weaker c.read_from.result _ _ (λ end stops files tells. ends_handed g.V.Visit.takes c.args.visitor.now c.read_from.new.visitor (files c.args.f) end (stops files tells))
+    c.read_from.ensures.records
 
 pub returns-clause-damaged : goal.returns-clause-damaged
 returns-clause-damaged g c = λ at e files tells.

@@ -13,4 +13,4 @@ append-requires-clause-place c = λ files told.
 pub returns-clause-open : goal.returns-clause-open
 returns-clause-open c =
     let open_ = c.requires.open in
-    IfOk-weaker c.append.result _ _ (λ done acknowledged. (open_.0 ++ c.put.new.self.bytes ∷ [], acknowledged open_.0 open_.1)) c.append.ensures.acknowledged
+    IfOk-weaker c.append.result _ _ (λ done acknowledged. (open_.0 ++ c.put.new.self.bytes ∷ [], acknowledged open_.0 open_.1)) c.append.ensures.appends.acknowledged

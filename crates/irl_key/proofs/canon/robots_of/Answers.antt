@@ -1,7 +1,7 @@
 use Rattle.std.proofs.Common.{◌≡◌, ℕ, ◌+◌, ◌≤◌, List, length, Some, None, sym, ap, ◌∙◌, subst}
 use Rattle.url.specs.Parts.{Parts, serialize}
 use Rattle.irl_key.specs.Web.{url_against, host_of, target_of, robots_text, IsWeb, IsHost}
-use Rattle.irl_offer.specs.Limits.{max_text}
+use Rattle.irl_base.specs.Limits.{max_text}
 use Rattle.irl_key.proofs.LinkLemmas.{canon_of-own}
 use Rattle.irl_key.proofs.WebLemmas.{robots_reads, length-robots, host_of-serialize, target_of-serialize}
 use Rattle.irl_key.proofs.canon.robots_of.Goals as goal
@@ -21,7 +21,8 @@ invariant_of-result c =
 pub unreachable-requires : goal.unreachable-requires
 unreachable-requires c =
     let host = c.args.host.now in
-    let same : None ≡ Some (robots_reads host c.requires).url = sym c.in-None.is ∙ c.in_ok-url.ensures ∙ ap (url_against None) (c.deref.ensures.value ∙ c.in_ok-text.ensures) ∙ (robots_reads host c.requires).reads in
+    let same : None ≡ Some (robots_reads host c.requires).url = sym c.in-None.is ∙ c.in_ok-url.ensures ∙ ap (url_against None) (c.deref.ensures.value ∙ c.in_ok-text.ensures)
+    ∙ (robots_reads host c.requires).reads in
     cc
 
 pub returns-clause-text : goal.returns-clause-text

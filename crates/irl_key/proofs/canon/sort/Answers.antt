@@ -1,6 +1,6 @@
 use Rattle.std.proofs.Common.{◌≡◌, ◌∙◌, sym, [], length, ◌≤◌, codes}
 use Rattle.url.specs.Parts.{serialize}
-use Rattle.irl_offer.specs.Limits.{max_text}
+use Rattle.irl_base.specs.Limits.{max_text}
 use Rattle.irl_key.specs.Web.{IsWeb}
 use Rattle.irl_key.proofs.LinkLemmas.{canonical_from_same, same_from_ne, empty_from_is_empty, empty_from_none}
 use Rattle.irl_key.proofs.WebLemmas.{tested_web}

@@ -12,4 +12,13 @@ pub returns : goal.returns
 unfolding key_of
 returns c =
     let s = sha1 c.args.bytes.now in
-    rw (in_front s 0 (lit< tt), in_front s 1 (lit< tt), in_front s 2 (lit< tt), in_front s 3 (lit< tt), in_front s 4 (lit< tt), in_front s 5 (lit< tt), in_front s 6 (lit< tt), in_front s 7 (lit< tt)) (search rules)
+    rw (
+      in_front s 0 (lit< tt),
+      in_front s 1 (lit< tt),
+      in_front s 2 (lit< tt),
+      in_front s 3 (lit< tt),
+      in_front s 4 (lit< tt),
+      in_front s 5 (lit< tt),
+      in_front s 6 (lit< tt),
+      in_front s 7 (lit< tt),
+    ) (search rules)

@@ -10,7 +10,8 @@ returns-in_ok-push-clause-given c = λ keys given more e has up.
     let before : Pair = c.in-Some.before in
     let here = subst (HasGiven keys given) c.in-Some.is has in
     let most = subst (λ (h : Option Pair). IsUpTo h c.args.pair.key) c.in-Some.is up in
-    subst (λ (ps : List Pair). HasGiven (insert keys c.args.pair.key c.args.pair.value) (given ++ ps) (Some c.args.pair)) (one_more c.args.out.now.items c.push.new.self.items more before c.in_ok-push.ensures.items e)
+    subst (λ (ps : List Pair). HasGiven (insert keys c.args.pair.key c.args.pair.value) (given ++ ps) (Some c.args.pair))
+    (one_more c.args.out.now.items c.push.new.self.items more before c.in_ok-push.ensures.items e)
     (put_above keys given before c.args.pair here (omega arith))
 
 pub returns-else-before-pair-clause-given : goal.returns-else-before-pair-clause-given

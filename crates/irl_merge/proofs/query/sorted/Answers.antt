@@ -32,7 +32,8 @@ items : (c : goal.In_ok-sort_by_key) → c.loop-place.queries.items ≡ numbered
 items c = c.loop-place.invariant ∙ ap (λ (es : List Entry). numbered 0 (map bare_entry es)) (take_all _ _ c.loop-place-test.false)
 
 count : (c : goal.In_ok-sort_by_key) → length c.sort_by_key.new.self.items ≡ length c.args.entries.now
-count c = length_permutation c.loop-place.queries.items c.sort_by_key.new.self.items c.sort_by_key.ensures.permutation ∙ ap length (items c) ∙ length-numbered 0 (map bare_entry c.args.entries.now) ∙ length-map c.args.entries.now bare_entry
+count c = length_permutation c.loop-place.queries.items c.sort_by_key.new.self.items c.sort_by_key.ensures.permutation ∙ ap length (items c) ∙ length-numbered 0 (map bare_entry c.args.entries.now)
+    ∙ length-map c.args.entries.now bare_entry
 
 pub returns-clause-count : goal.returns-clause-count
 returns-clause-count c = count c

@@ -9,12 +9,14 @@ use Rattle.irl_offer.specs.Tuple.{Tuple}
 use Rattle.irl_offer.specs.Buckets.{bucket_of}
 use Rattle.irl_model.specs.Judging.{KeyMap, after, answer, entered}
 use Rattle.irl_model.specs.Book.{judged_as, judged_offers}
-use Rattle.irl_model.specs.Plain.{items_of, whole_book}
+use Rattle.irl_base.specs.Lists.{items_of}
+use Rattle.irl_model.specs.Plain.{whole_book}
 use Rattle.irl_model.proofs.JudgingLaws.{judged_on, after-more, judged_on-more, judgements-judged_on}
 use Rattle.irl_model.proofs.plain.judged.Goals as goal
 
 -- a judged offer, put together from its parts
-told_as : (buckets bucket : ℕ) (x : Tuple) (verdict told : Option Verdict) → bucket ≡ bucket_of buckets x.key → verdict ≡ told → ◌≡◌ {A = Judged} (record { bucket = bucket; offer = x; verdict = verdict }) (judged_as buckets (x, told))
+told_as : (buckets bucket : ℕ) (x : Tuple) (verdict told : Option Verdict) → bucket ≡ bucket_of buckets x.key → verdict ≡ told
+    → ◌≡◌ {A = Judged} (record { bucket = bucket; offer = x; verdict = verdict }) (judged_as buckets (x, told))
 told_as buckets bucket x verdict told b v = ap (λ (n : ℕ). record { bucket = n; offer = x; verdict = verdict }) b ∙ ap (λ (w : Option Verdict). judged_as buckets (x, w)) v
 
 pub loop-offer-preserved : goal.loop-offer-preserved

@@ -3,7 +3,7 @@ use Rattle.std.specs.Prelude.{replicate}
 use Rattle.std.proofs.lemmas.List.{length-map, get_or-map, take_more, take-map, take_min}
 use Rattle.irl_offer.specs.Tuple.{Tuple}
 use Rattle.irl_model.specs.Book.{stretch, stretches, last_cut}
-use Rattle.irl_model.specs.Plain.{items_of}
+use Rattle.irl_base.specs.Lists.{items_of}
 use Rattle.irl_model.proofs.Merges.{last_more}
 use Rattle.irl_model.proofs.PlainLemmas.{stretches_more, stretches_buckets}
 use Rattle.irl_model.proofs.plain.judged_offers.Goals as goal

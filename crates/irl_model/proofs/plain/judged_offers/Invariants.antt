@@ -1,7 +1,7 @@
 use Rattle.std.proofs.Common.{◌≡◌, take}
 use Rattle.std.specs.Prelude.{replicate}
 use Rattle.irl_model.specs.Book.{stretches, last_cut}
-use Rattle.irl_model.specs.Plain.{items_of}
+use Rattle.irl_base.specs.Lists.{items_of}
 use Rattle.irl_model.proofs.plain.judged_offers.Given as goal
 
 -- what the cuts so far judge, and the last of them

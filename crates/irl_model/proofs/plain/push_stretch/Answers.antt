@@ -3,7 +3,7 @@ use Rattle.std.specs.Prelude.{replicate}
 use Rattle.std.proofs.lemmas.List.{length-map, get_or-map}
 use Rattle.irl_offer.specs.Tuple.{Tuple}
 use Rattle.irl_model.specs.Book.{stretch}
-use Rattle.irl_model.specs.Plain.{items_of}
+use Rattle.irl_base.specs.Lists.{items_of}
 use Rattle.irl_model.proofs.PlainLemmas.{stretch_more, stretch_ends}
 use Rattle.irl_model.proofs.plain.push_stretch.Goals as goal
 
@@ -31,4 +31,5 @@ returns c = λ buckets enough.
     let lists = items_of c.args.lists.now in
     let many : length lists ≡ length c.args.lists.now = length-map c.args.lists.now (λ v. v.items) in
     c.loop-b.invariant buckets enough
-    ∙ ap (λ (os : List Tuple). c.args.offers.now.items ++ os) (stretch_ends (replicate buckets 0) c.args.from.now c.args.to.now lists c.loop-b.b (omega (arith, many, c.min.ensures, c.min-count.ensures)))
+    ∙ ap (λ (os : List Tuple). c.args.offers.now.items ++ os) (stretch_ends (replicate buckets 0) c.args.from.now c.args.to.now lists c.loop-b.b
+    (omega (arith, many, c.min.ensures, c.min-count.ensures)))

@@ -1,7 +1,7 @@
 use Rattle.std.proofs.Common.{◌≡◌, ◌≤◌, ◌++◌, ℕ, length, take}
 use Rattle.std.specs.Prelude.{replicate}
 use Rattle.irl_model.specs.Book.{stretch}
-use Rattle.irl_model.specs.Plain.{items_of}
+use Rattle.irl_base.specs.Lists.{items_of}
 use Rattle.irl_model.proofs.plain.push_stretch.Given as goal
 
 -- the parts of the buckets so far stand behind the others

@@ -13,4 +13,5 @@ pub loop-line-preserved : goal.loop-line-preserved
 loop-line-preserved c =
     let steps = c.in-Some.ensures.steps in
     let same : c.in_ok-to_vec.field-0.items ≡ c.in-Some.line.now = search rules in
-    reads_more c.loop-line.names c.insert.new.self c.in_ok-to_vec.field-0 c.args.text.now c.loop-line.number _ c.in-Some.line.now _ c.loop-line.invariant steps (sym c.if-not-is_name.ensures) same c.in_ok-insert.ensures.keys
+    reads_more c.loop-line.names c.insert.new.self c.in_ok-to_vec.field-0 c.args.text.now c.loop-line.number _ c.in-Some.line.now _ c.loop-line.invariant steps (sym c.if-not-is_name.ensures) same
+    c.in_ok-insert.ensures.keys

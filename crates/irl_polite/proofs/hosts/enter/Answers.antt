@@ -2,7 +2,7 @@ use Rattle.std.proofs.Common.{◌≡◌, ◌∙◌, ℕ, ◌++◌, ◌∷◌, []
 use Rattle.std.specs.Prelude.{bytes_eq}
 use Rattle.irl_polite.specs.Inside.{place_of, Grows}
 use Rattle.irl_polite.proofs.Lists.{none_of}
-use Rattle.irl_polite.proofs.TextPlaces.{value_at-insert}
+use Rattle.irl_base.proofs.TextMaps.{value_at-insert}
 use Rattle.irl_polite.proofs.GrowLemmas.{grows_entered}
 use Rattle.irl_polite.proofs.hosts.enter.Goals as goal
 

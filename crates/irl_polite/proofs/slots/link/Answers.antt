@@ -71,7 +71,8 @@ loop-at-preserved c =
       within = omega arith;
       hosts = ap (map bare_host) linked.1 ∙ bare_hosts_kept hosts slots at slot work owner some.1 value.1 held ∙ i.hosts;
       slots = ap (map bare_slot) linked.0 ∙ bare_slots_kept hosts slots at slot work owner some.1 value.1 held ∙ i.slots;
-      firsts = subst (λ hs. AreFirsts hs c.link_one.new.slots.items at) (sym linked.1) (subst (λ ss. AreFirsts (set hosts slot.host (record owner { first = Some at })) ss at) (sym linked.0) new_firsts);
+      firsts = subst (λ hs. AreFirsts hs c.link_one.new.slots.items at) (sym linked.1)
+          (subst (λ ss. AreFirsts (set hosts slot.host (record owner { first = Some at })) ss at) (sym linked.0) new_firsts);
       nexts = subst (λ ss. AreNexts ss at) (sym linked.0) new_nexts;
     }
 

@@ -29,7 +29,8 @@ loop-at-preserved c =
     let ready : IsReady host = all_at IsReady c.args.hosts.now slot.host host held c.requires.ready in
     let i = c.loop-at.invariant in
     record {
-      begun = begun_more c.args.hosts.now c.args.slots.now (heap_items c.loop-at.turns) (heap_items c.begin_one.new.turns) c.loop-at.at slot.host host held ready left c.requires.firsts i.begun c.begin_one.ensures.turns;
+      begun = begun_more c.args.hosts.now c.args.slots.now (heap_items c.loop-at.turns) (heap_items c.begin_one.new.turns) c.loop-at.at slot.host host held ready left c.requires.firsts i.begun
+          c.begin_one.ensures.turns;
       heap = c.begin_one.ensures.heap;
       room = let a = i.room in let b = c.begin_one.ensures.room in omega arith;
     }

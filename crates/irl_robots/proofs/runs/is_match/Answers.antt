@@ -11,22 +11,26 @@ returns-then-first-eq42 c =
 pub returns-then-is_end_mark : goal.returns-then-is_end_mark
 returns-then-is_end_mark c =
     c.is_empty.ensures
-    ∙ sym (first-end c.loop-first.rest.now c.in-Some.others.now c.loop-first.left.now c.in-Some.first.now c.in-Some.ensures.cases.0 c.if-first-eq42.false (sym c.is_end_mark.ensures ∙ c.if-is_end_mark.true))
+    ∙ sym (first-end c.loop-first.rest.now c.in-Some.others.now c.loop-first.left.now c.in-Some.first.now c.in-Some.ensures.cases.0 c.if-first-eq42.false (sym c.is_end_mark.ensures
+    ∙ c.if-is_end_mark.true))
     ∙ c.loop-first.invariant
 
 pub returns-in_default-split_first : goal.returns-in_default-split_first
 returns-in_default-split_first c =
-    sym (first-past c.loop-first.rest.now c.in-Some.others.now c.loop-first.left.now c.in-Some.first.now c.in-Some.ensures.cases.0 c.if-first-eq42.false (sym c.is_end_mark.ensures ∙ c.if-is_end_mark.false) c.in_default-split_first.ensures.cases)
+    sym (first-past c.loop-first.rest.now c.in-Some.others.now c.loop-first.left.now c.in-Some.first.now c.in-Some.ensures.cases.0 c.if-first-eq42.false (sym c.is_end_mark.ensures
+    ∙ c.if-is_end_mark.false) c.in_default-split_first.ensures.cases)
     ∙ c.loop-first.invariant
 
 pub returns-then-octet-first : goal.returns-then-octet-first
 returns-then-octet-first c =
-    sym (first-unmet c.loop-first.rest.now c.in-Some.others.now c.loop-first.left.now c.in-Some-split_first.behind.now c.in-Some.first.now c.in-Some-split_first.octet.now c.in-Some.ensures.cases.0 c.if-first-eq42.false (sym c.is_end_mark.ensures ∙ c.if-is_end_mark.false) c.in-Some-split_first.ensures.cases.0 c.if-octet-first.true)
+    sym (first-unmet c.loop-first.rest.now c.in-Some.others.now c.loop-first.left.now c.in-Some-split_first.behind.now c.in-Some.first.now c.in-Some-split_first.octet.now c.in-Some.ensures.cases.0
+    c.if-first-eq42.false (sym c.is_end_mark.ensures ∙ c.if-is_end_mark.false) c.in-Some-split_first.ensures.cases.0 c.if-octet-first.true)
     ∙ c.loop-first.invariant
 
 pub loop-first-preserved : goal.loop-first-preserved
 loop-first-preserved c =
-    sym (first-met c.loop-first.rest.now c.in-Some.others.now c.loop-first.left.now c.in-Some-split_first.behind.now c.in-Some.first.now c.in-Some-split_first.octet.now c.in-Some.ensures.cases.0 c.if-first-eq42.false (sym c.is_end_mark.ensures ∙ c.if-is_end_mark.false) c.in-Some-split_first.ensures.cases.0 c.if-octet-first.false)
+    sym (first-met c.loop-first.rest.now c.in-Some.others.now c.loop-first.left.now c.in-Some-split_first.behind.now c.in-Some.first.now c.in-Some-split_first.octet.now c.in-Some.ensures.cases.0
+    c.if-first-eq42.false (sym c.is_end_mark.ensures ∙ c.if-is_end_mark.false) c.in-Some-split_first.ensures.cases.0 c.if-octet-first.false)
     ∙ c.loop-first.invariant
 
 pub returns : goal.returns

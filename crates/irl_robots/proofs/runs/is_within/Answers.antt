@@ -29,7 +29,8 @@ returns-in_default-split_last c =
     let rest = c.loop-run.rest.now in
     let other : (front : List ℕ) → rest ≢ front ++ 36 ∷ [] =
     elim c.in_default-split_last.branch [
-      | in_default-split_last-via-in-Some-split_last+else-last-eq36 w ↦ other-last rest w.in-Some-split_last.run'.now w.in-Some-split_last.last.now w.in-Some-split_last.ensures.cases.0 w.if-last-eq36.false
+      | in_default-split_last-via-in-Some-split_last+else-last-eq36 w ↦ other-last rest w.in-Some-split_last.run'.now w.in-Some-split_last.last.now w.in-Some-split_last.ensures.cases.0
+          w.if-last-eq36.false
       | in_default-split_last-via-in_default-split_last w ↦ no-last rest w.in_default-split_last.ensures.cases
     ]
     in

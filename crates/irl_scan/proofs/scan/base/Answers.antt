@@ -29,7 +29,8 @@ returns-in-Base-clause-found c =
     let same = c.loop-cursor.invariant.size in
     let fits = c.loop-cursor.cursor.fits in
     let takes = subst (λ n. Takes (n - length rest) rest c.read_piece-found.result next) same c.read_piece-found.ensures.takes in
-    base_found page (Some c.in-Base.span) (base_stops (length page) page rest next c.read_piece-found.result c.in-Base.span (omega arith) (omega arith) takes c.in-Base.is c.loop-cursor.invariant.goes_on)
+    base_found page (Some c.in-Base.span) (base_stops (length page) page rest next c.read_piece-found.result c.in-Base.span (omega arith) (omega arith) takes c.in-Base.is
+    c.loop-cursor.invariant.goes_on)
 
 pub returns-in-Base-clause-only : goal.returns-in-Base-clause-only
 returns-in-Base-clause-only c =
@@ -39,7 +40,8 @@ returns-in-Base-clause-only c =
     let same = c.loop-cursor.invariant.size in
     let fits = c.loop-cursor.cursor.fits in
     let takes = subst (λ n. Takes (n - length rest) rest c.read_piece-found.result next) same c.read_piece-found.ensures.takes in
-    base_only page (Some c.in-Base.span) (base_stops (length page) page rest next c.read_piece-found.result c.in-Base.span (omega arith) (omega arith) takes c.in-Base.is c.loop-cursor.invariant.goes_on)
+    base_only page (Some c.in-Base.span) (base_stops (length page) page rest next c.read_piece-found.result c.in-Base.span (omega arith) (omega arith) takes c.in-Base.is
+    c.loop-cursor.invariant.goes_on)
 
 pub returns-clause-found : goal.returns-clause-found
 returns-clause-found c =

@@ -7,7 +7,8 @@ use Rattle.irl_scan.proofs.scan.links.Given as goal
 
 abbrev pub invariant-loop-cursor : goal.invariant-loop-cursor
 invariant-loop-cursor l = record {
-  goes_on : (more : List Span) (base : Option Span) → Gives (length l.fn.page - length l.cursor.rest.now) l.cursor.rest.now more base → (other : Option Span) × Gives 0 l.fn.page (l.spans.items ++ more) other;
+  goes_on : (more : List Span) (base : Option Span) → Gives (length l.fn.page - length l.cursor.rest.now) l.cursor.rest.now more base → (other : Option Span)
+      × Gives 0 l.fn.page (l.spans.items ++ more) other;
   size : l.cursor.size ≡ length l.fn.page;
   within : All (IsWithin (length l.fn.page)) l.spans.items;
 }

@@ -7,7 +7,7 @@ use Rattle.std.proofs.lemmas.Option.{slice_get-map, slice_get-get_or}
 use Rattle.std.proofs.lemmas.List.{length-map}
 use Rattle.irl_star.specs.Ranks.{domain_of}
 use Rattle.irl_star.proofs.RankLemmas.{ranks_more, ranks_enough}
-use Rattle.irl_star.proofs.TextMaps.{value_at-insert}
+use Rattle.irl_base.proofs.TextMaps.{value_at-insert}
 use Rattle.irl_star.proofs.ranking.ranks_of.Goals as goal
 
 pub loop-rank-preserved : goal.loop-rank-preserved

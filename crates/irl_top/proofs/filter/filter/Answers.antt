@@ -16,11 +16,11 @@ use Rattle.irl_top.proofs.filter.filter.Given.{Over}
 use Rattle.irl_top.proofs.filter.filter.Goals as goal
 
 abbrev at : (g : Over) → g.row.S.Denot → Parts → List Waiting → g.row.O.Denot → ℕ → Place
-at g store parts arrays output printed = place g.S.Store.snapshot g.S.Store.faults g.O.Sink.written g.O.Sink.faults store parts arrays output printed
+at g store parts arrays output printed = place g.S.Store.told g.O.Sink.written g.O.Sink.faults store parts arrays output printed
 
 -- what the three objects tell
 abbrev told : (g : Over) → g.row.S.Denot → g.row.I.Denot → g.row.O.Denot → Lent
-told g store input output = lent g.S.Store.snapshot g.S.Store.faults g.I.Source.left g.I.Source.faults g.O.Sink.written g.O.Sink.faults store input output
+told g store input output = lent g.S.Store.told g.I.Source.left g.I.Source.faults g.O.Sink.written g.O.Sink.faults store input output
 
 pub returns-in-Err : goal.returns-in-Err
 returns-in-Err g c =
@@ -71,7 +71,8 @@ returns-in-Err-new g c =
       empty = λ b. refl;
     } in
     let ran = ran_opened c.args.kind asked before here here input [] NoMemory (g.met.S.Store.is_consistent c.args.store) law law h.drum entered (reason_input here NoMemory law (inl refl))
-    (read_some c.args.kind start (left c.args.input.now) (left c.args.input.now) (left c.args.input.now) [] NoMemory (told_none c.args.kind start (left c.args.input.now)) (λ is. let no : ⊥ = cc in absurd no) (λ n is. let no : ⊥ = cc in absurd no))
+    (read_some c.args.kind start (left c.args.input.now) (left c.args.input.now) (left c.args.input.now) [] NoMemory (told_none c.args.kind start (left c.args.input.now)) (λ is. let no : ⊥ = cc in
+    absurd no) (λ n is. let no : ⊥ = cc in absurd no))
     (record { later = omega arith; rose = λ is. let no : ⊥ = cc in absurd no }) (stop_plain c.args.kind here law h.drum (λ b within. omega arith)) in
     let back = c.into_store.ensures ∙ ap (λ (y : _). y.store) c.in-Err-new.ensures.refused in
     subst (λ (s : g.row.S.Denot). Ran (line_task c.args.kind asked) before (told g s c.args.input.now c.args.output.now) NoMemory) (sym back) ran
@@ -105,8 +106,10 @@ returns g c =
       printed = c.judged_len-printed.ensures.value;
       empty = c.in-Ok-new.ensures.empty;
     } in
-    let entered : IsEntered asked before old = subst (λ (y : _). IsEntered asked before (at g y.store y.parts intake.arrays.items c.args.output.now c.judged_len-printed.result)) (sym c.in-Ok-new.ensures.yard) first in
+    let entered : IsEntered asked before old = subst (λ (y : _). IsEntered asked before (at g y.store y.parts intake.arrays.items c.args.output.now c.judged_len-printed.result))
+    (sym c.in-Ok-new.ensures.yard) first in
     let taken = c.take_in-taken.ensures in
-    let ran = ran_opened c.args.kind asked before old new input taken.ends.0 ending (g.met.S.Store.is_consistent c.args.store) (g.met.S.Store.is_consistent intake.yard.store) (g.met.S.Store.is_consistent later.yard.store) c.is_sound-is_sound.ensures.drum entered taken.reason taken.ends.1 taken.cause taken.ends.2 in
+    let ran = ran_opened c.args.kind asked before old new input taken.ends.0 ending (g.met.S.Store.is_consistent c.args.store) (g.met.S.Store.is_consistent intake.yard.store)
+    (g.met.S.Store.is_consistent later.yard.store) c.is_sound-is_sound.ensures.drum entered taken.reason taken.ends.1 taken.cause taken.ends.2 in
     subst (λ (e : Ending). Ran (line_task c.args.kind asked) before (told g c.into_store-2.result c.take_in-taken.new.input c.take_in-taken.new.output) e) (sym c.of.ensures)
     (subst (λ (s : g.row.S.Denot). Ran (line_task c.args.kind asked) before (told g s c.take_in-taken.new.input c.take_in-taken.new.output) ending) (sym c.into_store-2.ensures) ran)

@@ -13,7 +13,7 @@ use Rattle.irl_top.proofs.filter.take_in.Given.{Over}
 use Rattle.irl_top.proofs.filter.take_in.Goals as goal
 
 abbrev at : (g : Over) → g.row.S.Denot → Parts → List Waiting → g.row.O.Denot → ℕ → Place
-at g store parts arrays output printed = place g.S.Store.snapshot g.S.Store.faults g.O.Sink.written g.O.Sink.faults store parts arrays output printed
+at g store parts arrays output printed = place g.S.Store.told g.O.Sink.written g.O.Sink.faults store parts arrays output printed
 
 pub offers-init : goal.offers-init
 offers-init g c =
@@ -37,8 +37,10 @@ returns-in_err-lines-clause-ends g c =
     let before = at g c.args.intake.now.yard.store c.args.intake.now.yard.parts c.args.intake.now.arrays.items c.args.output.now c.args.printed.now in
     rw (err_is c.from_residual.result NoMemory c.from_residual.ensures.1) (
       [],
-      read_some c.args.kind start (left c.args.input.now) (left c.args.input.now) (left c.args.input.now) [] NoMemory (told_none c.args.kind start (left c.args.input.now)) (λ is. let no : ⊥ = cc in absurd no) (λ n is. let no : ⊥ = cc in absurd no),
-      stop_here c.args.kind before NoMemory law c.is_sound-is_sound.ensures.drum c.args.intake.now.arrays_are (λ is. let no : ⊥ = cc in absurd no) (λ b is. let no : ⊥ = cc in absurd no) (λ all. absurd (memory_plain.printed all)),
+      read_some c.args.kind start (left c.args.input.now) (left c.args.input.now) (left c.args.input.now) [] NoMemory (told_none c.args.kind start (left c.args.input.now)) (λ is. let no : ⊥ = cc in
+          absurd no) (λ n is. let no : ⊥ = cc in absurd no),
+      stop_here c.args.kind before NoMemory law c.is_sound-is_sound.ensures.drum c.args.intake.now.arrays_are (λ is. let no : ⊥ = cc in absurd no) (λ b is. let no : ⊥ = cc in
+          absurd no) (λ all. absurd (memory_plain.printed all)),
     )
 
 pub returns-in_err-offer-clause-ends : goal.returns-in_err-offer-clause-ends
@@ -52,10 +54,12 @@ returns-in_err-offer-clause-ends g c =
     let now = at g c.offers.intake.yard.store c.offers.intake.yard.parts c.offers.intake.arrays.items c.offers.output c.offers.printed in
     rw (err_is c.from_residual-in_err-offer.result ending c.from_residual-in_err-offer.ensures.1) (
       news,
-      read_some c.args.kind c.offers.lines (left c.args.input.now) (left c.offers.input) (left c.next_offer.new.input) news ending i.reads (input_done ending h.kinds) (λ n is. h.refused n (rw is refl)),
+      read_some c.args.kind c.offers.lines (left c.args.input.now) (left c.offers.input) (left c.next_offer.new.input) news ending i.reads (input_done ending h.kinds) (λ n is.
+          h.refused n (rw is refl)),
       subst (λ (l : List Tuple). EndsWith c.args.kind 1 one_more l before now ending) (append-nil news)
           (goes_on_ends c.args.kind 0 1 none_more one_more news [] before now now ending i.reason.stays i.goes
-          (stop_here c.args.kind now ending (g.met.S.Store.is_consistent c.offers.intake.yard.store) c.is_sound-is_sound-in-offers.ensures.drum c.offers.intake.arrays_are (input_done ending h.kinds) (input_full ending h.kinds) (λ all. i.whole))),
+          (stop_here c.args.kind now ending (g.met.S.Store.is_consistent c.offers.intake.yard.store) c.is_sound-is_sound-in-offers.ensures.drum c.offers.intake.arrays_are (input_done ending h.kinds)
+          (input_full ending h.kinds) (λ all. i.whole))),
     )
 
 pub offers-preserved : goal.offers-preserved
@@ -92,7 +96,8 @@ returns-in_err-take_offer-in-Some-clause-ends g c =
     let new = at g c.take_offer.new.intake.yard.store c.take_offer.new.intake.yard.parts c.take_offer.new.intake.arrays.items c.take_offer.new.output c.take_offer.new.printed in
     rw (err_is c.from_residual-in_err-take_offer-in-Some.result ending c.from_residual-in_err-take_offer-in-Some.ensures.1) (
       news,
-      read_some c.args.kind c.offers.lines (left c.args.input.now) (left c.offers.input) (left c.next_offer.new.input) news ending i.reads (λ is. h.kinds (inl is)) (λ n is. absurd (h.kinds (inr (inl (n, is))))),
+      read_some c.args.kind c.offers.lines (left c.args.input.now) (left c.offers.input) (left c.next_offer.new.input) news ending i.reads (λ is. h.kinds (inl is)) (λ n is.
+          absurd (h.kinds (inr (inl (n, is))))),
       subst (λ (l : List Tuple). EndsWith c.args.kind 1 one_more l before new ending) (append-nil news)
           (ends_lifted c.args.kind news before now new ending (g.met.S.Store.is_consistent c.offers.intake.yard.store) c.is_sound-is_sound-in-offers.ensures.drum i.reason.stays i.goes h.ends),
     )
@@ -119,7 +124,8 @@ returns-in-None-clause-ends g c =
     let new = at g c.end_input.new.intake.yard.store c.end_input.new.intake.yard.parts c.end_input.new.intake.arrays.items c.end_input.new.output c.end_input.new.printed in
     let ended : EndsTold c.args.kind c.offers.lines (left c.offers.input) (left c.next_offer.new.input) = c.in_ok-offer.ensures.none c.in-None.is in (
       news,
-      read_all c.args.kind c.offers.lines (left c.args.input.now) (left c.offers.input) (left c.next_offer.new.input) news ending i.reads ended (no_line_of c.end_input.result c.end_input.ensures.kinds),
+      read_all c.args.kind c.offers.lines (left c.args.input.now) (left c.offers.input) (left c.next_offer.new.input) news ending i.reads ended
+          (no_line_of c.end_input.result c.end_input.ensures.kinds),
       subst (λ (l : List Tuple). EndsWith c.args.kind 1 one_more l before new ending) (append-nil news)
           (goes_on_ends c.args.kind 0 1 none_more one_more news [] before now new ending i.reason.stays i.goes c.end_input.ensures.ends),
     )

@@ -11,7 +11,7 @@ use Rattle.irl_top.proofs.filter.take_in.Given as goal
 -- the offers so far were handed in, and what was judged is printed
 abbrev pub invariant-offers : goal.invariant-offers
 invariant-offers g l =
-    let at = place g.S.Store.snapshot g.S.Store.faults g.O.Sink.written g.O.Sink.faults in
+    let at = place g.S.Store.told g.O.Sink.written g.O.Sink.faults in
     let before = at l.fn.intake.yard.store l.fn.intake.yard.parts l.fn.intake.arrays.items l.fn.output l.fn.printed in
     let now = at l.intake.yard.store l.intake.yard.parts l.intake.arrays.items l.output l.printed in
     (news : List Tuple) × record {

@@ -10,7 +10,7 @@ use Rattle.irl_top.proofs.program.run.Goals as goal
 
 -- what is told of all that a run is handed
 abbrev told : (g : Over) → g.row.S.Denot → g.row.I.Denot → g.row.O.Denot → g.row.E.Denot → Outside
-told g store input output errors = outside g.S.Store.snapshot g.S.Store.faults g.I.Source.left g.I.Source.faults g.O.Sink.written g.O.Sink.faults g.E.Sink.written g.E.Sink.faults store input output errors
+told g store input output errors = outside g.S.Store.told g.I.Source.left g.I.Source.faults g.O.Sink.written g.O.Sink.faults g.E.Sink.written g.E.Sink.faults store input output errors
 
 pub returns-in-Ok : goal.returns-in-Ok
 returns-in-Ok g c =
@@ -27,6 +27,6 @@ returns-in-Err-Refused g c =
     let is : command_of (map (λ (word : Bor (List ℕ)). word.now) c.args.words.now) ≡ Err word = refused ∙ ap (λ (w : List ℕ). Err w) (sym c.in-Err-Refused.word-is ∙ sym c.bytes.ensures) in
     inl (subst (λ (r : Result Command (List ℕ)). Answers r before after 1) (sym is) (record {
       status_is = refl;
-      untouched = record { files = refl; images = λ image left. left; since = λ t image left. left; moment = refl; disk_faults = refl; input = refl; output = refl };
+      untouched = record { files = refl; images = λ image left. left; since = λ t image left. left; moment = refl; taken = refl; faults = refl; input = refl; output = refl };
       says = says_of c.tell_refused.result _ _ _ c.tell_refused.ensures.ok c.tell_refused.ensures.err c.tell_refused.ensures.cause;
     }))

@@ -15,7 +15,7 @@ use Rattle.irl_top.proofs.session.print_new.Given.{Over}
 use Rattle.irl_top.proofs.session.print_new.Goals as goal
 
 abbrev at : (g : Over) → g.row.S.Denot → Parts → List Waiting → g.row.O.Denot → ℕ → Place
-at g store parts arrays output printed = place g.S.Store.snapshot g.S.Store.faults g.O.Sink.written g.O.Sink.faults store parts arrays output printed
+at g store parts arrays output printed = place g.S.Store.told g.O.Sink.written g.O.Sink.faults store parts arrays output printed
 
 pub loop-printed-init : goal.loop-printed-init
 loop-printed-init g c = record {
@@ -36,7 +36,8 @@ returns-in_err-judged-clause-ends g c =
     let new = at g c.judged_from.new.self.yard.store c.judged_from.new.self.yard.parts c.judged_from.new.self.arrays.items c.loop-printed.output c.loop-printed.printed in
     rw (err_is c.from_residual.result (ending_of_store fault) c.from_residual.ensures.1)
     (goes_on_ends c.args.kind 0 0 none_more none_more [] [] before now new (ending_of_store fault) i.reason.stays i.goes
-    (ends_on c.args.kind 0 none_more [] now new (ending_of_store fault) (g.met.S.Store.is_consistent c.judged_from.new.self.yard.store) (subst IsDrum (sym (h.kept ∙ i.urls)) c.is_sound-is_sound.ensures.drum) c.judged_from.new.self.arrays_are h.stays
+    (ends_on c.args.kind 0 none_more [] now new (ending_of_store fault) (g.met.S.Store.is_consistent c.judged_from.new.self.yard.store)
+    (subst IsDrum (sym (h.kept ∙ i.urls)) c.is_sound-is_sound.ensures.drum) c.judged_from.new.self.arrays_are h.stays
     (last_of_store now new fault (λ n e. absurd (h.full n (rw e refl))) (λ n e. absurd (h.full n (rw e refl)))) (goes_call c.args.kind 0 none_more [] now new refl refl h.fed)))
 
 pub returns-in_err-judged-clause-reason : goal.returns-in_err-judged-clause-reason
@@ -49,7 +50,8 @@ returns-in_err-judged-clause-reason g c =
     let new = at g c.judged_from.new.self.yard.store c.judged_from.new.self.yard.parts c.judged_from.new.self.arrays.items c.loop-printed.output c.loop-printed.printed in
     rw (err_is c.from_residual.result (ending_of_store fault) c.from_residual.ensures.1)
     (reason_then c.args.kind 0 none_more [] before now new Done (ending_of_store fault) (g.met.S.Store.is_consistent c.loop-printed.intake.yard.store) i.goes i.reason
-    (reason_call now new fault h.stays (record { later = h.cause.later; rose = λ e. h.cause.rose (rw e refl) }) refl (λ f place e files tells. inr (h.damaged f place (rw e refl) files tells)) (λ f place e files tells. c.judged_from.new.self.yard.long (h.sound (λ failed. cc)).0 files tells) (λ f place e. h.whole f place (rw e refl))))
+    (reason_call now new fault h.stays (record { later = h.cause.later; rose = λ e. h.cause.rose (rw e refl) }) refl (λ f place e files tells. inr (h.damaged f place (rw e refl) files tells))
+    (λ f place e files tells. c.judged_from.new.self.yard.long (h.sound (λ failed. cc)).0 files tells) (λ f place e. h.whole f place (rw e refl))))
 
 pub returns-in_err-print_piece-clause-ends : goal.returns-in_err-print_piece-clause-ends
 returns-in_err-print_piece-clause-ends g c =
@@ -63,7 +65,8 @@ returns-in_err-print_piece-clause-ends g c =
     let part : AppendsPrefix now.output.bytes new.output.bytes (judged_lines c.args.kind found) = c.in_err-print_piece.ensures.err in
     rw (err_is c.from_residual-in_err-print_piece.result ending c.from_residual-in_err-print_piece.ensures.1)
     (goes_on_ends c.args.kind 0 0 none_more none_more [] [] before now new ending i.reason.stays i.goes
-    (ends_piece c.args.kind now new 2048 found ending (g.met.S.Store.is_consistent c.judged_from.new.self.yard.store) (subst IsDrum (sym (h.kept ∙ i.urls)) c.is_sound-is_sound.ensures.drum) h.stays c.judged_from.new.self.arrays_are (piece_plain ending c.in_err-print_piece.ensures.kinds) h.fed h.value part))
+    (ends_piece c.args.kind now new 2048 found ending (g.met.S.Store.is_consistent c.judged_from.new.self.yard.store) (subst IsDrum (sym (h.kept ∙ i.urls)) c.is_sound-is_sound.ensures.drum) h.stays
+    c.judged_from.new.self.arrays_are (piece_plain ending c.in_err-print_piece.ensures.kinds) h.fed h.value part))
 
 pub returns-in_err-print_piece-clause-reason : goal.returns-in_err-print_piece-clause-reason
 returns-in_err-print_piece-clause-reason g c =
@@ -89,11 +92,13 @@ loop-printed-preserved g c =
     let new = at g c.judged_from.new.self.yard.store c.judged_from.new.self.yard.parts c.judged_from.new.self.arrays.items c.print_piece.new.output (c.loop-printed.printed + c.len.result) in
     let written : Appends now.output.bytes new.output.bytes (judged_lines c.args.kind found) = k.ok in
     record {
-      goes = goes_on_both c.args.kind 0 0 none_more none_more [] [] before now new i.reason.stays i.goes (goes_on_piece c.args.kind now new 2048 found h.fed h.value (omega (arith, c.len.ensures)) written);
+      goes = goes_on_both c.args.kind 0 0 none_more none_more [] [] before now new i.reason.stays i.goes
+          (goes_on_piece c.args.kind now new 2048 found h.fed h.value (omega (arith, c.len.ensures)) written);
       sound = h.sound (λ e. cc);
       urls = h.kept ∙ i.urls;
       arrays = h.waiting ∙ i.arrays;
-      reason = reason_then c.args.kind 0 none_more [] before now new Done Done (g.met.S.Store.is_consistent c.loop-printed.intake.yard.store) i.goes i.reason (reason_went now new h.stays h.cause.later k.cause.later);
+      reason = reason_then c.args.kind 0 none_more [] before now new Done Done (g.met.S.Store.is_consistent c.loop-printed.intake.yard.store) i.goes i.reason
+          (reason_went now new h.stays h.cause.later k.cause.later);
     }
 
 pub returns-in_err-judged-clause-kinds : goal.returns-in_err-judged-clause-kinds

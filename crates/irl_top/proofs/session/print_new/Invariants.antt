@@ -8,7 +8,7 @@ use Rattle.irl_top.proofs.session.print_new.Given as goal
 -- the pieces so far are printed
 abbrev pub invariant-loop-printed : goal.invariant-loop-printed
 invariant-loop-printed g l =
-    let at = place g.S.Store.snapshot g.S.Store.faults g.O.Sink.written g.O.Sink.faults in
+    let at = place g.S.Store.told g.O.Sink.written g.O.Sink.faults in
     let before = at l.fn.intake.yard.store l.fn.intake.yard.parts l.fn.intake.arrays.items l.fn.output l.fn.printed in
     let now = at l.intake.yard.store l.intake.yard.parts l.intake.arrays.items l.output l.printed in
     record {

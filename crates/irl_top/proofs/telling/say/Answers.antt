@@ -10,7 +10,8 @@ returns-in_err-write-clause-err g c =
 
 pub loop-piece-preserved : goal.loop-piece-preserved
 loop-piece-preserved g c = record {
-  written = subst (λ (l : List ℕ). Appends (g.E.Sink.written c.args.errors.now) (g.E.Sink.written c.write.new.self) l) (sym (flat-more (λ (piece : Bor (List ℕ)). piece.now) c.args.pieces.now c.loop-piece.piece-index _ (omega arith)))
+  written = subst (λ (l : List ℕ). Appends (g.E.Sink.written c.args.errors.now) (g.E.Sink.written c.write.new.self) l)
+      (sym (flat-more (λ (piece : Bor (List ℕ)). piece.now) c.args.pieces.now c.loop-piece.piece-index _ (omega arith)))
       (appends_both _ _ _ _ _ c.loop-piece.invariant.written c.in_ok-write.ensures.ok);
   later = omega (arith, c.loop-piece.invariant.later, c.in_ok-write.ensures.cause.later);
 }

@@ -1,7 +1,21 @@
 use Rattle.irl_top.proofs.telling.tell_other.Goals as goal
 
 pub returns-clause-ok : goal.returns-clause-ok
-returns-clause-ok g c = rw (← c.format.ensures.text, ← c.as_bytes.ensures.value, ← c.format-2.ensures.text, ← c.as_bytes-2.ensures.value, ← c.format-3.ensures.text, ← c.as_bytes-3.ensures.value) c.say.ensures.ok
+returns-clause-ok g c = rw (
+  ← c.format.ensures.text,
+  ← c.as_bytes.ensures.value,
+  ← c.format-2.ensures.text,
+  ← c.as_bytes-2.ensures.value,
+  ← c.format-3.ensures.text,
+  ← c.as_bytes-3.ensures.value,
+) c.say.ensures.ok
 
 pub returns-clause-err : goal.returns-clause-err
-returns-clause-err g c = rw (← c.format.ensures.text, ← c.as_bytes.ensures.value, ← c.format-2.ensures.text, ← c.as_bytes-2.ensures.value, ← c.format-3.ensures.text, ← c.as_bytes-3.ensures.value) c.say.ensures.err
+returns-clause-err g c = rw (
+  ← c.format.ensures.text,
+  ← c.as_bytes.ensures.value,
+  ← c.format-2.ensures.text,
+  ← c.as_bytes-2.ensures.value,
+  ← c.format-3.ensures.text,
+  ← c.as_bytes-3.ensures.value,
+) c.say.ensures.err

@@ -35,4 +35,5 @@ loop-byte-preserved c =
     }
 
 pub returns : goal.returns
-returns c = number_is c.args.radix c.args.digits.now c.loop-byte.byte-index c.loop-byte.number (omega (arith, c.loop-byte-test.false)) c.loop-byte.invariant.digits c.loop-byte.invariant.value c.loop-byte.invariant.fits
+returns c = number_is c.args.radix c.args.digits.now c.loop-byte.byte-index c.loop-byte.number (omega (arith, c.loop-byte-test.false)) c.loop-byte.invariant.digits c.loop-byte.invariant.value
+    c.loop-byte.invariant.fits

@@ -1,13 +1,28 @@
-use Rattle.std.proofs.Common.{◌≡◌, refl, subst, sym}
-use Rattle.irl_offer.specs.Settings.{AreValid, settings_of}
-use Rattle.irl_words.specs.Rows.{IsAskedBy}
-use Rattle.irl_words.specs.Words.{IsInRange, command_asking}
-use Rattle.irl_words.proofs.Taking.{asks_in_range}
+use Rattle.std.proofs.Common.{◌≡◌, ◌∙◌, Err, ap, codes, rules, sym}
+use Rattle.clap.specs.Words.{first_of, found_of, rows_of}
+use Rattle.clap.proofs.WalkLemmas.{first_value-rows}
+use Rattle.irl_words.specs.Words.{decided, rule_in, with_settings}
+use Rattle.irl_words.proofs.Deciding.{drum_asks, drum_refused}
 use Rattle.irl_words.proofs.words.decide.Goals as goal
 
-pub returns-in-Some-clause-range : goal.returns-in-Some-clause-range
-returns-in-Some-clause-range c =
-    let by : IsAskedBy c.args.name c.in-Some.asked = rw c.in-Some.is at c.requires in
-    let made : c.of_new_store.result ≡ settings_of c.in-Some.asked = rw c.in-Some.is at c.of_new_store.ensures in
-    let asks : c.asking.result ≡ command_asking c.args.name c.in-Some.asked = rw c.in-Some.is at c.asking.ensures in
-    subst IsInRange (sym asks) (asks_in_range c.args.name c.in-Some.asked by (subst AreValid made (c.if-is_valid.ensures.0 refl)))
+pub returns-in_err-checked-in-Some-clause-refused : goal.returns-in_err-checked-in-Some-clause-refused
+returns-in_err-checked-in-Some-clause-refused c =
+    let rows = rows_of (found_of c.args.matches.now) in
+    let read : c.rule.result ≡ rule_in (first_of (codes "rule") rows) = c.rule.ensures ∙ ap rule_in (c.get_str.ensures ∙ first_value-rows (found_of c.args.matches.now) (codes "rule")) in
+    let asked = c.settings-asked-in-Some.ensures.value ∙ ap (with_settings rows) c.asked_for-in-Some.ensures in
+    let is : decided c.args.name c.args.word.now rows ≡ Err c.in_err-checked-in-Some.field-0.0.now =
+    drum_asks c.args.name c.args.word.now rows c.in-Some.rule _ _ c.in-Drum.is (sym read ∙ c.in-Some.is) asked c.in_err-checked-in-Some.ensures.refused in
+    search rules
+
+pub returns-in_ok-checked-in-Some-clause-command : goal.returns-in_ok-checked-in-Some-clause-command
+returns-in_ok-checked-in-Some-clause-command c =
+    let rows = rows_of (found_of c.args.matches.now) in
+    let read : c.rule.result ≡ rule_in (first_of (codes "rule") rows) = c.rule.ensures ∙ ap rule_in (c.get_str.ensures ∙ first_value-rows (found_of c.args.matches.now) (codes "rule")) in
+    let asked = c.settings-asked-in-Some.ensures.value ∙ ap (with_settings rows) c.asked_for-in-Some.ensures in
+    drum_asks c.args.name c.args.word.now rows c.in-Some.rule _ _ c.in-Drum.is (sym read ∙ c.in-Some.is) asked c.in_ok-checked-in-Some.ensures.asked
+
+pub returns-in-None-clause-refused : goal.returns-in-None-clause-refused
+returns-in-None-clause-refused c =
+    let rows = rows_of (found_of c.args.matches.now) in
+    let read : c.rule.result ≡ rule_in (first_of (codes "rule") rows) = c.rule.ensures ∙ ap rule_in (c.get_str.ensures ∙ first_value-rows (found_of c.args.matches.now) (codes "rule")) in
+    drum_refused c.args.name c.args.word.now rows c.in-Drum.is (sym read ∙ c.in-None.is)

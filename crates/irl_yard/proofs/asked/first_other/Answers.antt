@@ -4,7 +4,8 @@ use Rattle.irl_yard.proofs.asked.first_other.Goals.{in-Some+else-number-kept, in
 
 pub returns-then-number-kept-clause-found : goal.returns-then-number-kept-clause-found
 returns-then-number-kept-clause-found c =
-    first_differs c.args.asked.now c.args.kept.now c.loop-i.i c.in-Some.number c.asked_numbers-wanted.result c.numbers_of-kept.result c.asked_numbers-wanted.ensures c.numbers_of-kept.ensures c.loop-i-test.true c.in-Some.is c.if-number-kept.true c.loop-i.invariant
+    first_differs c.args.asked.now c.args.kept.now c.loop-i.i c.in-Some.number c.asked_numbers-wanted.result c.numbers_of-kept.result c.asked_numbers-wanted.ensures c.numbers_of-kept.ensures
+    c.loop-i-test.true c.in-Some.is c.if-number-kept.true c.loop-i.invariant
 
 pub loop-i-preserved : goal.loop-i-preserved
 loop-i-preserved c = elim c.match-wanted-i.branch [
@@ -13,4 +14,5 @@ loop-i-preserved c = elim c.match-wanted-i.branch [
 ]
 
 pub returns-clause-none : goal.returns-clause-none
-returns-clause-none c = λ none. all_agree c.args.asked.now c.args.kept.now c.loop-i.i c.asked_numbers-wanted.result c.numbers_of-kept.result c.asked_numbers-wanted.ensures c.numbers_of-kept.ensures c.loop-i-test.false c.loop-i.invariant
+returns-clause-none c = λ none. all_agree c.args.asked.now c.args.kept.now c.loop-i.i c.asked_numbers-wanted.result c.numbers_of-kept.result c.asked_numbers-wanted.ensures c.numbers_of-kept.ensures
+    c.loop-i-test.false c.loop-i.invariant

@@ -8,9 +8,9 @@ abbrev pub invariant-loop-f : goal.invariant-loop-f
 invariant-loop-f g l =
     let store = g.S.Store in
     record {
-      none : ForSome (store.snapshot l.fn.store).files (λ files. (f : ℕ) → 1 ≤ f → f < l.f → length (files f) ≤ 1);
-      same : (store.snapshot l.store).files ≡ (store.snapshot l.fn.store).files;
-      stops : LeavesSame (store.snapshot l.fn.store) (store.snapshot l.store);
-      taken : store.taken l.store ≡ store.taken l.fn.store;
-      later : store.faults l.fn.store ≤ store.faults l.store;
+      none : ForSome (store.told l.fn.store).files (λ files. (f : ℕ) → 1 ≤ f → f < l.f → length (files f) ≤ 1);
+      same : (store.told l.store).files ≡ (store.told l.fn.store).files;
+      stops : LeavesSame (store.told l.fn.store) (store.told l.store);
+      taken : (store.told l.store).taken ≡ (store.told l.fn.store).taken;
+      later : (store.told l.fn.store).faults ≤ (store.told l.store).faults;
     }

@@ -4,7 +4,7 @@ use Rattle.irl_yard.proofs.enter.sync_files.Goals as goal
 
 pub loop-f-init : goal.loop-f-init
 loop-f-init g c =
-    let now = g.S.Store.snapshot c.args.store.now in
+    let now = g.S.Store.told c.args.store.now in
     record {
       synced = λ files told image left f above below. absurd (omega (arith, above, below));
       same = refl;
@@ -15,7 +15,7 @@ loop-f-init g c =
 
 pub loop-f-preserved : goal.loop-f-preserved
 loop-f-preserved g c =
-    let tells = g.S.Store.snapshot in
+    let tells = g.S.Store.told in
     let was = c.loop-f.invariant in
     let call = c.sync.ensures in
     let law = g.met.S.Store.is_consistent c.sync.new.self in

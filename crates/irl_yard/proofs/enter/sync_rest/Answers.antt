@@ -7,7 +7,7 @@ use Rattle.irl_yard.proofs.enter.sync_rest.Goals as goal
 -- what the first calls synced stays so
 pub returns-clause-synced : goal.returns-clause-synced
 returns-clause-synced g c =
-    let tells = g.S.Store.snapshot in
+    let tells = g.S.Store.told in
     let images = (tells c.sync_files-2.new.store).images in
     let back = left_now (tells c.sync_files.new.store) (tells c.sync_files-2.new.store) _ (g.met.S.Store.is_consistent c.sync_files-2.new.store) c.sync_files-2.ensures.stops in
     let further = left_now (tells c.sync.new.self) (tells c.sync_files.new.store) _ (g.met.S.Store.is_consistent c.sync_files.new.store) c.sync_files.ensures.stops in

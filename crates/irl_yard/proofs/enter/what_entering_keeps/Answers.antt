@@ -6,4 +6,5 @@ pub returns-clause-state : goal.returns-clause-state
 returns-clause-state g = λ asked told old new state kind has_told has enters. enters_keeps asked (Some told) told state old new kind refl has_told has enters
 
 pub returns-clause-records : goal.returns-clause-records
-returns-clause-records g = λ asked told old new state buckets b payloads has_told has enters within journal. enters_records asked (Some told) told state old new buckets b payloads refl has_told has enters within journal
+returns-clause-records g = λ asked told old new state buckets b payloads has_told has enters within journal.
+    enters_records asked (Some told) told state old new buckets b payloads refl has_told has enters within journal

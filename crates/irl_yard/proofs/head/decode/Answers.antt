@@ -19,7 +19,8 @@ returns-clause-found c =
     let version : little_number 4 (drop 8 c.args.payload.now) ≡ head_version = sym (ap (little_number 4) (to_end 8 c.args.payload.now)) ∙ sym c.read_u32.ensures ∙ c.if-read_u32-ne-VERSION.false in
     let are = c.settings_of.ensures in
     let within = c.in_default-first_bad_number.ensures.none refl in
-    let written = head_written c.args.payload.now c.numbers_in-numbers.result c.if-payload-ne-HEAD_LEN.false (search rules) (c.in_default.ensures.none refl) (version) (search rules) c.numbers_in-numbers.ensures in (
+    let written = head_written c.args.payload.now c.numbers_in-numbers.result c.if-payload-ne-HEAD_LEN.false (search rules) (c.in_default.ensures.none refl) (version) (search rules)
+    c.numbers_in-numbers.ensures in (
       valid_settings c.settings_of.result (subst AreInRange (sym are) within),
       written ∙ ap (λ (l : List ℕ). head_name ++ (little_bytes 4 head_version ++ flat_map (little_bytes 8) l)) (sym are),
     )

@@ -7,7 +7,8 @@ pub rule_of-requires : goal.rule_of-requires
 rule_of-requires c = (c.requires 2 (omega arith) (omega arith)).rule refl
 
 pub overflow_cast-result : goal.overflow_cast-result
-overflow_cast-result c = let small : slice_index c.args.numbers.now 2 ≤ 64 = count_small (slice_index c.args.numbers.now 2) ((c.requires 3 (omega arith) (omega arith)).buckets refl) in omega (arith, small)
+overflow_cast-result c = let small : slice_index c.args.numbers.now 2 ≤ 64 = count_small (slice_index c.args.numbers.now 2) ((c.requires 3 (omega arith) (omega arith)).buckets refl) in
+    omega (arith, small)
 
 pub overflow_cast-result-2 : goal.overflow_cast-result-2
 overflow_cast-result-2 c = let small = (c.requires 4 (omega arith) (omega arith)).array refl in omega (arith, small.1)

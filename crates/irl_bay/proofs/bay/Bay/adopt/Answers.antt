@@ -11,6 +11,6 @@ returns-clause-whole g c = λ f at e files tells book stands.
 
 pub returns-clause-stands_stop : goal.returns-clause-stands_stop
 returns-clause-stands_stop g c = λ book all.
-    let tell = g.S.Store.snapshot in
+    let tell = g.S.Store.told in
     widens (tell c.args.store.now) (tell c.open_bay.new.store) _ (λ (image : Files). Stands c.args.base c.args.settings.now book image) c.open_bay.ensures.adopts.stops
     (λ image from. stands_adopted c.args.base c.args.settings.now book from.0 image from.2 (all from.0 from.1))

@@ -7,9 +7,25 @@ use Rattle.irl_bay.proofs.bay.Bay.commit.Goals as goal
 pub invariant_of-self : goal.invariant_of-self
 invariant_of-self c =
     let inside = c.self.inside in
-    let drum : Drum = record { base = inside.base; settings = inside.settings; is_sound = inside.is_sound; manifest = inside.manifest; last = inside.last; cuts = inside.cuts; buckets = inside.buckets.items } in
+    let drum : Drum = record {
+      base = inside.base;
+      settings = inside.settings;
+      is_sound = inside.is_sound;
+      manifest = inside.manifest;
+      last = inside.last;
+      cuts = inside.cuts;
+      buckets = inside.buckets.items;
+    } in
     let asked = rw (← c.self.view_is) at c.requires in
-    subst (λ (buckets : List Bucket). IsDrum (record { base = inside.base; settings = inside.settings; is_sound = true; manifest = inside.manifest; last = c.args.next; cuts = inside.cuts + 1; buckets = buckets })) (sym asked.buckets)
+    subst (λ (buckets : List Bucket). IsDrum (record {
+      base = inside.base;
+      settings = inside.settings;
+      is_sound = true;
+      manifest = inside.manifest;
+      last = c.args.next;
+      cuts = inside.cuts + 1;
+      buckets = buckets;
+    })) (sym asked.buckets)
     (drum_committed drum c.args.next inside.manifest c.self.invariant asked.room asked.cut asked.live c.self.invariant.manifest asked.manifest (omega (arith, asked.cuts)))
 
 pub returns-clause-drum : goal.returns-clause-drum

@@ -7,7 +7,7 @@ abbrev pub invariant-loop-b : goal.invariant-loop-b
 invariant-loop-b g l =
     let store = g.S.Store in
     record {
-      cut : CutSoFar l.self.base l.side l.self.settings.buckets (store.snapshot l.fn.store) (store.snapshot l.store) l.b;
-      taken : store.taken l.store ≡ store.taken l.fn.store;
-      later : store.faults l.fn.store ≤ store.faults l.store;
+      cut : CutSoFar l.self.base l.side l.self.settings.buckets (store.told l.fn.store) (store.told l.store) l.b;
+      taken : (store.told l.store).taken ≡ (store.told l.fn.store).taken;
+      later : (store.told l.fn.store).faults ≤ (store.told l.store).faults;
     }

@@ -12,12 +12,13 @@ use Rattle.irl_bay.proofs.bay.Bay.empty_side.Goals as goal
 
 pub loop-b-init : goal.loop-b-init
 loop-b-init g c =
-    let tells = g.S.Store.snapshot in
+    let tells = g.S.Store.told in
     let now = c.args.self.now in
     let side_is : 1 - c.live_side-side.result ≡ 1 - live_side now.last = ap (λ (n : ℕ). 1 - n) (c.live_side-side.ensures ∙ ap (λ (d : Drum). live_side d.last) c.self.view_is) in
     record {
       made = subst (λ (side : ℕ). EmptiedSoFar now side now.settings.buckets (tells c.args.store.now) (tells c.cut_side.new.store) c.args.room.items 0) side_is
-          (emptied_none now (1 - c.live_side-side.result) now.settings.buckets (tells c.args.store.now) (tells c.cut_side.new.store) c.args.room.items c.requires.none c.in_ok-cut_side.ensures.cut c.cut_side.ensures.others c.cut_side.ensures.others_stop);
+          (emptied_none now (1 - c.live_side-side.result) now.settings.buckets (tells c.args.store.now) (tells c.cut_side.new.store) c.args.room.items c.requires.none c.in_ok-cut_side.ensures.cut
+          c.cut_side.ensures.others c.cut_side.ensures.others_stop);
       room = c.requires.room;
       taken = c.cut_side.ensures.taken;
       later = c.cut_side.ensures.cause.later;
@@ -26,27 +27,29 @@ loop-b-init g c =
 -- a journal is refused
 pub returns-in_err-make-clause-others : goal.returns-in_err-make-clause-others
 returns-in_err-make-clause-others g c =
-    let tells = g.S.Store.snapshot in
+    let tells = g.S.Store.told in
     let now = c.args.self.now in
     let within : c.loop-b.b < now.settings.buckets = subst (λ (d : Drum). c.loop-b.b < d.settings.buckets) c.self.view_is c.loop-b-test.true in
     let base_is : c.self.inside.base ≡ now.base = ap (λ (d : Drum). d.base) c.self.view_is in
     let side_is : c.live_side-side.result ≡ live_side now.last = c.live_side-side.ensures ∙ ap (λ (d : Drum). live_side d.last) c.self.view_is in
-    side_tells now.base (1 - live_side now.last) now.settings.buckets (file_of c.self.inside.base 0 (Journal (1 - c.live_side-side.result) c.loop-b.b)) c.loop-b.b within (inl (omega (arith, base_is, side_is))) _ (tells c.args.store.now).files (tells c.loop-b.store).files (tells c.make.new.store).files
+    side_tells now.base (1 - live_side now.last) now.settings.buckets (file_of c.self.inside.base 0 (Journal (1 - c.live_side-side.result) c.loop-b.b)) c.loop-b.b within
+    (inl (omega (arith, base_is, side_is))) _ (tells c.args.store.now).files (tells c.loop-b.store).files (tells c.make.new.store).files
     c.loop-b.invariant.made.others c.in_err-make.ensures.err
 
 pub returns-in_err-make-clause-others_stop : goal.returns-in_err-make-clause-others_stop
 returns-in_err-make-clause-others_stop g c =
-    let tells = g.S.Store.snapshot in
+    let tells = g.S.Store.told in
     let now = c.args.self.now in
     let within : c.loop-b.b < now.settings.buckets = subst (λ (d : Drum). c.loop-b.b < d.settings.buckets) c.self.view_is c.loop-b-test.true in
     let base_is : c.self.inside.base ≡ now.base = ap (λ (d : Drum). d.base) c.self.view_is in
     let side_is : c.live_side-side.result ≡ live_side now.last = c.live_side-side.ensures ∙ ap (λ (d : Drum). live_side d.last) c.self.view_is in
-    side_leaves now.base (1 - live_side now.last) now.settings.buckets (file_of c.self.inside.base 0 (Journal (1 - c.live_side-side.result) c.loop-b.b)) c.loop-b.b within (inl (omega (arith, base_is, side_is))) _ (tells c.args.store.now) (tells c.loop-b.store) (tells c.make.new.store)
+    side_leaves now.base (1 - live_side now.last) now.settings.buckets (file_of c.self.inside.base 0 (Journal (1 - c.live_side-side.result) c.loop-b.b)) c.loop-b.b within
+    (inl (omega (arith, base_is, side_is))) _ (tells c.args.store.now) (tells c.loop-b.store) (tells c.make.new.store)
     (g.met.S.Store.is_consistent c.loop-b.store) c.loop-b.invariant.made.stops c.make.ensures.stops
 
 pub loop-b-preserved : goal.loop-b-preserved
 loop-b-preserved g c =
-    let tells = g.S.Store.snapshot in
+    let tells = g.S.Store.told in
     let laws = g.met.S.Store.is_consistent in
     let now = c.args.self.now in
     let law : IsDrum now = rw c.self.view_is at c.self.invariant in
@@ -55,14 +58,18 @@ loop-b-preserved g c =
     let base_is : inside.base ≡ now.base = ap (λ (d : Drum). d.base) c.self.view_is in
     let side_is : c.live_side-side.result ≡ live_side now.last = c.live_side-side.ensures ∙ ap (λ (d : Drum). live_side d.last) c.self.view_is in
     let durable_is : c.index.result.now.durable ≡ durable_at now c.loop-b.b =
-    ap (λ (one : Bucket). one.durable) (same_bucket inside.buckets.items c.loop-b.b c.index.result.now (omega (arith, c.loop-b-test.true, c.self.invariant.count)) c.index.ensures) ∙ ap (λ (d : Drum). durable_at d c.loop-b.b) c.self.view_is in
+    ap (λ (one : Bucket). one.durable) (same_bucket inside.buckets.items c.loop-b.b c.index.result.now (omega (arith, c.loop-b-test.true, c.self.invariant.count)) c.index.ensures)
+    ∙ ap (λ (d : Drum). durable_at d c.loop-b.b) c.self.view_is in
     let bucket_is : c.in_ok-make.field-0 ≡ emptied now.base (1 - live_side now.last) c.loop-b.b (durable_at now c.loop-b.b) =
     c.in_ok-make.ensures.bucket ∙ ap (λ (n : ℕ). emptied n (1 - c.live_side-side.result) c.loop-b.b c.index.result.now.durable) base_is
     ∙ ap (λ (n : ℕ). emptied now.base (1 - n) c.loop-b.b c.index.result.now.durable) side_is ∙ ap (λ (n : ℕ). emptied now.base (1 - live_side now.last) c.loop-b.b n) durable_is in
     record {
-      made = subst (λ (made : List Bucket). EmptiedSoFar now (1 - live_side now.last) now.settings.buckets (tells c.args.store.now) (tells c.make.new.store) made (c.loop-b.b + 1)) (sym c.push_reserved.ensures.items)
-          (emptied_more now (1 - live_side now.last) now.settings.buckets (file_of inside.base 0 (Journal (1 - c.live_side-side.result) c.loop-b.b)) (tells c.args.store.now) (tells c.loop-b.store) (tells c.make.new.store) c.loop-b.buckets.items c.loop-b.b c.in_ok-make.field-0
-          (laws c.loop-b.store) (laws c.make.new.store) within law.count c.loop-b.invariant.made (omega (arith, base_is, side_is)) bucket_is c.in_ok-make.ensures.holds c.in_ok-make.ensures.ok c.make.ensures.stops);
+      made = subst (λ (made : List Bucket). EmptiedSoFar now (1 - live_side now.last) now.settings.buckets (tells c.args.store.now) (tells c.make.new.store) made (c.loop-b.b + 1))
+          (sym c.push_reserved.ensures.items)
+          (emptied_more now (1 - live_side now.last) now.settings.buckets (file_of inside.base 0 (Journal (1 - c.live_side-side.result) c.loop-b.b)) (tells c.args.store.now) (tells c.loop-b.store)
+          (tells c.make.new.store) c.loop-b.buckets.items c.loop-b.b c.in_ok-make.field-0
+          (laws c.loop-b.store) (laws c.make.new.store) within law.count c.loop-b.invariant.made (omega (arith, base_is, side_is)) bucket_is c.in_ok-make.ensures.holds c.in_ok-make.ensures.ok
+          c.make.ensures.stops);
       room = omega (arith, c.loop-b.invariant.room, c.push_reserved.ensures.capacity);
       taken = c.make.ensures.taken ∙ c.loop-b.invariant.taken;
       later = omega (arith, c.loop-b.invariant.later, c.make.ensures.cause.later);
@@ -71,7 +78,7 @@ loop-b-preserved g c =
 -- all are made
 pub returns-clause-buckets : goal.returns-clause-buckets
 returns-clause-buckets g c =
-    let tells = g.S.Store.snapshot in
+    let tells = g.S.Store.told in
     let now = c.args.self.now in
     let law : IsDrum now = rw c.self.view_is at c.self.invariant in
     let count : now.settings.buckets ≡ c.self.inside.settings.buckets = ap (λ (d : Drum). d.settings.buckets) (sym c.self.view_is) in

@@ -8,8 +8,8 @@ abbrev pub invariant-loop-b : goal.invariant-loop-b
 invariant-loop-b g l =
     let store = g.S.Store in
     record {
-      made : EmptiedSoFar l.self (1 - live_side l.self.last) l.self.settings.buckets (store.snapshot l.fn.store) (store.snapshot l.store) l.buckets.items l.b;
+      made : EmptiedSoFar l.self (1 - live_side l.self.last) l.self.settings.buckets (store.told l.fn.store) (store.told l.store) l.buckets.items l.b;
       room : l.self.settings.buckets ≤ vec_capacity l.buckets;
-      taken : store.taken l.store ≡ store.taken l.fn.store;
-      later : store.faults l.fn.store ≤ store.faults l.store;
+      taken : (store.told l.store).taken ≡ (store.told l.fn.store).taken;
+      later : (store.told l.fn.store).faults ≤ (store.told l.store).faults;
     }

@@ -2,8 +2,8 @@ use Rattle.std.proofs.Common.{◌≡◌, ◌∙◌, ℕ, ◌+◌, ◌*◌, ◌<�
 use Rattle.std.specs.Prelude.{IfOk}
 use Rattle.std.specs.Result.{IsErrOf}
 use Rattle.std.specs.List.{flat_map}
-use Rattle.irl_offer.specs.declared.receipt.Fault.{Fault}
-use Rattle.irl_offer.specs.declared.receipt.Fault.TheVariants.{Damaged}
+use Rattle.irl_base.specs.declared.fault.Fault.{Fault}
+use Rattle.irl_base.specs.declared.fault.Fault.TheVariants.{Damaged}
 use Rattle.irl_bay.specs.declared.layout.judged_entry.JudgedEntry.{JudgedEntry}
 use Rattle.irl_bay.specs.JudgedEntries.{entry_spelling}
 use Rattle.irl_bay.proofs.JudgedReading.{entries_count, none_in_file}
@@ -23,7 +23,8 @@ returns-in_err-bytes-clause-damaged g c = λ f at is files told.
     absurd (c.in_err-bytes.ensures.damaged f at e files told)
 
 -- as many entries as the bytes have room for
-counted : (result : Result (Vec JudgedEntry Global) Fault) (bytes : List ℕ) (count : ℕ) → length bytes ≡ 48 * count → IfOk result (λ entries. flat_map entry_spelling entries.items ≡ bytes) → IfOk result (λ entries. length entries.items ≡ count)
+counted : (result : Result (Vec JudgedEntry Global) Fault) (bytes : List ℕ) (count : ℕ) → length bytes ≡ 48 * count → IfOk result (λ entries. flat_map entry_spelling entries.items ≡ bytes)
+    → IfOk result (λ entries. length entries.items ≡ count)
 counted (Ok entries) bytes count long are = entries_count entries.items bytes count are long
 counted (Err fault) bytes count long are = tt
 

@@ -1,7 +1,7 @@
 use Rattle.std.proofs.Common.{◌≡◌, ◌∙◌, ℕ, zero, suc, ◌-◌, ◌<◌, List, [], ◌∷◌, length, take, drop, get_or, Some, Err, sym, ap, rules, arith}
 use Rattle.std.specs.Prelude.{slice_get}
 use Rattle.std.specs.Result.{IsErrOf}
-use Rattle.irl_offer.specs.declared.receipt.Fault.TheVariants.{Damaged}
+use Rattle.irl_base.specs.declared.fault.Fault.TheVariants.{Damaged}
 use Rattle.irl_offer.specs.declared.receipt.Judged.{Judged}
 use Rattle.irl_model.specs.Book.{gone, judged}
 use Rattle.irl_bay.proofs.bay.Bay.judged.Goals as goal
@@ -25,4 +25,5 @@ only_one (x ∷ xs) found (suc i) one lt are first = only_one xs found i one (om
 pub returns-clause-value : goal.returns-clause-value
 returns-clause-value g c = λ files told book holds.
     let place : c.args.i - gone book < length (judged book) = omega (arith, c.requires.place, holds.numbers.commit.judged) in
-    only_one (judged book) c.in_ok-found.found.items (c.args.i - gone book) c.swap_remove.result place (c.in_ok-found.ensures ∙ c.in_ok-part.ensures.value files told book holds) c.swap_remove.ensures.value
+    only_one (judged book) c.in_ok-found.found.items (c.args.i - gone book) c.swap_remove.result place (c.in_ok-found.ensures
+    ∙ c.in_ok-part.ensures.value files told book holds) c.swap_remove.ensures.value

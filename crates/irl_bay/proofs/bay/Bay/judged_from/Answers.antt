@@ -1,6 +1,6 @@
 use Rattle.std.proofs.Common.{◌≡◌, ◌∙◌, ℕ, ◌-◌, min, List, length, take, drop, Err, None, sym, ap, subst, rules, arith}
 use Rattle.std.specs.Result.{IsErrOf}
-use Rattle.irl_offer.specs.declared.receipt.Fault.TheVariants.{Damaged}
+use Rattle.irl_base.specs.declared.fault.Fault.TheVariants.{Damaged}
 use Rattle.irl_bay.specs.declared.bay.Bay.TheInside.{Inside}
 use Rattle.irl_bay.specs.declared.layout.judged_entry.JudgedEntry.{JudgedEntry}
 use Rattle.irl_bay.specs.Drum.{Drum, IsDrum, texts_front}
@@ -23,7 +23,7 @@ returns-in_err-entries-clause-whole g c = λ f at is files told book holds.
     let spoilt = c.in_err-entries.ensures.damaged f at e files told in
     let drum = c.args.self.now in
     let is : IsDrum drum = subst IsDrum c.self.view_is c.self.invariant in
-    let now = g.S.Store.snapshot c.args.store.now in
+    let now = g.S.Store.told c.args.store.now in
     let left : now.images files = (g.met.S.Store.is_consistent c.args.store.now).told files told in
     none_spoilt now.images drum book is holds files left at (subst (λ (n : ℕ). IsSpoiltEntry drum (files n) at) spoilt.0 spoilt.1)
 
@@ -62,9 +62,11 @@ pub returns-clause-value : goal.returns-clause-value
 returns-clause-value g c = λ files told book holds.
     let drum = c.args.self.now in
     let is : IsDrum drum = subst IsDrum c.self.view_is c.self.invariant in
-    let now = g.S.Store.snapshot c.args.store.now in
+    let now = g.S.Store.told c.args.store.now in
     let left : now.images files = (g.met.S.Store.is_consistent c.args.store.now).told files told in
     let told_later = c.in_ok-entries.ensures.same ∙ told in
-    let texts = subst (λ (es : List JudgedEntry). c.in_ok-texts.texts.items ≡ take (texts_length es) (drop (first_place es) (files (texts_front drum).file))) c.deref.ensures.value (c.in_ok-texts.ensures.bytes files told_later) in
-    let found = found_held now.images drum book is holds files left c.in_ok-entries.entries.items c.in_ok-texts.texts.items c.args.i c.args.most c.min-count.result c.requires.place (so_many g c) c.in_ok-entries.ensures.fit (c.in_ok-entries.ensures.bytes files told) texts in
+    let texts = subst (λ (es : List JudgedEntry). c.in_ok-texts.texts.items ≡ take (texts_length es) (drop (first_place es) (files (texts_front drum).file))) c.deref.ensures.value
+    (c.in_ok-texts.ensures.bytes files told_later) in
+    let found = found_held now.images drum book is holds files left c.in_ok-entries.entries.items c.in_ok-texts.texts.items c.args.i c.args.most c.min-count.result c.requires.place (so_many g c)
+    c.in_ok-entries.ensures.fit (c.in_ok-entries.ensures.bytes files told) texts in
     c.new.ensures ∙ found

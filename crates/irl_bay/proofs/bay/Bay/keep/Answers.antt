@@ -25,22 +25,25 @@ pub returns-in_err-append-clause-gains_stop : goal.returns-in_err-append-clause-
 returns-in_err-append-clause-gains_stop g c = rw (← c.self.view_is) (λ payloads is_open.
     let asked = rw (← c.self.view_is) at c.requires in
     let d = drum_of c.self.inside in
-    let tells = g.S.Store.snapshot in
+    let tells = g.S.Store.told in
     let bytes = commit_in_frame c.args.frame.now c.put.new.frame _ c.args.next c.args.next asked.frame c.put.ensures refl in
-    subst (λ (payload : List ℕ). LeavesBy (ChangesFile d.manifest.file (HasOrGains payloads payload)) (tells c.args.store.now) (tells c.append.new.store)) bytes (c.append.ensures.stops payloads is_open))
+    subst (λ (payload : List ℕ). LeavesBy (ChangesFile d.manifest.file (HasOrGains payloads payload)) (tells c.args.store.now) (tells c.append.new.store)) bytes
+    (c.append.ensures.appends.changes payloads is_open).stops)
 
 pub returns-clause-gains_stop : goal.returns-clause-gains_stop
 returns-clause-gains_stop g c = rw (← c.self.view_is) (λ payloads is_open.
     let asked = rw (← c.self.view_is) at c.requires in
     let d = drum_of c.self.inside in
-    let tells = g.S.Store.snapshot in
+    let tells = g.S.Store.told in
     let bytes = commit_in_frame c.args.frame.now c.put.new.frame _ c.args.next c.args.next asked.frame c.put.ensures refl in
-    subst (λ (payload : List ℕ). LeavesBy (ChangesFile d.manifest.file (HasOrGains payloads payload)) (tells c.args.store.now) (tells c.append.new.store)) bytes (c.append.ensures.stops payloads is_open))
+    subst (λ (payload : List ℕ). LeavesBy (ChangesFile d.manifest.file (HasOrGains payloads payload)) (tells c.args.store.now) (tells c.append.new.store)) bytes
+    (c.append.ensures.appends.changes payloads is_open).stops)
 
 pub returns-clause-gains : goal.returns-clause-gains
 returns-clause-gains g c = rw (← c.self.view_is) (λ payloads is_open.
     let asked = rw (← c.self.view_is) at c.requires in
-    let tells = g.S.Store.snapshot in
+    let tells = g.S.Store.told in
     let bytes = commit_in_frame c.args.frame.now c.put.new.frame _ c.args.next c.args.next asked.frame c.put.ensures refl in
-    let there = subst (λ (payload : List ℕ). IsOpen (tells c.append.new.store).images c.append.new.self (payloads ++ payload ∷ [])) bytes (c.in_ok-append.ensures.acknowledged payloads is_open) in
+    let there = subst (λ (payload : List ℕ). IsOpen (tells c.append.new.store).images c.append.new.self (payloads ++ payload ∷ [])) bytes
+    (c.in_ok-append.ensures.appends.acknowledged payloads is_open) in
     subst (λ (tail : Tail). IsOpen (tells c.append.new.store).images tail (payloads ++ commit_bytes c.args.next ∷ [])) (sym (ap (λ (x : Drum). x.manifest) c.commit.ensures.value)) there)

@@ -10,19 +10,21 @@ use Rattle.irl_bay.proofs.bay.Bay.make.Goals as goal
 -- the manifest is refused
 pub returns-in_err-manifest-clause-stops : goal.returns-in_err-manifest-clause-stops
 returns-in_err-manifest-clause-stops g c =
-    leaves_made c.args.base c.args.settings.now.buckets c.number.result (g.S.Store.snapshot c.args.store.now) (g.S.Store.snapshot c.make.new.store) (inl c.number.ensures.value) c.make.ensures.stops
+    leaves_made c.args.base c.args.settings.now.buckets c.number.result (g.S.Store.told c.args.store.now) (g.S.Store.told c.make.new.store) (inl c.number.ensures.value) c.make.ensures.changes.stops
 
 pub returns-in_err-manifest-clause-files : goal.returns-in_err-manifest-clause-files
 returns-in_err-manifest-clause-files g c =
-    told_torn c.args.base c.args.settings.now.buckets c.number.result _ _ (inl c.number.ensures.value) c.in_err-manifest.ensures.err
+    told_torn c.args.base c.args.settings.now.buckets c.number.result _ _ (inl c.number.ensures.value) c.in_err-manifest.ensures.changes.told
 
 pub loop-b-init : goal.loop-b-init
 loop-b-init g c = record {
-  made = subst (λ (made : List Bucket). MadeSoFar (g.S.Store.snapshot c.args.store.now) (g.S.Store.snapshot c.make.new.store) c.args.base c.args.settings.now.buckets c.in_ok-manifest.manifest made 0) (sym c.in_ok-buckets.ensures.items)
-      (made_none (g.S.Store.snapshot c.args.store.now) (g.S.Store.snapshot c.make.new.store) c.args.base c.args.settings.now.buckets c.number.result c.in_ok-manifest.manifest c.number.ensures.value c.in_ok-manifest.ensures.open c.requires.unmade c.in_ok-manifest.ensures.ok c.make.ensures.stops);
+  made = subst (λ (made : List Bucket). MadeSoFar (g.S.Store.told c.args.store.now) (g.S.Store.told c.make.new.store) c.args.base c.args.settings.now.buckets c.in_ok-manifest.manifest made 0)
+      (sym c.in_ok-buckets.ensures.items)
+      (made_none (g.S.Store.told c.args.store.now) (g.S.Store.told c.make.new.store) c.args.base c.args.settings.now.buckets c.number.result c.in_ok-manifest.manifest c.number.ensures.value
+      c.in_ok-manifest.ensures.open c.requires.unmade c.in_ok-manifest.ensures.ok c.make.ensures.changes.stops);
   room = omega (arith, c.in_ok-buckets.ensures.capacity);
-  taken = c.make.ensures.taken;
-  later = c.make.ensures.cause.later;
+  taken = c.make.ensures.changes.taken;
+  later = c.make.ensures.changes.cause.later;
 }
 
 pub make-requires-in-loop-b-clause-short : goal.make-requires-in-loop-b-clause-short
@@ -37,16 +39,20 @@ returns-in_err-make-clause-files g c =
 
 pub returns-in_err-make-clause-stops : goal.returns-in_err-make-clause-stops
 returns-in_err-make-clause-stops g c =
-    let tells = g.S.Store.snapshot in
-    leaves_more c.args.base c.args.settings.now.buckets (file_of c.args.base 0 (Journal 0 c.loop-b.b)) (tells c.args.store.now) (tells c.loop-b.store) (tells c.make-in-loop-b.new.store) (g.met.S.Store.is_consistent c.loop-b.store) (inr (c.loop-b.b, c.loop-b-test.true, refl)) c.loop-b.invariant.made.stops c.make-in-loop-b.ensures.stops
+    let tells = g.S.Store.told in
+    leaves_more c.args.base c.args.settings.now.buckets (file_of c.args.base 0 (Journal 0 c.loop-b.b)) (tells c.args.store.now) (tells c.loop-b.store) (tells c.make-in-loop-b.new.store)
+    (g.met.S.Store.is_consistent c.loop-b.store) (inr (c.loop-b.b, c.loop-b-test.true, refl)) c.loop-b.invariant.made.stops c.make-in-loop-b.ensures.stops
 
 pub loop-b-preserved : goal.loop-b-preserved
 loop-b-preserved g c =
-    let tells = g.S.Store.snapshot in
+    let tells = g.S.Store.told in
     record {
-      made = subst (λ (made : List Bucket). MadeSoFar (tells c.args.store.now) (tells c.make-in-loop-b.new.store) c.args.base c.args.settings.now.buckets c.in_ok-manifest.manifest made (c.loop-b.b + 1)) (sym c.push_reserved.ensures.items)
-          (made_more (tells c.args.store.now) (tells c.loop-b.store) (tells c.make-in-loop-b.new.store) c.args.base c.args.settings.now.buckets c.in_ok-manifest.manifest c.loop-b.buckets.items c.loop-b.b c.in_ok-make.field-0 (g.met.S.Store.is_consistent c.loop-b.store) (g.met.S.Store.is_consistent c.make-in-loop-b.new.store)
-          c.loop-b-test.true (ap (λ (tail : Tail). tail.file) c.in_ok-manifest.ensures.journal ∙ c.number.ensures.value) c.loop-b.invariant.made c.in_ok-make.ensures.bucket c.in_ok-make.ensures.holds c.in_ok-make.ensures.ok c.make-in-loop-b.ensures.stops);
+      made = subst (λ (made : List Bucket). MadeSoFar (tells c.args.store.now) (tells c.make-in-loop-b.new.store) c.args.base c.args.settings.now.buckets c.in_ok-manifest.manifest made
+          (c.loop-b.b + 1)) (sym c.push_reserved.ensures.items)
+          (made_more (tells c.args.store.now) (tells c.loop-b.store) (tells c.make-in-loop-b.new.store) c.args.base c.args.settings.now.buckets c.in_ok-manifest.manifest c.loop-b.buckets.items
+          c.loop-b.b c.in_ok-make.field-0 (g.met.S.Store.is_consistent c.loop-b.store) (g.met.S.Store.is_consistent c.make-in-loop-b.new.store)
+          c.loop-b-test.true (ap (λ (tail : Tail). tail.file) c.in_ok-manifest.ensures.journal
+          ∙ c.number.ensures.value) c.loop-b.invariant.made c.in_ok-make.ensures.bucket c.in_ok-make.ensures.holds c.in_ok-make.ensures.ok c.make-in-loop-b.ensures.stops);
       room = omega (arith, c.loop-b.invariant.room, c.push_reserved.ensures.capacity);
       taken = c.make-in-loop-b.ensures.taken ∙ c.loop-b.invariant.taken;
       later = omega (arith, c.loop-b.invariant.later, c.make-in-loop-b.ensures.cause.later);
@@ -55,15 +61,18 @@ loop-b-preserved g c =
 -- all are made
 pub invariant_of-result : goal.invariant_of-result
 invariant_of-result g c =
-    let tells = g.S.Store.snapshot in
+    let tells = g.S.Store.told in
     let all : c.loop-b.b ≡ c.args.settings.now.buckets = omega (arith, c.loop-b-test.false, c.loop-b.auto.b-end) in
-    let tail : c.in_ok-manifest.manifest ≡ record { file = file_of c.args.base 0 Manifest; end = 0; is_sound = true } = c.in_ok-manifest.ensures.journal ∙ ap (λ (f : ℕ). record { file = f; end = 0; is_sound = true }) c.number.ensures.value in
+    let tail : c.in_ok-manifest.manifest ≡ record { file = file_of c.args.base 0 Manifest; end = 0; is_sound = true } = c.in_ok-manifest.ensures.journal
+    ∙ ap (λ (f : ℕ). record { file = f; end = 0; is_sound = true }) c.number.ensures.value in
     let made = subst (MadeSoFar (tells c.args.store.now) (tells c.loop-b.store) c.args.base c.args.settings.now.buckets c.in_ok-manifest.manifest c.loop-b.buckets.items) all c.loop-b.invariant.made in
-    made_is_drum (tells c.args.store.now) (tells c.loop-b.store) c.args.base c.args.settings.now c.in_ok-manifest.manifest c.in_ok-last.last c.loop-b.buckets.items c.requires.base c.requires.settings c.in_ok-last.ensures tail made
+    made_is_drum (tells c.args.store.now) (tells c.loop-b.store) c.args.base c.args.settings.now c.in_ok-manifest.manifest c.in_ok-last.last c.loop-b.buckets.items c.requires.base c.requires.settings
+    c.in_ok-last.ensures tail made
 
 pub returns-clause-holds : goal.returns-clause-holds
 returns-clause-holds g c =
-    let tells = g.S.Store.snapshot in
+    let tells = g.S.Store.told in
     let all : c.loop-b.b ≡ c.args.settings.now.buckets = omega (arith, c.loop-b-test.false, c.loop-b.auto.b-end) in
     let made = subst (MadeSoFar (tells c.args.store.now) (tells c.loop-b.store) c.args.base c.args.settings.now.buckets c.in_ok-manifest.manifest c.loop-b.buckets.items) all c.loop-b.invariant.made in
-    made_holds (tells c.args.store.now) (tells c.loop-b.store) c.args.base c.args.settings.now c.in_ok-manifest.manifest c.in_ok-last.last c.loop-b.buckets.items c.requires.settings c.in_ok-last.ensures made
+    made_holds (tells c.args.store.now) (tells c.loop-b.store) c.args.base c.args.settings.now c.in_ok-manifest.manifest c.in_ok-last.last c.loop-b.buckets.items c.requires.settings
+    c.in_ok-last.ensures made

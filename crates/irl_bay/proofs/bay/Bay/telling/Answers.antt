@@ -1,5 +1,5 @@
 use Rattle.std.proofs.Common.{◌≡◌, ◌∙◌, ◌*◌, length, ap, subst, arith, ℕ}
-use Rattle.irl_cache.specs.Writing.{Writer}
+use Rattle.irl_journal.specs.Growing.{Writer}
 use Rattle.irl_bay.specs.BayFiles.{file_of}
 use Rattle.irl_bay.specs.declared.bay.Bay.TheInside.{Inside}
 use Rattle.irl_bay.specs.declared.layout.files.BayFile.TheVariants.{Judged, Texts}

@@ -1,14 +1,15 @@
 -- What the visitor counted is what the bucket has, and opening changes at most a journal of at most one byte.
-use Rattle.std.proofs.Common.{◌≡◌, ◌∙◌, ℕ, ◌≤◌, ◌<◌, List, length, map, take, refl, sym, ap, subst, arith, rules, inl, inr, ⊎_elim}
+use Rattle.std.proofs.Common.{◌≡◌, ◌∙◌, ℕ, ◌≤◌, ◌<◌, List, Option, length, map, take, refl, sym, ap, subst, arith, rules, inl, inr, ⊎_elim}
 use Rattle.std.proofs.lemmas.Result.{err_from_is_err_and}
 use Rattle.irl_disk.specs.Disk.{ChangesFile}
 use Rattle.irl_disk.specs.Images.{LeavesBy}
+use Rattle.irl_disk.specs.Taken.{TakesOnly}
 use Rattle.irl_disk.proofs.Frames.{told_from}
 use Rattle.irl_disk.proofs.Stretches.{reads_on, left_now}
 use Rattle.irl_journal.specs.Blob.{Front, IsCommitted}
 use Rattle.irl_journal.specs.Format.{StandsFor, records_text}
 use Rattle.irl_journal.specs.Visiting.{IsOpened}
-use Rattle.irl_offer.specs.declared.receipt.Fault.TheVariants.{Damaged as StoreDamaged}
+use Rattle.irl_base.specs.declared.fault.Fault.TheVariants.{Damaged as StoreDamaged}
 use Rattle.irl_bay.specs.BayFiles.{file_of}
 use Rattle.irl_bay.specs.declared.layout.files.BayFile.TheVariants.{Journal as JournalFile, Aux as AuxFile}
 use Rattle.irl_bay.specs.Damage.{IsDamagedJournal, AreRunPayloads, entries_bytes}
@@ -26,17 +27,18 @@ returns-in-Err-clause-damaged g c = λ f at e files tells.
     inl (
       here,
       subst (λ (n : ℕ). IsDamagedJournal (AreRunPayloads c.args.settings.now c.args.b) (files n) at) out.1
-          (damaged_runs c.args.settings.now c.args.b _ c.visit.new.visitor (files c.number-f.result) at refl refl (c.in-Err.ensures.damaged at (search rules) files tells)),
+          (damaged_runs c.args.settings.now c.args.b _ c.visit.new.visitor (files c.number-f.result) at refl refl (c.in-Err.ensures.damaged at (search rules) files tells).why),
     )
 
 pub returns-in_err-aux-clause-damaged : goal.returns-in_err-aux-clause-damaged
 returns-in_err-aux-clause-damaged g c = λ f at e files tells.
     let out = err_from_is_err_and c.from_residual.result c.from_residual.ensures.1 in
     let is = rw (out.1, out.2) at e in
-    let found = c.in-Ok.ensures.found files tells in
-    let read = c.in-Ok.ensures.records files tells found.0 found.1 in
-    let took = took_runs c.args.settings.now c.args.b c.args.live.judged _ c.visit.new.visitor found.0 c.nothing.ensures refl refl refl (omega (arith, read.0, c.end-end.ensures, c.end-end.type_inv)) read.1 in
-    let after = rw tells at c.in-Ok.ensures.changes in
+    let found = (c.in-Ok.ensures.visited files tells).found in
+    let read = (c.in-Ok.ensures.visited files tells).records found.0 found.1 in
+    let took = took_runs c.args.settings.now c.args.b c.args.live.judged _ c.visit.new.visitor found.0 c.nothing.ensures refl refl refl (omega (arith, read.0, c.end-end.ensures, c.end-end.type_inv))
+    read.1 in
+    let after = rw tells at c.in-Ok.ensures.changes.told in
     let named = c.in_err-aux.ensures.damaged f at (search rules) in
     let same : after.0 c.number.result ≡ files f = after.2.others c.number.result (omega (arith, c.number.ensures.value, c.number-f.ensures.value)) ∙ ap files (sym named.0) in
     let short = named.1 after.0 after.1 in
@@ -46,7 +48,8 @@ returns-in_err-aux-clause-damaged g c = λ f at e files tells.
         took.runs,
         record {
           each = took.each;
-          records = subst (λ (n : ℕ). StandsFor (files n) (map entries_bytes took.runs)) c.number-f.ensures.value (subst (λ (ps : List (List ℕ)). StandsFor (files c.number-f.result) ps) took.payloads_are found.1);
+          records = subst (λ (n : ℕ). StandsFor (files n) (map entries_bytes took.runs)) c.number-f.ensures.value
+              (subst (λ (ps : List (List ℕ)). StandsFor (files c.number-f.result) ps) took.payloads_are found.1);
         },
         record { short = omega (arith, short.short, took.found.texts, ap length same); place = short.place ∙ ap length same },
       ),
@@ -54,19 +57,21 @@ returns-in_err-aux-clause-damaged g c = λ f at e files tells.
 
 pub returns-in_err-aux-clause-stops : goal.returns-in_err-aux-clause-stops
 returns-in_err-aux-clause-stops g c =
-    let tell = g.S.Store.snapshot in
+    let tell = g.S.Store.told in
     subst (λ (f : ℕ). LeavesBy (ChangesFile f IsOpened) (tell c.args.store.now) (tell c.open_blob.new.store)) c.number-f.ensures.value
-    (reads_on _ _ _ _ (g.met.S.Store.is_consistent c.visit.new.store) c.in-Ok.ensures.stops c.in_err-aux.ensures.stops)
+    (reads_on _ _ _ _ (g.met.S.Store.is_consistent c.visit.new.store) c.in-Ok.ensures.changes.stops c.in_err-aux.ensures.stops)
 
 pub first_pending-gate-requires : goal.first_pending-gate-requires
 first_pending-gate-requires g c = λ below.
-    let took = took_runs c.args.settings.now c.args.b c.args.live.judged _ c.visit.new.visitor c.in-Ok.ensures.took.payloads c.nothing.ensures refl refl refl (omega (arith, c.in-Ok.ensures.took.place, c.end-end.ensures, c.end-end.type_inv)) c.in-Ok.ensures.took.took in
+    let took = took_runs c.args.settings.now c.args.b c.args.live.judged _ c.visit.new.visitor c.in-Ok.ensures.took.payloads c.nothing.ensures refl refl refl
+    (omega (arith, c.in-Ok.ensures.took.place, c.end-end.ensures, c.end-end.type_inv)) c.in-Ok.ensures.took.took in
     let within = first_within c.args.settings.now c.args.b c.args.live.judged c.in-Ok.ensures.took.payloads c.visit.new.visitor took below in
     omega (arith, within.1, c.in_ok-aux.ensures.fits)
 
 pub returns-clause-opened : goal.returns-clause-opened
 returns-clause-opened g c =
-    let took = took_runs c.args.settings.now c.args.b c.args.live.judged _ c.visit.new.visitor c.in-Ok.ensures.took.payloads c.nothing.ensures refl refl refl (omega (arith, c.in-Ok.ensures.took.place, c.end-end.ensures, c.end-end.type_inv)) c.in-Ok.ensures.took.took in
+    let took = took_runs c.args.settings.now c.args.b c.args.live.judged _ c.visit.new.visitor c.in-Ok.ensures.took.payloads c.nothing.ensures refl refl refl
+    (omega (arith, c.in-Ok.ensures.took.place, c.end-end.ensures, c.end-end.type_inv)) c.in-Ok.ensures.took.took in
     record {
       journal = c.in-Ok.ensures.journal.0 ∙ c.number-f.ensures.value;
       aux = ap (λ (blob : Front). blob.file) c.in_ok-aux.ensures.blob ∙ c.number.ensures.value;
@@ -90,9 +95,9 @@ pub returns-clause-long : goal.returns-clause-long
 returns-clause-long g c = λ files tells.
     let law = g.met.S.Store.is_consistent in
     let after = c.in_ok-aux.ensures.same in
-    let before = told_from c.number-f.result IsOpened _ _ files c.in-Ok.ensures.changes (sym after ∙ tells) in
-    let found = c.in-Ok.ensures.found before.0 before.1 in
-    let read = c.in-Ok.ensures.records before.0 before.1 found.0 found.1 in
+    let before = told_from c.number-f.result IsOpened _ _ files c.in-Ok.ensures.changes.told (sym after ∙ tells) in
+    let found = (c.in-Ok.ensures.visited before.0 before.1).found in
+    let read = (c.in-Ok.ensures.visited before.0 before.1).records found.0 found.1 in
     let ends = read.2 files ((law c.visit.new.store).told files (sym after ∙ tells)) in
     record {
       journal = ends_within c.in-Ok.journal.end (files c.in-Ok.journal.file) found.0 ends;
@@ -102,17 +107,20 @@ returns-clause-long g c = λ files tells.
 
 pub returns-clause-found : goal.returns-clause-found
 returns-clause-found g c = λ files tells.
-    let found = c.in-Ok.ensures.found files tells in
-    let read = c.in-Ok.ensures.records files tells found.0 found.1 in
-    let took = took_runs c.args.settings.now c.args.b c.args.live.judged _ c.visit.new.visitor found.0 c.nothing.ensures refl refl refl (omega (arith, read.0, c.end-end.ensures, c.end-end.type_inv)) read.1 in
-    let after = rw tells at c.in-Ok.ensures.changes in
-    let aux : after.0 c.number.result ≡ files (file_of c.args.base 0 (AuxFile c.args.live.side c.args.b)) = after.2.others c.number.result (omega (arith, c.number.ensures.value, c.number-f.ensures.value)) ∙ ap files c.number.ensures.value in
+    let found = (c.in-Ok.ensures.visited files tells).found in
+    let read = (c.in-Ok.ensures.visited files tells).records found.0 found.1 in
+    let took = took_runs c.args.settings.now c.args.b c.args.live.judged _ c.visit.new.visitor found.0 c.nothing.ensures refl refl refl (omega (arith, read.0, c.end-end.ensures, c.end-end.type_inv))
+    read.1 in
+    let after = rw tells at c.in-Ok.ensures.changes.told in
+    let aux : after.0 c.number.result ≡ files (file_of c.args.base 0 (AuxFile c.args.live.side c.args.b)) =
+    after.2.others c.number.result (omega (arith, c.number.ensures.value, c.number-f.ensures.value)) ∙ ap files c.number.ensures.value in
     let long = c.in_ok-aux.ensures.long after.0 after.1 in
     record {
       runs = took.runs;
       has = record {
         each = took.each;
-        records = subst (λ (n : ℕ). StandsFor (files n) (map entries_bytes took.runs)) c.number-f.ensures.value (subst (λ (ps : List (List ℕ)). StandsFor (files c.number-f.result) ps) took.payloads_are found.1);
+        records = subst (λ (n : ℕ). StandsFor (files n) (map entries_bytes took.runs)) c.number-f.ensures.value
+            (subst (λ (ps : List (List ℕ)). StandsFor (files c.number-f.result) ps) took.payloads_are found.1);
       };
       durable = omega (arith, took.found.count, c.saturating_add.ensures);
       texts = omega (arith, took.found.texts, long, ap length aux);
@@ -123,25 +131,54 @@ returns-clause-holds g c = λ files tells list is.
     let has = is.has in
     let law = g.met.S.Store.is_consistent in
     let stands = subst (λ (n : ℕ). StandsFor (files n) (map run_bytes has.runs)) (sym c.number-f.ensures.value) has.records in
-    let read = c.in-Ok.ensures.records files tells (map run_bytes has.runs) stands in
-    let took = took_runs c.args.settings.now c.args.b c.args.live.judged _ c.visit.new.visitor (map run_bytes has.runs) c.nothing.ensures refl refl refl (omega (arith, read.0, c.end-end.ensures, c.end-end.type_inv)) read.1 in
-    let after = rw tells at c.in-Ok.ensures.changes in
-    let aux : after.0 c.number.result ≡ files (file_of c.args.base 0 (AuxFile c.args.live.side c.args.b)) = after.2.others c.number.result (omega (arith, c.number.ensures.value, c.number-f.ensures.value)) ∙ ap files c.number.ensures.value in
-    let images = (g.S.Store.snapshot c.open_blob.new.store).images in
+    let read = (c.in-Ok.ensures.visited files tells).records (map run_bytes has.runs) stands in
+    let took = took_runs c.args.settings.now c.args.b c.args.live.judged _ c.visit.new.visitor (map run_bytes has.runs) c.nothing.ensures refl refl refl
+    (omega (arith, read.0, c.end-end.ensures, c.end-end.type_inv)) read.1 in
+    let after = rw tells at c.in-Ok.ensures.changes.told in
+    let aux : after.0 c.number.result ≡ files (file_of c.args.base 0 (AuxFile c.args.live.side c.args.b)) =
+    after.2.others c.number.result (omega (arith, c.number.ensures.value, c.number-f.ensures.value)) ∙ ap files c.number.ensures.value in
+    let images = (g.S.Store.told c.open_blob.new.store).images in
     let kept = left_now _ _ _ (law c.open_blob.new.store) c.in_ok-aux.ensures.stops in
-    holds_found images c.args.settings.now c.args.b c.args.live.judged list (files (file_of c.args.base 0 (JournalFile c.args.live.side c.args.b))) (files (file_of c.args.base 0 (AuxFile c.args.live.side c.args.b))) _ c.visit.new.visitor.found took.runs has is.here is.within took.each took.payloads_are took.found
+    holds_found images c.args.settings.now c.args.b c.args.live.judged list (files (file_of c.args.base 0 (JournalFile c.args.live.side c.args.b)))
+    (files (file_of c.args.base 0 (AuxFile c.args.live.side c.args.b))) _ c.visit.new.visitor.found took.runs has is.here is.within took.each took.payloads_are took.found
     (record {
       end = read.0;
       journal = λ image left. read.2 image (kept image left);
       length = ap (λ (blob : Front). blob.length) c.in_ok-aux.ensures.blob;
       aux = subst (λ (l : List ℕ). IsCommitted images c.in_ok-aux.aux (take c.visit.new.visitor.found.texts l)) aux (c.in_ok-aux.ensures.committed after.0 after.1);
-      durable = omega (arith, c.saturating_add.ensures, took.found.count, long_runs took.runs, ap (λ (ps : List (List ℕ)). length (records_text ps)) took.payloads_are, read.0, c.end-end.ensures, c.end-end.type_inv, is.few);
+      durable = omega (
+        arith,
+        c.saturating_add.ensures,
+        took.found.count,
+        long_runs took.runs,
+        ap (λ (ps : List (List ℕ)). length (records_text ps)) took.payloads_are,
+        read.0,
+        c.end-end.ensures,
+        c.end-end.type_inv,
+        is.few,
+      );
       pending = c.first_pending-gate.ensures.pending;
       none = λ past. let kept_none = c.first_pending-gate.ensures.none past in (kept_none.0 ∙ c.end-end.ensures, kept_none.1, kept_none.2 ∙ c.length.ensures);
     })
 
 pub returns-clause-stops : goal.returns-clause-stops
 returns-clause-stops g c =
-    let tell = g.S.Store.snapshot in
+    let tell = g.S.Store.told in
     subst (λ (f : ℕ). LeavesBy (ChangesFile f IsOpened) (tell c.args.store.now) (tell c.open_blob.new.store)) c.number-f.ensures.value
-    (reads_on _ _ _ _ (g.met.S.Store.is_consistent c.visit.new.store) c.in-Ok.ensures.stops c.in_ok-aux.ensures.stops)
+    (reads_on _ _ _ _ (g.met.S.Store.is_consistent c.visit.new.store) c.in-Ok.ensures.changes.stops c.in_ok-aux.ensures.stops)
+
+-- ---- what is read
+took_there : (f n : ℕ) (old new : Option (ℕ → ℕ)) → f ≡ n → TakesOnly f old new → TakesOnly n old new
+took_there f n old new is takes = subst (λ (file : ℕ). TakesOnly file old new) is takes
+
+took_then : (f n : ℕ) (old mid new : Option (ℕ → ℕ)) → f ≡ n → TakesOnly f old mid → new ≡ mid → TakesOnly n old new
+took_then f n old mid new is takes same = subst (λ (taken : Option (ℕ → ℕ)). TakesOnly n old taken) (sym same) (took_there f n old mid is takes)
+
+pub returns-in-Err-clause-taken : goal.returns-in-Err-clause-taken
+returns-in-Err-clause-taken g c = took_there _ _ _ _ c.number-f.ensures.value c.in-Err.ensures.changes.taken
+
+pub returns-in_err-aux-clause-taken : goal.returns-in_err-aux-clause-taken
+returns-in_err-aux-clause-taken g c = took_then _ _ _ _ _ c.number-f.ensures.value c.in-Ok.ensures.changes.taken c.in_err-aux.ensures.taken
+
+pub returns-clause-taken : goal.returns-clause-taken
+returns-clause-taken g c = took_then _ _ _ _ _ c.number-f.ensures.value c.in-Ok.ensures.changes.taken c.in_ok-aux.ensures.taken

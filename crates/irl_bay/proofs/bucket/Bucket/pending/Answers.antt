@@ -26,9 +26,12 @@ each_all P (e ∷ l) all zero d lt = all.0
 each_all P (e ∷ l) all (suc k) d lt = each_all P l all.1 k d (omega arith)
 
 -- entries of the bucket's runs are of the bucket
-no_other : (settings : Settings) (b skip : ℕ) (bucket : Bucket) (files : Files) (entries : List Entry) (slice : List Entry) (is_of : Bool) → HasEntries settings b bucket files entries → slice ≡ drop skip entries → IsTrue is_of ↔ All (λ entry. bucket_of settings.buckets entry.key ≡ b) slice → is_of ≡ false → ⊥
+no_other : (settings : Settings) (b skip : ℕ) (bucket : Bucket) (files : Files) (entries : List Entry) (slice : List Entry) (is_of : Bool) → HasEntries settings b bucket files entries
+    → slice ≡ drop skip entries → IsTrue is_of ↔ All (λ entry. bucket_of settings.buckets entry.key ≡ b) slice → is_of ≡ false → ⊥
 no_other settings b skip bucket files entries slice is_of has is tells not =
-    let all = each_all (λ (e : Entry). bucket_of settings.buckets e.key ≡ b) slice (subst (AllByRecursion (λ (e : Entry). bucket_of settings.buckets e.key ≡ b)) (sym is) (each_drop skip entries (subst (AllByRecursion (λ (e : Entry). bucket_of settings.buckets e.key ≡ b)) (sym has.joined) (in_runs has.runs has.has.each)))) in
+    let all = each_all (λ (e : Entry). bucket_of settings.buckets e.key ≡ b) slice
+    (subst (AllByRecursion (λ (e : Entry). bucket_of settings.buckets e.key ≡ b)) (sym is)
+    (each_drop skip entries (subst (AllByRecursion (λ (e : Entry). bucket_of settings.buckets e.key ≡ b)) (sym has.joined) (in_runs has.runs has.has.each)))) in
     contrary is_of not (tells.1 all)
   where
     false_is_not : IsTrue false → ⊥
@@ -57,11 +60,13 @@ no_other settings b skip bucket files entries slice is_of has is tells not =
 
 pub returns-then-not-are_of-clause-damaged : goal.returns-then-not-are_of-clause-damaged
 returns-then-not-are_of-clause-damaged g c = λ f at e files tells.
-    absurd (no_other c.args.settings.now c.args.b c.args.self.now.skip c.args.self.now files c.in-Ok.entries.items _ c.are_of.result (c.in-Ok.ensures.found files tells) (tail_slice c.args.self.now.skip c.deref.result.now ∙ ap (drop c.args.self.now.skip) c.deref.ensures.value) c.are_of.ensures c.if-not-are_of.true)
+    absurd (no_other c.args.settings.now c.args.b c.args.self.now.skip c.args.self.now files c.in-Ok.entries.items _ c.are_of.result (c.in-Ok.ensures.found files tells)
+    (tail_slice c.args.self.now.skip c.deref.result.now ∙ ap (drop c.args.self.now.skip) c.deref.ensures.value) c.are_of.ensures c.if-not-are_of.true)
 
 pub returns-then-not-are_of-clause-whole : goal.returns-then-not-are_of-clause-whole
 returns-then-not-are_of-clause-whole g c = λ f at e files tells cut list holds buckets count.
-    no_other c.args.settings.now c.args.b c.args.self.now.skip c.args.self.now files c.in-Ok.entries.items _ c.are_of.result (c.in-Ok.ensures.found files tells) (tail_slice c.args.self.now.skip c.deref.result.now ∙ ap (drop c.args.self.now.skip) c.deref.ensures.value) c.are_of.ensures c.if-not-are_of.true
+    no_other c.args.settings.now c.args.b c.args.self.now.skip c.args.self.now files c.in-Ok.entries.items _ c.are_of.result (c.in-Ok.ensures.found files tells)
+    (tail_slice c.args.self.now.skip c.deref.result.now ∙ ap (drop c.args.self.now.skip) c.deref.ensures.value) c.are_of.ensures c.if-not-are_of.true
 
 pub returns-then-not-have_length-clause-whole : goal.returns-then-not-have_length-clause-whole
 returns-then-not-have_length-clause-whole g c = λ f at e files tells cut list holds buckets count.
@@ -69,8 +74,10 @@ returns-then-not-have_length-clause-whole g c = λ f at e files tells cut list h
     let now = (g.met.S.Store.is_consistent c.args.store.now).told files tells in
     let tail = tail_slice bucket.skip c.deref-2.result.now ∙ ap (drop bucket.skip) c.deref-2.ensures.value in
     let texts = texts_held list cut bucket.text bucket.aux.length (files bucket.aux.file) holds.text holds.aux.size (holds.aux.each files now) in
-    let read : bucket.aux.length - bucket.text ≡ text_length (drop bucket.skip c.in-Ok.entries.items) = texts.1 ∙ length-texts (drop cut list) ∙ ap text_length (sym (c.in-Ok.ensures.held files tells cut list holds).entries_are) in
-    let same : text_length (take (length c.deref-2.result.now - bucket.skip) (drop bucket.skip c.deref-2.result.now)) ≡ c.length.result - bucket.text = ap text_length tail ∙ sym read ∙ ap (λ (n : ℕ). n - bucket.text) (sym c.length.ensures) in
+    let read : bucket.aux.length - bucket.text ≡ text_length (drop bucket.skip c.in-Ok.entries.items) = texts.1 ∙ length-texts (drop cut list)
+    ∙ ap text_length (sym (c.in-Ok.ensures.held files tells cut list holds).entries_are) in
+    let same : text_length (take (length c.deref-2.result.now - bucket.skip) (drop bucket.skip c.deref-2.result.now)) ≡ c.length.result - bucket.text = ap text_length tail ∙ sym read
+    ∙ ap (λ (n : ℕ). n - bucket.text) (sym c.length.ensures) in
     contrary c.have_length.result c.if-not-have_length.true (c.have_length.ensures.1 same)
   where
     false_is_not : IsTrue false → ⊥

@@ -16,7 +16,8 @@ returns-then-cut-self c = λ buckets b entries each is.
       count = omega (arith, long, c.saturating_add-count.ensures);
       texts = omega (arith, size, c.saturating_add-texts.ensures);
       here = λ from below. (refl, omega (arith, c.if-self-cut.true), omega (arith, part, c.saturating_add.ensures));
-      elsewhere = λ other. absurd (⊎_elim (λ (above : c.args.cut < c.args.self.now.count). omega (arith, above, c.if-self-cut.true)) (λ (past : c.args.self.now.count + length entries ≤ c.args.cut). omega (arith, past, long, c.if-cut-self.true)) other);
+      elsewhere = λ other. absurd (⊎_elim (λ (above : c.args.cut < c.args.self.now.count). omega (arith, above, c.if-self-cut.true)) (λ (past : c.args.self.now.count + length entries ≤ c.args.cut).
+          omega (arith, past, long, c.if-cut-self.true)) other);
     }
 
 pub returns : goal.returns

@@ -13,4 +13,5 @@ returns-clause-ok c =
     ∙ more _ _ _ (c.in_ok-push_number.ensures.ok
     ∙ more _ _ _ (c.in_ok-extend_from_slice-2.ensures.items
     ∙ more _ _ _ c.in_ok-extend_from_slice.ensures.items)))))
-    ∙ entry_put c.args.entries.now.items c.args.place c.args.bucket c.args.entry.now c.args.verdict c.number.result c.verdict_number.result c.known_value.result c.length_bytes-text_len.result c.number.ensures c.verdict_number.ensures (c.length_bytes-text_len.ensures ∙ ap (little_bytes 4) c.from.ensures) c.known_value.ensures
+    ∙ entry_put c.args.entries.now.items c.args.place c.args.bucket c.args.entry.now c.args.verdict c.number.result c.verdict_number.result c.known_value.result c.length_bytes-text_len.result
+    c.number.ensures c.verdict_number.ensures (c.length_bytes-text_len.ensures ∙ ap (little_bytes 4) c.from.ensures) c.known_value.ensures

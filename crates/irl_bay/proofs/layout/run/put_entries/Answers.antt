@@ -27,7 +27,8 @@ loop-offer-preserved c =
     let i = c.loop-offer.offer-index in
     let entry : c.encode.result ≡ entry_bytes (entry_of_offer c.offer-item.result) = c.encode.ensures ∙ ap entry_bytes c.entry_of.ensures.value in
     let put : c.put.new.self.bytes ≡ (c.args.frame.now.bytes ++ run_bytes (take i c.args.offers.now)) ++ entry_bytes (entry_of_offer c.offer-item.result) =
-    ap (λ (d : Draft). d.bytes) c.put.ensures ∙ ap (λ (l : List ℕ). l ++ c.encode.result) c.loop-offer.invariant.bytes ∙ ap (λ (l : List ℕ). (c.args.frame.now.bytes ++ run_bytes (take i c.args.offers.now)) ++ l) entry in
+    ap (λ (d : Draft). d.bytes) c.put.ensures ∙ ap (λ (l : List ℕ). l ++ c.encode.result) c.loop-offer.invariant.bytes
+    ∙ ap (λ (l : List ℕ). (c.args.frame.now.bytes ++ run_bytes (take i c.args.offers.now)) ++ l) entry in
     let more = one_more_of (λ (offer : Tuple). entry_bytes (entry_of_offer offer)) c.args.offers.now i c.offer-item.result c.loop-offer-test.true c.offer-item.is in
     record {
       bytes = put ∙ append_assoc c.args.frame.now.bytes _ _ ∙ ap (λ (l : List ℕ). c.args.frame.now.bytes ++ l) (sym more);

@@ -31,7 +31,7 @@ pub put_all-requires-clause-rising : goal.put_all-requires-clause-rising
 put_all-requires-clause-rising g c =
     let now = c.args.self.now in
     let b = c.args.b in
-    let told = (g.S.Store.snapshot c.args.store.now).files in
+    let told = (g.S.Store.told c.args.store.now).files in
     let r = c.requires.sweeping in
     let is = r.3 in
     let count = c.count_up_to-count.result in
@@ -49,14 +49,15 @@ put_all-requires-clause-rising g c =
     let swept = c.in_ok-feed.ensures.swept now.rule r.2 is.fed is.given more all is.swept rising in
     let of_piece = subst (λ (l : List Pair). HasSwept now.rule r.2 (is.fed ++ l) (is.given ++ more) c.feed.new.self) is_piece swept in
     let here = piece_here b r.0 r.1 r.2 told c.args.sweep.now now is piece rest cut upto in
-    subst (λ (l : List Pair). RisesFrom now.writer.last l) (sym c.deref.ensures.value) (more_rises b r.0 r.1 r.2 told c.args.sweep.now now is (is.fed ++ piece) (is.given ++ more) more c.feed.new.self refl here of_piece)
+    subst (λ (l : List Pair). RisesFrom now.writer.last l) (sym c.deref.ensures.value)
+    (more_rises b r.0 r.1 r.2 told c.args.sweep.now now is (is.fed ++ piece) (is.given ++ more) more c.feed.new.self refl here of_piece)
 
 pub returns-clause-sweeping : goal.returns-clause-sweeping
 returns-clause-sweeping g c = λ offers verdicts news is.
     let now = c.args.self.now in
     let b = c.args.b in
-    let told = (g.S.Store.snapshot c.args.store.now).files in
-    let new = (g.S.Store.snapshot c.put_all.new.store).files in
+    let told = (g.S.Store.told c.args.store.now).files in
+    let new = (g.S.Store.told c.put_all.new.store).files in
     let count = c.count_up_to-count.result in
     let blk = c.block.result.now in
     let slice = take (length blk - now.fed) (drop now.fed blk) in
@@ -73,7 +74,7 @@ returns-clause-sweeping g c = λ offers verdicts news is.
     let of_piece = subst (λ (l : List Pair). HasSwept now.rule news (is.fed ++ l) (is.given ++ more) c.feed.new.self) is_piece swept in
     let written = subst (λ (l : List Pair). HasWritten new ((is.put ++ is.given) ++ l) c.put_all.new.self) c.deref.ensures.value (c.in_ok-put_all.ensures.written (is.put ++ is.given) is.written) in
     feeds b offers verdicts news told c.args.sweep.now now is piece rest more new c.feed.new.self _ cut (drop_then now.fed count now.reader.block) refl refl refl upto of_piece
-    (same_file now.writer.out.file now.reader.file _ told new now.apart c.put_all.ensures.changes) written
+    (same_file now.writer.out.file now.reader.file _ told new now.apart c.put_all.ensures.changes.told) written
 
 pub returns-clause-done : goal.returns-clause-done
 returns-clause-done g c = λ not.

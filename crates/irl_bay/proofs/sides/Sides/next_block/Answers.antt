@@ -1,6 +1,6 @@
 use Rattle.std.proofs.Common.{◌≡◌, ◌++◌, refl}
 use Rattle.std.proofs.lemmas.Result.{err_from_is_err_and}
-use Rattle.irl_offer.specs.declared.receipt.Fault.TheVariants.{Damaged}
+use Rattle.irl_base.specs.declared.fault.Fault.TheVariants.{Damaged}
 use Rattle.irl_bay.specs.Sides.{rest_of}
 use Rattle.irl_bay.proofs.Sweeps.{has_reached, nexts}
 use Rattle.irl_bay.proofs.sides.Sides.next_block.Goals as goal
@@ -12,14 +12,14 @@ pub returns-in_err-next_block-clause-damaged : goal.returns-in_err-next_block-cl
 returns-in_err-next_block-clause-damaged g c = λ f at e files told.
     let out = err_from_is_err_and c.from_residual.result c.from_residual.ensures.1 in
     let same : c.in_err-next_block.field-0.0 ≡ Damaged f at = let is = rw (out.1, out.2) at e in cc in
-    c.in_err-next_block.ensures.damaged f at (rw same refl) _ c.requires.sweeping.5.read files told
+    c.in_err-next_block.ensures.reads_on.damaged f at (rw same refl) _ c.requires.sweeping.5.read files told
 
 pub returns-clause-sweeping : goal.returns-clause-sweeping
 returns-clause-sweeping g c = λ b offers verdicts news sweep is.
     let now = c.args.self.now in
-    let told = (g.S.Store.snapshot c.args.store.now).files in
-    nexts b offers verdicts news told sweep now is (g.S.Store.snapshot c.next_block.new.store).files _ c.requires.used_up refl refl refl c.next_block.ensures.run.1 c.next_block.ensures.same
+    let told = (g.S.Store.told c.args.store.now).files in
+    nexts b offers verdicts news told sweep now is (g.S.Store.told c.next_block.new.store).files _ c.requires.used_up refl refl refl c.next_block.ensures.run.1 c.next_block.ensures.reads_on.reads.same
     (c.in_ok-next_block.ensures.read ((is.before ++ is.fed) ++ rest_of now) is.read)
 
 pub returns-clause-read : goal.returns-clause-read
-returns-clause-read g c = (c.in_ok-next_block.ensures.ahead.0, c.in_ok-next_block.ensures.taken)
+returns-clause-read g c = (c.in_ok-next_block.ensures.ahead.0, c.in_ok-next_block.ensures.reads_on.taken)

@@ -5,7 +5,7 @@ use Rattle.std.specs.Option.{ForSome}
 use Rattle.std.specs.Result.{OnOk}
 use Rattle.irl_offer.specs.Tuple.{Tuple}
 use Rattle.irl_offer.specs.declared.entry.Entry.{Entry}
-use Rattle.irl_offer.specs.declared.receipt.Fault.TheVariants.{Damaged}
+use Rattle.irl_base.specs.declared.fault.Fault.TheVariants.{Damaged}
 use Rattle.irl_disk.specs.Disk.{Changes, ChangesFile}
 use Rattle.irl_disk.specs.Images.{LeavesBy}
 use Rattle.irl_disk.specs.Taken.{TakesOnly}
@@ -27,7 +27,7 @@ always (Err e) Q q = tt
 
 pub loop-sweep-init : goal.loop-sweep-init
 loop-sweep-init g c =
-    let tells = g.S.Store.snapshot in
+    let tells = g.S.Store.told in
     let now = c.args.self.now in
     let here = tells c.args.store.now in
     record {
@@ -51,25 +51,28 @@ pub returns-in_err-feed-clause-damaged : goal.returns-in_err-feed-clause-damaged
 returns-in_err-feed-clause-damaged g c = λ f at e.
     let now = c.args.self.now in
     let at_loop = c.loop-sweep.invariant in
-    let told = (g.S.Store.snapshot c.args.store.now).files in
-    let mid = (g.S.Store.snapshot c.loop-sweep.store).files in
+    let told = (g.S.Store.told c.args.store.now).files in
+    let mid = (g.S.Store.told c.loop-sweep.store).files in
     let out = err_from_is_err_and c.from_residual-in_err-feed.result c.from_residual-in_err-feed.ensures.1 in
     let same : c.in_err-feed.field-0.0 ≡ Damaged f at = let is = rw (out.1, out.2) at e in cc in
     let spoilt = c.in_err-feed.ensures.damaged f at (rw same refl) in
-    let there = subst (λ (n : ℕ). ForSome mid (λ files. (f ≡ now.reader.file) × IsSpoiltRun n (files f) at)) at_loop.same.entries (subst (λ (r : ℕ). ForSome mid (λ files. (f ≡ r) × IsSpoiltRun c.loop-sweep.self.reader.entries (files f) at)) at_loop.same.from spoilt) in
+    let there = subst (λ (n : ℕ). ForSome mid (λ files. (f ≡ now.reader.file) × IsSpoiltRun n (files f) at)) at_loop.same.entries
+    (subst (λ (r : ℕ). ForSome mid (λ files. (f ≡ r) × IsSpoiltRun c.loop-sweep.self.reader.entries (files f) at)) at_loop.same.from spoilt) in
     spoilt_before now.writer.out.file now.reader.file now.reader.entries f at _ told mid now.apart at_loop.changes there
 
 pub returns-in_err-feed-clause-changes : goal.returns-in_err-feed-clause-changes
 returns-in_err-feed-clause-changes g c =
-    let tells = g.S.Store.snapshot in
+    let tells = g.S.Store.told in
     let file = c.args.self.now.writer.out.file in
-    changes_both file _ (tells c.loop-sweep.store).files _ c.loop-sweep.invariant.changes (subst (λ (f : ℕ). Changes f (KeepsFront 0) (tells c.loop-sweep.store).files (tells c.feed.new.store).files) c.loop-sweep.invariant.same.to c.feed.ensures.changes)
+    changes_both file _ (tells c.loop-sweep.store).files _ c.loop-sweep.invariant.changes
+    (subst (λ (f : ℕ). Changes f (KeepsFront 0) (tells c.loop-sweep.store).files (tells c.feed.new.store).files) c.loop-sweep.invariant.same.to c.feed.ensures.changes)
 
 pub returns-in_err-feed-clause-stops : goal.returns-in_err-feed-clause-stops
 returns-in_err-feed-clause-stops g c =
-    let tells = g.S.Store.snapshot in
+    let tells = g.S.Store.told in
     let file = c.args.self.now.writer.out.file in
-    stops_both file _ (tells c.loop-sweep.store) _ (g.met.S.Store.is_consistent c.loop-sweep.store) c.loop-sweep.invariant.stops (subst (λ (f : ℕ). LeavesBy (ChangesFile f (KeepsFront 0)) (tells c.loop-sweep.store) (tells c.feed.new.store)) c.loop-sweep.invariant.same.to c.feed.ensures.stops)
+    stops_both file _ (tells c.loop-sweep.store) _ (g.met.S.Store.is_consistent c.loop-sweep.store) c.loop-sweep.invariant.stops
+    (subst (λ (f : ℕ). LeavesBy (ChangesFile f (KeepsFront 0)) (tells c.loop-sweep.store) (tells c.feed.new.store)) c.loop-sweep.invariant.same.to c.feed.ensures.stops)
 
 pub returns-in_err-feed-clause-same : goal.returns-in_err-feed-clause-same
 returns-in_err-feed-clause-same g c = same_both _ _ _ c.loop-sweep.invariant.same c.feed.ensures.same
@@ -84,7 +87,7 @@ loop-sweep-smaller g c =
 
 pub loop-sweep-preserved : goal.loop-sweep-preserved
 loop-sweep-preserved g c =
-    let tells = g.S.Store.snapshot in
+    let tells = g.S.Store.told in
     let now = c.args.self.now in
     let file = now.writer.out.file in
     let before = c.loop-sweep.invariant in
@@ -92,9 +95,12 @@ loop-sweep-preserved g c =
       sound = c.in_ok-feed.ensures.sound;
       same = same_both _ _ _ before.same c.feed.ensures.same;
       sweeping = λ offers verdicts news has of here. c.in_ok-feed.ensures.sweeping offers verdicts news (before.sweeping offers verdicts news has of here);
-      changes = changes_both file _ (tells c.loop-sweep.store).files _ before.changes (subst (λ (f : ℕ). Changes f (KeepsFront 0) (tells c.loop-sweep.store).files (tells c.feed.new.store).files) before.same.to c.feed.ensures.changes);
-      stops = stops_both file _ (tells c.loop-sweep.store) _ (g.met.S.Store.is_consistent c.loop-sweep.store) before.stops (subst (λ (f : ℕ). LeavesBy (ChangesFile f (KeepsFront 0)) (tells c.loop-sweep.store) (tells c.feed.new.store)) before.same.to c.feed.ensures.stops);
-      taken = takes_both _ _ _ _ before.taken (subst (λ (f : ℕ). TakesOnly f (g.S.Store.taken c.loop-sweep.store) (g.S.Store.taken c.feed.new.store)) before.same.from c.feed.ensures.taken);
+      changes = changes_both file _ (tells c.loop-sweep.store).files _ before.changes
+          (subst (λ (f : ℕ). Changes f (KeepsFront 0) (tells c.loop-sweep.store).files (tells c.feed.new.store).files) before.same.to c.feed.ensures.changes);
+      stops = stops_both file _ (tells c.loop-sweep.store) _ (g.met.S.Store.is_consistent c.loop-sweep.store) before.stops
+          (subst (λ (f : ℕ). LeavesBy (ChangesFile f (KeepsFront 0)) (tells c.loop-sweep.store) (tells c.feed.new.store)) before.same.to c.feed.ensures.stops);
+      taken = takes_both _ _ _ _ before.taken (subst (λ (f : ℕ). TakesOnly f ((g.S.Store.told c.loop-sweep.store).taken) (g.S.Store.told c.feed.new.store).taken) before.same.from
+          c.feed.ensures.taken);
       read = reads_both now.reader c.loop-sweep.self.reader c.feed.new.self.reader _ _ _ before.same.from before.read c.in_ok-feed.ensures.read;
       later = omega (arith, before.later, c.feed.ensures.cause.later);
     }
@@ -109,7 +115,9 @@ end-requires-clause-sweeping g c =
 pub returns-clause-merged : goal.returns-clause-merged
 returns-clause-merged g c =
     let before = c.loop-sweep.invariant in
-    IfOk-weaker c.end.result _ _ (λ found merged offers verdicts news has of here. merged c.args.b offers verdicts news (c.in_ok-feed.ensures.done c.if-branch.false) (c.in_ok-feed.ensures.sweeping offers verdicts news (before.sweeping offers verdicts news has of here))) c.end.ensures.merged
+    IfOk-weaker c.end.result _ _ (λ found merged offers verdicts news has of here.
+    merged c.args.b offers verdicts news (c.in_ok-feed.ensures.done c.if-branch.false) (c.in_ok-feed.ensures.sweeping offers verdicts news (before.sweeping offers verdicts news has of here)))
+    c.end.ensures.merged
 
 pub returns-clause-count : goal.returns-clause-count
 returns-clause-count g c =
@@ -123,21 +131,23 @@ returns-clause-same g c = same_both _ _ _ (same_both _ _ _ c.loop-sweep.invarian
 
 pub returns-clause-changes : goal.returns-clause-changes
 returns-clause-changes g c =
-    let tells = g.S.Store.snapshot in
+    let tells = g.S.Store.told in
     let file = c.args.self.now.writer.out.file in
     let before = c.loop-sweep.invariant in
     let same = same_both _ _ _ before.same c.feed.ensures.same in
-    changes_both file _ (tells c.feed.new.store).files _ (changes_both file _ (tells c.loop-sweep.store).files _ before.changes (subst (λ (f : ℕ). Changes f (KeepsFront 0) (tells c.loop-sweep.store).files (tells c.feed.new.store).files) before.same.to c.feed.ensures.changes))
+    changes_both file _ (tells c.feed.new.store).files _ (changes_both file _ (tells c.loop-sweep.store).files _ before.changes
+    (subst (λ (f : ℕ). Changes f (KeepsFront 0) (tells c.loop-sweep.store).files (tells c.feed.new.store).files) before.same.to c.feed.ensures.changes))
     (subst (λ (f : ℕ). Changes f (KeepsFront 0) (tells c.feed.new.store).files (tells c.end.new.store).files) same.to c.end.ensures.changes)
 
 pub returns-clause-stops : goal.returns-clause-stops
 returns-clause-stops g c =
-    let tells = g.S.Store.snapshot in
+    let tells = g.S.Store.told in
     let file = c.args.self.now.writer.out.file in
     let before = c.loop-sweep.invariant in
     let same = same_both _ _ _ before.same c.feed.ensures.same in
     stops_both file _ (tells c.feed.new.store) _ (g.met.S.Store.is_consistent c.feed.new.store)
-    (stops_both file _ (tells c.loop-sweep.store) _ (g.met.S.Store.is_consistent c.loop-sweep.store) before.stops (subst (λ (f : ℕ). LeavesBy (ChangesFile f (KeepsFront 0)) (tells c.loop-sweep.store) (tells c.feed.new.store)) before.same.to c.feed.ensures.stops))
+    (stops_both file _ (tells c.loop-sweep.store) _ (g.met.S.Store.is_consistent c.loop-sweep.store) before.stops
+    (subst (λ (f : ℕ). LeavesBy (ChangesFile f (KeepsFront 0)) (tells c.loop-sweep.store) (tells c.feed.new.store)) before.same.to c.feed.ensures.stops))
     (subst (λ (f : ℕ). LeavesBy (ChangesFile f (KeepsFront 0)) (tells c.feed.new.store) (tells c.end.new.store)) same.to c.end.ensures.stops)
 
 pub returns-clause-read : goal.returns-clause-read
@@ -145,5 +155,6 @@ returns-clause-read g c =
     let now = c.args.self.now in
     let before = c.loop-sweep.invariant in
     let same = same_both _ _ _ before.same c.feed.ensures.same in
-    always c.end.result _ (reads_both now.reader c.feed.new.self.reader c.end.new.self.reader _ _ _ same.from (reads_both now.reader c.loop-sweep.self.reader c.feed.new.self.reader _ _ _ before.same.from before.read c.in_ok-feed.ensures.read)
+    always c.end.result _ (reads_both now.reader c.feed.new.self.reader c.end.new.self.reader _ _ _ same.from
+    (reads_both now.reader c.loop-sweep.self.reader c.feed.new.self.reader _ _ _ before.same.from before.read c.in_ok-feed.ensures.read)
     (reads_none c.feed.new.self.reader c.end.new.self.reader _ _ c.end.ensures.reader c.end.ensures.taken))

@@ -19,13 +19,14 @@ invariant-loop-sweep g l =
     record {
       sound : l.sweep.is_sound ≡ true;
       same : IsSameCache l.fn.self l.self;
-      sweeping : (offers : List Tuple) (verdicts : List (Option Verdict)) (news : List Tuple) → HasMerged l.b offers verdicts (store.snapshot l.fn.store).files l.fn.self → AreEntriesOf news l.entries → AllByRecursion (λ (offer : Tuple). bucket_of l.fn.self.buckets offer.key ≡ l.b) news
-          → IsSweeping l.b offers verdicts news (store.snapshot l.store).files l.sweep l.self;
-      changes : Changes l.fn.self.writer.out.file (KeepsFront 0) (store.snapshot l.fn.store).files (store.snapshot l.store).files;
-      stops : LeavesBy (ChangesFile l.fn.self.writer.out.file (KeepsFront 0)) (store.snapshot l.fn.store) (store.snapshot l.store);
-      taken : TakesOnly l.fn.self.reader.file (store.taken l.fn.store) (store.taken l.store);
-      read : ReadsOn l.fn.self.reader l.self.reader (store.taken l.fn.store) (store.taken l.store);
-      later : store.faults l.fn.store ≤ store.faults l.store;
+      sweeping : (offers : List Tuple) (verdicts : List (Option Verdict)) (news : List Tuple) → HasMerged l.b offers verdicts (store.told l.fn.store).files l.fn.self → AreEntriesOf news l.entries
+          → AllByRecursion (λ (offer : Tuple). bucket_of l.fn.self.buckets offer.key ≡ l.b) news
+          → IsSweeping l.b offers verdicts news (store.told l.store).files l.sweep l.self;
+      changes : Changes l.fn.self.writer.out.file (KeepsFront 0) (store.told l.fn.store).files (store.told l.store).files;
+      stops : LeavesBy (ChangesFile l.fn.self.writer.out.file (KeepsFront 0)) (store.told l.fn.store) (store.told l.store);
+      taken : TakesOnly l.fn.self.reader.file (store.told l.fn.store).taken (store.told l.store).taken;
+      read : ReadsOn l.fn.self.reader l.self.reader (store.told l.fn.store).taken (store.told l.store).taken;
+      later : (store.told l.fn.store).faults ≤ (store.told l.store).faults;
     }
 
 abbrev pub decreases-loop-sweep : goal.decreases-loop-sweep

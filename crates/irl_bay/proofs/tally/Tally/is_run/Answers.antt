@@ -16,7 +16,8 @@ returns-then-is_empty-clause-none c = λ no run is bytes.
 
 pub returns-then-not-is_entry_of-clause-none : goal.returns-then-not-is_entry_of-clause-none
 returns-then-not-is_entry_of-clause-none c = λ no run is bytes.
-    none_there _ _ c.args.payload.now c.loop-entry.rest.now c.in-Some.entry.now c.loop-entry.invariant (omega (arith, c.in-Some.ensures.cases)) c.in-Some.ensures.cases.0 (c.is_entry_of.ensures.none c.if-not-is_entry_of.true) run is.each bytes
+    none_there _ _ c.args.payload.now c.loop-entry.rest.now c.in-Some.entry.now c.loop-entry.invariant (omega (arith, c.in-Some.ensures.cases)) c.in-Some.ensures.cases.0
+    (c.is_entry_of.ensures.none c.if-not-is_entry_of.true) run is.each bytes
 
 pub loop-entry-preserved : goal.loop-entry-preserved
 loop-entry-preserved c =

@@ -4,13 +4,13 @@ use Rattle.std.specs.Option.{ForSome}
 use Rattle.irl_disk.specs.Disk.{Changes, ChangesFile}
 use Rattle.irl_disk.specs.Images.{LeavesBy}
 use Rattle.irl_journal.specs.Blob.{KeepsFront}
-use Rattle.irl_cache.specs.Writing.{HasPut, ReachesPlace}
+use Rattle.irl_journal.specs.Growing.{HasPut, ReachesPlace}
 use Rattle.irl_bay.specs.JudgedEntries.{rows}
 use Rattle.irl_bay.proofs.telling.Telling.put_rows.Given as goal
 
 abbrev pub invariant-loop-i : goal.invariant-loop-i
 invariant-loop-i g l =
-    let tells = g.S.Store.snapshot in
+    let tells = g.S.Store.told in
     let judged = l.fn.self.judged in
     record {
       found : List ℕ;
@@ -24,6 +24,6 @@ invariant-loop-i g l =
       long : ForSome (tells l.store).files (ReachesPlace l.self.judged);
       changes : Changes judged.file (KeepsFront judged.kept) (tells l.fn.store).files (tells l.store).files;
       stops : LeavesBy (ChangesFile judged.file (KeepsFront judged.kept)) (tells l.fn.store) (tells l.store);
-      taken : g.S.Store.taken l.store ≡ g.S.Store.taken l.fn.store;
-      later : g.S.Store.faults l.fn.store ≤ g.S.Store.faults l.store;
+      taken : (g.S.Store.told l.store).taken ≡ (g.S.Store.told l.fn.store).taken;
+      later : (g.S.Store.told l.fn.store).faults ≤ (g.S.Store.told l.store).faults;
     }

@@ -2,7 +2,7 @@ use Rattle.std.proofs.Common.{◌≡◌, ◌≢◌, ◌∙◌, ◌+◌, ◌%◌,
 use Rattle.std.proofs.lemmas.List.{length-map}
 use Rattle.std.specs.Option.{ForSome}
 use Rattle.irl_offer.specs.declared.entry.Entry.{Entry}
-use Rattle.irl_cache.specs.Writing.{HasPut, ReachesPlace, Writer}
+use Rattle.irl_journal.specs.Growing.{HasPut, ReachesPlace, Writer}
 use Rattle.irl_bay.specs.JudgedEntries.{judged_entries, rows}
 use Rattle.irl_bay.specs.Runs.{entry_of_offer, texts_of}
 use Rattle.irl_bay.specs.Telling.{judged_with}
@@ -20,7 +20,7 @@ returns-in_err-put_rows-clause-step g c = λ drum of. judged_writes drum _ _ _ _
 pub put-requires : goal.put-requires
 put-requires g c =
     let now = c.args.self.now in
-    let tells = g.S.Store.snapshot in
+    let tells = g.S.Store.told in
     let next = (tells c.put_rows.new.store).files in
     subst (λ (w : Writer). ForSome next (ReachesPlace w)) (sym c.put_rows.ensures.texts)
     (still_reached (tells c.args.store.now).files next now.texts (same_file now.judged.file now.texts.file _ _ _ (flip _ _ now.apart) c.put_rows.ensures.changes) c.requires.texts)
@@ -29,20 +29,20 @@ pub returns-in_err-put-clause-step : goal.returns-in_err-put-clause-step
 returns-in_err-put-clause-step g c = λ drum of.
     let same = c.put_rows.ensures.texts in
     step_then drum _ _ _ (g.met.S.Store.is_consistent c.put_rows.new.store) (judged_writes drum _ _ _ _ of.judged_file of.judged_kept c.put_rows.ensures.changes c.put_rows.ensures.stops)
-    (texts_writes drum _ _ _ _ (ap (λ (w : Writer). w.file) same ∙ of.texts_file) (ap (λ (w : Writer). w.kept) same ∙ of.texts_kept) c.put.ensures.changes c.put.ensures.stops)
+    (texts_writes drum _ _ _ _ (ap (λ (w : Writer). w.file) same ∙ of.texts_file) (ap (λ (w : Writer). w.kept) same ∙ of.texts_kept) c.put.ensures.changes.told c.put.ensures.changes.stops)
 
 pub returns-clause-step : goal.returns-clause-step
 returns-clause-step g c = λ drum of.
     let same = c.put_rows.ensures.texts in
     step_then drum _ _ _ (g.met.S.Store.is_consistent c.put_rows.new.store) (judged_writes drum _ _ _ _ of.judged_file of.judged_kept c.put_rows.ensures.changes c.put_rows.ensures.stops)
-    (texts_writes drum _ _ _ _ (ap (λ (w : Writer). w.file) same ∙ of.texts_file) (ap (λ (w : Writer). w.kept) same ∙ of.texts_kept) c.put.ensures.changes c.put.ensures.stops)
+    (texts_writes drum _ _ _ _ (ap (λ (w : Writer). w.file) same ∙ of.texts_file) (ap (λ (w : Writer). w.kept) same ∙ of.texts_kept) c.put.ensures.changes.told c.put.ensures.changes.stops)
 
 pub returns-clause-told : goal.returns-clause-told
 returns-clause-told g c = λ drum offers before news has are here.
     let now = c.args.self.now in
     let mid_self = c.put_rows.new.self in
     let b = c.args.b in
-    let tells = g.S.Store.snapshot in
+    let tells = g.S.Store.told in
     let told = (tells c.args.store.now).files in
     let mid = (tells c.put_rows.new.store).files in
     let new = (tells c.put.new.store).files in
@@ -62,7 +62,7 @@ returns-clause-told g c = λ drum offers before news has are here.
     let texts_moved = put_on told mid (texts_of offers) now.texts (same_file now.judged.file now.texts.file _ told mid (flip _ _ now.apart) c.put_rows.ensures.changes) has.texts in
     let texts_there = subst (λ (w : Writer). HasPut mid (texts_of offers) w) (sym same) texts_moved in
     let judged_apart : mid_self.judged.file ≢ mid_self.texts.file = λ e. now.apart (sym c.put_rows.ensures.file ∙ e ∙ file) in
-    let judged_moved = put_on mid new _ mid_self.judged (same_file mid_self.texts.file mid_self.judged.file _ mid new judged_apart c.put.ensures.changes) judged_put in
+    let judged_moved = put_on mid new _ mid_self.judged (same_file mid_self.texts.file mid_self.judged.file _ mid new judged_apart c.put.ensures.changes.told) judged_put in
     let more_long = ap (λ (l : List ℕ). length l) (more_texts offers news) ∙ length-append (texts_of offers) (texts_of news) in
     let text_long : length (texts_of news) ≡ length c.args.texts.now = ap (λ (l : List ℕ). length l) are.texts_are in
     record {

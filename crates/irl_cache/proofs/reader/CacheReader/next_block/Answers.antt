@@ -1,18 +1,26 @@
 -- A block is the first of what is ahead.
-use Rattle.std.proofs.Common.{◌≡◌, ◌∙◌, ⊎_elim, inl, inr, ◌+◌, ◌-◌, ◌≤◌, ◌++◌, List, ℕ, min, length, take, drop, vec_len, refl, ap, subst, arith, length-drop}
+use Rattle.std.proofs.Common.{◌≡◌, ◌∙◌, ⊎_elim, inl, inr, ◌+◌, ◌-◌, ◌≤◌, ◌++◌, List, ℕ, min, length, take, drop, vec_len, refl, ap, subst, arith, rules, length-drop}
 use Rattle.std.proofs.lemmas.List.{drop-drop}
 use Rattle.std.proofs.lemmas.Result.{err_from_is_err_and}
-use Rattle.irl_offer.specs.declared.receipt.Fault.TheVariants.{Damaged}
+use Rattle.irl_base.specs.declared.fault.Fault.TheVariants.{Damaged}
 use Rattle.irl_offer.specs.declared.receipt.Pair.{Pair}
 use Rattle.irl_cache.specs.Reading.{HasRead}
 use Rattle.irl_cache.proofs.Blocks.{block_given, rest_of}
 use Rattle.irl_cache.proofs.reader.CacheReader.next_block.Goals as goal
 
-pub returns-in_err-fill-clause-damaged : goal.returns-in_err-fill-clause-damaged
-returns-in_err-fill-clause-damaged g c = λ f at e pairs had.
-    let out = err_from_is_err_and c.from_residual.result c.from_residual.ensures.1 in
-    let same : c.in_err-fill.field-0.0 ≡ Damaged f at = let is = rw (out.1, out.2) at e in cc in
-    c.in_err-fill.ensures.damaged f at (rw same refl) pairs had
+pub returns-in_err-fill-clause-reads_on : goal.returns-in_err-fill-clause-reads_on
+returns-in_err-fill-clause-reads_on g c = record {
+  err = search rules;
+  long = search rules;
+  damaged = λ f at e pairs had.
+      let out = err_from_is_err_and c.from_residual.result c.from_residual.ensures.1 in
+      let same : c.in_err-fill.field-0.0 ≡ Damaged f at = let is = rw (out.1, out.2) at e in cc in
+      c.in_err-fill.ensures.reads_on.damaged f at (rw same refl) pairs had;
+  memory = search rules;
+  full = search rules;
+  taken = search rules;
+  reads = search rules;
+}
 
 pub invariant_of-self : goal.invariant_of-self
 invariant_of-self g c =
@@ -39,11 +47,29 @@ pub returns-clause-read : goal.returns-clause-read
 returns-clause-read g c = λ pairs had.
     let s = c.self.inside in
     let k = c.min-count.result in
-    let told = (g.S.Store.snapshot c.fill.new.store).files in
+    let told = (g.S.Store.told c.fill.new.store).files in
     let ahead = drop s.end s.pairs.items in
     let filled = rw (← c.self.view_is) at (c.in_ok-fill.ensures.read pairs had) in
     let within : k ≤ length ahead = omega (arith, c.min-count.ensures, c.len.ensures, s.pairs.ok.0, length-drop s.end s.pairs.items) in
     let same : k ≡ s.end + k - s.end = omega arith in
-    subst (λ (n : ℕ). HasRead told (pairs ++ take n ahead) (record { file = s.file; entries = s.entries; most = s.most; given = s.given + k; block = take n ahead; ahead = drop (s.end + k) s.pairs.items; last = s.last })) same
-    (subst (λ (rest : List Pair). HasRead told (pairs ++ take k ahead) (record { file = s.file; entries = s.entries; most = s.most; given = s.given + k; block = take k ahead; ahead = rest; last = s.last })) (drop-drop k s.end s.pairs.items)
+    subst (λ (n : ℕ). HasRead told (pairs ++ take n ahead) (record {
+      file = s.file;
+      entries = s.entries;
+      most = s.most;
+      given = s.given + k;
+      block = take n ahead;
+      ahead =
+          drop (s.end + k) s.pairs.items;
+      last = s.last;
+    })) same
+    (subst (λ (rest : List Pair). HasRead told (pairs ++ take k ahead) (record {
+      file = s.file;
+      entries = s.entries;
+      most = s.most;
+      given = s.given + k;
+      block = take k ahead;
+      ahead = rest;
+      last =
+          s.last;
+    })) (drop-drop k s.end s.pairs.items)
     (block_given told pairs _ k within filled))

@@ -1,5 +1,5 @@
 -- The piece's bytes are the file's from the first entry that wasn't read.
-use Rattle.std.proofs.Common.{◌≡◌, ◌∙◌, ◌+◌, ◌-◌, ◌*◌, ◌/◌, ◌++◌, List, ℕ, min, Option, None, length, take, drop, take_all, vec_len, inr, sym, ap, subst, arith, length-take-le}
+use Rattle.std.proofs.Common.{◌≡◌, ◌∙◌, ◌+◌, ◌-◌, ◌*◌, ◌/◌, ◌++◌, List, ℕ, min, Option, None, length, take, drop, take_all, vec_len, inr, sym, ap, subst, arith, rules, length-take-le}
 use Rattle.std.proofs.lemmas.List.{append-nil, with_items_is}
 use Rattle.std.specs.Option.{ForSome}
 use Rattle.irl_offer.specs.declared.receipt.Pair.{Pair}
@@ -15,27 +15,61 @@ abbrev long_of : (r view : Reader) (told : Option Files) → view ≡ r → ForS
 long_of r view told is long = subst (λ (v : Reader). ForSome told (ReachesRead v)) (sym is) long
 
 pub read_front-requires-clause-place : goal.read_front-requires-clause-place
-read_front-requires-clause-place g c = λ files told. omega (arith, long_of _ _ (g.S.Store.snapshot c.args.store.now).files c.self.view_is c.requires.long files told)
+read_front-requires-clause-place g c = λ files told. omega (arith, long_of _ _ (g.S.Store.told c.args.store.now).files c.self.view_is c.requires.long files told)
 
 pub invariant_of-self : goal.invariant_of-self
 invariant_of-self g c =
-    let inv = c.self.invariant in
-    (inv.0, inv.1, omega arith, omega arith, omega (arith, inv.4, c.clear.ensures.len), omega (arith, inv.5, c.clear.ensures.len), (inv.6.0, inv.6.1), omega (arith, inv.7, c.clear.ensures.capacity), inr (0, omega (arith, c.clear.ensures.len)))
+    let inv = c.self.invariant in (
+      inv.0,
+      inv.1,
+      omega arith,
+      omega arith,
+      omega (arith, inv.4, c.clear.ensures.len),
+      omega (arith, inv.5, c.clear.ensures.len),
+      (inv.6.0, inv.6.1),
+      omega (arith, inv.7, c.clear.ensures.capacity),
+      inr (0, omega (arith, c.clear.ensures.len)),
+    )
 
-pub returns-in_err-count-clause-long : goal.returns-in_err-count-clause-long
-returns-in_err-count-clause-long g c = λ files told.
-    let long = long_of _ _ (g.S.Store.snapshot c.args.store.now).files c.self.view_is c.requires.long files (sym c.read_front.ensures.same ∙ told) in
-    omega (arith, long, ap (λ (l : List Pair). length l) c.clear.ensures.items)
+pub returns-in_err-count-clause-reads_on : goal.returns-in_err-count-clause-reads_on
+returns-in_err-count-clause-reads_on g c = record {
+  err = search rules;
+  long = λ files told.
+      let long = long_of _ _ (g.S.Store.told c.args.store.now).files c.self.view_is c.requires.long files (sym c.read_front.ensures.same ∙ told) in
+      omega (arith, long, ap (λ (l : List Pair). length l) c.clear.ensures.items);
+  damaged = search rules;
+  memory = search rules;
+  full = search rules;
+  taken = search rules;
+  reads = search rules;
+}
 
 pub invariant_of-self-then-count-wanted : goal.invariant_of-self-then-count-wanted
 invariant_of-self-then-count-wanted g c =
-    let inv = c.self.invariant in
-    (inv.0, inv.1, omega arith, omega arith, omega (arith, inv.4, c.clear.ensures.len), omega (arith, inv.5, c.clear.ensures.len), (inv.6.0, inv.6.1), omega (arith, inv.7, c.clear.ensures.capacity), inr (0, omega (arith, c.clear.ensures.len)))
+    let inv = c.self.invariant in (
+      inv.0,
+      inv.1,
+      omega arith,
+      omega arith,
+      omega (arith, inv.4, c.clear.ensures.len),
+      omega (arith, inv.5, c.clear.ensures.len),
+      (inv.6.0, inv.6.1),
+      omega (arith, inv.7, c.clear.ensures.capacity),
+      inr (0, omega (arith, c.clear.ensures.len)),
+    )
 
-pub returns-then-count-wanted-clause-long : goal.returns-then-count-wanted-clause-long
-returns-then-count-wanted-clause-long g c = λ files told.
-    let long = long_of _ _ (g.S.Store.snapshot c.args.store.now).files c.self.view_is c.requires.long files (sym c.read_front.ensures.same ∙ told) in
-    omega (arith, long, ap (λ (l : List Pair). length l) c.clear.ensures.items)
+pub returns-then-count-wanted-clause-reads_on : goal.returns-then-count-wanted-clause-reads_on
+returns-then-count-wanted-clause-reads_on g c = record {
+  err = search rules;
+  long = λ files told.
+      let long = long_of _ _ (g.S.Store.told c.args.store.now).files c.self.view_is c.requires.long files (sym c.read_front.ensures.same ∙ told) in
+      omega (arith, long, ap (λ (l : List Pair). length l) c.clear.ensures.items);
+  damaged = search rules;
+  memory = search rules;
+  full = search rules;
+  taken = search rules;
+  reads = search rules;
+}
 
 pub slice_bounds-read_pairs-end : goal.slice_bounds-read_pairs-end
 slice_bounds-read_pairs-end g c =
@@ -63,8 +97,18 @@ invariant_of-self-in-Ok g c =
 
 pub invariant_of-self-in-Err : goal.invariant_of-self-in-Err
 invariant_of-self-in-Err g c =
-    let inv = c.self.invariant in
-    (inv.0, inv.1, omega arith, omega arith, omega (arith, inv.4, c.clear-in-Err.ensures.len), omega (arith, inv.5, c.clear-in-Err.ensures.len), (inv.6.0, inv.6.1), omega (arith, inv.7, c.clear-in-Err.ensures.capacity, c.read_pairs.ensures.capacity, c.clear.ensures.capacity), inr (0, omega (arith, c.clear-in-Err.ensures.len)))
+    let inv = c.self.invariant in (
+      inv.0,
+      inv.1,
+      omega arith,
+      omega arith,
+      omega (arith, inv.4, c.clear-in-Err.ensures.len),
+      omega (arith, inv.5, c.clear-in-Err.ensures.len),
+      (inv.6.0, inv.6.1),
+      omega
+          (arith, inv.7, c.clear-in-Err.ensures.capacity, c.read_pairs.ensures.capacity, c.clear.ensures.capacity),
+      inr (0, omega (arith, c.clear-in-Err.ensures.len)),
+    )
 
 pub returns-in-Ok-clause-more : goal.returns-in-Ok-clause-more
 returns-in-Ok-clause-more g c =
@@ -97,34 +141,57 @@ returns-in-Ok-clause-read g c = rw (← c.self.view_is) (λ pairs had.
     ∙ c.in_ok-count.ensures.bytes files told
     ∙ ap (λ (k : ℕ). take k (drop (16 * r.given) (files r.file))) (let same : c.in_ok-count.count ≡ 16 * length items = omega (arith, whole, n) in same)))
 
-pub returns-in-Ok-clause-taken : goal.returns-in-Ok-clause-taken
-returns-in-Ok-clause-taken g c = rw (← c.self.view_is) (
-    let m = c.min.result in
-    let items = c.read_pairs.new.pairs.items in
-    let part : length (take (16 * m) c.deref.result.now) ≡ 16 * m = length-take-le (16 * m) c.deref.result.now (omega (arith, c.min.ensures, c.len.ensures, c.deref.ensures.len)) in
-    let whole : c.in_ok-count.count ≡ 16 * length items = omega (arith, c.in_ok-count.ensures.within.0, c.if-count-wanted.false, c.in-Ok.ensures.count, part, c.read_pairs.new.pairs.ok.0) in
-    subst (λ (k : ℕ). TakesExactly c.self.inside.file k (g.S.Store.taken c.args.store.now) (g.S.Store.taken c.read_front.new.store)) whole
-    (takes_exactly c.self.inside.file c.in_ok-count.count _ _ c.in_ok-count.ensures.taken))
+pub returns-in-Ok-clause-reads_on : goal.returns-in-Ok-clause-reads_on
+returns-in-Ok-clause-reads_on g c = record {
+  err = search rules;
+  long = search rules;
+  damaged = search rules;
+  memory = search rules;
+  full = search rules;
+  taken = rw (← c.self.view_is) (
+      let m = c.min.result in
+      let items = c.read_pairs.new.pairs.items in
+      let part : length (take (16 * m) c.deref.result.now) ≡ 16 * m = length-take-le (16 * m) c.deref.result.now (omega (arith, c.min.ensures, c.len.ensures, c.deref.ensures.len)) in
+      let none = rw (← c.self.view_is) at c.requires.none in
+      let before = drop c.self.inside.end c.self.inside.pairs.items in
+      let whole : c.in_ok-count.count ≡ 16 * (c.self.inside.given + length items - (c.self.inside.given + length before)) =
+      omega (arith, c.in_ok-count.ensures.within.0, c.if-count-wanted.false, c.in-Ok.ensures.count, part, c.read_pairs.new.pairs.ok.0, ap (λ (l : List Pair). length l) none) in
+      subst (λ (k : ℕ). TakesExactly c.self.inside.file k (g.S.Store.told c.args.store.now).taken (g.S.Store.told c.read_front.new.store).taken) whole
+      (takes_exactly c.self.inside.file c.in_ok-count.count _ _ c.in_ok-count.ensures.taken));
+  reads = search rules;
+}
 
-pub returns-in-Err-clause-damaged : goal.returns-in-Err-clause-damaged
-returns-in-Err-clause-damaged g c = λ f at e pairs had_self files told.
-    let r = c.self.inside in
-    let m = c.min.result in
-    let named : f ≡ r.file = cc in
-    let place : at ≡ 16 * r.given + c.in-Err.place = cc in
-    let none = rw (← c.self.view_is) at c.requires.none in
-    let had = rw (← c.self.view_is) at had_self in
-    let part : length (take (16 * m) c.deref.result.now) ≡ 16 * m = length-take-le (16 * m) c.deref.result.now (omega (arith, c.min.ensures, c.len.ensures, c.deref.ensures.len)) in
-    let shown = c.deref.ensures.value ∙ with_items_is r.bytes c.read_front.new.bytes (c.read_front.ensures.size ∙ c.deref_mut.ensures.len) in
-    let whole : c.in_ok-count.count ≡ 16 * m = omega (arith, c.in_ok-count.ensures.within.0, c.if-count-wanted.false) in
-    let is : take (16 * m) c.deref.result.now ≡ take (16 * m) (drop (16 * r.given) (files r.file)) =
-    ap (λ (l : List ℕ). take (16 * m) l) shown
-    ∙ ap (λ (k : ℕ). take k c.read_front.new.bytes) (sym whole)
-    ∙ c.in_ok-count.ensures.bytes files told
-    ∙ ap (λ (k : ℕ). take k (drop (16 * r.given) (files r.file))) whole in
-    let last = had.last ∙ ap (λ (l : List Pair). last_from None l) (ap (λ (l : List Pair). pairs ++ l) none ∙ append-nil pairs) in
-    let falls = falls_in r.entries m c.in-Err.place (files r.file) (take (16 * m) c.deref.result.now) pairs r.given r.last had.count (omega (arith, c.min.ensures, c.self.invariant.4))
-    (read_words _ pairs _ had) (read_bytes _ pairs _ had files told) last is part c.in-Err.ensures.falls in
-    let file : r.file ≡ c.args.self.now.file = ap (λ (v : Reader). v.file) c.self.view_is in
-    let entries : r.entries ≡ c.args.self.now.entries = ap (λ (v : Reader). v.entries) c.self.view_is in
-    (named ∙ file, inr (subst (λ (k : ℕ). FallsAt c.args.self.now.entries (files f) k) (sym place) (subst (λ (k : ℕ). FallsAt c.args.self.now.entries (files k) (16 * r.given + c.in-Err.place)) (sym named) (subst (λ (k : ℕ). FallsAt k (files r.file) (16 * r.given + c.in-Err.place)) entries falls))))
+pub returns-in-Err-clause-reads_on : goal.returns-in-Err-clause-reads_on
+returns-in-Err-clause-reads_on g c = record {
+  err = search rules;
+  long = search rules;
+  damaged = λ f at e pairs had_self files told.
+      let r = c.self.inside in
+      let m = c.min.result in
+      let named : f ≡ r.file = cc in
+      let place : at ≡ 16 * r.given + c.in-Err.place = cc in
+      let none = rw (← c.self.view_is) at c.requires.none in
+      let had = rw (← c.self.view_is) at had_self in
+      let part : length (take (16 * m) c.deref.result.now) ≡ 16 * m = length-take-le (16 * m) c.deref.result.now (omega (arith, c.min.ensures, c.len.ensures, c.deref.ensures.len)) in
+      let shown = c.deref.ensures.value ∙ with_items_is r.bytes c.read_front.new.bytes (c.read_front.ensures.size ∙ c.deref_mut.ensures.len) in
+      let whole : c.in_ok-count.count ≡ 16 * m = omega (arith, c.in_ok-count.ensures.within.0, c.if-count-wanted.false) in
+      let is : take (16 * m) c.deref.result.now ≡ take (16 * m) (drop (16 * r.given) (files r.file)) =
+      ap (λ (l : List ℕ). take (16 * m) l) shown
+      ∙ ap (λ (k : ℕ). take k c.read_front.new.bytes) (sym whole)
+      ∙ c.in_ok-count.ensures.bytes files told
+      ∙ ap (λ (k : ℕ). take k (drop (16 * r.given) (files r.file))) whole in
+      let last = had.last ∙ ap (λ (l : List Pair). last_from None l) (ap (λ (l : List Pair). pairs ++ l) none ∙ append-nil pairs) in
+      let falls = falls_in r.entries m c.in-Err.place (files r.file) (take (16 * m) c.deref.result.now) pairs r.given r.last had.count (omega (arith, c.min.ensures, c.self.invariant.4))
+      (read_words _ pairs _ had) (read_bytes _ pairs _ had files told) last is part c.in-Err.ensures.falls in
+      let file : r.file ≡ c.args.self.now.file = ap (λ (v : Reader). v.file) c.self.view_is in
+      let entries : r.entries ≡ c.args.self.now.entries = ap (λ (v : Reader). v.entries) c.self.view_is in (
+        named ∙ file,
+        inr (subst (λ (k : ℕ). FallsAt c.args.self.now.entries (files f) k) (sym place)
+            (subst (λ (k : ℕ). FallsAt c.args.self.now.entries (files k) (16 * r.given + c.in-Err.place)) (sym named)
+            (subst (λ (k : ℕ). FallsAt k (files r.file) (16 * r.given + c.in-Err.place)) entries falls))),
+      );
+  memory = search rules;
+  full = search rules;
+  taken = search rules;
+  reads = search rules;
+}

@@ -1,5 +1,6 @@
 use Rattle.std.proofs.Common.{[], None, sym, subst}
-use Rattle.irl_cache.specs.Writing.{Writer, HasWritten}
+use Rattle.irl_journal.specs.Growing.{Writer}
+use Rattle.irl_cache.specs.Writing.{HasWritten}
 use Rattle.irl_cache.proofs.Growing.{written_none}
 use Rattle.irl_cache.proofs.writer.CacheWriter.new.Goals as goal
 

@@ -2,16 +2,17 @@ use Rattle.std.proofs.Common.{List, ℕ, ◌++◌, map, sym, subst}
 use Rattle.std.specs.Option.{ForSome}
 use Rattle.irl_model.specs.Pairs.{pair_of}
 use Rattle.irl_cache.specs.SortedRun.{pairs_bytes}
-use Rattle.irl_cache.specs.Writing.{RunWriter, HasPut, ReachesPlace}
+use Rattle.irl_journal.specs.Growing.{HasPut, ReachesPlace}
+use Rattle.irl_cache.specs.Writing.{RunWriter}
 use Rattle.irl_cache.proofs.Growing.{written_more}
 use Rattle.irl_cache.proofs.writer.CacheWriter.put.Goals as goal
 
 pub put-requires : goal.put-requires
-put-requires g c = subst (λ (v : RunWriter). ForSome (g.S.Store.snapshot c.args.store.now).files (ReachesPlace v.out)) (sym c.self.view_is) c.requires.long
+put-requires g c = subst (λ (v : RunWriter). ForSome (g.S.Store.told c.args.store.now).files (ReachesPlace v.out)) (sym c.self.view_is) c.requires.long
 
 pub returns-clause-written : goal.returns-clause-written
 returns-clause-written g c = λ pairs had.
-    let tells = g.S.Store.snapshot in
+    let tells = g.S.Store.told in
     let before = pairs_bytes (map pair_of pairs) in
     let had_put = subst (λ (v : RunWriter). HasPut (tells c.args.store.now).files before v.out) (sym c.self.view_is) had.put in
     let put = subst (λ (bytes : List ℕ). HasPut (tells c.put.new.store).files (before ++ bytes) c.put.new.self) c.pair_bytes.ensures (c.in_ok-put.ensures.put before had_put) in

@@ -1,10 +1,13 @@
 -- Each put is one stretch more.
-use Rattle.std.proofs.Common.{◌≡◌, ◌∙◌, ◌+◌, ◌++◌, [], ◌∷◌, ℕ, suc, List, Option, Some, take, drop, get_or, take_all, drop-cons, refl, sym, subst, ap, arith, append_assoc}
+use Rattle.std.proofs.Common.{◌≡◌, ◌∙◌, ◌+◌, ◌++◌, [], ◌∷◌, ℕ, suc, List, Option, Some, take, drop, get_or, take_all, drop-cons, refl, sym, subst, ap, arith, append_assoc, rules}
 use Rattle.std.proofs.lemmas.List.{append-nil, take_more}
 use Rattle.irl_offer.specs.declared.receipt.Pair.{Pair}
 use Rattle.irl_cache.specs.SortedRun.{RisesFrom}
 use Rattle.irl_cache.specs.Writing.{HasWritten}
-use Rattle.irl_cache.proofs.Growing.{on_err, went_none, went_more}
+use Rattle.irl_disk.proofs.Effects.{changes_none, changes_for}
+use Rattle.irl_journal.proofs.Fronts.{keeps_none}
+use Rattle.irl_journal.proofs.Growing.{on_err}
+use Rattle.irl_cache.proofs.Growing.{went_on}
 use Rattle.irl_cache.proofs.writer.CacheWriter.put_all.Goals as goal
 
 abbrev none : Pair
@@ -12,14 +15,12 @@ none = record { key = 0; value = 0 }
 
 pub loop-pair-init : goal.loop-pair-init
 loop-pair-init g c = record {
-  written = λ before had. subst (λ (pairs : List Pair). HasWritten (g.S.Store.snapshot c.args.store.now).files pairs c.args.self.now) (sym (append-nil before)) had;
+  written = λ before had. subst (λ (pairs : List Pair). HasWritten (g.S.Store.told c.args.store.now).files pairs c.args.self.now) (sym (append-nil before)) had;
   end = omega arith;
   file = refl;
   long = c.requires.long;
   rise = c.requires.rising;
-  went = went_none c.args.self.now.out.file (g.S.Store.snapshot c.args.store.now) (g.met.S.Store.is_consistent c.args.store.now);
-  taken = refl;
-  later = omega arith;
+  went = changes_none _ (g.S.Store.told c.args.store.now) (g.met.S.Store.is_consistent c.args.store.now) (λ x. record { changed = keeps_none 0 (x c.args.self.now.out.file); others = λ g out. refl });
 }
 
 pub put-requires-clause-long : goal.put-requires-clause-long
@@ -32,33 +33,26 @@ put-requires-clause-above g c = (rw (drop-cons c.args.pairs.now c.loop-pair.pair
 pub returns-in_err-put-clause-written_some : goal.returns-in_err-put-clause-written_some
 returns-in_err-put-clause-written_some g c =
     let i = c.loop-pair.pair-index in
-    on_err c.from_residual.result (λ before had. (i, omega (arith, c.loop-pair.auto.pair-index-end), c.in_err-put.ensures.written_before (before ++ take i c.args.pairs.now) (c.loop-pair.invariant.written before had)))
+    on_err c.from_residual.result (λ before had. (
+      i,
+      omega (arith, c.loop-pair.auto.pair-index-end),
+      c.in_err-put.ensures.written_before (before ++ take i c.args.pairs.now)
+          (c.loop-pair.invariant.written before had),
+    ))
 
 pub returns-in_err-put-clause-file : goal.returns-in_err-put-clause-file
 returns-in_err-put-clause-file g c = c.put.ensures.file ∙ c.loop-pair.invariant.file
 
 pub returns-in_err-put-clause-changes : goal.returns-in_err-put-clause-changes
 returns-in_err-put-clause-changes g c =
-    let tells = g.S.Store.snapshot in
-    (went_more c.args.self.now.out.file c.loop-pair.self.out.file (tells c.args.store.now) (tells c.loop-pair.store) (tells c.put.new.store) (g.met.S.Store.is_consistent c.loop-pair.store) c.loop-pair.invariant.file c.loop-pair.invariant.went c.put.ensures.changes c.put.ensures.stops).changes
-
-pub returns-in_err-put-clause-stops : goal.returns-in_err-put-clause-stops
-returns-in_err-put-clause-stops g c =
-    let tells = g.S.Store.snapshot in
-    (went_more c.args.self.now.out.file c.loop-pair.self.out.file (tells c.args.store.now) (tells c.loop-pair.store) (tells c.put.new.store) (g.met.S.Store.is_consistent c.loop-pair.store) c.loop-pair.invariant.file c.loop-pair.invariant.went c.put.ensures.changes c.put.ensures.stops).stops
-
-pub returns-in_err-put-clause-taken : goal.returns-in_err-put-clause-taken
-returns-in_err-put-clause-taken g c = c.put.ensures.taken ∙ c.loop-pair.invariant.taken
-
-pub returns-in_err-put-clause-cause : goal.returns-in_err-put-clause-cause
-returns-in_err-put-clause-cause g c = record {
-  later = omega (arith, c.loop-pair.invariant.later, c.put.ensures.cause.later);
-  rose = λ failed. omega (arith, c.loop-pair.invariant.later, c.in_err-put.ensures.cause.rose refl);
-}
+    let tells = g.S.Store.told in
+    changes_for _ _ _ (tells c.args.store.now) (tells c.put.new.store) (λ failed. refl)
+    (went_on c.args.self.now.out.file c.loop-pair.self.out.file _ (tells c.args.store.now) (tells c.loop-pair.store) (tells c.put.new.store) (g.met.S.Store.is_consistent c.loop-pair.store)
+    c.loop-pair.invariant.file c.loop-pair.invariant.went c.in_err-put.ensures.changes)
 
 pub loop-pair-preserved : goal.loop-pair-preserved
 loop-pair-preserved g c =
-    let tells = g.S.Store.snapshot in
+    let tells = g.S.Store.told in
     let pairs = c.args.pairs.now in
     let i = c.loop-pair.pair-index in
     let pair = get_or pairs i none in
@@ -73,15 +67,15 @@ loop-pair-preserved g c =
       file = c.put.ensures.file ∙ c.loop-pair.invariant.file;
       long = c.put.ensures.long;
       rise = subst (λ (last : Option ℕ). RisesFrom last (drop (i + 1) pairs)) (sym c.in_ok-put.ensures.last) (subst (λ (n : ℕ). RisesFrom (Some pair.key) (drop n pairs)) next rest.1);
-      went = went_more c.args.self.now.out.file c.loop-pair.self.out.file (tells c.args.store.now) (tells c.loop-pair.store) (tells c.put.new.store) (g.met.S.Store.is_consistent c.loop-pair.store) c.loop-pair.invariant.file c.loop-pair.invariant.went c.put.ensures.changes c.put.ensures.stops;
-      taken = c.put.ensures.taken ∙ c.loop-pair.invariant.taken;
-      later = omega (arith, c.loop-pair.invariant.later, c.put.ensures.cause.later);
+      went = changes_for _ _ ⊥ (tells c.args.store.now) (tells c.put.new.store) (λ none. absurd none)
+          (went_on c.args.self.now.out.file c.loop-pair.self.out.file _ (tells c.args.store.now) (tells c.loop-pair.store) (tells c.put.new.store) (g.met.S.Store.is_consistent c.loop-pair.store)
+          c.loop-pair.invariant.file c.loop-pair.invariant.went c.put.ensures.changes);
     }
 
 pub returns-clause-written : goal.returns-clause-written
 returns-clause-written g c = λ before had.
     let all : take c.loop-pair.pair-index c.args.pairs.now ≡ c.args.pairs.now = take_all _ _ c.loop-pair-test.false in
-    subst (λ (pairs : List Pair). HasWritten (g.S.Store.snapshot c.loop-pair.store).files (before ++ pairs) c.loop-pair.self) all (c.loop-pair.invariant.written before had)
+    subst (λ (pairs : List Pair). HasWritten (g.S.Store.told c.loop-pair.store).files (before ++ pairs) c.loop-pair.self) all (c.loop-pair.invariant.written before had)
 
 pub returns-clause-end : goal.returns-clause-end
 returns-clause-end g c = omega (arith, c.loop-pair.invariant.end, c.loop-pair-test.false, c.loop-pair.auto.pair-index-end)
@@ -93,10 +87,6 @@ pub returns-clause-long : goal.returns-clause-long
 returns-clause-long g c = c.loop-pair.invariant.long
 
 pub returns-clause-changes : goal.returns-clause-changes
-returns-clause-changes g c = c.loop-pair.invariant.went.changes
-
-pub returns-clause-stops : goal.returns-clause-stops
-returns-clause-stops g c = c.loop-pair.invariant.went.stops
-
-pub returns-clause-taken : goal.returns-clause-taken
-returns-clause-taken g c = c.loop-pair.invariant.taken
+returns-clause-changes g c =
+    let went = c.loop-pair.invariant.went in
+    record { told = went.told; stops = went.stops; taken = went.taken; cause = search rules }

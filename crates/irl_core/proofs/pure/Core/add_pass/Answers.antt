@@ -1,8 +1,8 @@
 use Rattle.std.proofs.Common.{◌≡◌, ◌∙◌, length, ap, sym, refl, true, false, rules}
 use Rattle.std.specs.Prelude.{vec_len}
 use Rattle.std.proofs.lemmas.Bool.{cond-true}
-use Rattle.irl_model.specs.Events.{Progress, Pass as SeenPass, after_event}
-use Rattle.irl_fate.specs.declared.event.Event.TheVariants.{Pass}
+use Rattle.irl_events.specs.Events.{Progress, Pass as SeenPass, after_event}
+use Rattle.irl_events.specs.declared.event.Event.TheVariants.{Pass}
 use Rattle.irl_core.specs.Steps.{judged_in}
 use Rattle.irl_core.proofs.Shown.{took_is, number_is}
 use Rattle.irl_core.proofs.Effects.{keeps_pass, shows_pass}
@@ -33,7 +33,8 @@ invariant_of-self-2 c =
     let number : q ≡ judged_in c.args.self.now = number_is c.self.inside c.args.self.now q c.self.view_is (c.len-judged.ensures ∙ same ∙ ap length c.in_ok-judged.ensures) in
     let yes : c.in_ok-add_event.field-0 ≡ true = search rules in
     let took = took_is c.self.inside c.args.self.now q c.args.places c.tell_sent.new.fates c.self.invariant c.self.view_is number c.in_ok-tell_sent.ensures.ok c.requires in
-    keeps_pass c.self.inside c.args.self.now c.add_event.new.events c.add_event.new.fates (Pass q) c.args.places q c.self.invariant c.self.view_is number refl (sym took ∙ sym c.in_ok-add_event.ensures.value ∙ yes)
+    keeps_pass c.self.inside c.args.self.now c.add_event.new.events c.add_event.new.fates (Pass q) c.args.places q c.self.invariant c.self.view_is number refl (sym took
+    ∙ sym c.in_ok-add_event.ensures.value ∙ yes)
     (c.in_ok-add_event.ensures.events ∙ cond-true c.in_ok-add_event.field-0 _ _ yes)
     (c.in_ok-add_event.ensures.fates ∙ cond-true c.in_ok-add_event.field-0 _ _ yes ∙ ap (λ (f : Progress). after_event f (SeenPass q) c.args.places) c.in_ok-tell_sent.ensures.ok)
 

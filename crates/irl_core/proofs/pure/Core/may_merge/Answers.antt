@@ -1,6 +1,6 @@
 use Rattle.std.proofs.Common.{◌≡◌, ◌∙◌, ℕ, List, length, map, ap, sym}
-use Rattle.irl_model.specs.Legal.{one_rose}
-use Rattle.irl_model.specs.Plain.{items_of}
+use Rattle.irl_events.specs.Legal.{one_rose}
+use Rattle.irl_base.specs.Lists.{items_of}
 use Rattle.irl_model.specs.Book.{judged_cut, lengths_of}
 use Rattle.irl_core.specs.Kept.{shown}
 use Rattle.irl_core.specs.Steps.{CoreState, may_merge}
@@ -15,7 +15,8 @@ rise-requires c =
 pub returns : goal.returns
 returns c =
     let a = c.self.inside in
-    let lengths : c.in_ok-lengths.lengths.items ≡ lengths_of (shown a).urls = c.in_ok-lengths.ensures ∙ ap (λ (ls : List _). map length (items_of ls)) c.deref.ensures.value ∙ sym (lengths_are a c.self.invariant) in
+    let lengths : c.in_ok-lengths.lengths.items ≡ lengths_of (shown a).urls = c.in_ok-lengths.ensures ∙ ap (λ (ls : List _). map length (items_of ls)) c.deref.ensures.value
+    ∙ sym (lengths_are a c.self.invariant) in
     c.rise.ensures
     ∙ ap (λ (ns : List ℕ). one_rose ns c.deref-3.result.now) (c.deref-2.ensures.value ∙ c.self.invariant.cut)
     ∙ ap (one_rose (judged_cut (shown a).urls)) (c.deref-3.ensures.value ∙ lengths)

@@ -1,6 +1,6 @@
 use Rattle.std.proofs.Common.{◌≡◌, ◌∙◌, ap, refl, [], rules}
 use Rattle.std.specs.Prelude.{is_none, Option, ℕ}
-use Rattle.irl_fate.specs.Seen.{seen}
+use Rattle.irl_events.specs.Seen.{seen}
 use Rattle.irl_core.proofs.Shown.{has_fronts, settle_is}
 use Rattle.irl_core.proofs.pure.Core.may_settle.Goals as goal
 

@@ -5,8 +5,8 @@ use Rattle.irl_core.proofs.pure.Core.new.Goals as goal
 pub invariant_of-result : goal.invariant_of-result
 invariant_of-result c =
     new_keeps _ c.requires (record {
-      arrays = c.in_ok-arrays.ensures;
-      lists = c.in_ok-lists.ensures;
+      arrays = c.in_ok-arrays.ensures.lists;
+      lists = c.in_ok-lists.ensures.lists;
       cuts = c.new.ensures.items;
       cut = c.in_ok-cut.ensures;
       acknowledged = c.in_ok-acknowledged.ensures;

@@ -1,4 +1,4 @@
-use Rattle.irl_model.specs.Plain.{items_of}
+use Rattle.irl_base.specs.Lists.{items_of}
 use Rattle.irl_core.proofs.Effects.{keeps_none}
 use Rattle.irl_core.proofs.pure.Core.stop.Goals as goal
 

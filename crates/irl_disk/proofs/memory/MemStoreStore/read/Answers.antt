@@ -15,16 +15,21 @@ pub copied-count-requires : goal.copied-count-requires
 copied-count-requires c = rw (c.file.ensures ∙ query_stays c.args.self.now c.make.new.self (done_made Query _ _ c.in_ok-make.ensures.done) c.args.f) (c.requires.place _ refl)
 
 pub returns-in_err-count-clause-same : goal.returns-in_err-count-clause-same
-returns-in_err-count-clause-same c = ap Some (files_stay Query query_is_quiet c.args.self.now c.count.new.self (subst (λ (h : History). Made Query c.args.self.now.log h) (sym c.in_err-count.ensures.log) (done_made Query _ _ c.in_ok-make.ensures.done)))
+returns-in_err-count-clause-same c = ap Some (files_stay Query query_is_quiet c.args.self.now c.count.new.self
+    (subst (λ (h : History). Made Query c.args.self.now.log h) (sym c.in_err-count.ensures.log) (done_made Query _ _ c.in_ok-make.ensures.done)))
 
 pub returns-in_err-count-clause-stops : goal.returns-in_err-count-clause-stops
-returns-in_err-count-clause-stops c = query_leaves c.args.self.now c.count.new.self (subst (λ (h : History). Made Query c.args.self.now.log h) (sym c.in_err-count.ensures.log) (done_made Query _ _ c.in_ok-make.ensures.done))
+returns-in_err-count-clause-stops c = query_leaves c.args.self.now c.count.new.self
+    (subst (λ (h : History). Made Query c.args.self.now.log h) (sym c.in_err-count.ensures.log) (done_made Query _ _ c.in_ok-make.ensures.done))
 
 pub returns-clause-bytes : goal.returns-clause-bytes
-returns-clause-bytes c = subst (λ (file : List ℕ). Reads c.args.at (length c.copied-count.new.into) c.copied-count.result c.copied-count.new.into file) (c.file.ensures ∙ query_stays c.args.self.now c.make.new.self (done_made Query _ _ c.in_ok-make.ensures.done) c.args.f) c.copied-count.ensures.bytes
+returns-clause-bytes c = subst (λ (file : List ℕ). Reads c.args.at (length c.copied-count.new.into) c.copied-count.result c.copied-count.new.into file) (c.file.ensures
+    ∙ query_stays c.args.self.now c.make.new.self (done_made Query _ _ c.in_ok-make.ensures.done) c.args.f) c.copied-count.ensures.bytes
 
 pub returns-clause-same : goal.returns-clause-same
-returns-clause-same c = ap Some (files_stay Query query_is_quiet c.args.self.now c.count.new.self (subst (λ (h : History). Made Query c.args.self.now.log h) (sym c.in_ok-count.ensures.log) (done_made Query _ _ c.in_ok-make.ensures.done)))
+returns-clause-same c = ap Some (files_stay Query query_is_quiet c.args.self.now c.count.new.self
+    (subst (λ (h : History). Made Query c.args.self.now.log h) (sym c.in_ok-count.ensures.log) (done_made Query _ _ c.in_ok-make.ensures.done)))
 
 pub returns-clause-stops : goal.returns-clause-stops
-returns-clause-stops c = query_leaves c.args.self.now c.count.new.self (subst (λ (h : History). Made Query c.args.self.now.log h) (sym c.in_ok-count.ensures.log) (done_made Query _ _ c.in_ok-make.ensures.done))
+returns-clause-stops c = query_leaves c.args.self.now c.count.new.self (subst (λ (h : History). Made Query c.args.self.now.log h) (sym c.in_ok-count.ensures.log)
+    (done_made Query _ _ c.in_ok-make.ensures.done))

@@ -5,7 +5,7 @@ use Rattle.irl_disk.proofs.Steps.{made, on_ok_at, not_done_stays, refused_leaves
 use Rattle.std.proofs.lemmas.Result.{on_ok_weaker, on_err_weaker}
 use Rattle.irl_disk.specs.Disk.{ChangesFile, Holds, Scribbled}
 use Rattle.irl_disk.specs.Images.{Follows, LeavesBy}
-use Rattle.irl_disk.specs.Memory.{files_in, snapshot_of}
+use Rattle.irl_disk.specs.Memory.{files_in, told_by}
 use Rattle.irl_disk.proofs.memory.MemStoreStore.write.Goals as goal
 
 pub returns-in-Ok-clause-within : goal.returns-in-Ok-clause-within
@@ -33,12 +33,13 @@ pub returns-in-Ok-clause-stops : goal.returns-in-Ok-clause-stops
 returns-in-Ok-clause-stops c =
     let same : c.in-Ok.bytes.items ≡ c.args.bytes.now = c.in-Ok.ensures.items_if_clones_equal (λ x y e. e) in
     let was = made c.make.result (Write c.args.f c.args.at c.in-Ok.bytes) _ _ c.make.ensures.done c.make.ensures.failed in
-    subst (λ (bytes : List ℕ). LeavesBy (ChangesFile c.args.f (Scribbled c.args.at (length bytes))) (snapshot_of c.args.self.now) (snapshot_of c.make.new.self)) same
+    subst (λ (bytes : List ℕ). LeavesBy (ChangesFile c.args.f (Scribbled c.args.at (length bytes))) (told_by c.args.self.now) (told_by c.make.new.self)) same
     (write_leaves c.args.f c.args.at c.in-Ok.bytes c.args.self.now c.make.new.self (c.requires.place _ refl) was)
 
 pub returns-in-Err-clause-stops : goal.returns-in-Err-clause-stops
-returns-in-Err-clause-stops c = refused_leaves c.args.self.now c.fault.new.self (Follows (ChangesFile c.args.f (Scribbled c.args.at (length c.args.bytes.now))) ((snapshot_of c.args.self.now).images)) c.fault.ensures.log
-    (scribbled_images c.args.at (length c.args.bytes.now) c.args.f ((snapshot_of c.args.self.now).images))
+returns-in-Err-clause-stops c = refused_leaves c.args.self.now c.fault.new.self (Follows (ChangesFile c.args.f (Scribbled c.args.at (length c.args.bytes.now))) ((told_by c.args.self.now).images))
+    c.fault.ensures.log
+    (scribbled_images c.args.at (length c.args.bytes.now) c.args.f ((told_by c.args.self.now).images))
 
 pub returns-in-Ok-clause-logs : goal.returns-in-Ok-clause-logs
 returns-in-Ok-clause-logs c =

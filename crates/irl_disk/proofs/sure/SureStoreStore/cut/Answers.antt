@@ -41,5 +41,5 @@ returns-clause-ok c = (_, refl, changed (goal.at.returns-clause-ok c).After-resi
 
 pub returns-clause-stops : goal.returns-clause-stops
 returns-clause-stops c =
-    leaves_step (sure_files c.args.self.now) _ (ChangesFile c.args.f (PartlyCut c.args.to))
+    leaves_step (sure_files c.args.self.now) _ _ _ _ _ (ChangesFile c.args.f (PartlyCut c.args.to))
     (partly_cut_by_cut c.args.f c.args.to (sure_files c.args.self.now) _ (c.requires.place _ refl) (changed (goal.at.returns-clause-stops c).After-resize))

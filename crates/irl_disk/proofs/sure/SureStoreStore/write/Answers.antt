@@ -2,7 +2,7 @@ use Rattle.std.proofs.Common.{◌≡◌, ◌≤◌, ◌+◌, ◌-◌, ℕ, List,
 use Rattle.std.specs.List.{sum}
 use Rattle.std.specs.Vec.{with_items}
 use Rattle.std.proofs.lemmas.List.{with_items_is}
-use Rattle.irl_offer.specs.Faults.{counted}
+use Rattle.irl_base.specs.Faults.{counted}
 use Rattle.irl_disk.specs.Disk.{ChangesFile, Holds, Scribbled}
 use Rattle.irl_disk.specs.Sure.{Held, bytes_held, files_cut, pieces, sure_files}
 use Rattle.irl_disk.proofs.Pieces.{piece_long}
@@ -31,7 +31,8 @@ room_is c = sym (ap (λ (store : Held). store.room) c.self.view_is) ∙ omega (a
 needed_is : (c : After-write_into) → bytes_held c.args.self.now + (c.args.at + length c.args.bytes.now - length (sure_files c.args.self.now c.args.f))
     ≡ sum c.deref_mut-2.result.now + (c.args.at + length c.args.bytes.now - get_or c.deref_mut-2.result.now c.args.f 0)
 needed_is c = rw c.deref_mut-2.ensures.value
-    (needed c.args.self.now c.self.inside.lengths.items c.self.inside.bytes.items c.args.f (c.args.at + length c.args.bytes.now) (sym (ap (λ (store : Held). store.files) c.self.view_is)) c.self.invariant.2)
+    (needed c.args.self.now c.self.inside.lengths.items c.self.inside.bytes.items c.args.f (c.args.at + length c.args.bytes.now) (sym (ap (λ (store : Held). store.files) c.self.view_is))
+    c.self.invariant.2)
 
 -- a write that was done
 written : (c : In-Ok) → ChangesFile c.args.f (Holds c.args.at c.args.bytes.now) (sure_files c.args.self.now)
@@ -45,7 +46,7 @@ returns-in-Ok-clause-ok c = (_, refl, written c)
 
 pub returns-in-Ok-clause-stops : goal.returns-in-Ok-clause-stops
 returns-in-Ok-clause-stops c =
-    leaves_step (sure_files c.args.self.now) _ (ChangesFile c.args.f (Scribbled c.args.at (length c.args.bytes.now)))
+    leaves_step (sure_files c.args.self.now) _ _ _ _ _ (ChangesFile c.args.f (Scribbled c.args.at (length c.args.bytes.now)))
     (scribbled_by_write c.args.f c.args.at c.args.bytes.now (sure_files c.args.self.now) _ (c.requires.place _ refl) (written c))
 
 pub returns-in-Ok-clause-logs : goal.returns-in-Ok-clause-logs
@@ -66,8 +67,9 @@ unchanged c lengths bytes = rw (lengths_are c, bytes_are c, lengths, bytes, c.de
 
 pub returns-in-Err-clause-stops : goal.returns-in-Err-clause-stops
 returns-in-Err-clause-stops c =
-    leaves_step (sure_files c.args.self.now) _ (ChangesFile c.args.f (Scribbled c.args.at (length c.args.bytes.now)))
-    (scribbled_none c.args.at (length c.args.bytes.now) c.args.f (sure_files c.args.self.now) _ (λ g. ap (λ (files : List (List ℕ)). get_or files g []) (unchanged (goal.at.returns-in-Err-clause-stops c).After-write_into c.in-Err.ensures.lengths_stay c.in-Err.ensures.bytes_stay)))
+    leaves_step (sure_files c.args.self.now) _ _ _ _ _ (ChangesFile c.args.f (Scribbled c.args.at (length c.args.bytes.now)))
+    (scribbled_none c.args.at (length c.args.bytes.now) c.args.f (sure_files c.args.self.now) _ (λ g.
+    ap (λ (files : List (List ℕ)). get_or files g []) (unchanged (goal.at.returns-in-Err-clause-stops c).After-write_into c.in-Err.ensures.lengths_stay c.in-Err.ensures.bytes_stay)))
 
 pub returns-in-Err-clause-logs : goal.returns-in-Err-clause-logs
 returns-in-Err-clause-logs c =

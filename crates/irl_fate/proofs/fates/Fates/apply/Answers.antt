@@ -1,5 +1,5 @@
 use Rattle.std.proofs.Common.{rules}
-use Rattle.irl_fate.specs.Seen.{seen}
+use Rattle.irl_events.specs.Seen.{seen}
 use Rattle.irl_fate.proofs.Applying.{progress_more, lawful_more}
 use Rattle.irl_fate.proofs.fates.Fates.apply.Goals as goal
 

@@ -1,5 +1,5 @@
 use Rattle.std.proofs.Common.{◌∙◌, ap}
-use Rattle.irl_model.specs.Events.{Progress}
+use Rattle.irl_events.specs.Events.{Progress}
 use Rattle.irl_fate.specs.Fates.{fate_of}
 use Rattle.irl_fate.proofs.Agreeing.{stands_where}
 use Rattle.irl_fate.proofs.fates.Fates.fate.Goals as goal

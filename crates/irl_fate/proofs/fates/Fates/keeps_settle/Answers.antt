@@ -1,6 +1,6 @@
 use Rattle.std.proofs.Common.{◌∙◌, List, ℕ, ap}
 use Rattle.irl_offer.specs.declared.outcome.Outcome.{Outcome}
-use Rattle.irl_model.specs.Legal.{are_distinct}
+use Rattle.irl_events.specs.Legal.{are_distinct}
 use Rattle.irl_fate.proofs.Applying.{settles_by}
 use Rattle.irl_fate.proofs.Marking.{numbers_done}
 use Rattle.irl_fate.proofs.fates.Fates.keeps_settle.Goals as goal

@@ -1,5 +1,5 @@
 use Rattle.std.proofs.Common.{◌∙◌, ℕ, List, length, arith, sym, ap}
-use Rattle.irl_model.specs.Queues.{list_at}
+use Rattle.irl_base.specs.Lists.{list_at}
 use Rattle.irl_fate.specs.Kept.{front_left}
 use Rattle.irl_fate.proofs.Steps.{none_agree, none_fresh, empty_at}
 use Rattle.irl_fate.proofs.fates.Fates.new.Goals as goal

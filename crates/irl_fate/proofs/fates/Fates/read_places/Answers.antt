@@ -1,10 +1,9 @@
 use Rattle.std.proofs.Common.{◌≡◌, ◌∙◌, ◌+◌, ◌++◌, ◌≤◌, ◌<◌, ℕ, List, length, true, sym, ap, subst, arith, rules}
 use Rattle.std.specs.Prelude.{vec_len}
 use Rattle.irl_offer.specs.declared.place.Place.{Place}
-use Rattle.irl_model.specs.Plain.{items_of}
-use Rattle.irl_model.specs.Queues.{list_at}
-use Rattle.irl_model.specs.Events.{Progress, Pass}
-use Rattle.irl_model.specs.Legal.{passes_on}
+use Rattle.irl_base.specs.Lists.{items_of, list_at}
+use Rattle.irl_events.specs.Events.{Progress, Pass}
+use Rattle.irl_events.specs.Legal.{passes_on}
 use Rattle.irl_fate.specs.declared.fate.Fate.{Fate}
 use Rattle.irl_fate.specs.declared.fates.Fates.TheInside.{Inside}
 use Rattle.irl_fate.specs.Kept.{shown, IsKept, Agree, fate_in, placed_by, front_left}
@@ -18,7 +17,9 @@ parts a x judged places view h =
     pass_parts (shown a) judged places (subst (λ (y : Progress). passes_on y (Pass judged) places ≡ true) (sym view) h)
 
 -- what a pass that is legal reads, of the fields
-reads : (a : Inside) (entered new : List (ℕ × Fate)) (judged : ℕ) (places : List Place) → IsKept a → PassParts (shown a) judged places → ((q : ℕ) → fate_in entered q ≡ fate_in a.fates.entries q) → ((q : ℕ) → fate_in new q ≡ placed_by places q (fate_in entered q)) → Reads a.fates.entries entered new (front_left a.fates.entries a.front.items) (items_of a.lists.items) a.done.items places a.passes a.queues a.read judged
+reads : (a : Inside) (entered new : List (ℕ × Fate)) (judged : ℕ) (places : List Place) → IsKept a → PassParts (shown a) judged places → ((q : ℕ) → fate_in entered q ≡ fate_in a.fates.entries q)
+    → ((q : ℕ) → fate_in new q ≡ placed_by places q (fate_in entered q)) → Reads a.fates.entries entered new (front_left a.fates.entries a.front.items) (items_of a.lists.items) a.done.items places
+    a.passes a.queues a.read judged
 reads a entered new judged places k parts same placed =
     let round : a.passes < a.queues = k.round in
     let most : a.queues ≤ 64 = k.most in
@@ -54,7 +55,8 @@ invariant_of-self-2 c =
     let r = reads a c.enter.new.fates.entries new judged places c.self.invariant shows c.enter.ensures.fates c.place_all.ensures in
     let lists = items_of a.lists.items in
     let front : c.in_ok-front.front.items ≡ front_places places = c.in_ok-front.ensures in
-    let now : items_of c.deliver.new.lists.items ≡ after old c.enter.new.fates.entries new (front_left old a.front.items) lists a.done.items places a.passes a.queues a.read judged = c.in_ok-deliver.ensures.ok in
+    let now : items_of c.deliver.new.lists.items ≡ after old c.enter.new.fates.entries new (front_left old a.front.items) lists a.done.items places a.passes a.queues a.read judged =
+    c.in_ok-deliver.ensures.ok in
     let count : vec_len c.in_ok-front.front ≡ length c.in_ok-front.front.items = search rules in
     let whole : front_left new c.in_ok-front.front.items ≡ c.in_ok-front.front.items = ap (front_left new) front ∙ front_whole _ _ _ _ _ _ _ _ _ _ _ r ∙ sym front in
     let number : judged ≡ a.sent = shows.number in
@@ -88,7 +90,12 @@ returns-clause-ok c =
     let r = reads a c.enter.new.fates.entries new judged places c.self.invariant shows c.enter.ensures.fates c.place_all.ensures in
     let front : front_left new c.in_ok-front.front.items ≡ (shown a).front ++ front_places places =
     ap (front_left new) c.in_ok-front.ensures ∙ front_whole _ _ _ _ _ _ _ _ _ _ _ r ∙ ap (λ (t : List ℕ). t ++ front_places places) (sym shows.none) in
-    let build : List ℕ → List (List ℕ) → Progress = λ front lists. record (shown a) { begun = true; read = judged; front = front; waiting = record { lists = lists; queues = a.queues; passes = a.passes } } in
+    let build : List ℕ → List (List ℕ) → Progress = λ front lists. record (shown a) {
+      begun = true;
+      read = judged;
+      front = front;
+      waiting = record { lists = lists; queues = a.queues; passes = a.passes };
+    } in
     ap (λ (t : List ℕ). build t (items_of c.deliver.new.lists.items)) front
     ∙ ap (build ((shown a).front ++ front_places places)) c.in_ok-deliver.ensures.ok
     ∙ ap (λ (x : Progress). read_by x judged places) c.self.view_is

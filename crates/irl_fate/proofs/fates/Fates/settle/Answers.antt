@@ -1,9 +1,9 @@
 use Rattle.std.proofs.Common.{◌≡◌, ◌∙◌, ◌++◌, ℕ, List, [], length, true, sym, ap, subst, arith, rules}
 use Rattle.std.specs.List.{list_all}
 use Rattle.irl_offer.specs.declared.outcome.Outcome.{Outcome}
-use Rattle.irl_model.specs.Plain.{items_of}
-use Rattle.irl_model.specs.Events.{Progress, Settle, has_number, after_event, without}
-use Rattle.irl_model.specs.Legal.{settles, are_distinct}
+use Rattle.irl_base.specs.Lists.{items_of}
+use Rattle.irl_events.specs.Events.{Progress, Settle, has_number, after_event, without}
+use Rattle.irl_events.specs.Legal.{settles, are_distinct}
 use Rattle.irl_fate.specs.declared.fates.Fates.TheInside.{Inside}
 use Rattle.irl_fate.specs.Fates.{done_by}
 use Rattle.irl_fate.specs.Kept.{shown, IsKept, Agree, fate_in, is_front, front_left}

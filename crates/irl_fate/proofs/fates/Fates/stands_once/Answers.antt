@@ -1,6 +1,6 @@
 use Rattle.std.proofs.Common.{◌≡◌, ◌∙◌, ◌≤◌, ◌<◌, ℕ, [], length, sym, ap, subst}
-use Rattle.irl_model.specs.Queues.{list_at}
-use Rattle.irl_model.specs.Events.{Progress}
+use Rattle.irl_base.specs.Lists.{list_at}
+use Rattle.irl_events.specs.Events.{Progress}
 use Rattle.irl_fate.specs.declared.fate.Fate.{Fate}
 use Rattle.irl_fate.specs.declared.fate.Fate.TheVariants.{Fresh, Queue}
 use Rattle.irl_fate.specs.Fates.{fate_of}

@@ -1,6 +1,8 @@
--- What is remembered of failed syncs.
+-- What is remembered of failed syncs, and of the first failure.
+use Rattle.std.proofs.Common.{◌≡◌, length}
+use Rattle.irl_disk.specs.DeviceCall.{Read}
 use Rattle.irl_files.specs.FileStore.{lost_syncs}
-use Rattle.irl_files.proofs.Remembered.{KeepsLost-same}
+use Rattle.irl_files.proofs.Remembered.{KeepsLost-same, KeepsFirst-answer}
 use Rattle.irl_files.proofs.file_store.FileStoreStore.read.Goals as goal
 
 pub returns-clause-logs : goal.returns-clause-logs
@@ -8,8 +10,11 @@ returns-clause-logs g c =
     let old = lost_syncs c.args.self.now in
     let mid = c.read-answer.new.self.files.lost in
     let new = lost_syncs c.end.new.self in
-    let same = c.end.ensures.lost in
-    record {
-      kept = KeepsLost-same old mid new c.read-answer.ensures.kept same;
-      once = tt;
-    }
+    let same = c.end.ensures.lost in (
+      record {
+        kept = KeepsLost-same old mid new c.read-answer.ensures.kept same;
+        once = tt;
+      },
+      KeepsFirst-answer (Read c.args.f c.args.at (length c.read-answer.new.into)) (λ error failure. failure.error ≡ error) c.read-answer.result c.end.result _ _
+          c.end.ensures.value c.end.ensures.first,
+    )

@@ -27,5 +27,6 @@ returns-in-Some-clause-step c = λ done d.
     let ahead = c.args.bytes.now in
     let a : InChunk 0 [] body done = subst (λ x. IsDue x body done) c.requires.due d in
     let q = in_quiet c.args.want 0 [] body done a (inl refl) c.requires.room in
-    let b : InChunk 0 (c.in-Some.field-0 ∷ []) body (done ++ take 1 ahead) = subst (λ t. InChunk 0 t body (done ++ take 1 ahead)) c.in-Some.ensures.some.0 (in_behind 0 [] body done (take 1 ahead) a) in
+    let b : InChunk 0 (c.in-Some.field-0 ∷ []) body (done ++ take 1 ahead) = subst (λ t. InChunk 0 t body (done ++ take 1 ahead)) c.in-Some.ensures.some.0
+    (in_behind 0 [] body done (take 1 ahead) a) in
     (quiet_here c.args.want done ahead q, in_broken (c.in-Some.field-0 ∷ []) body _ b c.in-Some.field-0-test.1)

@@ -41,9 +41,23 @@ returns-clause-step c = λ done d.
     let fits : count ≤ c.args.left = omega (arith, c.lesser-count.ensures) in
     let within : count ≤ length ahead = omega (arith, c.lesser-count.ensures, c.min-room.ensures) in
     let size : length t ≡ count = omega (arith, length-take count ahead, within) in
-    let more : length body + count < most_of c.args.want = omega (arith, ap length items, length-append body t, size, c.if-len-most.false, c.len-2.ensures, c.most-2.ensures, c.lesser-count.ensures, c.min-room.ensures, c.most.ensures, c.len.ensures, c.requires.room) in
+    let more : length body + count < most_of c.args.want = omega (
+      arith,
+      ap length items,
+      length-append body t,
+      size,
+      c.if-len-most.false,
+      c.len-2.ensures,
+      c.most-2.ensures,
+      c.lesser-count.ensures,
+      c.min-room.ensures,
+      c.most.ensures,
+      c.len.ensures,
+      c.requires.room,
+    ) in
     let b : InChunk (c.args.left - length t) [] (body ++ t) (done ++ t) = in_more c.args.left body done t a.1 (omega (arith, size, fits)) in
-    let next : IsDue (due_after c.args.left count) (body ++ t) (done ++ t) = due_next c.args.left count (body ++ t) (done ++ t) fits (subst (λ n. InChunk (c.args.left - n) [] (body ++ t) (done ++ t)) size b) in (
+    let next : IsDue (due_after c.args.left count) (body ++ t) (done ++ t) = due_next c.args.left count (body ++ t) (done ++ t) fits
+    (subst (λ n. InChunk (c.args.left - n) [] (body ++ t) (done ++ t)) size b) in (
       part_ahead c.args.want c.args.left body done ahead (count + 1) a.1 (omega arith) (omega arith) (omega (arith, more)),
       subst (λ x. IsDue x c.extend_from_slice.new.self.items (done ++ t)) (sym c.after_part-self.ensures) (subst (λ l. IsDue (due_after c.args.left count) l (done ++ t)) (sym items) next),
     )

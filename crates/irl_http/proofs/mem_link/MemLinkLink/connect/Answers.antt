@@ -1,5 +1,5 @@
 use Rattle.std.proofs.Common.{◌≡◌, ap, arith}
-use Rattle.irl_offer.specs.Faults.{counted}
+use Rattle.irl_base.specs.Faults.{counted}
 use Rattle.irl_http.specs.Memory.{Linking}
 use Rattle.irl_http.proofs.mem_link.MemLinkLink.connect.Goals as goal
 

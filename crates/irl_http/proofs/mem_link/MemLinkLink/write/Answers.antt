@@ -1,5 +1,5 @@
 use Rattle.std.proofs.Common.{◌≡◌, ◌++◌, sym, ap, ◌∙◌, arith}
-use Rattle.irl_offer.specs.Faults.{counted}
+use Rattle.irl_base.specs.Faults.{counted}
 use Rattle.irl_http.specs.Memory.{Linking}
 use Rattle.irl_http.specs.Links.{written_on_last}
 use Rattle.irl_http.proofs.LinkLemmas.{none_on_last, last_of_current}

@@ -8,7 +8,7 @@ use Rattle.irl_intake.proofs.intake.Intake.finish.Goals as goal
 
 pub returns-in_err-flush_all-clause-fed : goal.returns-in_err-flush_all-clause-fed
 returns-in_err-flush_all-clause-fed g c = λ sound.
-    let tells = g.S.Store.snapshot in
+    let tells = g.S.Store.told in
     let was = c.args.self.now in
     let between = c.flush_all.new.self in
     let old : Moment = moment tells was.yard.store was.yard.parts was.arrays.items in
@@ -19,7 +19,7 @@ returns-in_err-flush_all-clause-fed g c = λ sound.
 
 pub returns-in_err-flush_all-clause-stranded : goal.returns-in_err-flush_all-clause-stranded
 returns-in_err-flush_all-clause-stranded g c = λ failed.
-    let tells = g.S.Store.snapshot in
+    let tells = g.S.Store.told in
     let was = c.args.self.now in
     let between = c.flush_all.new.self in
     let old : Moment = moment tells was.yard.store was.yard.parts was.arrays.items in
@@ -30,7 +30,7 @@ returns-in_err-flush_all-clause-stranded g c = λ failed.
 
 pub returns-then-not-has_pending-clause-fed : goal.returns-then-not-has_pending-clause-fed
 returns-then-not-has_pending-clause-fed g c = λ sound.
-    let tells = g.S.Store.snapshot in
+    let tells = g.S.Store.told in
     let was = c.args.self.now in
     let between = c.flush_all.new.self in
     let old : Moment = moment tells was.yard.store was.yard.parts was.arrays.items in
@@ -40,7 +40,7 @@ returns-then-not-has_pending-clause-fed g c = λ sound.
 
 pub returns-clause-fed : goal.returns-clause-fed
 returns-clause-fed g c = λ sound.
-    let tells = g.S.Store.snapshot in
+    let tells = g.S.Store.told in
     let was = c.args.self.now in
     let between = c.flush_all.new.self in
     let old : Moment = moment tells was.yard.store was.yard.parts was.arrays.items in
@@ -52,7 +52,7 @@ returns-clause-fed g c = λ sound.
 
 pub returns-clause-stranded : goal.returns-clause-stranded
 returns-clause-stranded g c = λ failed.
-    let tells = g.S.Store.snapshot in
+    let tells = g.S.Store.told in
     let was = c.args.self.now in
     let between = c.flush_all.new.self in
     let old : Moment = moment tells was.yard.store was.yard.parts was.arrays.items in
@@ -64,7 +64,7 @@ returns-clause-stranded g c = λ failed.
 
 pub returns-clause-stays : goal.returns-clause-stays
 returns-clause-stays g c =
-    let tells = g.S.Store.snapshot in
+    let tells = g.S.Store.told in
     let was = c.args.self.now in
     let between = c.flush_all.new.self in
     let old : Moment = moment tells was.yard.store was.yard.parts was.arrays.items in
@@ -75,7 +75,7 @@ returns-clause-stays g c =
 
 pub returns-clause-whole : goal.returns-clause-whole
 returns-clause-whole g c = λ f at damaged.
-    let tells = g.S.Store.snapshot in
+    let tells = g.S.Store.told in
     let was = c.args.self.now in
     let between = c.flush_all.new.self in
     let old : Moment = moment tells was.yard.store was.yard.parts was.arrays.items in
@@ -91,7 +91,7 @@ returns-in_err-flush_all-clause-full g c = λ n full.
 
 pub returns-clause-moves : goal.returns-clause-moves
 returns-clause-moves g c = λ n.
-    let tells = g.S.Store.snapshot in
+    let tells = g.S.Store.told in
     let was = c.args.self.now in
     let between = c.flush_all.new.self in
     let old : Moment = moment tells was.yard.store was.yard.parts was.arrays.items in

@@ -9,12 +9,12 @@ use Rattle.irl_intake.proofs.intake.Intake.flush_all.Goals as goal
 pub loop-b-init : goal.loop-b-init
 loop-b-init g c =
     let was = c.args.self.now in
-    let now : Moment = moment g.S.Store.snapshot was.yard.store was.yard.parts was.arrays.items in
+    let now : Moment = moment g.S.Store.told was.yard.store was.yard.parts was.arrays.items in
     (begins now (g.met.S.Store.is_consistent was.yard.store) c.is_sound-is_sound.ensures.drum c.requires.sound, omega arith)
 
 pub loop-b-preserved : goal.loop-b-preserved
 loop-b-preserved g c =
-    let tells = g.S.Store.snapshot in
+    let tells = g.S.Store.told in
     let was = c.args.self.now in
     let between = c.loop-b.self in
     let next = c.flush_some.new.self in
@@ -29,7 +29,7 @@ loop-b-preserved g c =
 
 pub returns-in_err-flush_some-clause-fed : goal.returns-in_err-flush_some-clause-fed
 returns-in_err-flush_some-clause-fed g c = λ sound.
-    let tells = g.S.Store.snapshot in
+    let tells = g.S.Store.told in
     let was = c.args.self.now in
     let between = c.loop-b.self in
     let next = c.flush_some.new.self in
@@ -42,7 +42,7 @@ returns-in_err-flush_some-clause-fed g c = λ sound.
 
 pub returns-in_err-flush_some-clause-stranded : goal.returns-in_err-flush_some-clause-stranded
 returns-in_err-flush_some-clause-stranded g c = λ failed.
-    let tells = g.S.Store.snapshot in
+    let tells = g.S.Store.told in
     let was = c.args.self.now in
     let between = c.loop-b.self in
     let next = c.flush_some.new.self in
@@ -55,7 +55,7 @@ returns-in_err-flush_some-clause-stranded g c = λ failed.
 
 pub returns-in_err-flush_some-clause-stays : goal.returns-in_err-flush_some-clause-stays
 returns-in_err-flush_some-clause-stays g c =
-    let tells = g.S.Store.snapshot in
+    let tells = g.S.Store.told in
     let was = c.args.self.now in
     let between = c.loop-b.self in
     let next = c.flush_some.new.self in
@@ -66,7 +66,7 @@ returns-in_err-flush_some-clause-stays g c =
 
 pub returns-in_err-flush_some-clause-moves : goal.returns-in_err-flush_some-clause-moves
 returns-in_err-flush_some-clause-moves g c =
-    let tells = g.S.Store.snapshot in
+    let tells = g.S.Store.told in
     let was = c.args.self.now in
     let between = c.loop-b.self in
     let next = c.flush_some.new.self in
@@ -78,12 +78,18 @@ returns-in_err-flush_some-clause-moves g c =
 pub returns-clause-empty : goal.returns-clause-empty
 returns-clause-empty g c = λ b.
     let now = c.loop-b.self in
-    none_waits now.arrays.items c.loop-b.b b (omega (arith, now.arrays_are.count, c.loop-b-test.false, ap (λ (s : Settings). s.buckets) c.settings-b-end.ensures.value, ap (λ (s : Settings). s.buckets) c.loop-b.invariant.0.stays.settings))
+    none_waits now.arrays.items c.loop-b.b b (omega (
+      arith,
+      now.arrays_are.count,
+      c.loop-b-test.false,
+      ap (λ (s : Settings). s.buckets) c.settings-b-end.ensures.value,
+      ap (λ (s : Settings). s.buckets) c.loop-b.invariant.0.stays.settings,
+    ))
     c.loop-b.invariant.0.before
 
 pub returns-clause-fed : goal.returns-clause-fed
 returns-clause-fed g c = λ sound.
-    let tells = g.S.Store.snapshot in
+    let tells = g.S.Store.told in
     let was = c.args.self.now in
     let now = c.loop-b.self in
     let old : Moment = moment tells was.yard.store was.yard.parts was.arrays.items in

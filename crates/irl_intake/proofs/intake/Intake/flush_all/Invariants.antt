@@ -7,5 +7,5 @@ abbrev pub invariant-loop-b : goal.invariant-loop-b
 invariant-loop-b g l =
     let was = l.initial.self in
     let now = l.self in
-    SoFar l.b (moment g.S.Store.snapshot was.yard.store was.yard.parts was.arrays.items) (moment g.S.Store.snapshot now.yard.store now.yard.parts now.arrays.items)
-    × (g.S.Store.faults was.yard.store ≤ g.S.Store.faults now.yard.store)
+    SoFar l.b (moment g.S.Store.told was.yard.store was.yard.parts was.arrays.items) (moment g.S.Store.told now.yard.store now.yard.parts now.arrays.items)
+    × ((g.S.Store.told was.yard.store).faults ≤ (g.S.Store.told now.yard.store).faults)

@@ -6,5 +6,5 @@ use Rattle.irl_intake.proofs.intake.Intake.merge_before_end.Goals as goal
 pub returns-then-not-has_waiting-clause-fed : goal.returns-then-not-has_waiting-clause-fed
 returns-then-not-has_waiting-clause-fed g c = λ sound.
     let was = c.args.self.now in
-    let now : Moment = moment g.S.Store.snapshot was.yard.store was.yard.parts was.arrays.items in
+    let now : Moment = moment g.S.Store.told was.yard.store was.yard.parts was.arrays.items in
     feeds_none now now (g.met.S.Store.is_consistent was.yard.store) c.is_sound-is_sound.ensures.drum refl refl refl

@@ -1,7 +1,7 @@
 -- The bytes that the method shows are the first of those left, by the view of the fields after `look_ahead`.
 use Rattle.std.proofs.Common.{◌≡◌, ℕ, ◌+◌, ◌≤◌, refl, ap, ◌∙◌, arith}
 use Rattle.std.specs.List.{slice_range}
-use Rattle.irl_offer.specs.Faults.{HasCause}
+use Rattle.irl_base.specs.Faults.{HasCause}
 use Rattle.irl_io.specs.Steps.{Progress}
 use Rattle.irl_io.proofs.FeedLemmas.{takes_line, gives_line, refuses_long}
 use Rattle.irl_io.proofs.lines.Lines.next.Goals as goal
@@ -21,11 +21,16 @@ returns-in-Line g c =
         λ _. tt,
         record {
           number = ap (λ n. n + 1) number;
-          bytes = takes_line (left c.args.source.now) (left c.look_ahead.new.source) c.args.self.now.ahead c.look_ahead.new.self.ahead c.deref.result.now a.buffer.items a.start a.end c.in-Line.length c.in-Line.whole c.look_ahead.ensures.kept c.deref.ensures.value view c.in-Line.ensures.stands;
+          bytes = takes_line (left c.args.source.now) (left c.look_ahead.new.source) c.args.self.now.ahead c.look_ahead.new.self.ahead c.deref.result.now a.buffer.items a.start a.end c.in-Line.length
+              c.in-Line.whole c.look_ahead.ensures.kept c.deref.ensures.value view c.in-Line.ensures.stands;
         },
       ),
       record {
-        limits = (gives_line (left c.look_ahead.new.source) c.look_ahead.new.self.ahead c.deref.result.now a.buffer.items a.start a.end c.in-Line.length c.in-Line.whole c.deref.ensures.value view c.in-Line.ensures.stands, omega (arith, number));
+        limits = (
+          gives_line (left c.look_ahead.new.source) c.look_ahead.new.self.ahead c.deref.result.now a.buffer.items a.start a.end c.in-Line.length c.in-Line.whole c.deref.ensures.value view
+              c.in-Line.ensures.stands,
+          omega (arith, number),
+        );
         cause = not_failed _ _ c.look_ahead.ensures.cause.later (λ failed. cc);
         after = tt;
       },

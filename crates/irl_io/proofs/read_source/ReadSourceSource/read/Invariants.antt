@@ -1,6 +1,6 @@
 use Rattle.std.proofs.Common.{◌<◌, ◌≤◌}
 use Rattle.std.specs.Io.KnownBytes.{Keeps}
-use Rattle.irl_offer.specs.Faults.{Rose}
+use Rattle.irl_base.specs.Faults.{Rose}
 use Rattle.irl_io.proofs.read_source.ReadSourceSource.read.Given as goal
 
 -- nothing was read yet, and each try before this one was a fault

@@ -25,12 +25,21 @@ returns c =
     let items = c.deref_mut.result.now in
     let k = 4 + len + length bytes - (4 + len) in
     let room = rw (← c.self.view_is) at c.requires in
-    let fits : 4 + len + length bytes ≤ length items = omega (arith, room, c.self.invariant.0, c.deref_mut.ensures.len, ap length c.deref_mut.ensures.value, length-take len (drop 4 buffer.items), length-drop 4 buffer.items) in
+    let fits : 4 + len + length bytes ≤ length items = omega (
+      arith,
+      room,
+      c.self.invariant.0,
+      c.deref_mut.ensures.len,
+      ap length c.deref_mut.ensures.value,
+      length-take len (drop 4 buffer.items),
+      length-drop 4 buffer.items,
+    ) in
     let put = put_mid (4 + len) k items c.copy_from_slice.new.self in
     let put_is : put ≡ put_mid (4 + len) k items bytes = ap (λ (l : List ℕ). put_mid (4 + len) k items l) c.copy_from_slice.ensures.after in
     let put_long : length put ≡ buffer.len = ap length put_is ∙ same_length (4 + len) k items bytes fits (omega arith) ∙ c.deref_mut.ensures.len in
     let closed_from : c.deref_mut-2.result.now ≡ put_mid (4 + len) k items bytes = c.deref_mut-2.ensures.value ∙ with_items_is buffer put put_long ∙ put_is in
-    let closed_is : (with_items (with_items buffer put) c.close.new.buffer).items ≡ c.close.new.buffer = with_items_is (with_items buffer put) c.close.new.buffer (c.close.ensures.long ∙ c.deref_mut-2.ensures.len) in
+    let closed_is : (with_items (with_items buffer put) c.close.new.buffer).items ≡ c.close.new.buffer =
+    with_items_is (with_items buffer put) c.close.new.buffer (c.close.ensures.long ∙ c.deref_mut-2.ensures.len) in
     let payload : take (len + length bytes) (drop 4 c.close.new.buffer) ≡ take len (drop 4 buffer.items) ++ bytes =
     c.close.ensures.payload
     ∙ ap (λ (l : List ℕ). take (len + length bytes) (drop 4 l)) closed_from

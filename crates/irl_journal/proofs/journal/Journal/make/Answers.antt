@@ -9,11 +9,13 @@ use Rattle.irl_journal.proofs.journal.Journal.make.Goals as goal
 -- what is told has the closed gate alone
 pub returns-clause-ok : goal.returns-clause-ok
 returns-clause-ok g c =
-    rw c.sync.ensures.same (as_step c.args.f (Holds 0 (0 ∷ [])) (λ old new. new ≡ 0 ∷ []) _ _ (λ before after told holds. made (before c.args.f) after (c.requires.short before told) holds) c.in_ok-write.ensures.ok)
+    rw c.sync.ensures.same (as_step c.args.f (Holds 0 (0 ∷ [])) (λ old new. new ≡ 0 ∷ []) _ _ (λ before after told holds. made (before c.args.f) after (c.requires.short before told) holds)
+    c.in_ok-write.ensures.ok)
 
 pub returns-clause-open : goal.returns-clause-open
 returns-clause-open g c = λ image left.
     let told = (g.met.S.Store.is_consistent c.sync.new.self).tells image left in
-    let told_before : (g.S.Store.snapshot c.write.new.self).files ≡ Some told.0 = sym c.sync.ensures.same ∙ told.1 in
-    let from = told_from c.args.f (Holds 0 (0 ∷ [])) (g.S.Store.snapshot c.args.store.now).files (g.S.Store.snapshot c.write.new.self).files told.0 c.in_ok-write.ensures.ok told_before in
-    subst (λ (tail : Tail). Ends tail.end (image tail.file) []) (sym c.behind.ensures) (made_empty (image c.args.f) (c.in_ok-sync.ensures.durable told.0 told_before image left ∙ made (from.0 c.args.f) (told.0 c.args.f) (c.requires.short from.0 from.1) from.2.changed))
+    let told_before : (g.S.Store.told c.write.new.self).files ≡ Some told.0 = sym c.sync.ensures.same ∙ told.1 in
+    let from = told_from c.args.f (Holds 0 (0 ∷ [])) (g.S.Store.told c.args.store.now).files (g.S.Store.told c.write.new.self).files told.0 c.in_ok-write.ensures.ok told_before in
+    subst (λ (tail : Tail). Ends tail.end (image tail.file) []) (sym c.behind.ensures) (made_empty (image c.args.f)
+    (c.in_ok-sync.ensures.durable told.0 told_before image left ∙ made (from.0 c.args.f) (told.0 c.args.f) (c.requires.short from.0 from.1) from.2.changed))

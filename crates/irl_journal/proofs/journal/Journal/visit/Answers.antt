@@ -14,18 +14,21 @@ use Rattle.irl_journal.proofs.journal.Journal.visit.Goals as goal
 abbrev IsOpenedOn : (g : Over) (images : Files → Type 0) (tail : Tail) (old new : g.row.V.Denot) → List (List ℕ) → Type 0
 IsOpenedOn g images tail old new payloads = (tail.end ≡ length (records_text payloads)) × TakesAll g.V.Visit.takes old (placed_from 0 payloads) new × IsOpen images tail payloads
 
-pub returns-in_err-end-clause-refused : goal.returns-in_err-end-clause-refused
-returns-in_err-end-clause-refused g c = λ at e files tells payloads stands.
-    refuses_one g.V.Visit.takes g.V.Visit.refuses c.args.visitor.now c.read_records.new.visitor (files c.args.f) payloads at stands
-    (c.in_err-end.ensures.damaged at (search rules) files (c.in_ok-length.ensures.same ∙ c.in_ok-sync.ensures.same ∙ tells))
+pub returns-in_err-end-clause-damaged : goal.returns-in_err-end-clause-damaged
+returns-in_err-end-clause-damaged g c = λ at e files tells.
+    let why = c.in_err-end.ensures.damaged at (search rules) files (c.in_ok-length.ensures.same ∙ c.in_ok-sync.ensures.same ∙ tells) in
+    record {
+      why = why;
+      refused = λ payloads stands. refuses_one g.V.Visit.takes g.V.Visit.refuses c.args.visitor.now c.read_records.new.visitor (files c.args.f) payloads at stands why;
+    }
 
 -- a file of more than one byte
-pub returns-then-length-gt1-clause-records : goal.returns-then-length-gt1-clause-records
-returns-then-length-gt1-clause-records g c = λ files tells payloads stands.
-    let tell = g.S.Store.snapshot in
+pub returns-then-length-gt1-clause-visited : goal.returns-then-length-gt1-clause-visited
+returns-then-length-gt1-clause-visited g c = λ files tells.
+    let tell = g.S.Store.told in
     let law = g.met.S.Store.is_consistent in
     let read = c.in_ok-end.ensures.records files (c.in_ok-length.ensures.same ∙ c.in_ok-sync.ensures.same ∙ tells) in
-    let kept = stays_so (tell c.sync.new.self) (tell c.length.new.self) (tell c.read_records.new.store) (law c.length.new.self) c.in_ok-length.ensures.stops c.in_ok-end.ensures.stops in
+    let kept = stays_so (tell c.sync.new.self) (tell c.length.new.self) (tell c.read_records.new.store) (law c.length.new.self) c.in_ok-length.ensures.stops c.in_ok-end.ensures.reads.stops in
     let images = (tell c.read_records.new.store).images in
     let has : IsOpenedOn g images (record { file = c.args.f; end = c.in_ok-end.end; is_sound = true }) c.args.visitor.now c.read_records.new.visitor read.0 = (
       read.1.place,
@@ -34,15 +37,20 @@ returns-then-length-gt1-clause-records g c = λ files tells payloads stands.
           (sym (stays_synced c.args.f (tell c.sync.new.self) (tell c.read_records.new.store) files (law c.read_records.new.store) (c.in_ok-sync.ensures.durable files tells) kept image left))
           read.1,
     ) in
-    found_only (IsOpenedOn g images c.behind.result c.args.visitor.now c.read_records.new.visitor) (files c.args.f) read.0 payloads (inr read.1.records) stands
-    (subst (λ (tail : Tail). IsOpenedOn g images tail c.args.visitor.now c.read_records.new.visitor read.0) (sym c.behind.ensures) has)
+    record {
+      found = (read.0, inr read.1.records);
+      records = λ payloads stands.
+          found_only (IsOpenedOn g images c.behind.result c.args.visitor.now c.read_records.new.visitor) (files c.args.f) read.0 payloads (inr read.1.records) stands
+          (subst (λ (tail : Tail). IsOpenedOn g images tail c.args.visitor.now c.read_records.new.visitor read.0) (sym c.behind.ensures) has);
+    }
 
 -- a closed gate alone
-pub returns-then-branch-clause-records : goal.returns-then-branch-clause-records
-returns-then-branch-clause-records g c = λ files tells payloads stands.
-    let tell = g.S.Store.snapshot in
+pub returns-then-branch-clause-visited : goal.returns-then-branch-clause-visited
+returns-then-branch-clause-visited g c = λ files tells.
+    let tell = g.S.Store.told in
     let law = g.met.S.Store.is_consistent in
-    let kept = stays_so (tell c.sync.new.self) (tell c.length.new.self) (tell c.is_closed_gate.new.store) (law c.length.new.self) c.in_ok-length.ensures.stops c.in_ok-is_closed_gate.ensures.stops in
+    let kept = stays_so (tell c.sync.new.self) (tell c.length.new.self) (tell c.is_closed_gate.new.store) (law c.length.new.self) c.in_ok-length.ensures.stops
+    c.in_ok-is_closed_gate.ensures.reads.stops in
     let images = (tell c.is_closed_gate.new.store).images in
     let gate : files c.args.f ≡ 0 ∷ [] = c.in_ok-is_closed_gate.ensures.closed c.if-branch.true files (c.in_ok-length.ensures.same ∙ c.in_ok-sync.ensures.same ∙ tells) in
     let few : length (files c.args.f) ≤ 1 = rw gate (omega arith) in
@@ -52,40 +60,62 @@ returns-then-branch-clause-records g c = λ files tells payloads stands.
       λ image left. made_empty (image c.args.f)
           (stays_synced c.args.f (tell c.sync.new.self) (tell c.is_closed_gate.new.store) files (law c.is_closed_gate.new.store) (c.in_ok-sync.ensures.durable files tells) kept image left ∙ gate),
     ) in
-    found_only (IsOpenedOn g images c.behind-then-branch.result c.args.visitor.now c.args.visitor.now) (files c.args.f) [] payloads (inl (few, refl)) stands
-    (subst (λ (tail : Tail). IsOpenedOn g images tail c.args.visitor.now c.args.visitor.now []) (sym c.behind-then-branch.ensures) has)
+    record {
+      found = ([], inl (few, refl));
+      records = λ payloads stands.
+          found_only (IsOpenedOn g images c.behind-then-branch.result c.args.visitor.now c.args.visitor.now) (files c.args.f) [] payloads (inl (few, refl)) stands
+          (subst (λ (tail : Tail). IsOpenedOn g images tail c.args.visitor.now c.args.visitor.now []) (sym c.behind-then-branch.ensures) has);
+    }
 
 -- a file whose gate is written
-pub returns-clause-records : goal.returns-clause-records
-returns-clause-records g c = λ files tells payloads stands.
-    let images = (g.S.Store.snapshot c.make.new.store).images in
+pub returns-clause-visited : goal.returns-clause-visited
+returns-clause-visited g c = λ files tells.
+    let images = (g.S.Store.told c.make.new.store).images in
     let size : c.in_ok-length.length ≡ length (files c.args.f) = rw (c.in_ok-sync.ensures.same ∙ tells) at c.in_ok-length.ensures.value in
     let few : length (files c.args.f) ≤ 1 = omega (arith, c.if-length-gt1.false) in
     let has : IsOpenedOn g images c.in_ok-make.field-0 c.args.visitor.now c.args.visitor.now [] = (ap (λ (tail : Tail). tail.end) c.in_ok-make.ensures.journal, refl, c.in_ok-make.ensures.open) in
-    found_only (IsOpenedOn g images c.in_ok-make.field-0 c.args.visitor.now c.args.visitor.now) (files c.args.f) [] payloads (inl (few, refl)) stands has
+    record {
+      found = ([], inl (few, refl));
+      records = λ payloads stands.
+          found_only (IsOpenedOn g images c.in_ok-make.field-0 c.args.visitor.now c.args.visitor.now) (files c.args.f) [] payloads (inl (few, refl)) stands has;
+    }
 
-pub returns-in_err-make-clause-stops : goal.returns-in_err-make-clause-stops
-returns-in_err-make-clause-stops g c =
-    let tell = g.S.Store.snapshot in
-    let law = g.met.S.Store.is_consistent in
-    let read = stays_so (tell c.sync.new.self) (tell c.length.new.self) (tell c.is_closed_gate.new.store) (law c.length.new.self) c.in_ok-length.ensures.stops c.in_ok-is_closed_gate.ensures.stops in
-    let kept = stays_so (tell c.args.store.now) (tell c.sync.new.self) (tell c.is_closed_gate.new.store) (law c.sync.new.self) c.in_ok-sync.ensures.stops read in
-    opens c.args.f (tell c.args.store.now) (tell c.is_closed_gate.new.store) (tell c.make.new.store) (law c.is_closed_gate.new.store) kept
-    (λ image left.
-    let rest = as_synced c.args.f (tell c.args.store.now) (tell c.sync.new.self) (tell c.is_closed_gate.new.store) (law c.sync.new.self) (law c.is_closed_gate.new.store) c.in_ok-sync.ensures.same c.in_ok-sync.ensures.durable read image left in
-    let size : c.in_ok-length.length ≡ length (rest.0 c.args.f) = rw rest.1 at c.in_ok-length.ensures.value in
-    (rw rest.2 (omega (arith, size, c.if-length-gt1.false)), λ e. c.in_ok-is_closed_gate.ensures.other c.if-branch.false rest.0 (c.in_ok-length.ensures.same ∙ rest.1) (sym rest.2 ∙ e)))
-    c.in_err-make.ensures.stops
+pub returns-in_err-make-clause-changes : goal.returns-in_err-make-clause-changes
+returns-in_err-make-clause-changes g c = record {
+  told = search rules;
+  stops =
+      let tell = g.S.Store.told in
+      let law = g.met.S.Store.is_consistent in
+      let read = stays_so (tell c.sync.new.self) (tell c.length.new.self) (tell c.is_closed_gate.new.store) (law c.length.new.self) c.in_ok-length.ensures.stops
+      c.in_ok-is_closed_gate.ensures.reads.stops in
+      let kept = stays_so (tell c.args.store.now) (tell c.sync.new.self) (tell c.is_closed_gate.new.store) (law c.sync.new.self) c.in_ok-sync.ensures.stops read in
+      opens c.args.f (tell c.args.store.now) (tell c.is_closed_gate.new.store) (tell c.make.new.store) (law c.is_closed_gate.new.store) kept
+      (λ image left.
+      let rest = as_synced c.args.f (tell c.args.store.now) (tell c.sync.new.self) (tell c.is_closed_gate.new.store) (law c.sync.new.self) (law c.is_closed_gate.new.store) c.in_ok-sync.ensures.same
+      c.in_ok-sync.ensures.durable read image left in
+      let size : c.in_ok-length.length ≡ length (rest.0 c.args.f) = rw rest.1 at c.in_ok-length.ensures.value in
+      (rw rest.2 (omega (arith, size, c.if-length-gt1.false)), λ e. c.in_ok-is_closed_gate.ensures.other c.if-branch.false rest.0 (c.in_ok-length.ensures.same ∙ rest.1) (sym rest.2 ∙ e)))
+      c.in_err-make.ensures.changes.stops;
+  taken = search rules;
+  cause = search rules;
+}
 
-pub returns-clause-stops : goal.returns-clause-stops
-returns-clause-stops g c =
-    let tell = g.S.Store.snapshot in
-    let law = g.met.S.Store.is_consistent in
-    let read = stays_so (tell c.sync.new.self) (tell c.length.new.self) (tell c.is_closed_gate.new.store) (law c.length.new.self) c.in_ok-length.ensures.stops c.in_ok-is_closed_gate.ensures.stops in
-    let kept = stays_so (tell c.args.store.now) (tell c.sync.new.self) (tell c.is_closed_gate.new.store) (law c.sync.new.self) c.in_ok-sync.ensures.stops read in
-    opens c.args.f (tell c.args.store.now) (tell c.is_closed_gate.new.store) (tell c.make.new.store) (law c.is_closed_gate.new.store) kept
-    (λ image left.
-    let rest = as_synced c.args.f (tell c.args.store.now) (tell c.sync.new.self) (tell c.is_closed_gate.new.store) (law c.sync.new.self) (law c.is_closed_gate.new.store) c.in_ok-sync.ensures.same c.in_ok-sync.ensures.durable read image left in
-    let size : c.in_ok-length.length ≡ length (rest.0 c.args.f) = rw rest.1 at c.in_ok-length.ensures.value in
-    (rw rest.2 (omega (arith, size, c.if-length-gt1.false)), λ e. c.in_ok-is_closed_gate.ensures.other c.if-branch.false rest.0 (c.in_ok-length.ensures.same ∙ rest.1) (sym rest.2 ∙ e)))
-    c.in_ok-make.ensures.stops
+pub returns-clause-changes : goal.returns-clause-changes
+returns-clause-changes g c = record {
+  told = search rules;
+  stops =
+      let tell = g.S.Store.told in
+      let law = g.met.S.Store.is_consistent in
+      let read = stays_so (tell c.sync.new.self) (tell c.length.new.self) (tell c.is_closed_gate.new.store) (law c.length.new.self) c.in_ok-length.ensures.stops
+      c.in_ok-is_closed_gate.ensures.reads.stops in
+      let kept = stays_so (tell c.args.store.now) (tell c.sync.new.self) (tell c.is_closed_gate.new.store) (law c.sync.new.self) c.in_ok-sync.ensures.stops read in
+      opens c.args.f (tell c.args.store.now) (tell c.is_closed_gate.new.store) (tell c.make.new.store) (law c.is_closed_gate.new.store) kept
+      (λ image left.
+      let rest = as_synced c.args.f (tell c.args.store.now) (tell c.sync.new.self) (tell c.is_closed_gate.new.store) (law c.sync.new.self) (law c.is_closed_gate.new.store) c.in_ok-sync.ensures.same
+      c.in_ok-sync.ensures.durable read image left in
+      let size : c.in_ok-length.length ≡ length (rest.0 c.args.f) = rw rest.1 at c.in_ok-length.ensures.value in
+      (rw rest.2 (omega (arith, size, c.if-length-gt1.false)), λ e. c.in_ok-is_closed_gate.ensures.other c.if-branch.false rest.0 (c.in_ok-length.ensures.same ∙ rest.1) (sym rest.2 ∙ e)))
+      c.in_ok-make.ensures.changes.stops;
+  taken = search rules;
+  cause = search rules;
+}

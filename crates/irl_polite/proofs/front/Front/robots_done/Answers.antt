@@ -57,7 +57,8 @@ invariant_of-self c =
     let pushed : IsPermutation ((record { 0 = (w.owner.due, w.at) }) ∷ heap_items s.turns) (heap_items c.push.new.turns) =
     subst (λ (t : Turn). IsPermutation (t ∷ heap_items s.turns) (heap_items c.push.new.turns)) turn c.push.ensures.turns in
     subst (λ hs. IsSound (place_of s.names.entries) hs s.slots.items s.left (heap_items c.push.new.turns) (heap_capacity c.push.new.turns)) (sym is.1)
-    (sound_handed _ _ _ _ _ _ i c.args.host place w.owner named w.held w.awaited w.at w.first known (heap_items c.push.new.turns) (heap_capacity c.push.new.turns) pushed c.push.ensures.heap c.push.ensures.room)
+    (sound_handed _ _ _ _ _ _ i c.args.host place w.owner named w.held w.awaited w.at w.first known (heap_items c.push.new.turns) (heap_capacity c.push.new.turns) pushed c.push.ensures.heap
+    c.push.ensures.room)
 
 pub returns : goal.returns
 returns c =

@@ -68,7 +68,8 @@ returns-then-self-due-clause-step c =
     let slots = s.slots.items in
     let turns = heap_items s.turns in
     let top : IsTop (heap_items s.turns) (c.in-Some.due, c.in-Some.at) = c.in-Some.ensures.some in
-    let p : Picked s.agent s.delay m names hosts slots s.left turns (heap_capacity s.turns) i due at top = found s.agent s.delay m names hosts slots s.left turns (heap_capacity s.turns) i due at top in
+    let p : Picked s.agent s.delay m names hosts slots s.left turns (heap_capacity s.turns) i due at top =
+    found s.agent s.delay m names hosts slots s.left turns (heap_capacity s.turns) i due at top in
     let within : at < length slots = get_within slots at p.slot p.stands in
     let len : vec_len s.slots ≡ length slots = search rules in
     let in_hosts : p.place < length hosts = get_within hosts p.place p.owner p.held in
@@ -94,7 +95,8 @@ returns-then-self-due-clause-waits c =
     let slots = s.slots.items in
     let turns = heap_items s.turns in
     let top : IsTop (heap_items s.turns) (c.in-Some.due, c.in-Some.at) = c.in-Some.ensures.some in
-    let p : Picked s.agent s.delay m names hosts slots s.left turns (heap_capacity s.turns) i due at top = found s.agent s.delay m names hosts slots s.left turns (heap_capacity s.turns) i due at top in
+    let p : Picked s.agent s.delay m names hosts slots s.left turns (heap_capacity s.turns) i due at top =
+    found s.agent s.delay m names hosts slots s.left turns (heap_capacity s.turns) i due at top in
     let within : at < length slots = get_within slots at p.slot p.stands in
     let len : vec_len s.slots ≡ length slots = search rules in
     let in_hosts : p.place < length hosts = get_within hosts p.place p.owner p.held in
@@ -120,7 +122,8 @@ returns-then-self-due-clause-idle c =
     let slots = s.slots.items in
     let turns = heap_items s.turns in
     let top : IsTop (heap_items s.turns) (c.in-Some.due, c.in-Some.at) = c.in-Some.ensures.some in
-    let p : Picked s.agent s.delay m names hosts slots s.left turns (heap_capacity s.turns) i due at top = found s.agent s.delay m names hosts slots s.left turns (heap_capacity s.turns) i due at top in
+    let p : Picked s.agent s.delay m names hosts slots s.left turns (heap_capacity s.turns) i due at top =
+    found s.agent s.delay m names hosts slots s.left turns (heap_capacity s.turns) i due at top in
     let within : at < length slots = get_within slots at p.slot p.stands in
     let len : vec_len s.slots ≡ length slots = search rules in
     let in_hosts : p.place < length hosts = get_within hosts p.place p.owner p.held in
@@ -146,7 +149,8 @@ index-requires c =
     let slots = s.slots.items in
     let turns = heap_items s.turns in
     let top : IsTop (heap_items s.turns) (c.in-Some.due, c.in-Some.at) = c.in-Some.ensures.some in
-    let p : Picked s.agent s.delay m names hosts slots s.left turns (heap_capacity s.turns) i due at top = found s.agent s.delay m names hosts slots s.left turns (heap_capacity s.turns) i due at top in
+    let p : Picked s.agent s.delay m names hosts slots s.left turns (heap_capacity s.turns) i due at top =
+    found s.agent s.delay m names hosts slots s.left turns (heap_capacity s.turns) i due at top in
     let within : at < length slots = get_within slots at p.slot p.stands in
     let len : vec_len s.slots ≡ length slots = search rules in
     let in_hosts : p.place < length hosts = get_within hosts p.place p.owner p.held in
@@ -165,7 +169,8 @@ index-requires-2 c =
     let slots = s.slots.items in
     let turns = heap_items s.turns in
     let top : IsTop (heap_items s.turns) (c.in-Some.due, c.in-Some.at) = c.in-Some.ensures.some in
-    let p : Picked s.agent s.delay m names hosts slots s.left turns (heap_capacity s.turns) i due at top = found s.agent s.delay m names hosts slots s.left turns (heap_capacity s.turns) i due at top in
+    let p : Picked s.agent s.delay m names hosts slots s.left turns (heap_capacity s.turns) i due at top =
+    found s.agent s.delay m names hosts slots s.left turns (heap_capacity s.turns) i due at top in
     let within : at < length slots = get_within slots at p.slot p.stands in
     let len : vec_len s.slots ≡ length slots = search rules in
     let in_hosts : p.place < length hosts = get_within hosts p.place p.owner p.held in
@@ -184,7 +189,8 @@ index-requires-4 c =
     let slots = s.slots.items in
     let turns = heap_items s.turns in
     let top : IsTop (heap_items s.turns) (c.in-Some.due, c.in-Some.at) = c.in-Some.ensures.some in
-    let p : Picked s.agent s.delay m names hosts slots s.left turns (heap_capacity s.turns) i due at top = found s.agent s.delay m names hosts slots s.left turns (heap_capacity s.turns) i due at top in
+    let p : Picked s.agent s.delay m names hosts slots s.left turns (heap_capacity s.turns) i due at top =
+    found s.agent s.delay m names hosts slots s.left turns (heap_capacity s.turns) i due at top in
     let within : at < length slots = get_within slots at p.slot p.stands in
     let len : vec_len s.slots ≡ length slots = search rules in
     let in_hosts : p.place < length hosts = get_within hosts p.place p.owner p.held in
@@ -203,7 +209,8 @@ index-requires-3 c =
     let slots = s.slots.items in
     let turns = heap_items s.turns in
     let top : IsTop (heap_items s.turns) (c.in-Some.due, c.in-Some.at) = c.in-Some.ensures.some in
-    let p : Picked s.agent s.delay m names hosts slots s.left turns (heap_capacity s.turns) i due at top = found s.agent s.delay m names hosts slots s.left turns (heap_capacity s.turns) i due at top in
+    let p : Picked s.agent s.delay m names hosts slots s.left turns (heap_capacity s.turns) i due at top =
+    found s.agent s.delay m names hosts slots s.left turns (heap_capacity s.turns) i due at top in
     let within : at < length slots = get_within slots at p.slot p.stands in
     let len : vec_len s.slots ≡ length slots = search rules in
     let in_hosts : p.place < length hosts = get_within hosts p.place p.owner p.held in
@@ -225,13 +232,15 @@ says-leave-requires c =
     let slots = s.slots.items in
     let turns = heap_items s.turns in
     let top : IsTop (heap_items s.turns) (c.in-Some.due, c.in-Some.at) = c.in-Some.ensures.some in
-    let p : Picked s.agent s.delay m names hosts slots s.left turns (heap_capacity s.turns) i due at top = found s.agent s.delay m names hosts slots s.left turns (heap_capacity s.turns) i due at top in
+    let p : Picked s.agent s.delay m names hosts slots s.left turns (heap_capacity s.turns) i due at top =
+    found s.agent s.delay m names hosts slots s.left turns (heap_capacity s.turns) i due at top in
     let within : at < length slots = get_within slots at p.slot p.stands in
     let len : vec_len s.slots ≡ length slots = search rules in
     let in_hosts : p.place < length hosts = get_within hosts p.place p.owner p.held in
     let hosts_len : vec_len s.hosts ≡ length hosts = search rules in
     let inside : at < vec_len s.slots = omega arith in
-    let slot4_is : c.index-4.result.now ≡ p.slot = same_some c.index-4.result.now p.slot (sym (slice_get_read slots (vec_len s.slots) at c.index-4.result.now len inside c.index-4.ensures) ∙ p.stands) in
+    let slot4_is : c.index-4.result.now ≡ p.slot = same_some c.index-4.result.now p.slot (sym (slice_get_read slots (vec_len s.slots) at c.index-4.result.now len inside c.index-4.ensures)
+    ∙ p.stands) in
     subst IsSome (sym (ap (λ (x : Slot). x.work) slot4_is ∙ p.has)) refl
 
 pub ask-requires : goal.ask-requires
@@ -246,7 +255,8 @@ ask-requires c =
     let slots = s.slots.items in
     let turns = heap_items s.turns in
     let top : IsTop (heap_items s.turns) (c.in-Some.due, c.in-Some.at) = c.in-Some.ensures.some in
-    let p : Picked s.agent s.delay m names hosts slots s.left turns (heap_capacity s.turns) i due at top = found s.agent s.delay m names hosts slots s.left turns (heap_capacity s.turns) i due at top in
+    let p : Picked s.agent s.delay m names hosts slots s.left turns (heap_capacity s.turns) i due at top =
+    found s.agent s.delay m names hosts slots s.left turns (heap_capacity s.turns) i due at top in
     let within : at < length slots = get_within slots at p.slot p.stands in
     let len : vec_len s.slots ≡ length slots = search rules in
     let in_hosts : p.place < length hosts = get_within hosts p.place p.owner p.held in
@@ -268,7 +278,8 @@ advance-requires c =
     let slots = s.slots.items in
     let turns = heap_items s.turns in
     let top : IsTop (heap_items s.turns) (c.in-Some.due, c.in-Some.at) = c.in-Some.ensures.some in
-    let p : Picked s.agent s.delay m names hosts slots s.left turns (heap_capacity s.turns) i due at top = found s.agent s.delay m names hosts slots s.left turns (heap_capacity s.turns) i due at top in
+    let p : Picked s.agent s.delay m names hosts slots s.left turns (heap_capacity s.turns) i due at top =
+    found s.agent s.delay m names hosts slots s.left turns (heap_capacity s.turns) i due at top in
     let within : at < length slots = get_within slots at p.slot p.stands in
     let len : vec_len s.slots ≡ length slots = search rules in
     let in_hosts : p.place < length hosts = get_within hosts p.place p.owner p.held in
@@ -290,7 +301,8 @@ overflow_sub-self c =
     let slots = s.slots.items in
     let turns = heap_items s.turns in
     let top : IsTop (heap_items s.turns) (c.in-Some.due, c.in-Some.at) = c.in-Some.ensures.some in
-    let p : Picked s.agent s.delay m names hosts slots s.left turns (heap_capacity s.turns) i due at top = found s.agent s.delay m names hosts slots s.left turns (heap_capacity s.turns) i due at top in
+    let p : Picked s.agent s.delay m names hosts slots s.left turns (heap_capacity s.turns) i due at top =
+    found s.agent s.delay m names hosts slots s.left turns (heap_capacity s.turns) i due at top in
     let within : at < length slots = get_within slots at p.slot p.stands in
     let len : vec_len s.slots ≡ length slots = search rules in
     let in_hosts : p.place < length hosts = get_within hosts p.place p.owner p.held in
@@ -309,7 +321,8 @@ taken-requires c =
     let slots = s.slots.items in
     let turns = heap_items s.turns in
     let top : IsTop (heap_items s.turns) (c.in-Some.due, c.in-Some.at) = c.in-Some.ensures.some in
-    let p : Picked s.agent s.delay m names hosts slots s.left turns (heap_capacity s.turns) i due at top = found s.agent s.delay m names hosts slots s.left turns (heap_capacity s.turns) i due at top in
+    let p : Picked s.agent s.delay m names hosts slots s.left turns (heap_capacity s.turns) i due at top =
+    found s.agent s.delay m names hosts slots s.left turns (heap_capacity s.turns) i due at top in
     let within : at < length slots = get_within slots at p.slot p.stands in
     let len : vec_len s.slots ≡ length slots = search rules in
     let in_hosts : p.place < length hosts = get_within hosts p.place p.owner p.held in
@@ -328,7 +341,8 @@ invariant_of-self-in_default-leave c =
     let slots = s.slots.items in
     let turns = heap_items s.turns in
     let top : IsTop (heap_items s.turns) (c.in-Some.due, c.in-Some.at) = c.in-Some.ensures.some in
-    let p : Picked s.agent s.delay m names hosts slots s.left turns (heap_capacity s.turns) i due at top = found s.agent s.delay m names hosts slots s.left turns (heap_capacity s.turns) i due at top in
+    let p : Picked s.agent s.delay m names hosts slots s.left turns (heap_capacity s.turns) i due at top =
+    found s.agent s.delay m names hosts slots s.left turns (heap_capacity s.turns) i due at top in
     let within : at < length slots = get_within slots at p.slot p.stands in
     let len : vec_len s.slots ≡ length slots = search rules in
     let in_hosts : p.place < length hosts = get_within hosts p.place p.owner p.held in
@@ -342,8 +356,10 @@ invariant_of-self-in_default-leave c =
     let changed : c.ask.new.hosts.items ≡ set hosts p.place (record p.owner { name = []; due = c.saturating_add-later.result; awaited = true }) =
     is.1 ∙ ap (λ k. set hosts k (record p.owner { name = []; due = c.saturating_add-later.result; awaited = true })) place_is in
     subst (λ hs. IsSound names hs slots s.left (heap_items c.remove_first.new.turns) (heap_capacity c.remove_first.new.turns)) (sym changed)
-    (subst (λ n. IsSound names (set hosts p.place (record p.owner { name = []; due = c.saturating_add-later.result; awaited = true })) slots s.left (heap_items c.remove_first.new.turns) n) (sym c.remove_first.ensures.room)
-    (sound_asked names hosts slots s.left turns (heap_capacity s.turns) i (host p.work) p.place p.owner p.named p.held t (heap_items c.remove_first.new.turns) c.saturating_add-later.result p.first (c.remove_first.ensures.turns t front) c.remove_first.ensures.heap))
+    (subst (λ n. IsSound names (set hosts p.place (record p.owner { name = []; due = c.saturating_add-later.result; awaited = true })) slots s.left (heap_items c.remove_first.new.turns) n)
+    (sym c.remove_first.ensures.room)
+    (sound_asked names hosts slots s.left turns (heap_capacity s.turns) i (host p.work) p.place p.owner p.named p.held t (heap_items c.remove_first.new.turns) c.saturating_add-later.result p.first
+    (c.remove_first.ensures.turns t front) c.remove_first.ensures.heap))
 
 pub returns-in_default-leave-clause-step : goal.returns-in_default-leave-clause-step
 returns-in_default-leave-clause-step c =
@@ -357,7 +373,8 @@ returns-in_default-leave-clause-step c =
     let slots = s.slots.items in
     let turns = heap_items s.turns in
     let top : IsTop (heap_items s.turns) (c.in-Some.due, c.in-Some.at) = c.in-Some.ensures.some in
-    let p : Picked s.agent s.delay m names hosts slots s.left turns (heap_capacity s.turns) i due at top = found s.agent s.delay m names hosts slots s.left turns (heap_capacity s.turns) i due at top in
+    let p : Picked s.agent s.delay m names hosts slots s.left turns (heap_capacity s.turns) i due at top =
+    found s.agent s.delay m names hosts slots s.left turns (heap_capacity s.turns) i due at top in
     let within : at < length slots = get_within slots at p.slot p.stands in
     let len : vec_len s.slots ≡ length slots = search rules in
     let in_hosts : p.place < length hosts = get_within hosts p.place p.owner p.held in
@@ -368,8 +385,10 @@ returns-in_default-leave-clause-step c =
     let there : c.index.result.now.host < vec_len s.hosts = omega arith in
     let host_is : c.index-3.result.now ≡ p.owner = same_some c.index-3.result.now p.owner
     (sym (slice_get_read hosts (vec_len s.hosts) c.index.result.now.host c.index-3.result.now hosts_len there c.index-3.ensures) ∙ ap (slice_get hosts) place_is ∙ p.held) in
-    let slot2_is : c.index-2.result.now ≡ p.slot = same_some c.index-2.result.now p.slot (sym (slice_get_read slots (vec_len s.slots) at c.index-2.result.now len inside c.index-2.ensures) ∙ p.stands) in
-    let slot4_is : c.index-4.result.now ≡ p.slot = same_some c.index-4.result.now p.slot (sym (slice_get_read slots (vec_len s.slots) at c.index-4.result.now len inside c.index-4.ensures) ∙ p.stands) in
+    let slot2_is : c.index-2.result.now ≡ p.slot = same_some c.index-2.result.now p.slot (sym (slice_get_read slots (vec_len s.slots) at c.index-2.result.now len inside c.index-2.ensures)
+    ∙ p.stands) in
+    let slot4_is : c.index-4.result.now ≡ p.slot = same_some c.index-4.result.now p.slot (sym (slice_get_read slots (vec_len s.slots) at c.index-4.result.now len inside c.index-4.ensures)
+    ∙ p.stands) in
     let t : Turn = record { 0 = (due, at) } in
     let front : get_or turns 0 t ≡ t = get_or_from_slice_get turns 0 t t top.stands in
     let is = c.ask.ensures p.owner (ap (slice_get hosts) place_is ∙ p.held) in
@@ -399,7 +418,8 @@ returns-in_default-leave-clause-waits c =
     let slots = s.slots.items in
     let turns = heap_items s.turns in
     let top : IsTop (heap_items s.turns) (c.in-Some.due, c.in-Some.at) = c.in-Some.ensures.some in
-    let p : Picked s.agent s.delay m names hosts slots s.left turns (heap_capacity s.turns) i due at top = found s.agent s.delay m names hosts slots s.left turns (heap_capacity s.turns) i due at top in
+    let p : Picked s.agent s.delay m names hosts slots s.left turns (heap_capacity s.turns) i due at top =
+    found s.agent s.delay m names hosts slots s.left turns (heap_capacity s.turns) i due at top in
     let within : at < length slots = get_within slots at p.slot p.stands in
     let len : vec_len s.slots ≡ length slots = search rules in
     let in_hosts : p.place < length hosts = get_within hosts p.place p.owner p.held in
@@ -410,8 +430,10 @@ returns-in_default-leave-clause-waits c =
     let there : c.index.result.now.host < vec_len s.hosts = omega arith in
     let host_is : c.index-3.result.now ≡ p.owner = same_some c.index-3.result.now p.owner
     (sym (slice_get_read hosts (vec_len s.hosts) c.index.result.now.host c.index-3.result.now hosts_len there c.index-3.ensures) ∙ ap (slice_get hosts) place_is ∙ p.held) in
-    let slot2_is : c.index-2.result.now ≡ p.slot = same_some c.index-2.result.now p.slot (sym (slice_get_read slots (vec_len s.slots) at c.index-2.result.now len inside c.index-2.ensures) ∙ p.stands) in
-    let slot4_is : c.index-4.result.now ≡ p.slot = same_some c.index-4.result.now p.slot (sym (slice_get_read slots (vec_len s.slots) at c.index-4.result.now len inside c.index-4.ensures) ∙ p.stands) in
+    let slot2_is : c.index-2.result.now ≡ p.slot = same_some c.index-2.result.now p.slot (sym (slice_get_read slots (vec_len s.slots) at c.index-2.result.now len inside c.index-2.ensures)
+    ∙ p.stands) in
+    let slot4_is : c.index-4.result.now ≡ p.slot = same_some c.index-4.result.now p.slot (sym (slice_get_read slots (vec_len s.slots) at c.index-4.result.now len inside c.index-4.ensures)
+    ∙ p.stands) in
     let t : Turn = record { 0 = (due, at) } in
     let front : get_or turns 0 t ≡ t = get_or_from_slice_get turns 0 t t top.stands in
     let is = c.ask.ensures p.owner (ap (slice_get hosts) place_is ∙ p.held) in
@@ -441,7 +463,8 @@ returns-in_default-leave-clause-idle c =
     let slots = s.slots.items in
     let turns = heap_items s.turns in
     let top : IsTop (heap_items s.turns) (c.in-Some.due, c.in-Some.at) = c.in-Some.ensures.some in
-    let p : Picked s.agent s.delay m names hosts slots s.left turns (heap_capacity s.turns) i due at top = found s.agent s.delay m names hosts slots s.left turns (heap_capacity s.turns) i due at top in
+    let p : Picked s.agent s.delay m names hosts slots s.left turns (heap_capacity s.turns) i due at top =
+    found s.agent s.delay m names hosts slots s.left turns (heap_capacity s.turns) i due at top in
     let within : at < length slots = get_within slots at p.slot p.stands in
     let len : vec_len s.slots ≡ length slots = search rules in
     let in_hosts : p.place < length hosts = get_within hosts p.place p.owner p.held in
@@ -452,8 +475,10 @@ returns-in_default-leave-clause-idle c =
     let there : c.index.result.now.host < vec_len s.hosts = omega arith in
     let host_is : c.index-3.result.now ≡ p.owner = same_some c.index-3.result.now p.owner
     (sym (slice_get_read hosts (vec_len s.hosts) c.index.result.now.host c.index-3.result.now hosts_len there c.index-3.ensures) ∙ ap (slice_get hosts) place_is ∙ p.held) in
-    let slot2_is : c.index-2.result.now ≡ p.slot = same_some c.index-2.result.now p.slot (sym (slice_get_read slots (vec_len s.slots) at c.index-2.result.now len inside c.index-2.ensures) ∙ p.stands) in
-    let slot4_is : c.index-4.result.now ≡ p.slot = same_some c.index-4.result.now p.slot (sym (slice_get_read slots (vec_len s.slots) at c.index-4.result.now len inside c.index-4.ensures) ∙ p.stands) in
+    let slot2_is : c.index-2.result.now ≡ p.slot = same_some c.index-2.result.now p.slot (sym (slice_get_read slots (vec_len s.slots) at c.index-2.result.now len inside c.index-2.ensures)
+    ∙ p.stands) in
+    let slot4_is : c.index-4.result.now ≡ p.slot = same_some c.index-4.result.now p.slot (sym (slice_get_read slots (vec_len s.slots) at c.index-4.result.now len inside c.index-4.ensures)
+    ∙ p.stands) in
     let t : Turn = record { 0 = (due, at) } in
     let front : get_or turns 0 t ≡ t = get_or_from_slice_get turns 0 t t top.stands in
     let is = c.ask.ensures p.owner (ap (slice_get hosts) place_is ∙ p.held) in
@@ -483,7 +508,8 @@ returns-in_default-leave-clause-given c =
     let slots = s.slots.items in
     let turns = heap_items s.turns in
     let top : IsTop (heap_items s.turns) (c.in-Some.due, c.in-Some.at) = c.in-Some.ensures.some in
-    let p : Picked s.agent s.delay m names hosts slots s.left turns (heap_capacity s.turns) i due at top = found s.agent s.delay m names hosts slots s.left turns (heap_capacity s.turns) i due at top in
+    let p : Picked s.agent s.delay m names hosts slots s.left turns (heap_capacity s.turns) i due at top =
+    found s.agent s.delay m names hosts slots s.left turns (heap_capacity s.turns) i due at top in
     let within : at < length slots = get_within slots at p.slot p.stands in
     let len : vec_len s.slots ≡ length slots = search rules in
     let in_hosts : p.place < length hosts = get_within hosts p.place p.owner p.held in
@@ -512,7 +538,8 @@ invariant_of-self-2 c =
     let slots = s.slots.items in
     let turns = heap_items s.turns in
     let top : IsTop (heap_items s.turns) (c.in-Some.due, c.in-Some.at) = c.in-Some.ensures.some in
-    let p : Picked s.agent s.delay m names hosts slots s.left turns (heap_capacity s.turns) i due at top = found s.agent s.delay m names hosts slots s.left turns (heap_capacity s.turns) i due at top in
+    let p : Picked s.agent s.delay m names hosts slots s.left turns (heap_capacity s.turns) i due at top =
+    found s.agent s.delay m names hosts slots s.left turns (heap_capacity s.turns) i due at top in
     let within : at < length slots = get_within slots at p.slot p.stands in
     let len : vec_len s.slots ≡ length slots = search rules in
     let in_hosts : p.place < length hosts = get_within hosts p.place p.owner p.held in
@@ -523,8 +550,10 @@ invariant_of-self-2 c =
     let there : c.index.result.now.host < vec_len s.hosts = omega arith in
     let host_is : c.index-3.result.now ≡ p.owner = same_some c.index-3.result.now p.owner
     (sym (slice_get_read hosts (vec_len s.hosts) c.index.result.now.host c.index-3.result.now hosts_len there c.index-3.ensures) ∙ ap (slice_get hosts) place_is ∙ p.held) in
-    let slot2_is : c.index-2.result.now ≡ p.slot = same_some c.index-2.result.now p.slot (sym (slice_get_read slots (vec_len s.slots) at c.index-2.result.now len inside c.index-2.ensures) ∙ p.stands) in
-    let slot4_is : c.index-4.result.now ≡ p.slot = same_some c.index-4.result.now p.slot (sym (slice_get_read slots (vec_len s.slots) at c.index-4.result.now len inside c.index-4.ensures) ∙ p.stands) in
+    let slot2_is : c.index-2.result.now ≡ p.slot = same_some c.index-2.result.now p.slot (sym (slice_get_read slots (vec_len s.slots) at c.index-2.result.now len inside c.index-2.ensures)
+    ∙ p.stands) in
+    let slot4_is : c.index-4.result.now ≡ p.slot = same_some c.index-4.result.now p.slot (sym (slice_get_read slots (vec_len s.slots) at c.index-4.result.now len inside c.index-4.ensures)
+    ∙ p.stands) in
     let t : Turn = record { 0 = (due, at) } in
     let front : get_or turns 0 t ≡ t = get_or_from_slice_get turns 0 t t top.stands in
     let new_due = c.due_after-due.result in
@@ -538,10 +567,12 @@ invariant_of-self-2 c =
     let some : 1 ≤ s.left = some_left s.agent s.delay m names hosts slots s.left turns (heap_capacity s.turns) i due at top p in
     let fewer : s.left - 1 + 1 ≡ s.left = omega arith in
     let sound = sound_answered names hosts slots s.left turns (heap_capacity s.turns) i (host p.work) p.place p.owner p.named p.held at p.slot p.work p.ready p.first p.stands p.has refl
-    (own_name s.agent s.delay m names hosts slots s.left turns (heap_capacity s.turns) i due at top p) t new_due (heap_items c.replace_first.new.turns) (s.left - 1) (heap_capacity c.replace_first.new.turns)
+    (own_name s.agent s.delay m names hosts slots s.left turns (heap_capacity s.turns) i due at top p) t new_due (heap_items c.replace_first.new.turns) (s.left - 1)
+    (heap_capacity c.replace_first.new.turns)
     refl replaced c.replace_first.ensures.heap c.replace_first.ensures.room fewer in
     subst (λ hs. IsSound names hs c.taken.new.slots.items (s.left - 1) (heap_items c.replace_first.new.turns) (heap_capacity c.replace_first.new.turns)) (sym changed)
-    (subst (λ ss. IsSound names (set hosts p.place (record p.owner { due = new_due; first = p.slot.next })) ss (s.left - 1) (heap_items c.replace_first.new.turns) (heap_capacity c.replace_first.new.turns)) (sym out.1) sound)
+    (subst (λ ss. IsSound names (set hosts p.place (record p.owner { due = new_due; first = p.slot.next })) ss (s.left - 1) (heap_items c.replace_first.new.turns)
+    (heap_capacity c.replace_first.new.turns)) (sym out.1) sound)
 
 pub returns-clause-step : goal.returns-clause-step
 returns-clause-step c =
@@ -555,7 +586,8 @@ returns-clause-step c =
     let slots = s.slots.items in
     let turns = heap_items s.turns in
     let top : IsTop (heap_items s.turns) (c.in-Some.due, c.in-Some.at) = c.in-Some.ensures.some in
-    let p : Picked s.agent s.delay m names hosts slots s.left turns (heap_capacity s.turns) i due at top = found s.agent s.delay m names hosts slots s.left turns (heap_capacity s.turns) i due at top in
+    let p : Picked s.agent s.delay m names hosts slots s.left turns (heap_capacity s.turns) i due at top =
+    found s.agent s.delay m names hosts slots s.left turns (heap_capacity s.turns) i due at top in
     let within : at < length slots = get_within slots at p.slot p.stands in
     let len : vec_len s.slots ≡ length slots = search rules in
     let in_hosts : p.place < length hosts = get_within hosts p.place p.owner p.held in
@@ -566,8 +598,10 @@ returns-clause-step c =
     let there : c.index.result.now.host < vec_len s.hosts = omega arith in
     let host_is : c.index-3.result.now ≡ p.owner = same_some c.index-3.result.now p.owner
     (sym (slice_get_read hosts (vec_len s.hosts) c.index.result.now.host c.index-3.result.now hosts_len there c.index-3.ensures) ∙ ap (slice_get hosts) place_is ∙ p.held) in
-    let slot2_is : c.index-2.result.now ≡ p.slot = same_some c.index-2.result.now p.slot (sym (slice_get_read slots (vec_len s.slots) at c.index-2.result.now len inside c.index-2.ensures) ∙ p.stands) in
-    let slot4_is : c.index-4.result.now ≡ p.slot = same_some c.index-4.result.now p.slot (sym (slice_get_read slots (vec_len s.slots) at c.index-4.result.now len inside c.index-4.ensures) ∙ p.stands) in
+    let slot2_is : c.index-2.result.now ≡ p.slot = same_some c.index-2.result.now p.slot (sym (slice_get_read slots (vec_len s.slots) at c.index-2.result.now len inside c.index-2.ensures)
+    ∙ p.stands) in
+    let slot4_is : c.index-4.result.now ≡ p.slot = same_some c.index-4.result.now p.slot (sym (slice_get_read slots (vec_len s.slots) at c.index-4.result.now len inside c.index-4.ensures)
+    ∙ p.stands) in
     let t : Turn = record { 0 = (due, at) } in
     let front : get_or turns 0 t ≡ t = get_or_from_slice_get turns 0 t t top.stands in
     let new_due = c.due_after-due.result in
@@ -605,7 +639,8 @@ returns-clause-waits c =
     let slots = s.slots.items in
     let turns = heap_items s.turns in
     let top : IsTop (heap_items s.turns) (c.in-Some.due, c.in-Some.at) = c.in-Some.ensures.some in
-    let p : Picked s.agent s.delay m names hosts slots s.left turns (heap_capacity s.turns) i due at top = found s.agent s.delay m names hosts slots s.left turns (heap_capacity s.turns) i due at top in
+    let p : Picked s.agent s.delay m names hosts slots s.left turns (heap_capacity s.turns) i due at top =
+    found s.agent s.delay m names hosts slots s.left turns (heap_capacity s.turns) i due at top in
     let within : at < length slots = get_within slots at p.slot p.stands in
     let len : vec_len s.slots ≡ length slots = search rules in
     let in_hosts : p.place < length hosts = get_within hosts p.place p.owner p.held in
@@ -616,8 +651,10 @@ returns-clause-waits c =
     let there : c.index.result.now.host < vec_len s.hosts = omega arith in
     let host_is : c.index-3.result.now ≡ p.owner = same_some c.index-3.result.now p.owner
     (sym (slice_get_read hosts (vec_len s.hosts) c.index.result.now.host c.index-3.result.now hosts_len there c.index-3.ensures) ∙ ap (slice_get hosts) place_is ∙ p.held) in
-    let slot2_is : c.index-2.result.now ≡ p.slot = same_some c.index-2.result.now p.slot (sym (slice_get_read slots (vec_len s.slots) at c.index-2.result.now len inside c.index-2.ensures) ∙ p.stands) in
-    let slot4_is : c.index-4.result.now ≡ p.slot = same_some c.index-4.result.now p.slot (sym (slice_get_read slots (vec_len s.slots) at c.index-4.result.now len inside c.index-4.ensures) ∙ p.stands) in
+    let slot2_is : c.index-2.result.now ≡ p.slot = same_some c.index-2.result.now p.slot (sym (slice_get_read slots (vec_len s.slots) at c.index-2.result.now len inside c.index-2.ensures)
+    ∙ p.stands) in
+    let slot4_is : c.index-4.result.now ≡ p.slot = same_some c.index-4.result.now p.slot (sym (slice_get_read slots (vec_len s.slots) at c.index-4.result.now len inside c.index-4.ensures)
+    ∙ p.stands) in
     let t : Turn = record { 0 = (due, at) } in
     let front : get_or turns 0 t ≡ t = get_or_from_slice_get turns 0 t t top.stands in
     let new_due = c.due_after-due.result in
@@ -655,7 +692,8 @@ returns-clause-idle c =
     let slots = s.slots.items in
     let turns = heap_items s.turns in
     let top : IsTop (heap_items s.turns) (c.in-Some.due, c.in-Some.at) = c.in-Some.ensures.some in
-    let p : Picked s.agent s.delay m names hosts slots s.left turns (heap_capacity s.turns) i due at top = found s.agent s.delay m names hosts slots s.left turns (heap_capacity s.turns) i due at top in
+    let p : Picked s.agent s.delay m names hosts slots s.left turns (heap_capacity s.turns) i due at top =
+    found s.agent s.delay m names hosts slots s.left turns (heap_capacity s.turns) i due at top in
     let within : at < length slots = get_within slots at p.slot p.stands in
     let len : vec_len s.slots ≡ length slots = search rules in
     let in_hosts : p.place < length hosts = get_within hosts p.place p.owner p.held in
@@ -666,8 +704,10 @@ returns-clause-idle c =
     let there : c.index.result.now.host < vec_len s.hosts = omega arith in
     let host_is : c.index-3.result.now ≡ p.owner = same_some c.index-3.result.now p.owner
     (sym (slice_get_read hosts (vec_len s.hosts) c.index.result.now.host c.index-3.result.now hosts_len there c.index-3.ensures) ∙ ap (slice_get hosts) place_is ∙ p.held) in
-    let slot2_is : c.index-2.result.now ≡ p.slot = same_some c.index-2.result.now p.slot (sym (slice_get_read slots (vec_len s.slots) at c.index-2.result.now len inside c.index-2.ensures) ∙ p.stands) in
-    let slot4_is : c.index-4.result.now ≡ p.slot = same_some c.index-4.result.now p.slot (sym (slice_get_read slots (vec_len s.slots) at c.index-4.result.now len inside c.index-4.ensures) ∙ p.stands) in
+    let slot2_is : c.index-2.result.now ≡ p.slot = same_some c.index-2.result.now p.slot (sym (slice_get_read slots (vec_len s.slots) at c.index-2.result.now len inside c.index-2.ensures)
+    ∙ p.stands) in
+    let slot4_is : c.index-4.result.now ≡ p.slot = same_some c.index-4.result.now p.slot (sym (slice_get_read slots (vec_len s.slots) at c.index-4.result.now len inside c.index-4.ensures)
+    ∙ p.stands) in
     let t : Turn = record { 0 = (due, at) } in
     let front : get_or turns 0 t ≡ t = get_or_from_slice_get turns 0 t t top.stands in
     let new_due = c.due_after-due.result in

@@ -11,6 +11,7 @@ invariant_of-result c =
     let longer : c.from_vec-text.result ≡ joined c.self.inside.text c.args.name.now = c.from_vec-text.ensures ∙ c.in_ok-text.ensures ∙ ap (λ t. joined t c.args.name.now) c.into_vec.ensures in
     let size = ap length c.from_vec-text.ensures in
     record {
-      good = names_more c.self.inside.names c.insert.new.self c.in_ok-to_vec.field-0 c.self.inside.text c.args.name.now c.from_vec-text.result c.self.invariant.good name same c.in_ok-insert.ensures.keys longer;
+      good = names_more c.self.inside.names c.insert.new.self c.in_ok-to_vec.field-0 c.self.inside.text c.args.name.now c.from_vec-text.result c.self.invariant.good name same
+          c.in_ok-insert.ensures.keys longer;
       short = omega arith;
     }

@@ -29,7 +29,8 @@ returns-then-first_is-clause-inside c =
     let closes : first_is 62 (from not_gap left) ≡ true = ap (first_is 62) (sym gap) ∙ sym c.first_is.ensures ∙ c.if-first_is.true in
     let behind : drop 1 (from not_gap left) ≡ c.skip.new.self.rest.now = ap (drop 1) (sym gap) ∙ sym c.skip.ensures.rest in
     let ends = inside_closes c.args.kind (size - length left) left closes in
-    let all = subst (λ first. ReadsInside c.args.kind (size - length inside) inside first Marked (drop 1 (from not_gap left))) (or_first-none c.loop-kind.first) (c.loop-kind.invariant.goes_on None Marked (drop 1 (from not_gap left)) ends) in
+    let all = subst (λ first. ReadsInside c.args.kind (size - length inside) inside first Marked (drop 1 (from not_gap left))) (or_first-none c.loop-kind.first)
+    (c.loop-kind.invariant.goes_on None Marked (drop 1 (from not_gap left)) ends) in
     subst (λ rest. ReadsInside c.args.kind (size - length inside) inside c.loop-kind.first Marked rest) behind all
 
 pub loop-kind-preserved : goal.loop-kind-preserved

@@ -2,7 +2,8 @@ use Rattle.std.proofs.Common.{◌≡◌, ◌∙◌, ◌+◌, ◌∷◌, [], ◌+
 use Rattle.std.specs.Prelude.{bytes_eq}
 use Rattle.std.specs.FinMap.{insert}
 use Rattle.irl_star.specs.Degrees.{DegreeMap, Counts, degree_in}
-use Rattle.irl_star.proofs.TextMaps.{one_set, value_at, value_at-insert}
+use Rattle.irl_base.proofs.TextMaps.{value_at, value_at-insert}
+use Rattle.irl_star.proofs.TextMaps.{one_set}
 use Rattle.irl_star.proofs.Counting.{counts_more}
 use Rattle.irl_star.proofs.degrees.Degrees.add.Goals as goal
 

@@ -14,11 +14,12 @@ returns-clause-value g c = IfOk-weaker c.judged-found.result _ _ (λ found gives
 
 pub returns-clause-holds : goal.returns-clause-holds
 returns-clause-holds g c = λ state holds.
-    holds_same (g.S.Store.snapshot c.args.self.now.store) (g.S.Store.snapshot c.judged-found.new.store) c.args.self.now.parts.urls state c.is_sound-is_sound.ensures.drum (g.met.S.Store.is_consistent c.judged-found.new.store) c.judged-found.ensures.stops holds
+    holds_same (g.S.Store.told c.args.self.now.store) (g.S.Store.told c.judged-found.new.store) c.args.self.now.parts.urls state c.is_sound-is_sound.ensures.drum
+    (g.met.S.Store.is_consistent c.judged-found.new.store) c.judged-found.ensures.stops holds
 
 pub returns-clause-whole : goal.returns-clause-whole
 returns-clause-whole g c = λ f at is files told state holds. c.judged-found.ensures.whole f at is files told state.urls holds.urls_hold
 
 pub returns-clause-stops : goal.returns-clause-stops
 returns-clause-stops g c = λ state holds.
-    stops_same (g.S.Store.snapshot c.args.self.now.store) (g.S.Store.snapshot c.judged-found.new.store) c.args.self.now.parts.urls state c.is_sound-is_sound.ensures.drum holds c.judged-found.ensures.stops
+    stops_same (g.S.Store.told c.args.self.now.store) (g.S.Store.told c.judged-found.new.store) c.args.self.now.parts.urls state c.is_sound-is_sound.ensures.drum holds c.judged-found.ensures.stops

@@ -11,7 +11,7 @@ merge-requires-clause-long g c = λ files told. c.args.self.now.long c.requires.
 
 pub returns-clause-holds : goal.returns-clause-holds
 returns-clause-holds g c =
-    let tells = g.S.Store.snapshot in
+    let tells = g.S.Store.told in
     let was = c.args.self.now.parts.urls in
     on_ok_both c.merge.result c.merge.ensures.holds c.merge.ensures.counts (λ gives counts files told state holds.
     holds_after _ (tells c.args.self.now.store) (tells c.merge.new.store) was c.merge.new.self state (merged state.urls) c.is_sound-is_sound.ensures.drum
@@ -20,20 +20,22 @@ returns-clause-holds g c =
 -- a merge that lacked memory leaves the state
 pub returns-clause-memory_holds : goal.returns-clause-memory_holds
 returns-clause-memory_holds g c = λ is state holds.
-    let tells = g.S.Store.snapshot in
+    let tells = g.S.Store.told in
     let was = c.args.self.now.parts.urls in
     let same = c.merge.ensures.memory_kept is in
     holds_after _ (tells c.args.self.now.store) (tells c.merge.new.store) was c.merge.new.self state state.urls c.is_sound-is_sound.ensures.drum
-    (g.met.S.Store.is_consistent c.merge.new.store) (merge_files was) c.merge.ensures.others_stop (ap (λ (d : Drum). d.base) same) (ap (λ (d : Drum). d.settings) same) holds (c.merge.ensures.memory_holds is state.urls holds.urls_hold)
+    (g.met.S.Store.is_consistent c.merge.new.store) (merge_files was) c.merge.ensures.others_stop (ap (λ (d : Drum). d.base) same) (ap (λ (d : Drum). d.settings) same) holds
+    (c.merge.ensures.memory_holds is state.urls holds.urls_hold)
 
 -- and so does one that found damage
 pub returns-clause-damaged_holds : goal.returns-clause-damaged_holds
 returns-clause-damaged_holds g c = λ f at is state holds.
-    let tells = g.S.Store.snapshot in
+    let tells = g.S.Store.told in
     let was = c.args.self.now.parts.urls in
     let same = c.merge.ensures.damaged_kept f at is in
     holds_after _ (tells c.args.self.now.store) (tells c.merge.new.store) was c.merge.new.self state state.urls c.is_sound-is_sound.ensures.drum
-    (g.met.S.Store.is_consistent c.merge.new.store) (merge_files was) c.merge.ensures.others_stop (ap (λ (d : Drum). d.base) same) (ap (λ (d : Drum). d.settings) same) holds (c.merge.ensures.damaged_holds f at is state.urls holds.urls_hold)
+    (g.met.S.Store.is_consistent c.merge.new.store) (merge_files was) c.merge.ensures.others_stop (ap (λ (d : Drum). d.base) same) (ap (λ (d : Drum). d.settings) same) holds
+    (c.merge.ensures.damaged_holds f at is state.urls holds.urls_hold)
 
 -- damage isn't found where a state is held
 pub returns-clause-whole : goal.returns-clause-whole
@@ -41,13 +43,13 @@ returns-clause-whole g c = λ f at is files told state holds. c.merge.ensures.wh
 
 pub returns-clause-stops : goal.returns-clause-stops
 returns-clause-stops g c = λ state holds.
-    stops_one_of _ (g.S.Store.snapshot c.args.self.now.store) (g.S.Store.snapshot c.merge.new.store) c.args.self.now.parts.urls state (merged state.urls) c.is_sound-is_sound.ensures.drum
+    stops_one_of _ (g.S.Store.told c.args.self.now.store) (g.S.Store.told c.merge.new.store) c.args.self.now.parts.urls state (merged state.urls) c.is_sound-is_sound.ensures.drum
     (merge_files c.args.self.now.parts.urls) holds (c.merge.ensures.stops state.urls holds.urls_hold)
 
 -- where it is refused, the live journals of the buckets end where they did
 pub returns-clause-records_kept : goal.returns-clause-records_kept
 returns-clause-records_kept g c =
-    let tells = g.S.Store.snapshot in
+    let tells = g.S.Store.told in
     let was = c.args.self.now.parts.urls in
     let law = c.is_sound-is_sound.ensures.drum in
     let old = tells c.args.self.now.store in

@@ -20,7 +20,8 @@ returns-clause-found c =
     let side = c.sides-side.result.0 in
     let live = c.sides-side.result.1 in
     let written = commit_written c.args.buckets c.args.bytes.now side live c.if-bytes-buckets.false (search rules) c.sides-side.ensures.byte c.sides-side.ensures.side c.sides-side.ensures.live in
-    let same = same_commit side live c.read_u64.result c.read_u64-2.result c.read_u64-3.result c.read_u64-4.result c.in_ok-numbers.field-0.items (commit_of side live c.args.buckets c.args.bytes.now) refl refl
+    let same = same_commit side live c.read_u64.result c.read_u64-2.result c.read_u64-3.result c.read_u64-4.result c.in_ok-numbers.field-0.items (commit_of side live c.args.buckets c.args.bytes.now)
+    refl refl
     (c.read_u64.ensures ∙ ap (little_number 8) (to_end 1 c.args.bytes.now))
     (c.read_u64-2.ensures ∙ ap (little_number 8) (to_end 9 c.args.bytes.now))
     (c.read_u64-3.ensures ∙ ap (little_number 8) (to_end 17 c.args.bytes.now))

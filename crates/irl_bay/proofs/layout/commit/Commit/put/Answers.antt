@@ -21,4 +21,5 @@ returns c = rw (← c.self.view_is) (
     let inside = c.self.inside in
     let byte : c.put.new.self ≡ draft c.args.frame.now.room (c.args.frame.now.bytes ++ sides_byte inside.side inside.live ∷ []) =
     c.put.ensures ∙ ap (λ (n : ℕ). draft c.args.frame.now.room (c.args.frame.now.bytes ++ n ∷ [])) c.sides_byte.ensures in
-    commit_put (little_bytes 8) c.args.frame.now.room (sides_byte inside.side inside.live) inside.entries inside.judged inside.unique inside.texts c.args.frame.now.bytes inside.cut.items c.put.new.self c.put_numbers.new.frame c.put_numbers-2.new.frame byte c.put_numbers.ensures (rw c.deref.ensures.value at c.put_numbers-2.ensures))
+    commit_put (little_bytes 8) c.args.frame.now.room (sides_byte inside.side inside.live) inside.entries inside.judged inside.unique inside.texts c.args.frame.now.bytes inside.cut.items
+    c.put.new.self c.put_numbers.new.frame c.put_numbers-2.new.frame byte c.put_numbers.ensures (rw c.deref.ensures.value at c.put_numbers-2.ensures))

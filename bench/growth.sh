@@ -1,0 +1,72 @@
+#!/usr/bin/env bash
+# How the time of the crawler's parts grows with their work: the benches of crates/irl_bench at a size, at twice and at four
+# times that.
+#   bench/growth.sh [RUNS [BENCH]]
+# The program is proved and built first, as the gate does it, which takes some minutes where nothing is kept. A row is one
+# stage of a bench: the program is run RUNS times (9) up to that stage and up to the one before it, the least of each
+# processor time counts, and what came before is taken off. Where a bench repeats its stage the time is that of one repetition.
+# Prints a table in milliseconds of the processor, with what each doubling multiplies; where a BENCH is named, its rows alone.
+# Fails where an answer is wrong, and where a doubling multiplies by more than 2.5; less than a tenth of a millisecond counts as
+# a tenth.
+set -euo pipefail
+runs=${1:-9}
+only=${2:-}
+top=$(git -C "$(dirname "$0")" rev-parse --show-toplevel)
+program=$top/crates/irl_bench/out/irl_bench
+work=$(mktemp -d)
+trap 'rm -rf "$work"' EXIT
+cc -O2 -o "$work/measure" "$top/bench/measure.c"
+(cd "$top/crates/irl_bench" && rt run -- all >"$work/log" 2>&1) || { tail -20 "$work/log" >&2; exit 1; }
+
+# The bench, its least size, the stage before, the stage, how often it is repeated, and the words behind the stage.
+awk -v only="$only" 'only == "" || $1 == only' >"$work/rows" <<'ROWS'
+fates 100000 made done 1
+front 10000 made loaded 1
+front 10000 loaded done 1
+reply 262144 made done 200 plain 16384 200
+reply 262144 made done 200 plain 1024 200
+reply 262144 made done 10 plain 1 10
+reply 262144 made done 200 chunked 16384 200
+reply 262144 made done 200 chunked 1024 200
+reply 262144 made done 10 chunked 1 10
+robots 2500 made loaded 10 ordinary 10
+robots 2500 loaded done 10 ordinary 10
+robots 125 made loaded 10 one-run 10
+robots 125 loaded done 10 one-run 10
+robots 125 made loaded 10 many-stars 10
+robots 125 loaded done 10 many-stars 10
+robots 10000 made loaded 10 short 10
+robots 10000 loaded done 10 short 10
+ROWS
+[ -s "$work/rows" ] || { echo "no bench $only" >&2; exit 1; }
+
+while read -r bench size before stage _ words; do
+  for size in "$size" $((2 * size)) $((4 * size)); do
+    echo "$bench $size $before${words:+ $words}"
+    echo "$bench $size $stage${words:+ $words}"
+  done
+done <"$work/rows" | sort -u >"$work/commands"
+
+for _ in $(seq "$runs"); do
+  while read -r -a command; do
+    "$work/measure" "$work/took" "$program" "${command[@]}" >"$work/told" </dev/null || { cat "$work/told" >&2; exit 1; }
+    read -r _ processor _ <"$work/took"
+    echo "$processor ${command[*]}" >>"$work/times"
+  done <"$work/commands"
+done
+
+awk '
+  function counted(ms) { return ms < 0.1 ? 0.1 : ms }
+  FNR == NR { took = $1; sub(/^[^ ]* /, ""); if (!($0 in least) || took < least[$0]) least[$0] = took; next }
+  FNR == 1 { printf "%-7s %-9s %-18s %8s %10s %10s %10s %7s %7s\n", "bench", "stage", "of", "size", "ms", "twice", "4 times", "times", "times" }
+  {
+    words = ""
+    for (i = 6; i <= NF; i++) words = words " " $i
+    for (k = 0; k < 3; k++) {
+      size = $2 * 2 ^ k
+      ms[k] = 1000 * (least[$1 " " size " " $4 words] - least[$1 " " size " " $3 words]) / $5
+      if (k > 0 && counted(ms[k]) > 2.5 * counted(ms[k - 1])) slow = 1
+    }
+    printf "%-7s %-9s %-18s %8d %10.2f %10.2f %10.2f %7.2f %7.2f\n", $1, $4, substr(words, 2), $2, ms[0], ms[1], ms[2], counted(ms[1]) / counted(ms[0]), counted(ms[2]) / counted(ms[1])
+  }
+  END { exit slow }' "$work/times" "$work/rows"

@@ -1,0 +1,5 @@
+pub mod Among
+pub mod Blanks
+pub mod Faults
+pub mod Limits
+pub mod Lists

@@ -1,5 +1,0 @@
-use Rattle.irl_cache.proofs.Growing.{put_none}
-use Rattle.irl_cache.proofs.file_writer.FileWriter.with_room.Goals as goal
-
-pub returns-clause-put : goal.returns-clause-put
-returns-clause-put c = λ told long. put_none c.args.f c.args.length told long

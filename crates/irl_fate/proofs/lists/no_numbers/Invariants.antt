@@ -1,8 +1,0 @@
-use Rattle.std.proofs.Common.{◌≡◌, [], vec_len}
-use Rattle.std.specs.Prelude.{replicate}
-use Rattle.irl_model.specs.Plain.{items_of}
-use Rattle.irl_fate.proofs.lists.no_numbers.Given as goal
-
--- so many lists, all empty
-abbrev pub invariant-loop : goal.invariant-loop
-invariant-loop l = (items_of l.lists.items ≡ replicate l.counter []) × (vec_len l.lists ≡ l.counter)

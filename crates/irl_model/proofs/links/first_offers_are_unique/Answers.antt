@@ -1,5 +1,0 @@
-use Rattle.irl_model.proofs.LinkLemmas.{uniques-firsts}
-use Rattle.irl_model.proofs.links.first_offers_are_unique.Goals as goal
-
-pub returns : goal.returns
-returns c = uniques-firsts

@@ -1,9 +1,0 @@
-use Rattle.std.proofs.Common.{◌≡◌, length}
-use Rattle.irl_robots.specs.Lines.{trim_start}
-use Rattle.irl_robots.proofs.lines.trim_start.Given as goal
-
-abbrev pub invariant-loop-first : goal.invariant-loop-first
-invariant-loop-first l = trim_start l.rest ≡ trim_start l.bytes
-
-abbrev pub decreases-loop-first : goal.decreases-loop-first
-decreases-loop-first l = length l.rest
