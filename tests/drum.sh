@@ -1,4 +1,7 @@
-# The cases of `drum`, which tests/streams.sh runs: it has the words `try`, `gives` and the others.
+#!/bin/sh
+# The command drum.
+
+. "$(dirname -- "$0")/common.sh"
 
 # Tuple lines
 
@@ -204,3 +207,5 @@ LC_ALL=C sort out | cmp -s - new || fail 'the second store told other verdicts'
 has err ''
 has err-second ''
 right
+
+finish

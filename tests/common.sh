@@ -1,0 +1,89 @@
+# What each file of cases begins with. A file is a script that runs the built program, or the one that its first word names, in
+# a folder of its own. A line says how each case went; the first wrong one ends the file, with status 1.
+
+exec </dev/null
+top=$(CDPATH='' cd -- "$(dirname -- "$0")/.." && pwd -P) || exit 1
+program=${1-$top/crates/irl/out/irl}
+case $program in
+/*) ;;
+*) program=$PWD/$program ;;
+esac
+room=$(mktemp -d) || exit 1
+trap 'chmod -R u+rwx "$room"; rm -rf "$room"' EXIT
+trap 'exit 1' HUP INT TERM
+cd "$room" || exit 1
+passed=0
+
+# Ends with the first wrong case: says what differs.
+fail() {
+    printf 'FAIL %s: %s\n' "$name" "$1"
+    printf '%s passed, 1 failed\n' "$passed"
+    exit 1
+}
+
+# The lines of a text that has `|` for each LF.
+text() {
+    printf '%s' "$1" | tr '|' '\n'
+}
+
+# Whether a file has these lines.
+has() {
+    text "$2" | cmp -s - "$1" || fail "file $1 has '$(head -c 300 "$1" | tr '\n' '|')', and not '$2'"
+}
+
+# Begins a case: its name, and its standard input.
+try() {
+    name=$1
+    text "$2" >in
+    : >out
+    : >err
+}
+
+# What the call before has given: its status, its output and its error lines.
+gives() {
+    status=$?
+    [ "$status" -eq "$1" ] || fail "status $status, and not $1"
+    has out "$2"
+    has err "$3"
+}
+
+# The store reads again: of these lines it prints those that it should not have yet.
+reads_again() {
+    text "$2" >again-in
+    "$program" "$1" seen <again-in >again-out 2>again-err || fail "status $? where it is read again: $(cat again-err)"
+    has again-out "$3"
+    has again-err ''
+}
+
+# The call before, whose status is kept, ended with status 4, and tells of a file of this folder and this error of the system.
+tells_fault() {
+    [ "$status" -eq 4 ] || fail "status $status, and not 4"
+    sed -n 2p err | grep -Eq "^irl: [a-z]+ of $1/[0-9]{4}: .* \\(os error $2\\)\$" || fail "it told '$(tr '\n' '|' <err)'"
+    [ "$(head -n 1 err) $(wc -l <err)" = 'disk fault 2' ] || fail "it told '$(tr '\n' '|' <err)'"
+}
+
+# Ends a case that is right.
+right() {
+    passed=$((passed + 1))
+    printf 'ok %s\n' "$name"
+}
+
+# Passes a case over, and says why.
+pass_over() {
+    printf 'skip %s: %s\n' "$name" "$1"
+}
+
+# Ends a file of which all cases are right.
+finish() {
+    printf '%s passed, 0 failed\n' "$passed"
+}
+
+# Nothing of this name was made.
+is_absent() {
+    [ ! -e "$1" ] || fail "$1 was made"
+}
+
+[ -x "$program" ] || {
+    name=program
+    fail "there is no program $program: rt ci or a first call of ./irl builds it"
+}

@@ -1,0 +1,63 @@
+#!/bin/sh
+# Words of the command line.
+
+. "$(dirname -- "$0")/common.sh"
+
+try 'the help' ''
+"$program" --help >out 2>err
+[ "$(head -n 1 out)" = 'Usage: irl DIR COMMAND [OPTIONS]' ] || fail 'the first line is another'
+mv out help
+"$program" -h >out 2>err
+gives 0 "$(tr '\n' '|' <help)" ''
+"$program" --help >&- 2>err
+status=$?
+[ "$status" -eq 6 ] || fail "status $status over a closed output, and not 6"
+has err 'output fault|'
+right
+
+try 'the help of a command' ''
+"$program" unmade seen --help >out 2>err
+grep -qF 'irl DIR seen [OPTIONS]' out || fail 'the help has no usage'
+mv out help
+"$program" unmade seen -h >out 2>err
+gives 0 "$(tr '\n' '|' <help)" ''
+is_absent unmade
+right
+
+try 'no word' ''
+"$program" >out 2>err
+gives 1 '' 'words refused: -|'
+right
+
+try 'an empty folder word' 'a|'
+mkdir inside
+(cd inside && exec "$program" '' seen <../in >../out 2>../err)
+gives 1 '' 'words refused: -|'
+rmdir inside || fail 'a file was made in the current folder'
+right
+
+try 'a folder word that begins with -' 'a|'
+"$program" -x seen <in >out 2>err
+gives 1 '' 'words refused: -x|'
+is_absent -x
+"$program" -- plain seen <in >out 2>err
+gives 1 '' 'words refused: --|'
+"$program" ./-x seen <in >out 2>err
+gives 0 'a|' ''
+[ -f ./-x/0000 ] || fail 'the folder ./-x was not made'
+reads_again ./-x 'a|b|' 'b|'
+right
+
+try 'a word that is no command' 'a|'
+"$program" unmade sene <in >out 2>err
+gives 1 '' 'words refused: sene|'
+is_absent unmade
+right
+
+try 'a word that is not UTF-8' 'a|'
+"$program" "$(printf 'un\377made')" seen <in >out 2>err
+gives 1 '' 'words refused: -|'
+is_absent "$(printf 'un\377made')"
+right
+
+finish
