@@ -1,55 +1,22 @@
--- How the calls of an append lead from one state of the store to the next.
-use Rattle.std.proofs.Common.{◌≡◌, inl, ℕ, ◌+◌, List, [], ◌∷◌, ◌++◌, length, Option, None, Some, refl, sym, ◌∙◌, subst}
+-- How the two writes of an append, each with its sync, lead from one state of the store to the next.
+use Rattle.std.proofs.Common.{◌≡◌, inl, ⊎_elim, ℕ, ◌+◌, ◌<◌, true, false, List, [], ◌∷◌, ◌++◌, length, Option, None, Some, Result, Ok, Err, IsErr, refl, sym, ◌∙◌, subst, arith}
+use Rattle.std.proofs.lemmas.List.{append-nil}
 use Rattle.std.specs.Option.{ForSome}
-use Rattle.irl_base.specs.Faults.{HasCause}
+use Rattle.std.specs.Prelude.{IsErrOf}
+use Rattle.irl_base.specs.declared.fault.Fault.{Fault}
+use Rattle.irl_base.specs.declared.fault.Fault.TheVariants.{Failed as StoreFailed}
 use Rattle.irl_disk.specs.Disk.{Files, Changes, ChangesFile, Holds, Scribbled}
 use Rattle.irl_disk.specs.Effects.{OnlyChanges}
-use Rattle.irl_disk.specs.Images.{Told, IsConsistent, Follows, LeavesBy, LeavesSame}
-use Rattle.irl_disk.proofs.Effects.{changes_then}
+use Rattle.irl_disk.specs.Images.{Told, IsConsistent}
+use Rattle.irl_disk.proofs.Effects.{changes_for, changes_none, changes_then, changes_wider}
 use Rattle.irl_disk.proofs.Frames.{told_from}
-use Rattle.irl_disk.proofs.Stretches.{widens, widens_by, same_by, joins, left_now}
-use Rattle.irl_journal.specs.Format.{open_gate, records_text}
-use Rattle.irl_journal.specs.Appending.{Ends, HasOrGainsAll}
-use Rattle.irl_journal.proofs.Gates.{IsTail, HasBehind, torn_behind, written_behind, torn_gate, written_gate}
-
--- ---- every other file stays, whatever this one has
-abbrev pub OthersStand : ℕ → Files → Files → Type 0
-OthersStand f old new = ChangesFile f (λ before after. Unit {0}) old new
-
-pub others_stay : (f : ℕ) (step : List ℕ → List ℕ → Type 0) (old new : Option Files) → Changes f step old new → Changes f (λ before after. Unit {0}) old new
-others_stay f step None new changes = changes
-others_stay f step (Some old) new changes = (changes.0, changes.1, record { changed = tt; others = changes.2.others })
-
--- a write, whole or not
-pub others_wrote : (f at n : ℕ) (step : List ℕ → List ℕ → Type 0) (failed : Type 0) (old new : Told) → Changes f step old.files new.files → LeavesBy (ChangesFile f (Scribbled at n)) old new
-    → new.taken ≡ old.taken
-    → HasCause failed old.faults new.faults → OnlyChanges (OthersStand f) failed old new
-others_wrote f at n step failed old new told stops taken cause = record {
-  told = others_stay f step old.files new.files told;
-  stops = widens_by old new _ _ stops (λ before image step. record { changed = tt; others = step.others });
-  taken = taken;
-  cause = cause;
-}
-
--- a sync, done or not
-pub others_synced : (f : ℕ) (failed : Type 0) (old new : Told) → new.files ≡ old.files → LeavesSame old new → new.taken ≡ old.taken → HasCause failed old.faults new.faults
-    → OnlyChanges (OthersStand f) failed old new
-others_synced f failed old new same stops taken cause = record {
-  told = stands old.files new.files same;
-  stops = same_by old new (OthersStand f) (λ image. record { changed = tt; others = λ g other. refl }) stops;
-  taken = taken;
-  cause = cause;
-}
-  where
-    stands : (before after : Option Files) → after ≡ before → Changes f (λ x y. Unit {0}) before after
-    stands None after is = is
-    stands (Some before) after is = (before, is, record { changed = tt; others = λ g other. refl })
-
--- and one call more
-pub others_then : (f : ℕ) (failed answered : Type 0) (old mid new : Told) → IsConsistent mid → OnlyChanges (OthersStand f) failed old mid → OnlyChanges (OthersStand f) answered mid new
-    → OnlyChanges (OthersStand f) answered old new
-others_then f failed answered old mid new law first second =
-    changes_then (OthersStand f) failed answered old mid new law (λ x y z one two. record { changed = tt; others = λ g other. two.others g other ∙ one.others g other }) first second
+use Rattle.irl_disk.proofs.Stretches.{widens}
+use Rattle.irl_journal.specs.Format.{open_gate, records_text, HasRecords}
+use Rattle.irl_journal.specs.Appending.{Tail, Ends, IsOpen, HasOrGainsAll, Appends, AppendsAll}
+use Rattle.irl_journal.specs.Blob.{KeepsFront}
+use Rattle.irl_journal.specs.Synced.{IsDurable, WritesSynced}
+use Rattle.irl_journal.proofs.Gates.{IsTail, HasBehind, kept_behind, written_behind, torn_gate, written_gate, length-record}
+use Rattle.irl_journal.proofs.Writing.{told_bytes}
 
 -- a step that is also another one
 pub as_step : (f : ℕ) (step other : List ℕ → List ℕ → Type 0) (old new : Option Files) → ((before : Files) (after : List ℕ) → old ≡ Some before → step (before f) after → other (before f) after)
@@ -57,81 +24,159 @@ pub as_step : (f : ℕ) (step other : List ℕ → List ℕ → Type 0) (old new
 as_step f step other None new wide changes = changes
 as_step f step other (Some old) new wide changes = (changes.0, changes.1, record { changed = wide old (changes.0 f) refl changes.2.changed; others = changes.2.others })
 
--- what the file then is
-gains : (f : ℕ) (payloads more : List (List ℕ)) (old new : Option Files) → Changes f (λ before after. Unit {0}) old new
-    → ((files : Files) (before : List ℕ) → new ≡ Some files → HasOrGainsAll payloads more before (files f)) → Changes f (HasOrGainsAll payloads more) old new
-gains f payloads more None new stay has = stay
-gains f payloads more (Some old) new stay has = (stay.0, stay.1, record { changed = has stay.0 (old f) stay.1; others = stay.2.others })
+-- and one that is, of what a stop could leave
+pub changes_known : (f : ℕ) (step wide : List ℕ → List ℕ → Type 0) (failed : Type 0) (old new : Told) → IsConsistent old
+    → ((x : Files) (after : List ℕ) → old.images x → step (x f) after → wide (x f) after) → OnlyChanges (ChangesFile f step) failed old new → OnlyChanges (ChangesFile f wide) failed old new
+changes_known f step wide failed old new law allows changes = record {
+  told = as_step f step wide old.files new.files (λ before after told. allows before after (law.told before told)) changes.told;
+  stops = widens old new _ _ changes.stops (λ image left.
+      (left.0, left.1, record { changed = allows left.0 (image f) left.1 left.2.changed; others = left.2.others }));
+  taken = changes.taken;
+  cause = changes.cause;
+}
 
--- What an append begins with: the laws of its store, the journal's file and end, its records, and those to be appended, with what
--- stands behind the first one's gate.
-pub record Begun {S : Type 0} (told : S → Told) : Type 0 where
-  pub law : (store : S) → IsConsistent (told store)
-  pub file : ℕ
-  pub end : ℕ
-  pub payloads : List (List ℕ)
-  pub more : List (List ℕ)
-  pub tail : List ℕ
-  pub is_tail : IsTail more tail
-  pub old : S
-  pub is_open : (image : Files) → (told old).images image → Ends end (image file) payloads
+-- once the records are synced, each image has them behind the gate
+pub is_behind : (f end : ℕ) (bytes tail : List ℕ) (payloads : List (List ℕ)) (old mid : Told) → IsConsistent old → IsConsistent mid → bytes ≡ tail ++ 0 ∷ []
+    → ((image : Files) → old.images image → Ends end (image f) payloads) → Changes f (Holds (end + 1) bytes) old.files mid.files → IsDurable f mid → (image : Files) → mid.images image
+    → HasBehind end (image f) payloads tail
+is_behind f end bytes tail payloads old mid law_old law_mid are is_open wrote durable image left =
+    let told = law_mid.tells image left in
+    let from = told_from f (Holds (end + 1) bytes) old.files mid.files told.0 wrote told.1 in
+    let has = written_behind payloads tail bytes (from.0 f) (told.0 f) end are (is_open from.0 (law_old.told from.0 from.1)) from.2.changed in
+    subst (λ (file : List ℕ). HasBehind end file payloads tail) (sym (durable told.0 told.1 image left)) has
 
--- Since the append began, a stop leaves the records from before, with the new ones or without.
-abbrev pub Grew : {S : Type 0} {told : S → Told} → Begun told → S → Type 0
-Grew {S} {told} b new = LeavesBy (ChangesFile b.file (HasOrGainsAll b.payloads b.more)) (told b.old) (told new)
+-- and once the gate is, each has the records
+pub is_gained : (f end : ℕ) (tail : List ℕ) (payloads more : List (List ℕ)) (mid new : Told) → IsConsistent mid → IsConsistent new → IsTail more tail
+    → ((image : Files) → mid.images image → HasBehind end (image f) payloads tail) → Changes f (Holds end (open_gate ∷ [])) mid.files new.files → IsDurable f new → (image : Files) → new.images image
+    → Ends (end + length (records_text more)) (image f) (payloads ++ more)
+is_gained f end tail payloads more mid new law_mid law_new is behind wrote durable image left =
+    let told = law_new.tells image left in
+    let from = told_from f (Holds end (open_gate ∷ [])) mid.files new.files told.0 wrote told.1 in
+    let has = written_gate payloads more tail (from.0 f) (told.0 f) end is (behind from.0 (law_mid.told from.0 from.1)) from.2.changed in
+    subst (λ (file : List ℕ). Ends (end + length (records_text more)) file (payloads ++ more)) (sym (durable told.0 told.1 image left)) has
 
-module _ {S : Type 0} {told : S → Told} (b : Begun told) where
-  -- a stop now leaves what one since the append began leaves
-  now : (new : S) → Grew b new → (image : Files) → (told new).images image → Follows (ChangesFile b.file (HasOrGainsAll b.payloads b.more)) (told b.old).images image
-  now new before image left = left_now (told b.old) (told new) _ (b.law new) before image left
+-- What an append's calls so far did to the files, where `failed` says that the last one answered a fault of the store.
+pub record Grows (more : List (List ℕ)) (tail : Tail) (failed : Type 0) (old new : Told) : Type 0 where
+  pub changes : (payloads : List (List ℕ)) → IsOpen old.images tail payloads → OnlyChanges (ChangesFile tail.file (HasOrGainsAll payloads more)) failed old new
+  pub others : OnlyChanges (ChangesFile tail.file (λ before after. Unit {0})) failed old new
 
-  -- the write behind the closed gate, whole or not
-  pub after_record : (n : ℕ) (new : S) → LeavesBy (ChangesFile b.file (Scribbled (b.end + 1) n)) (told b.old) (told new) → Grew b new
-  after_record n new stops = widens (told b.old) (told new) _ _ stops (λ image left.
-      let kept = torn_behind b.payloads (left.0 b.file) (image b.file) b.end n (b.is_open left.0 left.1) left.2.changed in
-      (left.0, left.1, record { changed = inl kept; others = left.2.others }))
+-- nothing
+pub grows_none : (more : List (List ℕ)) (tail : Tail) (now : Told) → IsConsistent now → Grows more tail ⊥ now now
+grows_none more tail now law = record {
+  changes = λ payloads is_open.
+      changes_known tail.file (λ before after. after ≡ before) _ ⊥ now now law
+      (λ x after left same. inl (subst (λ (file : List ℕ). HasRecords file payloads) (sym same) (is_open x left).records))
+      (changes_none _ now law (λ x. record { changed = refl; others = λ g other. refl }));
+  others = changes_none _ now law (λ x. record { changed = tt; others = λ g other. refl });
+}
 
-  -- a sync, done or not
-  pub after_sync : (mid new : S) → Grew b mid → LeavesSame (told mid) (told new) → Grew b new
-  after_sync mid new before stops = joins (told b.old) (told mid) (told new) _ before (widens (told mid) (told new) _ _ stops (now mid before))
+-- what is written behind the closed gate
+pub grows_behind : (more : List (List ℕ)) (tail : Tail) (failed : Type 0) (old mid : Told) → IsConsistent old → OnlyChanges (ChangesFile tail.file (KeepsFront (tail.end + 1))) failed old mid
+    → Grows more tail failed old mid
+grows_behind more tail failed old mid law wrote = record {
+  changes = λ payloads is_open.
+      changes_known tail.file _ _ failed old mid law (λ x after left keeps. inl (kept_behind payloads (x tail.file) after tail.end (is_open x left) keeps)) wrote;
+  others = changes_wider _ _ failed old mid (λ x y step. record { changed = tt; others = step.others }) wrote;
+}
 
-  -- once the records are synced, each image has them behind the gate
-  pub is_behind : (bytes : List ℕ) (mid new : S) → bytes ≡ b.tail ++ 0 ∷ [] → Changes b.file (Holds (b.end + 1) bytes) (told b.old).files (told mid).files → (told new).files ≡ (told mid).files
-      → ForSome (told mid).files (λ files. (image : Files) → (told new).images image → image b.file ≡ files b.file) → (image : Files) → (told new).images image
-      → HasBehind b.end (image b.file) b.payloads b.tail
-  is_behind bytes mid new are written same durable image left =
-      let known = (b.law new).tells image left in
-      let told_mid : (told mid).files ≡ Some known.0 = sym same ∙ known.1 in
-      let from = told_from b.file (Holds (b.end + 1) bytes) (told b.old).files (told mid).files known.0 written told_mid in
-      let has = written_behind b.payloads b.tail bytes (from.0 b.file) (known.0 b.file) b.end are (b.is_open from.0 ((b.law b.old).told from.0 from.1)) from.2.changed in
-      subst (λ (bytes : List ℕ). HasBehind b.end bytes b.payloads b.tail) (sym (durable known.0 told_mid image left)) has
+-- and the open gate
+pub grows_gate : (more : List (List ℕ)) (text : List ℕ) (tail : Tail) (before failed : Type 0) (old mid new : Told) → IsConsistent mid → IsTail more text
+    → ((payloads : List (List ℕ)) → IsOpen old.images tail payloads → (image : Files) → mid.images image → HasBehind tail.end (image tail.file) payloads text) → Grows more tail before old mid
+    → OnlyChanges (ChangesFile tail.file (Scribbled tail.end 1)) failed mid new → Grows more tail failed old new
+grows_gate more text tail before failed old mid new law is behind grew wrote = record {
+  changes = λ payloads is_open.
+      changes_then _ before failed old mid new law
+      (λ x y z one two. record { changed = two.changed; others = λ g other. two.others g other ∙ one.others g other })
+      (grew.changes payloads is_open)
+      (changes_known tail.file _ _ failed mid new law
+      (λ x after left torn. torn_gate payloads more text (x tail.file) after tail.end is (behind payloads is_open x left) torn) wrote);
+  others = changes_then _ before failed old mid new law
+      (λ x y z one two. record { changed = tt; others = λ g other. two.others g other ∙ one.others g other })
+      grew.others (changes_wider _ _ failed mid new (λ x y step. record { changed = tt; others = step.others }) wrote);
+}
 
-  -- the write of the open gate, whole or not
-  pub after_gate : (mid new : S) → Grew b mid → ((image : Files) → (told mid).images image → HasBehind b.end (image b.file) b.payloads b.tail)
-      → LeavesBy (ChangesFile b.file (Scribbled b.end 1)) (told mid) (told new) → Grew b new
-  after_gate mid new before behind stops = joins (told b.old) (told mid) (told new) _ before (widens (told mid) (told new) _ _ stops (λ image left.
-      let from = now mid before left.0 left.1 in
-      let torn = torn_gate b.payloads b.more b.tail (left.0 b.file) (image b.file) b.end b.is_tail (behind left.0 left.1) left.2.changed in
-      (from.0, from.1, record { changed = torn; others = λ g other. left.2.others g other ∙ from.2.others g other })))
+-- by the answer that the append gives
+pub grows_for : (more : List (List ℕ)) (tail : Tail) (failed answered : Type 0) (old new : Told) → (answered → failed) → Grows more tail failed old new → Grows more tail answered old new
+grows_for more tail failed answered old new is grew = record {
+  changes = λ payloads is_open. changes_for _ failed answered old new is (grew.changes payloads is_open);
+  others = changes_for _ failed answered old new is grew.others;
+}
 
-  -- once the gate is synced, each image has the records
-  pub is_gained : (mid new last : S) → ((image : Files) → (told mid).images image → HasBehind b.end (image b.file) b.payloads b.tail)
-      → Changes b.file (Holds b.end (open_gate ∷ [])) (told mid).files (told new).files → (told last).files ≡ (told new).files
-      → ForSome (told new).files (λ files. (image : Files) → (told last).images image → image b.file ≡ files b.file) → (image : Files) → (told last).images image
-      → Ends (b.end + length (records_text b.more)) (image b.file) (b.payloads ++ b.more)
-  is_gained mid new last behind written same durable image left =
-      let known = (b.law last).tells image left in
-      let told_new : (told new).files ≡ Some known.0 = sym same ∙ known.1 in
-      let from = told_from b.file (Holds b.end (open_gate ∷ [])) (told mid).files (told new).files known.0 written told_new in
-      let has = written_gate b.payloads b.more b.tail (from.0 b.file) (known.0 b.file) b.end b.is_tail (behind from.0 ((b.law mid).told from.0 from.1)) from.2.changed in
-      subst (λ (bytes : List ℕ). Ends (b.end + length (records_text b.more)) bytes (b.payloads ++ b.more)) (sym (durable known.0 told_new image left)) has
+-- a refusal
+pub refuses : {E : Type 0} (result : Result Unit E) (failed : Type 0) (more : List (List ℕ)) (old new : Tail) (before after : Told) → IsErr result → new.end ≡ old.end → new.file ≡ old.file
+    → Grows more old failed before after → Appends result failed more old new before after
+refuses (Ok x) failed more old new before after is end file grew = cc
+refuses (Err e) failed more old new before after is end file grew = record {
+  acknowledged = tt;
+  end = tt;
+  end_kept = end;
+  file = file;
+  changes = grew.changes;
+  bytes = tt;
+  others = grew.others;
+}
 
-  -- what is told changes as the images do
-  pub grows : (failed : Type 0) (new : S) → OnlyChanges (OthersStand b.file) failed (told b.old) (told new) → Grew b new
-      → OnlyChanges (ChangesFile b.file (HasOrGainsAll b.payloads b.more)) failed (told b.old) (told new)
-  grows failed new others before = record {
-    told = gains b.file b.payloads b.more _ _ others.told (λ files was told. (now new before files ((b.law new).told files told)).2.changed);
-    stops = before;
-    taken = others.taken;
-    cause = others.cause;
-  }
+-- no records
+pub appends_none : {E : Type 0} (failed : Type 0) (tail : Tail) (now : Told) → IsConsistent now → (failed → ⊥) → Appends {E = E} (Ok tt) failed [] tail tail now now
+appends_none failed tail now law never =
+    let grew = grows_for [] tail ⊥ failed now now never (grows_none [] tail now law) in
+    record {
+      acknowledged = λ payloads is_open. subst (λ (all : List (List ℕ)). IsOpen now.images tail all) (sym (append-nil payloads)) is_open;
+      end = omega arith;
+      end_kept = tt;
+      file = refl;
+      changes = grew.changes;
+      bytes = (changes_none (ChangesFile tail.file (λ before after. after ≡ before)) now law (λ x. record { changed = refl; others = λ g other. refl })).told;
+      others = grew.others;
+    }
+
+-- both writes are done
+pub accepts : {E A B C D : Type 0} (failed wrote_failed : Type 0) (more : List (List ℕ)) (text bytes : List ℕ) (step : List ℕ → List ℕ → Type 0) (x : A) (y : C) (old new : Tail)
+    (before mid after : Told) → IsConsistent before → IsConsistent mid → IsConsistent after → IsTail more text → bytes ≡ text ++ 0 ∷ [] → (failed → ⊥)
+    → new.file ≡ old.file → new.end ≡ old.end + length bytes → ForSome before.files (λ files. old.end < length (files old.file))
+    → OnlyChanges (ChangesFile old.file (KeepsFront (old.end + 1))) wrote_failed before mid
+    → WritesSynced {A = A} {E = B} (Ok x) old.file (old.end + 1) bytes step before mid
+    → WritesSynced {A = C} {E = D} (Ok y) old.file old.end (open_gate ∷ []) (Scribbled old.end 1) mid after
+    → Appends {E = E} (Ok tt) failed more old new before after
+accepts failed wrote_failed more text bytes step x y old new before mid after law_before law_mid law_after is are never file end within keeps wrote opened =
+    let size : length bytes ≡ length (records_text more) = length-record more text bytes is are in
+    let behind = λ (payloads : List (List ℕ)) (is_open : IsOpen before.images old payloads).
+    is_behind old.file old.end bytes text payloads before mid law_before law_mid are is_open wrote.holds wrote.durable in
+    let grew = grows_for more old _ failed before after (λ f. absurd (never f))
+    (grows_gate more text old wrote_failed _ before mid after law_mid is behind (grows_behind more old wrote_failed before mid law_before keeps) opened.changes) in
+    record {
+      acknowledged = λ payloads is_open image left.
+          let gained = is_gained old.file old.end text payloads more mid after law_mid law_after is (behind payloads is_open) opened.holds opened.durable image left in
+          subst (λ (f : ℕ). Ends new.end (image f) (payloads ++ more)) (sym file) (record { records = gained.records; place = omega (arith, gained.place) });
+      end = omega arith;
+      end_kept = tt;
+      file = file;
+      changes = grew.changes;
+      bytes = told_bytes old.file old.end bytes text more before.files mid.files after.files is are within wrote.holds opened.holds;
+      others = grew.others;
+    }
+
+-- ---- several records at once
+-- the store failed
+pub all_refused : {S : Type 0} (told : S → Told) (failed : Type 0) (more : List (List ℕ)) (old new : Tail) (before after : S) → (more ≡ [] → ⊥) → new.is_sound ≡ false → new.end ≡ old.end
+    → new.file ≡ old.file → failed → Grows more old failed (told before) (told after) → AppendsAll told (Err StoreFailed) more old new before after
+all_refused told failed more old new before after some unsound end file is grew = record {
+  appends = refuses (Err StoreFailed) _ more old new (told before) (told after) refl end file (grows_for more old failed _ (told before) (told after) (λ e. is) grew);
+  sound = (λ e. cc, ⊎_elim (λ e. cc) (λ e. cc));
+  memory = λ e. cc;
+  idle = λ none. absurd (some none);
+  full = λ n e. cc;
+  damaged = λ f at e. cc;
+}
+
+-- the records are on the disk
+pub all_accepted : {S : Type 0} (told : S → Told) (more : List (List ℕ)) (old new : Tail) (before after : S) → (more ≡ [] → ⊥) → new.is_sound ≡ true
+    → Appends {E = Fault} (Ok tt) (IsErrOf {T = Unit {0}} {E = Fault} (Ok tt) StoreFailed) more old new (told before) (told after) → AppendsAll told (Ok tt) more old new before after
+all_accepted told more old new before after some is_sound appends = record {
+  appends = appends;
+  sound = (λ e. inl refl, λ e. is_sound);
+  memory = λ e. cc;
+  idle = λ none. absurd (some none);
+  full = λ n e. cc;
+  damaged = λ f at e. cc;
+}

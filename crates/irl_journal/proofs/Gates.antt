@@ -7,6 +7,7 @@ use Rattle.std.specs.List.{AllByRecursion}
 use Rattle.irl_disk.specs.Disk.{Holds, Scribbled}
 use Rattle.irl_journal.specs.Format.{HasRecords, records_text, body_text, open_gate, IsPayload, record_text}
 use Rattle.irl_journal.specs.Appending.{Ends, HasOrGainsAll}
+use Rattle.irl_journal.specs.Blob.{KeepsFront}
 
 -- Records that are to be appended: `tail` is what stands behind the first one's gate.
 pub record IsTail (more : List (List ℕ)) (tail : List ℕ) : Type 0 where
@@ -73,16 +74,20 @@ pub within_behind : (payloads : List (List ℕ)) (tail file : List ℕ) (end : �
 within_behind payloads tail file end has =
     rw has.bytes (omega (arith, has.place, length-append (records_text payloads) (has.gate ∷ (tail ++ 0 ∷ has.rest))))
 
--- the closed gate stands in whatever a write behind it leaves
-pub torn_behind : (payloads : List (List ℕ)) (old new : List ℕ) (end n : ℕ) → Ends end old payloads → Scribbled (end + 1) n old new → HasRecords new payloads
-torn_behind payloads old new end n ends torn =
+-- the closed gate stands where the bytes up to it stay
+pub kept_behind : (payloads : List (List ℕ)) (old new : List ℕ) (end : ℕ) → Ends end old payloads → KeepsFront (end + 1) old new → HasRecords new payloads
+kept_behind payloads old new end ends keeps =
     let has = ends.records in
-    let is_front : take (end + 1) new ≡ records_text payloads ++ has.gate ∷ [] =
-    torn.before ∙ ap (λ (l : List ℕ). take (end + 1) l) has.bytes ∙ front payloads has.gate has.rest end ends.place in
+    let held = records_text payloads ++ has.gate ∷ [] in
+    let begins = keeps held (omega (arith, ends.place, length-append (records_text payloads) (has.gate ∷ []))) (
+      has.rest,
+      has.bytes
+          ∙ sym (append_assoc (records_text payloads) (has.gate ∷ []) has.rest),
+    ) in
     record {
       gate = has.gate;
-      rest = drop (end + 1) new;
-      bytes = sym (take-append-drop (end + 1) new) ∙ ap (λ (l : List ℕ). l ++ drop (end + 1) new) is_front ∙ append_assoc (records_text payloads) (has.gate ∷ []) (drop (end + 1) new);
+      rest = begins.0;
+      bytes = begins.1 ∙ append_assoc (records_text payloads) (has.gate ∷ []) begins.0;
       closed = has.closed;
       each = has.each;
     }

@@ -1,15 +1,17 @@
 -- What a writer's device calls leave of what was put, and of the bytes that stay.
-use Rattle.std.proofs.Common.{◌≡◌, ◌≢◌, ◌∙◌, ℕ, ◌+◌, ◌≤◌, List, [], ◌++◌, length, take, drop, Option, None, Some, Result, Ok, Err, OnErr, refl, sym, ap, subst, arith, append_assoc, length-append, length-take-le, take-append-drop}
-use Rattle.std.proofs.lemmas.List.{append-nil, take_at}
+use Rattle.std.proofs.Common.{◌≡◌, ◌≢◌, ◌∙◌, ℕ, ◌+◌, ◌-◌, ◌≤◌, List, [], ◌++◌, length, take, drop, Option, None, Some, Result, Ok, Err, OnErr, refl, sym, ap, subst, arith, append_assoc, length-append, length-take-le, take-append-drop}
+use Rattle.std.proofs.lemmas.List.{append-nil, take_at, drop-drop}
 use Rattle.std.specs.Option.{ForSome}
 use Rattle.irl_disk.specs.Disk.{Files, Changes, ChangesFile, Holds, Scribbled}
 use Rattle.irl_disk.specs.Effects.{OnlyChanges}
 use Rattle.irl_disk.specs.Images.{Told, IsConsistent, LeavesBy, LeavesSame}
-use Rattle.irl_disk.proofs.Effects.{changes_then}
+use Rattle.irl_disk.proofs.Effects.{changes_then, changes_for, changes_none, changes_wider, told_none, told_then, told_wider}
 use Rattle.irl_disk.proofs.Frames.{told_from}
 use Rattle.irl_disk.proofs.Stretches.{widens_by, joins_by, same_by}
 use Rattle.irl_journal.specs.Blob.{BeginsWith, KeepsFront, IsCommitted}
-use Rattle.irl_journal.specs.Growing.{Writer, HasPut, Puts, ReachesPlace, end_of}
+use Rattle.irl_journal.specs.Growing.{Writer, HasPut, Puts, Finishes, KeepsRest, ReachesPlace, end_of}
+use Rattle.irl_journal.specs.Synced.{WritesSynced}
+use Rattle.irl_journal.proofs.Syncing.{told_scribbled}
 use Rattle.irl_journal.proofs.Fronts.{begins_take, keeps_none, keeps_both, scribbled_past, held_past, told_keeps}
 
 -- ---- what is told
@@ -136,6 +138,31 @@ keeps_same f n (Some old) new same = (old, same, record { changed = keeps_none n
 pub stops_same : (f n : ℕ) (old new : Told) → LeavesSame old new → LeavesBy (ChangesFile f (KeepsFront n)) old new
 stops_same f n old new same = same_by old new _ (λ x. record { changed = keeps_none n (x f); others = λ g out. refl }) same
 
+-- ---- what lies behind
+pub rest_wrote : (f at : ℕ) (bytes : List ℕ) (old new : Option Files) → ForSome old (λ files. at ≤ length (files f)) → Changes f (Holds at bytes) old new
+    → Changes f (KeepsRest (at + length bytes)) old new
+rest_wrote f at bytes old new long wrote =
+    told_wider _ _ old new (λ x y step. record { changed = step.changed.after; others = step.others }) (told_scribbled f at bytes old new long wrote)
+
+pub rest_none : (f n : ℕ) (old new : Option Files) → new ≡ old → Changes f (KeepsRest n) old new
+rest_none f n old new same = told_none _ old new (λ x. record { changed = refl; others = λ g out. refl }) same
+
+pub rest_then : (f a b : ℕ) (old mid new : Option Files) → a ≤ b → Changes f (KeepsRest a) old mid → Changes f (KeepsRest b) mid new → Changes f (KeepsRest b) old new
+rest_then f a b old mid new less first second =
+    told_then (ChangesFile f (KeepsRest b)) old mid new
+    (λ x y z one two. record { changed = two.changed ∙ one.changed; others = λ g out. two.others g out ∙ one.others g out })
+    (told_wider _ _ old mid (λ x y step. record { changed = further (x f) (y f) step.changed; others = step.others }) first)
+    second
+  where
+    further : (x y : List ℕ) → drop a y ≡ drop a x → drop b y ≡ drop b x
+    further x y same =
+        let far : a + (b - a) ≡ b = omega arith in
+        ap (λ (n : ℕ). drop n y) (sym far)
+        ∙ sym (drop-drop (b - a) a y)
+        ∙ ap (λ (l : List ℕ). drop (b - a) l) same
+        ∙ drop-drop (b - a) a x
+        ∙ ap (λ (n : ℕ). drop n x) far
+
 -- ---- once the file is synced
 pub all_put : (f kept : ℕ) (w : Writer) (bytes held : List ℕ) (old mid new : Told) → IsConsistent old → IsConsistent new → w.file ≡ f → w.kept ≡ kept → w.waiting ≡ [] → HasPut mid.files bytes w
     → Changes f (KeepsFront kept) old.files mid.files
@@ -163,17 +190,57 @@ all_put f kept w bytes held old mid new law_old law_new file_is kept_is none put
     joined : (held bytes written fore rest : List ℕ) → held ≡ fore → bytes ≡ written → fore ++ written ++ rest ≡ held ++ bytes ++ rest
     joined held bytes written fore rest h b = ap (λ (l : List ℕ). l ++ written ++ rest) (sym h) ∙ ap (λ (l : List ℕ). held ++ l ++ rest) (sym b)
 
+-- a write past what stays, and the sync behind it
+pub keeps_synced : (f kept place n : ℕ) (failed : Type 0) (old new : Told) → kept ≤ place → OnlyChanges (ChangesFile f (Scribbled place n)) failed old new
+    → OnlyChanges (ChangesFile f (KeepsFront kept)) failed old new
+keeps_synced f kept place n failed old new less changes =
+    changes_wider _ _ failed old new (λ x y step. record { changed = scribbled_past kept place n (x f) (y f) less step.changed; others = step.others }) changes
+
+-- what waits is written and synced
+pub finishes : {E : Type 0} (w : Writer) (old new : Told) → IsConsistent old → IsConsistent new → w.kept ≤ w.place → ForSome old.files (ReachesPlace w)
+    → WritesSynced {A = Unit {0}} {E = E} (Ok tt) w.file w.place w.waiting (Scribbled w.place (length w.waiting)) old new → Finishes {E = E} (Ok (end_of w)) w old new
+finishes w old new law_old law_new less long wrote =
+    let put : (bytes : List ℕ) → HasPut old.files bytes w → HasPut new.files bytes (record { file = w.file; kept = w.kept; place = end_of w; waiting = [] }) =
+    λ bytes had. put_flushed w bytes old.files new.files had wrote.holds in
+    let keeps = keeps_wrote w.file w.kept w.place w.waiting old.files new.files less long wrote.holds in
+    record {
+      committed = λ bytes held had committed.
+          all_put w.file w.kept _ bytes held old new new law_old law_new refl refl refl (put bytes had) keeps refl wrote.durable committed;
+      put = put;
+      durable = wrote.durable;
+      length = refl;
+      bound = wrote.within;
+      long = long_wrote w.file w.place w.waiting old.files new.files long wrote.holds;
+      rest = rest_wrote w.file w.place w.waiting old.files new.files long wrote.holds;
+      changes = changes_for _ _ _ old new (λ e. cc) (keeps_synced w.file w.kept w.place _ _ old new less wrote.changes);
+    }
+
 -- ---- refusals
 pub on_err : {A E P : Type 0} (r : Result A E) → P → OnErr r P
 on_err (Ok x) p = tt
 on_err (Err e) p = p
 
+-- bytes that wait
+pub puts_waiting : {E : Type 0} (w : Writer) (more : List ℕ) (now : Told) → IsConsistent now → ForSome now.files (ReachesPlace w)
+    → Puts {E = E} (Ok tt) more w (record { file = w.file; kept = w.kept; place = w.place; waiting = w.waiting ++ more }) now now
+puts_waiting w more now law long = record {
+  put = λ bytes had. put_more w more bytes now.files had;
+  put_before = tt;
+  end = omega (arith, length-append w.waiting more);
+  end_before = tt;
+  file = refl;
+  kept = refl;
+  long = long;
+  rest = rest_none w.file _ now.files now.files refl;
+  changes = changes_for _ ⊥ _ now now (λ e. cc) (changes_none _ now law (λ x. record { changed = keeps_none w.kept (x w.file); others = λ g out. refl }));
+}
+
 -- a put behind a call that leaves what was put, where what waited was written
 pub puts_then : {E : Type 0} (result : Result Unit E) (failed : Type 0) (more : List ℕ) (old mid new : Writer) (before between after : Told) → IsConsistent between → mid.file ≡ old.file → mid.kept
     ≡ old.kept → end_of mid ≡ end_of old
     → ((bytes : List ℕ) → HasPut before.files bytes old → HasPut between.files bytes mid) → OnlyChanges (ChangesFile old.file (KeepsFront old.kept)) failed before between
-    → Puts result more mid new between after → Puts result more old new before after
-puts_then (Ok x) failed more old mid new before between after law file kept end stays changes puts = record {
+    → Changes old.file (KeepsRest (end_of old)) before.files between.files → Puts result more mid new between after → Puts result more old new before after
+puts_then (Ok x) failed more old mid new before between after law file kept end stays changes rest puts = record {
   put = λ bytes had. puts.put bytes (stays bytes had);
   put_before = tt;
   end = omega (arith, puts.end, end);
@@ -181,9 +248,10 @@ puts_then (Ok x) failed more old mid new before between after law file kept end 
   file = puts.file ∙ file;
   kept = puts.kept ∙ kept;
   long = puts.long;
+  rest = rest_then old.file (end_of old) (end_of new) before.files between.files after.files (omega (arith, puts.end, end)) rest (rw file at puts.rest);
   changes = changes_then _ failed _ before between after law (keeps_files old.file old.kept) changes (rw (file, kept) at puts.changes);
 }
-puts_then (Err e) failed more old mid new before between after law file kept end stays changes puts = record {
+puts_then (Err e) failed more old mid new before between after law file kept end stays changes rest puts = record {
   put = tt;
   put_before = λ bytes had. puts.put_before bytes (stays bytes had);
   end = tt;
@@ -191,6 +259,7 @@ puts_then (Err e) failed more old mid new before between after law file kept end
   file = puts.file ∙ file;
   kept = puts.kept ∙ kept;
   long = puts.long;
+  rest = tt;
   changes = changes_then _ failed _ before between after law (keeps_files old.file old.kept) changes (rw (file, kept) at puts.changes);
 }
 

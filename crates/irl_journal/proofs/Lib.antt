@@ -5,6 +5,8 @@ pub mod Growing
 pub mod Handed
 pub mod Lists
 pub mod Opened
+pub mod Pieces
 pub mod Placed
 pub mod Reading
+pub mod Syncing
 pub mod Writing

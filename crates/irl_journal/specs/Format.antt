@@ -21,6 +21,10 @@ record_text payload = open_gate ∷ body_text payload
 abbrev pub records_text : List (List ℕ) → List ℕ
 records_text payloads = flat_map record_text payloads
 
+-- what an append of them writes behind the closed gate: they without the first one's gate, and a closed gate
+abbrev pub appended_text : List (List ℕ) → List ℕ
+appended_text payloads = drop 1 (records_text payloads) ++ 0 ∷ []
+
 -- the most bytes of a payload
 abbrev pub max_payload : ℕ
 max_payload = 16777216

@@ -6,6 +6,7 @@ ghost use Rattle.irl_disk.specs.Disk.{Files, Changes, ChangesFile, Holds};
 ghost use Rattle.irl_disk.specs.Effects.{OnlyReads, OnlyChanges};
 ghost use Rattle.irl_journal.specs.Blob.{KeepsFront, IsCommitted};
 
+use crate::synced::write_synced;
 use irl_disk::{Failed, Store};
 use std::marker::Model;
 
@@ -79,8 +80,7 @@ impl Blob {
         ensures changes { OnlyChanges (ChangesFile self.old.file (KeepsFront self.old.length)) (IsErr result)
             (S.told store.old) (S.told store.new) }
     {
-        store.write(self.file, self.length, bytes)?;
-        store.sync(self.file)?;
+        write_synced(store, self.file, self.length, bytes)?;
         self.length += bytes.len() as u64;
         Ok(())
     }

@@ -2,11 +2,12 @@ ghost use Rattle.std.specs.Prelude.{◌≡◌, ◌+◌, ◌≤◌, ◌<◌, ◌^
 ghost use Rattle.std.specs.Prelude.{length as len, IfOk, OnOk, OnErr, IsErr};
 ghost use Rattle.std.specs.Option.{ForSome};
 ghost use Rattle.irl_base.specs.Faults.{HasCause};
-ghost use Rattle.irl_disk.specs.Disk.{Files, ChangesFile};
+ghost use Rattle.irl_disk.specs.Disk.{Files, Changes, ChangesFile};
 ghost use Rattle.irl_disk.specs.Effects.{OnlyChanges};
-ghost use Rattle.irl_journal.specs.Blob.{KeepsFront, IsCommitted};
-ghost use Rattle.irl_journal.specs.Growing.{HasPut, Puts, ReachesPlace, end_of};
+ghost use Rattle.irl_journal.specs.Blob.{KeepsFront};
+ghost use Rattle.irl_journal.specs.Growing.{HasPut, Puts, Finishes, KeepsRest, ReachesPlace, end_of};
 
+use crate::synced::write_synced;
 use irl_disk::{Failed, Store};
 use std::alloc::{AllocError, Global};
 use std::marker::Model;
@@ -102,23 +103,12 @@ impl FileWriter {
 
     /// Writes what waits and syncs the file, whose length it gives: each stop from then on leaves what was committed of the
     /// bytes that stay, and behind them all that were put.
-    pub fn finish<S: Store>(mut self, store: &mut S) -> Result<u64, Failed>
+    pub fn finish<S: Store>(self, store: &mut S) -> Result<u64, Failed>
         requires { ForSome (S.told store.old).files (ReachesPlace self) }
-        ensures committed { IfOk result (λ length. (bytes held : List ℕ) →
-            HasPut (S.told store.old).files bytes self →
-            IsCommitted (S.told store.old).images (record { file = self.file; length = self.kept }) held →
-            IsCommitted (S.told store.new).images (record { file = self.file; length = length }) (held ++ bytes)) }
-        ensures length { IfOk result (λ length. length ≡ end_of self) }
-        ensures bound { IfOk result (λ length. length < 2 ^ 64) }
-        ensures long { IfOk result (λ length. ForSome (S.told store.new).files (λ files.
-            length ≤ len (files self.file))) }
-        // A stop at any moment leaves the bytes that stay, and every other file as it was.
-        ensures changes { OnlyChanges (ChangesFile self.file (KeepsFront self.kept)) (IsErr result)
-            (S.told store.old) (S.told store.new) }
+        ensures { Finishes result self (S.told store.old) (S.told store.new) }
     {
-        self.flush(store)?;
-        store.sync(self.file)?;
-        Ok(self.place)
+        write_synced(store, self.file, self.place, &self.buffer[..self.count])?;
+        Ok(self.place + self.count as u64)
     }
 
     // Puts bytes behind those that wait, or answers false where they don't fit there, or the file would be too long.
@@ -167,6 +157,8 @@ impl FileWriter {
         ensures put { (bytes : List ℕ) → HasPut (S.told store.old).files bytes self.old →
             HasPut (S.told store.new).files bytes self.new }
         ensures long { ForSome (S.told store.new).files (ReachesPlace self.new) }
+        ensures rest { OnOk result (Changes self.old.file (KeepsRest (end_of self.old))
+            (S.told store.old).files (S.told store.new).files) }
         ensures changes { OnlyChanges (ChangesFile self.old.file (KeepsFront self.old.kept)) (IsErr result)
             (S.told store.old) (S.told store.new) }
     {

@@ -55,6 +55,14 @@ impl Frame {
         close(&mut self.buffer, self.len);
     }
 
+    // The record's bytes between its gate and the next: the length and the payload.
+    pub(crate) fn body(&self) -> &[u8]
+        ensures bytes { result.now ≡ body_text self.now.bytes }
+        ensures limit { length self.now.bytes ≤ MAX_PAYLOAD }
+    {
+        &self.buffer[..HEAD + self.len]
+    }
+
     /// The record's bytes behind its gate: the length, the payload, and the next gate, closed.
     pub(crate) fn closed_record(&self) -> &[u8]
         ensures bytes { result.now ≡ body_text self.now.bytes ++ 0 ∷ [] }

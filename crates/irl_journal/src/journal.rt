@@ -3,11 +3,15 @@ ghost use Rattle.std.specs.Option.{ForSome};
 ghost use Rattle.irl_base.specs.Faults.{HasCause};
 ghost use Rattle.irl_disk.specs.Disk.{Changes, ChangesFile, Scribbled};
 ghost use Rattle.irl_disk.specs.Effects.{OnlyChanges};
-ghost use Rattle.irl_journal.specs.Appending.{Appends, IsOpen};
+ghost use Rattle.irl_journal.specs.Appending.{Appends, AppendsAll, IsOpen};
 
-use crate::format::{CLOSED, OPEN};
+use crate::format::{CLOSED, LONGEST, OPEN};
 use crate::frame::Frame;
+use crate::several::{Behind, Payloads};
+use crate::synced::write_synced;
+use irl_base::Fault;
 use irl_disk::{Failed, Store};
+use std::alloc::Global;
 use std::marker::Model;
 
 /// A journal's end: where the closed gate stands, behind which the next record goes. Contracts see it as a `Tail`.
@@ -41,8 +45,7 @@ impl Journal {
         ensures changes { OnlyChanges (ChangesFile f (Scribbled 0 1)) (IsErr result)
             (S.told store.old) (S.told store.new) }
     {
-        store.write(f, 0, &[CLOSED])?;
-        store.sync(f)?;
+        write_synced(store, f, 0, &[CLOSED])?;
         Ok(Journal::behind(f, 0))
     }
 
@@ -73,11 +76,51 @@ impl Journal {
     {
         self.is_sound = false;
         let bytes = frame.closed_record();
-        store.write(self.file, self.end + 1, bytes)?;
-        store.sync(self.file)?;
-        store.write(self.file, self.end, &[OPEN])?;
-        store.sync(self.file)?;
+        write_synced(store, self.file, self.end + 1, bytes)?;
+        write_synced(store, self.file, self.end, &[OPEN])?;
         self.end += bytes.len() as u64;
+        self.is_sound = true;
+        Ok(())
+    }
+
+    /// Appends several records by two syncs in all, as single appends would, byte for byte. The records but the first
+    /// one's gate are written behind the closed gate in pieces of at most the longest record, with the next gate,
+    /// closed, behind them; then a sync, the open gate over the closed one, and a sync. A stop leaves all of them or
+    /// none. Its memory, for the longest payload and a piece, is reserved before the first call of the store. Of no
+    /// records it makes no call.
+    pub fn append_all<S: Store, P: Payloads>(
+        &mut self,
+        alloc: Global,
+        store: &mut S,
+        payloads: &P,
+    ) -> Result<(), Fault>
+        requires sound { self.old.is_sound ≡ true }
+        requires place { ForSome (S.told store.old).files (λ files. self.old.end < length (files self.old.file)) }
+        ensures { AppendsAll S.told result (P.payloads payloads.now) self.old self.new store.old store.new }
+    {
+        self.append_in_pieces(alloc, store, payloads, LONGEST)
+    }
+
+    // The same, in pieces of so many bytes; a longer record's bytes are written at once.
+    pub(crate) fn append_in_pieces<S: Store, P: Payloads>(
+        &mut self,
+        alloc: Global,
+        store: &mut S,
+        payloads: &P,
+        piece: usize,
+    ) -> Result<(), Fault>
+        requires sound { self.old.is_sound ≡ true }
+        requires place { ForSome (S.told store.old).files (λ files. self.old.end < length (files self.old.file)) }
+        ensures { AppendsAll S.told result (P.payloads payloads.now) self.old self.new store.old store.new }
+    {
+        if payloads.count() == 0 {
+            return Ok(());
+        }
+        let behind = Behind::reserve(alloc, self.file, self.end + 1, payloads, piece)?;
+        self.is_sound = false;
+        let length = behind.write(store, payloads)?;
+        write_synced(store, self.file, self.end, &[OPEN])?;
+        self.end = length - 1;
         self.is_sound = true;
         Ok(())
     }

@@ -12,6 +12,8 @@ mod laws;
 mod opening;
 mod part;
 mod record;
+mod several;
+mod synced;
 mod visit;
 
 pub use blob::Blob;
@@ -21,6 +23,7 @@ pub use frame::Frame;
 pub use journal::Journal;
 pub use laws::one_list;
 pub use part::read_part;
+pub use several::Payloads;
 pub use visit::Visit;
 
 #[cfg(test)]

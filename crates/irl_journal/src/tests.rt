@@ -7,6 +7,11 @@ use irl_disk::{Failed, MemStore, Part, Store};
 use std::alloc::{AllocError, Global};
 use std::test::Fail;
 
+mod several;
+
+// How many bytes a payload has here at most.
+const ROOM: u32 = 65_536;
+
 // Keeps the places and the payloads that it is handed, and refuses the record at one place.
 #[derive(Drop)]
 struct Keeping {
@@ -66,11 +71,11 @@ fn append_first(alloc: Global, failing: Vec<u64>) -> Result<Kept, Fail>
     ensures sound { IfOk result (λ kept. kept.journal.is_sound ≡ true) }
     ensures open { IfOk result (λ kept. (payloads : List (List ℕ)) ×
         IsOpen (told_by kept.store).images kept.journal payloads) }
-    ensures room { IfOk result (λ kept. kept.frame.room ≡ 8) }
+    ensures room { IfOk result (λ kept. kept.frame.room ≡ ROOM) }
 {
     let mut store = MemStore::new(alloc, failing);
     let mut journal = Journal::make(&mut store, 7)?;
-    let mut frame = Frame::with_room(alloc, 8)?;
+    let mut frame = Frame::with_room(alloc, ROOM)?;
     frame.put(b"ab");
     journal.append(&mut store, &mut frame)?;
     Ok(Kept {
@@ -84,12 +89,12 @@ fn append_first(alloc: Global, failing: Vec<u64>) -> Result<Kept, Fail>
 fn append_next(kept: &mut Kept, payload: &[u8]) -> Result<(), Failed>
     requires sound { kept.old.journal.is_sound ≡ true }
     requires open { (payloads : List (List ℕ)) × IsOpen (told_by kept.old.store).images kept.old.journal payloads }
-    requires room { kept.old.frame.room ≡ 8 }
-    requires short { length payload.now ≤ 8 }
+    requires room { kept.old.frame.room ≡ ROOM }
+    requires short { length payload.now ≤ ROOM }
     ensures sound { OnOk result (kept.new.journal.is_sound ≡ true) }
     ensures open { OnOk result ((payloads : List (List ℕ)) ×
         IsOpen (told_by kept.new.store).images kept.new.journal payloads) }
-    ensures room { kept.new.frame.room ≡ 8 }
+    ensures room { kept.new.frame.room ≡ ROOM }
 {
     kept.frame.clear();
     kept.frame.put(payload);

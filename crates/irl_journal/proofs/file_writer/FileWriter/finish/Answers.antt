@@ -1,30 +1,46 @@
--- What waits is written, and the sync makes what is told last.
-use Rattle.std.proofs.Common.{◌≡◌, ◌∙◌, ℕ, length, ◌++◌, sym, subst, ap, arith}
+-- What waits is written and synced behind what was, and whatever a stop leaves, what stays is before it.
+use Rattle.std.proofs.Common.{◌≡◌, ℕ, ◌+◌, ◌≤◌, List, Ok, length, take, length-take-le, sym, subst, ap, arith, rules}
 use Rattle.std.specs.Option.{ForSome}
-use Rattle.irl_disk.specs.Disk.{Files}
-use Rattle.irl_journal.specs.Blob.{IsCommitted}
-use Rattle.irl_journal.specs.Growing.{Writer}
-use Rattle.irl_journal.proofs.Growing.{all_put}
+use Rattle.irl_disk.specs.declared.store.Failed.{Failed}
+use Rattle.irl_disk.specs.Disk.{Scribbled}
+use Rattle.irl_disk.proofs.Effects.{changes_for}
+use Rattle.irl_journal.specs.Growing.{Writer, Finishes, ReachesPlace}
+use Rattle.irl_journal.specs.Synced.{WritesSynced}
+use Rattle.irl_journal.proofs.Growing.{finishes, keeps_synced}
 use Rattle.irl_journal.proofs.file_writer.FileWriter.finish.Goals as goal
 
-pub returns-clause-committed : goal.returns-clause-committed
-returns-clause-committed g c = λ bytes held put committed.
+pub write_synced-requires-clause-place : goal.write_synced-requires-clause-place
+write_synced-requires-clause-place g c =
+    subst (λ (v : Writer). ForSome (g.S.Store.told c.args.store.now).files (λ files. v.place ≤ length (files v.file))) (sym c.self.view_is) c.requires
+
+pub returns-in_err-write_synced : goal.returns-in_err-write_synced
+returns-in_err-write_synced g c = record {
+  committed = search rules;
+  put = search rules;
+  durable = search rules;
+  length = search rules;
+  bound = search rules;
+  long = search rules;
+  rest = search rules;
+  changes = rw (← c.self.view_is) (
+      changes_for _ _ _ _ _ (λ e. search rules) (
+      keeps_synced c.self.inside.file c.self.inside.kept c.self.inside.place _ _ (g.S.Store.told c.args.store.now) (g.S.Store.told c.write_synced.new.store)
+      (omega (arith, c.self.invariant.1)) c.write_synced.ensures.changes));
+}
+
+pub returns : goal.returns
+returns g c =
+    let s = c.self.inside in
     let tells = g.S.Store.told in
     let law = g.met.S.Store.is_consistent in
-    let w = c.flush.new.self in
-    let value = c.in_ok-flush.ensures.value in
-    let place : w.place ≡ c.self.inside.place = sym (ap (λ (v : Writer). v.place) c.self.view_is) in
-    let file : c.self.inside.file ≡ c.args.self.file = ap (λ (v : Writer). v.file) (c.self.view_is ∙ value) in
-    let durable = subst (λ (f : ℕ). ForSome (tells c.flush.new.store).files (λ files. (image : Files) → (tells c.sync.new.self).images image → image f ≡ files f)) file c.in_ok-sync.ensures.durable in
-    subst (λ (n : ℕ). IsCommitted (tells c.sync.new.self).images (record { file = c.args.self.file; length = n }) (held ++ bytes)) place
-    (all_put c.args.self.file c.args.self.kept w bytes held (tells c.args.store.now) (tells c.flush.new.store) (tells c.sync.new.self) (law c.args.store.now) (law c.sync.new.self)
-    (ap (λ (v : Writer). v.file) value) (ap (λ (v : Writer). v.kept) value) (ap (λ (v : Writer). v.waiting) value)
-    (c.flush.ensures.put bytes put) c.flush.ensures.changes.told c.sync.ensures.same durable committed)
-
-pub returns-clause-long : goal.returns-clause-long
-returns-clause-long g c = λ files told.
-    let value = c.in_ok-flush.ensures.value in
-    let long = c.flush.ensures.long files (sym c.sync.ensures.same ∙ told) in
-    let place = ap (λ (v : Writer). v.place) c.self.view_is in
-    let file = ap (λ (v : Writer). length (files v.file)) value in
-    omega (arith, long, place, file)
+    let old = tells c.args.store.now in
+    let new = tells c.write_synced.new.store in
+    let w : Writer = record { file = s.file; kept = s.kept; place = s.place; waiting = take s.count s.buffer.items } in
+    let size : s.place + length w.waiting ≡ s.place + s.count =
+    ap (λ (n : ℕ). s.place + n) (length-take-le s.count s.buffer.items (omega (arith, c.self.invariant.3, c.deref.ensures.len))) in
+    let wrote = subst (λ (items : List ℕ). WritesSynced {A = Unit {0}} {E = Failed} (Ok tt) s.file s.place (take s.count items) (Scribbled s.place (length (take s.count items))) old new)
+    c.deref.ensures.value c.in_ok-write_synced.ensures in
+    let long = subst (λ (v : Writer). ForSome old.files (ReachesPlace v)) (sym c.self.view_is) c.requires in
+    rw (← c.self.view_is) (
+    subst (λ (n : ℕ). Finishes {E = Failed} (Ok n) w old new) size
+    (finishes w old new (law c.args.store.now) (law c.write_synced.new.store) (omega (arith, c.self.invariant.1)) long wrote))

@@ -3,8 +3,8 @@ use Rattle.std.proofs.Common.{◌≡◌, ℕ, ◌+◌, ◌≤◌, List, [], leng
 use Rattle.std.specs.Option.{ForSome}
 use Rattle.irl_disk.specs.Disk.{Changes, Holds}
 use Rattle.irl_disk.specs.Images.{Told}
-use Rattle.irl_journal.specs.Growing.{Writer, HasPut, ReachesPlace}
-use Rattle.irl_journal.proofs.Growing.{put_flushed, put_torn, long_wrote, keeps_wrote, keeps_torn, stops_wrote}
+use Rattle.irl_journal.specs.Growing.{Writer, HasPut, KeepsRest, ReachesPlace}
+use Rattle.irl_journal.proofs.Growing.{put_flushed, put_torn, long_wrote, keeps_wrote, keeps_torn, stops_wrote, rest_wrote}
 use Rattle.irl_journal.proofs.file_writer.FileWriter.flush.Goals as goal
 
 -- the file reaches the place
@@ -47,6 +47,13 @@ returns-clause-long g c =
     ap (λ (n : ℕ). s.place + n) (length-take-le s.count c.deref.result.now (omega (arith, c.self.invariant.3, c.deref.ensures.len))) in
     subst (λ (n : ℕ). ForSome (tells c.write.new.self).files (λ files. n ≤ length (files s.file))) size
     (long_wrote s.file s.place _ _ _ (within _ _ (tells c.args.store.now) c.self.view_is c.requires) c.in_ok-write.ensures.ok)
+
+pub returns-clause-rest : goal.returns-clause-rest
+returns-clause-rest g c = rw (← c.self.view_is) (
+    let s = c.self.inside in
+    let tells = g.S.Store.told in
+    subst (λ (items : List ℕ). Changes s.file (KeepsRest (s.place + length (take s.count items))) (tells c.args.store.now).files (tells c.write.new.self).files) c.deref.ensures.value
+    (rest_wrote s.file s.place _ _ _ (within _ _ (tells c.args.store.now) c.self.view_is c.requires) c.in_ok-write.ensures.ok))
 
 pub returns-clause-changes : goal.returns-clause-changes
 returns-clause-changes g c =

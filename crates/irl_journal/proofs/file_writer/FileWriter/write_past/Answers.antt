@@ -1,9 +1,10 @@
 -- The bytes are written behind what was, and whatever the write leaves, what stays is before it.
-use Rattle.std.proofs.Common.{◌≡◌, ℕ, ◌+◌, List, ◌++◌, length, subst, arith, sym, rules}
+use Rattle.std.proofs.Common.{◌≡◌, ℕ, ◌+◌, List, [], ◌++◌, length, take, subst, arith, ap, sym, rules}
 use Rattle.std.specs.Option.{ForSome}
+use Rattle.irl_disk.specs.Disk.{Changes}
 use Rattle.irl_disk.specs.Images.{Told}
-use Rattle.irl_journal.specs.Growing.{Writer, HasPut, ReachesPlace}
-use Rattle.irl_journal.proofs.Growing.{on_err, put_flushed, put_more, put_torn, long_wrote, keeps_wrote, keeps_torn, stops_wrote}
+use Rattle.irl_journal.specs.Growing.{Writer, HasPut, KeepsRest, ReachesPlace}
+use Rattle.irl_journal.proofs.Growing.{on_err, put_flushed, put_more, put_torn, long_wrote, keeps_wrote, keeps_torn, stops_wrote, rest_wrote}
 use Rattle.irl_journal.proofs.file_writer.FileWriter.write_past.Goals as goal
 
 -- the file reaches the place
@@ -23,6 +24,7 @@ returns-in_err-write g c = record {
   file = search rules;
   kept = search rules;
   long = search rules;
+  rest = search rules;
   changes = rw (← c.self.view_is) (record {
     told = keeps_torn _ _ c.self.inside.place _ _ _ (omega (arith, c.self.invariant.1)) c.in_err-write.ensures.err;
     stops = stops_wrote _ _ c.self.inside.place _ _ _ (omega (arith, c.self.invariant.1)) c.write.ensures.stops;
@@ -52,6 +54,14 @@ returns g c =
       end_before = search rules;
       file = search rules;
       kept = search rules;
+      rest =
+          let s = c.self.inside in
+          let tells = g.S.Store.told in
+          let none : take s.count s.buffer.items ≡ [] = rw (← c.self.view_is) at c.requires.none in
+          let size : s.place + length c.args.more.now + length (take s.count s.buffer.items) ≡ s.place + length c.args.more.now = omega (arith, ap length none) in
+          rw (← c.self.view_is) (
+          subst (λ (n : ℕ). Changes s.file (KeepsRest n) (tells c.args.store.now).files (tells c.write.new.self).files) (sym size)
+          (rest_wrote s.file s.place c.args.more.now _ _ long c.in_ok-write.ensures.ok));
       long = long_wrote c.self.inside.file c.self.inside.place _ _ _ long c.in_ok-write.ensures.ok;
       changes = rw (← c.self.view_is) (record {
         told = keeps_wrote _ _ c.self.inside.place _ _ _ (omega (arith, c.self.invariant.1)) long c.in_ok-write.ensures.ok;

@@ -1,4 +1,4 @@
-use Rattle.std.proofs.Common.{◌≡◌, [], ◌∷◌, Some, subst, sym, ◌∙◌}
+use Rattle.std.proofs.Common.{◌≡◌, [], ◌∷◌, subst, sym, ◌∙◌}
 use Rattle.irl_disk.specs.Disk.{Holds}
 use Rattle.irl_journal.specs.Appending.{Ends, Tail}
 use Rattle.irl_journal.proofs.Gates.{made, made_empty}
@@ -9,13 +9,11 @@ use Rattle.irl_journal.proofs.journal.Journal.make.Goals as goal
 -- what is told has the closed gate alone
 pub returns-clause-ok : goal.returns-clause-ok
 returns-clause-ok g c =
-    rw c.sync.ensures.same (as_step c.args.f (Holds 0 (0 ∷ [])) (λ old new. new ≡ 0 ∷ []) _ _ (λ before after told holds. made (before c.args.f) after (c.requires.short before told) holds)
-    c.in_ok-write.ensures.ok)
+    as_step c.args.f (Holds 0 (0 ∷ [])) (λ old new. new ≡ 0 ∷ []) _ _ (λ before after told holds. made (before c.args.f) after (c.requires.short before told) holds) c.in_ok-write_synced.ensures.holds
 
 pub returns-clause-open : goal.returns-clause-open
 returns-clause-open g c = λ image left.
-    let told = (g.met.S.Store.is_consistent c.sync.new.self).tells image left in
-    let told_before : (g.S.Store.told c.write.new.self).files ≡ Some told.0 = sym c.sync.ensures.same ∙ told.1 in
-    let from = told_from c.args.f (Holds 0 (0 ∷ [])) (g.S.Store.told c.args.store.now).files (g.S.Store.told c.write.new.self).files told.0 c.in_ok-write.ensures.ok told_before in
+    let told = (g.met.S.Store.is_consistent c.write_synced.new.store).tells image left in
+    let from = told_from c.args.f (Holds 0 (0 ∷ [])) (g.S.Store.told c.args.store.now).files (g.S.Store.told c.write_synced.new.store).files told.0 c.in_ok-write_synced.ensures.holds told.1 in
     subst (λ (tail : Tail). Ends tail.end (image tail.file) []) (sym c.behind.ensures) (made_empty (image c.args.f)
-    (c.in_ok-sync.ensures.durable told.0 told_before image left ∙ made (from.0 c.args.f) (told.0 c.args.f) (c.requires.short from.0 from.1) from.2.changed))
+    (c.in_ok-write_synced.ensures.durable told.0 told.1 image left ∙ made (from.0 c.args.f) (told.0 c.args.f) (c.requires.short from.0 from.1) from.2.changed))
