@@ -5,15 +5,22 @@ use Rattle.std.specs.List.{AllByRecursion}
 use Rattle.irl_offer.specs.declared.entry.Entry.{Entry}
 use Rattle.irl_offer.specs.declared.settings.Settings.{Settings}
 use Rattle.irl_model.specs.Book.{IsBelow, judged}
+use Rattle.irl_base.specs.Faults.{HasCause}
 use Rattle.irl_disk.specs.Disk.{Files, ChangesFile, TellsBy}
+use Rattle.irl_disk.specs.Effects.{OnlyReads, ReadsAndChanges}
+use Rattle.irl_disk.specs.Images.{Told, IsConsistent}
+use Rattle.irl_disk.proofs.Frames.{takes_both}
+use Rattle.irl_disk.proofs.Stretches.{reads_on}
 use Rattle.irl_journal.specs.Format.{StandsFor, records_text}
 use Rattle.irl_journal.specs.Visiting.{IsOpened}
 use Rattle.irl_journal.proofs.Lists.{one_list}
-use Rattle.irl_bay.specs.BayFiles.{file_of, max_base}
-use Rattle.irl_bay.specs.declared.layout.files.BayFile.TheVariants.{Manifest, Cache, Judged, Texts, Journal, Aux}
+use Rattle.irl_layout.specs.BayFiles.{file_of, max_base}
+use Rattle.irl_layout.specs.declared.files.BayFile.TheVariants.{Manifest, Cache, Judged, Texts, Journal, Aux}
 use Rattle.irl_bay.specs.declared.bucket.Bucket.{Bucket}
-use Rattle.irl_bay.specs.Commits.{Commit, IsCommit, commit_bytes, first_commit, last_commit, live_side, starts_by}
-use Rattle.irl_bay.specs.Damage.{HasRuns, HasManifest, HasFronts, IsDamagedBucket, IsDamagedFront, IsWholeBucket, IsDamagedJournal, AreRunPayloads, IsCutAbove, IsReached, RiseFrom, starts_of, entries_bytes, entries_in, text_length}
+use Rattle.irl_layout.specs.Commits.{Commit, IsCommit, commit_bytes, first_commit, last_commit, live_side, starts_by}
+use Rattle.irl_bay.specs.Damage.{HasRuns, HasManifest, HasFronts, IsDamagedBucket, IsDamagedFront, IsWholeBucket, IsDamagedJournal, IsCutAbove, IsReached, RiseFrom}
+use Rattle.irl_layout.specs.EntryRuns.{AreRunPayloads, entries_bytes, entries_in, text_length}
+use Rattle.irl_layout.specs.Commits.{starts_of}
 use Rattle.irl_offer.specs.Settings.{AreValid}
 use Rattle.irl_journal.specs.Appending.{Tail}
 use Rattle.irl_bay.specs.Drum.{Drum, IsDrum, no_bucket}
@@ -21,7 +28,7 @@ use Rattle.irl_bay.specs.Holding.{IsLong}
 use Rattle.irl_bay.specs.Opening.{HasWhole, IsOpenBucket, IsLongBucket, OpensBelow, IsWithin, IsFirstAbove}
 use Rattle.irl_bay.specs.Damage.{IsShort}
 use Rattle.irl_disk.specs.Taken.{TakesAmong}
-use Rattle.irl_bay.specs.declared.history.History.{History}
+use Rattle.irl_bay.specs.declared.history.HistoryVisitor.{HistoryVisitor}
 use Rattle.irl_bay.proofs.Reached.{TookCommits, rise_each, few_commits, zeros_fit}
 use Rattle.irl_bay.proofs.Adopting.{side_fits}
 use Rattle.irl_bay.proofs.Below.{below_each, each_below}
@@ -221,18 +228,19 @@ whole_of base settings old new last x buckets same step count opened has = subst
     (record { count = count; starts = λ b within. (opened b within).start; whole = λ b within. has_back base (live_side last) settings b old new (get_or buckets b no_bucket) step (has b within) })
 
 -- ---- the manifest
-pub took_is : (buckets : ℕ) (first : Commit) (count : ℕ) (payloads : List (List ℕ)) (new : History) → first ≡ first_commit buckets → TookCommits buckets first count payloads new
+pub took_is : (buckets : ℕ) (first : Commit) (count : ℕ) (payloads : List (List ℕ)) (new : HistoryVisitor) → first ≡ first_commit buckets → TookCommits buckets first count payloads new
     → IsCommit buckets new.last
 took_is buckets first count payloads new is took =
     subst (IsCommit buckets) (sym took.last) (last_is buckets first took.commits (subst (IsCommit buckets) (sym is) (first_is buckets)) (rise_each buckets first took.commits took.rise))
 
 -- the side that it leaves live is one
-pub took_side : (buckets : ℕ) (first : Commit) (count : ℕ) (payloads : List (List ℕ)) (new : History) (last : Commit) → first ≡ first_commit buckets → TookCommits buckets first count payloads new
+pub took_side : (buckets : ℕ) (first : Commit) (count : ℕ) (payloads : List (List ℕ)) (new : HistoryVisitor) (last : Commit) → first ≡ first_commit buckets
+    → TookCommits buckets first count payloads new
     → last ≡ new.last → live_side last ≤ 1
 took_side buckets first count payloads new last is took same = side_fits buckets last (subst (IsCommit buckets) (sym same) (took_is buckets first count payloads new is took))
 
 -- no more commits are counted than the manifest has bytes
-pub took_few : (buckets : ℕ) (first : Commit) (payloads : List (List ℕ)) (new : History) → TookCommits buckets first 0 payloads new → new.count ≤ length (records_text payloads)
+pub took_few : (buckets : ℕ) (first : Commit) (payloads : List (List ℕ)) (new : HistoryVisitor) → TookCommits buckets first 0 payloads new → new.count ≤ length (records_text payloads)
 took_few buckets first payloads new took = omega (arith, took.counted, few_commits took.commits, ap (λ (ps : List (List ℕ)). length (records_text ps)) took.payloads_are)
 
 -- the commits that its file has
@@ -244,7 +252,8 @@ pub record IsManifest (base buckets : ℕ) (files : Files) (payloads : List (Lis
   pub each : AllByRecursion (IsCommit buckets) commits
   pub counted : count ≡ min (length commits) (2 ^ 64 - 1)
 
-pub manifest_of : (base buckets f : ℕ) (files : Files) (first : Commit) (start : ℕ) (payloads : List (List ℕ)) (new : History) → f ≡ file_of base 0 Manifest → first ≡ first_commit buckets → start ≡ 0
+pub manifest_of : (base buckets f : ℕ) (files : Files) (first : Commit) (start : ℕ) (payloads : List (List ℕ)) (new : HistoryVisitor) → f ≡ file_of base 0 Manifest → first ≡ first_commit buckets
+    → start ≡ 0
     → StandsFor (files f) payloads → TookCommits buckets first start payloads new → IsManifest base buckets files payloads new.last new.count
 manifest_of base buckets f files first start payloads new is_file is_first none stands took =
     let rise = subst (λ (x : Commit). RiseFrom buckets x took.commits) is_first took.rise in
@@ -261,6 +270,22 @@ manifest_of base buckets f files first start payloads new is_file is_first none 
 pub takes_wider : (among wide : ℕ → Type 0) (old new : Option (ℕ → ℕ)) → ((f : ℕ) → among f → wide f) → TakesAmong among old new → TakesAmong wide old new
 takes_wider among wide None new allows takes = takes
 takes_wider among wide (Some old) new allows takes = (takes.0, takes.1, λ g out. takes.2 g (λ is. out (allows g is)))
+
+-- a call that reads and changes, and then one that only reads
+pub changes_reads : (among more : ℕ → Type 0) (step : Files → Files → Type 0) (failed other answered : Type 0) (old mid new : Told) → IsConsistent mid → ((f : ℕ) → more f → among f)
+    → ReadsAndChanges among step failed old mid → OnlyReads more other mid new → HasCause answered old.faults new.faults → ReadsAndChanges among step answered old new
+changes_reads among more step failed other answered old mid new law within first second cause = record {
+  told = subst (TellsBy step old.files) (sym second.same) first.told;
+  stops = reads_on old mid new _ law first.stops second.stops;
+  taken = takes_both among old.taken mid.taken new.taken first.taken (takes_wider more among mid.taken new.taken within second.taken);
+  cause = cause;
+}
+
+-- the same of a file that is known
+pub changes_at : (f n : ℕ) (failed answered : Type 0) (old new : Told) → f ≡ n → ReadsAndChanges (λ g. g ≡ f) (ChangesFile f IsOpened) failed old new → HasCause answered old.faults new.faults
+    → ReadsAndChanges (λ g. g ≡ n) (ChangesFile n IsOpened) answered old new
+changes_at f n failed answered old new is changes cause =
+    subst (λ (k : ℕ). ReadsAndChanges (λ g. g ≡ k) (ChangesFile k IsOpened) answered old new) is (record { told = changes.told; stops = changes.stops; taken = changes.taken; cause = cause })
 
 pub tells_from : (step : Files → Files → Type 0) (old new : Option Files) (files : Files) → TellsBy step old new → new ≡ Some files → (before : Files) × (old ≡ Some before) × step before files
 tells_from step None new files tells told = cc

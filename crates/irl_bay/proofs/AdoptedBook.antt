@@ -19,21 +19,21 @@ use Rattle.irl_journal.specs.Appending.{Tail, Ends, IsOpen}
 use Rattle.irl_journal.specs.Blob.{BeginsWith, IsCommitted}
 use Rattle.irl_journal.specs.Visiting.{IsOpened}
 use Rattle.irl_journal.proofs.Fronts.{begins_take}
-use Rattle.irl_bay.specs.BayFiles.{file_of}
-use Rattle.irl_bay.specs.declared.layout.files.BayFile.TheVariants.{Manifest, Cache, Judged, Texts, Journal, Aux}
+use Rattle.irl_layout.specs.BayFiles.{file_of}
+use Rattle.irl_layout.specs.declared.files.BayFile.TheVariants.{Manifest, Cache, Judged, Texts, Journal, Aux}
 use Rattle.irl_bay.specs.declared.bucket.Bucket.{Bucket}
 use Rattle.irl_cache.specs.SortedRun.{pairs_bytes}
-use Rattle.irl_bay.specs.Commits.{Commit, IsCommit, IsCommitOf, commit_bytes, first_commit, last_commit, live_side, live_offers, starts, starts_by}
-use Rattle.irl_bay.specs.Damage.{starts_of}
+use Rattle.irl_layout.specs.Commits.{Commit, IsCommit, IsCommitOf, commit_bytes, first_commit, last_commit, live_side, live_offers, starts, starts_by}
+use Rattle.irl_layout.specs.Commits.{starts_of}
 use Rattle.irl_bay.specs.Drum.{no_bucket}
 use Rattle.irl_bay.specs.Holding.{Holds, HoldsBucket}
-use Rattle.irl_bay.specs.JudgedEntries.{judged_entries, judged_bytes}
+use Rattle.irl_layout.specs.JudgedEntries.{judged_entries, judged_bytes}
 use Rattle.irl_bay.specs.Opening.{AreFronts, HasListOf, IsOpenBucket, OpensBelow}
-use Rattle.irl_bay.specs.Runs.{HasBucket, texts_of}
+use Rattle.irl_layout.specs.Runs.{HasBucket, texts_of}
 use Rattle.irl_bay.specs.Standing.{Stands, IsBookOf, HasBucketOf}
 use Rattle.irl_bay.proofs.Adopted.{opened_drum, elsewhere, below_same, first_is, last_is, start_below}
 use Rattle.irl_bay.proofs.Below.{each_below}
-use Rattle.irl_bay.proofs.CommitBytes.{one_commit}
+use Rattle.irl_layout.proofs.CommitBytes.{one_commit}
 use Rattle.irl_bay.proofs.LastCommit.{last_of_book}
 use Rattle.irl_bay.proofs.Live.{live_length}
 

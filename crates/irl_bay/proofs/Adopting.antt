@@ -1,28 +1,29 @@
 -- The buckets of a bay, opened one after the other.
 use Rattle.std.specs.Prelude.{IfSome}
-use Rattle.std.proofs.Common.{◌≡◌, ◌∙◌, ◌≢◌, inl, inr, ⊎_elim, ℕ, suc, zero, ◌+◌, ◌-◌, ◌<◌, ◌≤◌, List, [], ◌∷◌, ◌++◌, length, map, take, get_or, Option, Some, None, refl, sym, ap, subst, arith}
+use Rattle.std.proofs.Common.{◌≡◌, ◌∙◌, ◌≢◌, inl, inr, ⊎_elim, ℕ, suc, zero, ◌+◌, ◌<◌, ◌≤◌, List, [], ◌∷◌, ◌++◌, length, map, take, get_or, Option, Some, None, refl, sym, ap, subst, arith}
 use Rattle.irl_offer.specs.Tuple.{Tuple}
 use Rattle.irl_offer.specs.declared.settings.Settings.{Settings}
 use Rattle.irl_disk.specs.Disk.{Files, Changes, ChangesFile, TellsBy}
 use Rattle.irl_disk.specs.Images.{Told, IsConsistent, Follows, LeavesBy}
 use Rattle.irl_disk.proofs.Stretches.{goes_on, left_now, widens_by}
-use Rattle.irl_disk.proofs.Frames.{among_one, among_joins}
+use Rattle.irl_disk.proofs.Frames.{among_one, among_joins, told_from}
 use Rattle.irl_journal.specs.Format.{StandsFor}
 use Rattle.irl_journal.specs.Appending.{Ends}
 use Rattle.irl_journal.specs.Blob.{Front, BeginsWith, IsCommitted}
 use Rattle.irl_journal.specs.Visiting.{IsOpened}
-use Rattle.irl_bay.specs.BayFiles.{file_of}
-use Rattle.irl_bay.specs.Commits.{Commit, IsCommit, live_side, side_of}
-use Rattle.irl_bay.specs.declared.layout.commit.Live.{Live}
-use Rattle.irl_bay.specs.declared.layout.files.BayFile.TheVariants.{Journal, Aux}
+use Rattle.irl_layout.specs.BayFiles.{file_of}
+use Rattle.irl_layout.specs.Commits.{Commit, IsCommit, live_side, side_of}
+use Rattle.irl_layout.specs.declared.commit.Live.{Live}
+use Rattle.irl_layout.specs.declared.files.BayFile.TheVariants.{Journal, Aux}
 use Rattle.irl_bay.specs.declared.bucket.Bucket.{Bucket}
-use Rattle.irl_bay.specs.Damage.{HasRuns, IsDamagedBucket, IsDamagedJournal, AreRunPayloads, starts_of, entries_bytes, entries_in, text_length}
+use Rattle.irl_bay.specs.Damage.{HasRuns, IsDamagedBucket, IsDamagedJournal}
+use Rattle.irl_layout.specs.EntryRuns.{AreRunPayloads, entries_bytes, entries_in, text_length}
 use Rattle.irl_bay.specs.Damage.{IsShort}
 use Rattle.irl_offer.specs.declared.entry.Entry.{Entry}
 use Rattle.irl_bay.specs.Holding.{HoldsBucket}
-use Rattle.irl_bay.specs.Runs.{HasBucket, run_bytes, texts_of}
-use Rattle.irl_bay.proofs.EntryBytes.{below_or_not}
-use Rattle.irl_bay.specs.Opening.{IsOpenBucket, HasWhole, IsLongBucket, HasListOf, IsJournalBelow, OpensBelow}
+use Rattle.irl_layout.specs.Runs.{HasBucket, run_bytes, texts_of}
+use Rattle.irl_layout.proofs.EntryBytes.{below_or_not}
+use Rattle.irl_bay.specs.Opening.{IsOpenBucket, HasWhole, IsLongBucket, HasListOf, IsJournalBelow, OpensBelow, OpensBucket}
 
 -- ---- steps of opening
 pub opened_none : (x : List ℕ) → IsOpened x x
@@ -211,12 +212,34 @@ side_within (Some side) is = is
 pub side_fits : (buckets : ℕ) (commit : Commit) → IsCommit buckets commit → live_side commit ≤ 1
 side_fits buckets commit is = side_within commit.live is.live
 
--- what is said of a bucket's files by the numbers that a commit has of them
-pub as_live : (P : ℕ → ℕ → ℕ → Type 0) (live : Live) (last : Commit) (buckets b : ℕ) → live.side ≡ live_side last → live.start ≡ get_or (starts_of (length last.cut) last) b 0
-    → live.start + live.judged ≡ get_or last.cut b 0 → length last.cut ≡ buckets → P live.side live.start live.judged
-    → P (live_side last) (get_or (starts_of buckets last) b 0) (get_or last.cut b 0 - get_or (starts_of buckets last) b 0)
-as_live P live last buckets b side start judged count holds =
-    let from : live.start ≡ get_or (starts_of buckets last) b 0 = start ∙ ap (λ (n : ℕ). get_or (starts_of n last) b 0) count in
-    let rest : live.judged ≡ get_or last.cut b 0 - get_or (starts_of buckets last) b 0 = omega (arith, judged, from) in
-    subst (λ (n : ℕ). P n (get_or (starts_of buckets last) b 0) (get_or last.cut b 0 - get_or (starts_of buckets last) b 0)) side
-    (subst (λ (n : ℕ). P live.side n (get_or last.cut b 0 - get_or (starts_of buckets last) b 0)) from (subst (λ (n : ℕ). P live.side live.start n) rest holds))
+-- ---- a bucket that was opened
+-- the others are opened after it
+pub opened_on : (base b c : ℕ) (settings : Settings) (live : Live) (bucket : Bucket) (old mid new : Told) → IsConsistent new → c < b
+    → Changes (file_of base 0 (Journal live.side b)) IsOpened mid.files new.files → LeavesBy (ChangesFile (file_of base 0 (Journal live.side b)) IsOpened) mid new
+    → OpensBucket base settings c live old mid bucket → OpensBucket base settings c live old new bucket
+opened_on base b c settings live bucket old mid new law below changes stops is = record {
+  opened = is.opened;
+  found = is.found;
+  long = λ files tells.
+      let was = told_from (file_of base 0 (Journal live.side b)) IsOpened mid.files new.files files changes tells in
+      long_on base live.side b c live.start bucket was.0 files below is.opened was.2 (is.long was.0 was.1);
+  holds = λ files tells list has. holds_on base live.side b c live.start settings.array live.judged bucket list mid new law below is.opened stops (is.holds files tells list has);
+}
+
+-- others were opened before it
+told_then : (base side b : ℕ) (old mid : Option Files) (files : Files) → TellsBy (OpensBelow base side b) old mid → old ≡ Some files → (now : Files) × (mid ≡ Some now)
+    × OpensBelow base side b files now
+told_then base side b old mid files told tells = subst (λ (from : Option Files). TellsBy (OpensBelow base side b) from mid) tells told
+
+pub opened_back : (base b : ℕ) (settings : Settings) (live : Live) (bucket : Bucket) (old mid new : Told) → TellsBy (OpensBelow base live.side b) old.files mid.files
+    → OpensBucket base settings b live mid new bucket → OpensBucket base settings b live old new bucket
+opened_back base b settings live bucket old mid new told is = record {
+  opened = is.opened;
+  found = λ files tells.
+      let at = told_then base live.side b old.files mid.files files told tells in
+      whole_back base live.side settings b files at.0 bucket at.2 (is.found at.0 at.1);
+  long = is.long;
+  holds = λ files tells list has.
+      let at = told_then base live.side b old.files mid.files files told tells in
+      is.holds at.0 at.1 list (list_on base live.side settings b live.start live.judged list files at.0 at.2 has);
+}

@@ -15,10 +15,10 @@ use Rattle.irl_journal.specs.Format.{StandsFor}
 use Rattle.irl_journal.specs.Blob.{BeginsWith}
 use Rattle.irl_journal.specs.Visiting.{IsOpened}
 use Rattle.irl_journal.proofs.Opened.{opened_stands}
-use Rattle.irl_bay.specs.declared.layout.files.BayFile.TheVariants.{Manifest, Cache, Judged, Texts, Journal, Aux}
-use Rattle.irl_bay.specs.BayFiles.{file_of, IsFileOf, IsBucketFile, IsSideFile}
-use Rattle.irl_bay.specs.Runs.{IsOffer, HasBucket}
-use Rattle.irl_bay.specs.Commits.{Commit, IsCommit, first_commit, last_commit, live_side}
+use Rattle.irl_layout.specs.declared.files.BayFile.TheVariants.{Manifest, Cache, Judged, Texts, Journal, Aux}
+use Rattle.irl_layout.specs.BayFiles.{file_of, IsFileOf, IsBucketFile, IsSideFile}
+use Rattle.irl_layout.specs.Runs.{IsOffer, HasBucket}
+use Rattle.irl_layout.specs.Commits.{Commit, IsCommit, first_commit, last_commit, live_side}
 use Rattle.irl_bay.specs.Standing.{Stands}
 use Rattle.irl_bay.specs.Drum.{Drum, IsDrum, cache_front, judged_front, texts_front, bucket_at}
 use Rattle.irl_bay.specs.Holding.{Holds, IsLong}

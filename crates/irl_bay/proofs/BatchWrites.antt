@@ -3,15 +3,22 @@ use Rattle.std.proofs.Common.{◌≡◌, ◌≢◌, ◌∙◌, inl, inr, ℕ, �
 use Rattle.std.specs.Option.{ForSome}
 use Rattle.irl_disk.specs.Disk.{Files, Changes, ChangesFile, ChangesOnly, TellsOnly, TellsBy}
 use Rattle.irl_disk.proofs.Frames.{told_from}
-use Rattle.irl_disk.specs.Images.{Told, IsConsistent, LeavesBy, LeavesSame}
-use Rattle.irl_disk.proofs.Stretches.{widens_by, joins_by, left_now, same_by}
+use Rattle.irl_disk.proofs.Frames.{takes_both, takes_none, takes_only}
+use Rattle.irl_disk.proofs.Effects.{cause_for, cause_then, told_none, told_then}
+use Rattle.irl_disk.specs.Effects.{OnlyReads}
+use Rattle.irl_disk.specs.Images.{Told, IsConsistent, LeavesBy}
+use Rattle.irl_disk.proofs.Stretches.{widens_by, joins_by, left_now, same_by, stays}
+use Rattle.irl_base.specs.Faults.{HasCause}
 use Rattle.irl_journal.specs.Blob.{Front, KeepsFront, IsCommitted}
 use Rattle.irl_journal.proofs.Fronts.{begins_long, take_begins}
-use Rattle.irl_bay.specs.BayFiles.{file_of}
+use Rattle.irl_layout.specs.BayFiles.{file_of, IsFileOf}
 use Rattle.irl_bay.specs.Merging.{Batch}
-use Rattle.irl_bay.specs.declared.layout.files.BayFile.TheVariants.{Cache}
-use Rattle.irl_bay.specs.Drum.{Drum, judged_front, texts_front}
-use Rattle.irl_bay.specs.Merging.{IsBatchFile, KeepsCommitted, IsWritten, IsLongBatch, Writes, next_cache, next_judged, next_texts}
+use Rattle.irl_layout.specs.declared.files.BayFile.TheVariants.{Cache}
+use Rattle.irl_bay.specs.Drum.{Drum, IsDrum, judged_front, texts_front}
+use Rattle.irl_bay.specs.Sides.{IsSidesOf, ReadsAndPuts}
+use Rattle.irl_bay.specs.declared.sides.Sides.{Sides}
+use Rattle.irl_bay.specs.Merging.{IsBatchFile, KeepsCommitted, IsWritten, IsLongBatch, Writes, WritesOn, next_cache, next_judged, next_texts}
+use Rattle.irl_bay.proofs.DrumFiles.{side_is_file}
 use Rattle.irl_bay.proofs.MergeFrames.{blob_moved, same_front, keeps_all, keeps_then}
 
 -- ---- what is told changes by a step
@@ -107,13 +114,56 @@ pub texts_writes : (drum : Drum) (f n : ℕ) (old new : Told) → f ≡ (texts_f
     → LeavesBy (ChangesFile f (KeepsFront n)) old new → Writes drum old new
 texts_writes drum f n old new file size changes stops = texts_step drum (front f n) old new (front_is (front f n) _ _ file size) changes stops
 
--- nothing is written
-tells_none : (step : Files → Files → Type 0) (old new : Option Files) → ((x : Files) → step x x) → new ≡ old → TellsBy step old new
-tells_none step None new none same = same
-tells_none step (Some files) new none same = (files, same, none files)
+-- ---- what a call does that writes so
+module _ (drum : Drum) where
+  -- the writes alone
+  pub writes_of : (failed : Type 0) (old new : Told) → WritesOn drum failed old new → Writes drum old new
+  writes_of failed old new on = record { told = on.told; stops = on.stops }
 
-pub writes_none : (drum : Drum) (old new : Told) → new.files ≡ old.files → LeavesSame old new → Writes drum old new
-writes_none drum old new same stops = record { told = tells_none (KeepsCommitted drum) old.files new.files (keeps_all drum) same; stops = same_by old new (KeepsCommitted drum) (keeps_all drum) stops }
+  pub on_none : (now : Told) → IsConsistent now → WritesOn drum ⊥ now now
+  on_none now law = record {
+    told = told_none (KeepsCommitted drum) now.files now.files (keeps_all drum) refl;
+    stops = same_by now now (KeepsCommitted drum) (keeps_all drum) (stays now now.images law (λ image was. was));
+    taken = takes_none _ now.taken now.taken refl;
+    cause = record { later = omega arith; rose = λ no. absurd no };
+  }
+
+  pub on_for : (failed answered : Type 0) (old new : Told) → (answered → failed) → WritesOn drum failed old new → WritesOn drum answered old new
+  on_for failed answered old new gave on = record { told = on.told; stops = on.stops; taken = on.taken; cause = cause_for failed answered old.faults new.faults gave on.cause }
+
+  pub on_as : (failed answered : Type 0) (old new : Told) → WritesOn drum failed old new → (answered → failed) → WritesOn drum answered old new
+  on_as failed answered old new on gave = on_for failed answered old new gave on
+
+  pub on_then : (failed answered : Type 0) (old mid new : Told) → IsConsistent mid → WritesOn drum failed old mid → WritesOn drum answered mid new → WritesOn drum answered old new
+  on_then failed answered old mid new law first second = record {
+    told = told_then (KeepsCommitted drum) old.files mid.files new.files (keeps_then drum) first.told second.told;
+    stops = joins_by old mid new (KeepsCommitted drum) law (keeps_then drum) first.stops second.stops;
+    taken = takes_both _ old.taken mid.taken new.taken first.taken second.taken;
+    cause = cause_then answered old.faults mid.faults new.faults first.cause.later second.cause;
+  }
+
+  -- one that only writes, and one that only reads a file of the bay
+  pub on_only : (failed : Type 0) (old new : Told) → Writes drum old new → new.taken ≡ old.taken → HasCause failed old.faults new.faults → WritesOn drum failed old new
+  on_only failed old new writes taken cause = record { told = writes.told; stops = writes.stops; taken = takes_none _ old.taken new.taken taken; cause = cause }
+
+  pub on_reads : (f : ℕ) (failed : Type 0) (old new : Told) → IsFileOf drum.base drum.settings.buckets f → OnlyReads (λ g. g ≡ f) failed old new → WritesOn drum failed old new
+  on_reads f failed old new is reads = record {
+    told = told_none (KeepsCommitted drum) old.files new.files (keeps_all drum) reads.same;
+    stops = same_by old new (KeepsCommitted drum) (keeps_all drum) reads.stops;
+    taken = takes_only _ f old.taken new.taken is reads.taken;
+    cause = reads.cause;
+  }
+
+  -- and one that goes through the cache
+  pub on_puts : (sides : Sides) (failed : Type 0) (old new : Told) → IsDrum drum → IsSidesOf drum sides → ReadsAndPuts sides failed old new → WritesOn drum failed old new
+  on_puts sides failed old new law of puts =
+      let writes = cache_writes drum sides.writer.out.file old new of.to puts.told puts.stops in
+      record {
+        told = writes.told;
+        stops = writes.stops;
+        taken = takes_only _ sides.reader.file old.taken new.taken (subst (IsFileOf drum.base drum.settings.buckets) (sym of.from) (side_is_file drum law)) puts.taken;
+        cause = puts.cause;
+      }
 
 -- ---- once all are done
 -- what is committed of another file stays

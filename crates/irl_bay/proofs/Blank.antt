@@ -19,10 +19,10 @@ use Rattle.irl_disk.proofs.Stretches.{widens_by, joins_by}
 use Rattle.irl_journal.specs.Appending.{Tail, IsOpen}
 use Rattle.irl_journal.proofs.Fronts.{none_committed}
 use Rattle.irl_bay.specs.declared.bucket.Bucket.{Bucket}
-use Rattle.irl_bay.specs.declared.layout.files.BayFile.TheVariants.{Manifest, Cache, Judged, Texts, Journal}
-use Rattle.irl_bay.specs.BayFiles.{file_of, max_base, IsFileOf}
-use Rattle.irl_bay.specs.Runs.{IsOffer}
-use Rattle.irl_bay.specs.Commits.{Commit, IsCommit, IsCommitOf, first_commit, starts, live_offers}
+use Rattle.irl_layout.specs.declared.files.BayFile.TheVariants.{Manifest, Cache, Judged, Texts, Journal}
+use Rattle.irl_layout.specs.BayFiles.{file_of, max_base, IsFileOf}
+use Rattle.irl_layout.specs.Runs.{IsOffer}
+use Rattle.irl_layout.specs.Commits.{Commit, IsCommit, IsCommitOf, first_commit, starts, live_offers}
 use Rattle.irl_bay.specs.Drum.{Drum, IsDrum, no_bucket}
 use Rattle.irl_bay.specs.Holding.{Holds, HoldsBucket}
 use Rattle.irl_bay.specs.Making.{IsUnmade, IsJournalOn, Makes}

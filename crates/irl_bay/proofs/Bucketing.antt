@@ -1,5 +1,5 @@
 -- A bucket's two files, before and after an append to them.
-use Rattle.std.proofs.Common.{◌≡◌, ◌≢◌, ◌∙◌, ◌⊎◌, inl, inr, ℕ, ◌+◌, ◌<◌, ◌≤◌, List, [], ◌∷◌, ◌++◌, map, take, length, Option, refl, sym, ap, subst, arith, append_assoc, length-append, length-take-le, drop}
+use Rattle.std.proofs.Common.{◌≡◌, ◌≢◌, ◌∙◌, ◌⊎◌, inl, inr, ℕ, ◌+◌, ◌<◌, ◌≤◌, List, [], ◌∷◌, ◌++◌, map, take, length, Option, refl, sym, ap, subst, arith, append_assoc, length-append, length-take-le, drop, Result, Ok}
 use Rattle.std.proofs.lemmas.List.{map-append, take-append-le}
 use Rattle.std.specs.List.{AllByRecursion}
 use Rattle.std.specs.Option.{ForSome}
@@ -8,15 +8,19 @@ use Rattle.irl_disk.specs.Disk.{Files, Changes, ChangesFile, Holds as Written, C
 use Rattle.irl_disk.proofs.Frames.{told_from}
 use Rattle.irl_disk.specs.Images.{Told, IsConsistent, Follows, Leaves, LeavesBy}
 use Rattle.irl_disk.proofs.Stretches.{widens, joins, left_now}
-use Rattle.irl_journal.specs.Format.{HasRecords}
-use Rattle.irl_journal.specs.Appending.{Tail, IsOpen, HasOrGains}
+use Rattle.irl_journal.specs.Format.{HasRecords, records_text}
+use Rattle.irl_journal.specs.Appending.{Tail, IsOpen, HasOrGains, Appends as Recorded}
 use Rattle.irl_journal.specs.Blob.{Front, BeginsWith, KeepsFront, IsCommitted}
 use Rattle.irl_journal.proofs.Fronts.{begins_less, none_committed}
 use Rattle.irl_bay.specs.declared.bucket.Bucket.{Bucket}
-use Rattle.irl_bay.specs.Runs.{run_bytes, texts_of, IsOffer, IsRun, AreRuns, HasBucket}
+use Rattle.irl_layout.specs.Runs.{run_bytes, texts_of, IsOffer, IsRun, AreRuns, HasBucket}
 use Rattle.irl_bay.specs.Holding.{HoldsBucket, BucketBecomes, IsFileOfBucket}
-use Rattle.irl_bay.proofs.Runs.{one_run_more, texts-both}
-use Rattle.irl_bay.proofs.Staying.{only_one, only_both, told_before, leaves_one, open_stays, committed_stays}
+use Rattle.irl_layout.proofs.Runs.{one_run_more, texts-both}
+use Rattle.irl_disk.specs.Effects.{OnlyChanges}
+use Rattle.irl_disk.proofs.Effects.{cause_for, cause_then}
+use Rattle.irl_bay.specs.Flushing.{Gains, MayGain}
+use Rattle.irl_bay.specs.Opening.{IsLongBucket}
+use Rattle.irl_bay.proofs.Staying.{only_one, only_both, told_before, tells_one, tells_both, leaves_one, leaves_both, open_stays, committed_stays}
 
 -- ---- a bucket without an offer
 pub new_bucket : (images : Files → Type 0) (journal : Tail) (file start array : ℕ) → IsOpen images journal []
@@ -214,3 +218,89 @@ pub still_long : (among : ℕ → Type 0) (f n : ℕ) (old new : Option Files) �
 still_long among f n old new tells out within = λ files told.
     let was = told_before among old new files tells told in
     subst (λ (file : List ℕ). n ≤ length file) (sym (was.2 f out)) (within was.0 was.1)
+
+-- ---- an append of offers, to both files
+-- What a stop at any moment leaves of the bucket, and which files change.
+pub record BucketMayLeave (failed : Type 0) (news : List Tuple) (old : Bucket) (before after : Told) : Type 0 where
+  pub stops : (array cut : ℕ) (list : List Tuple) → IsRun array news → HoldsBucket before.images array cut old list → LeavesBy (BucketBecomes old array list news) before after
+  pub gains : MayGain news old.journal.file old.journal before after
+  pub others : OnlyChanges (ChangesOnly (IsFileOfBucket old)) failed before after
+
+-- where the texts are refused
+pub left_by_texts : (bucket : Bucket) (news : List Tuple) (failed answered : Type 0) (old new : Told) → bucket.journal.file ≢ bucket.aux.file → AllByRecursion IsOffer news
+    → OnlyChanges (ChangesFile bucket.aux.file (KeepsFront bucket.aux.length)) failed old new → (answered → failed) → BucketMayLeave answered news bucket old new
+left_by_texts bucket news failed answered old new apart offers changes is = record {
+  stops = λ array cut list run holds. stops_texts array cut bucket list news old new (record { apart = apart; run = run; offers = offers; holds = holds }) changes.stops;
+  gains = λ payloads is_open. gains_none bucket.journal bucket.aux.file _ payloads (run_bytes news) old new apart is_open changes.stops;
+  others = record {
+    told = tells_one (IsFileOfBucket bucket) bucket.aux.file _ _ _ (inr refl) changes.told;
+    stops = leaves_one (IsFileOfBucket bucket) bucket.aux.file _ _ _ (inr refl) changes.stops;
+    taken = changes.taken;
+    cause = cause_for failed answered old.faults new.faults is changes.cause;
+  };
+}
+
+-- What is known once the texts are appended.
+pub record HasAppended (bucket : Bucket) (aux : Front) (news : List Tuple) (texts : List ℕ) (failed : Type 0) (old mid : Told) : Type 0 where
+  pub apart : bucket.journal.file ≢ bucket.aux.file
+  pub offers : AllByRecursion IsOffer news
+  pub are : texts ≡ texts_of news
+  pub law : IsConsistent mid
+  pub file : aux.file ≡ bucket.aux.file
+  pub end : aux.length ≡ bucket.aux.length + length texts
+  pub committed : (held : List ℕ) → IsCommitted old.images bucket.aux held → IsCommitted mid.images aux (held ++ texts)
+  pub bytes : Changes bucket.aux.file (Written bucket.aux.length texts) old.files mid.files
+  pub changes : OnlyChanges (ChangesFile bucket.aux.file (KeepsFront bucket.aux.length)) failed old mid
+
+module _ (bucket : Bucket) (aux : Front) (tail : Tail) (news : List Tuple) (texts bytes : List ℕ) (fault : Type 0) (old mid new : Told) (k : HasAppended bucket aux news texts fault old mid)
+    (is : bytes ≡ run_bytes news) where
+  -- what both calls leave
+  pub left_by_both : {E : Type 0} (result : Result Unit E) (failed answered : Type 0) → Recorded result failed (bytes ∷ []) bucket.journal tail mid new → (answered → failed)
+      → BucketMayLeave answered news bucket old new
+  left_by_both result failed answered second what = record {
+    stops = λ array cut list run holds.
+        let a : Appends array cut bucket list news old = record { apart = k.apart; run = run; offers = k.offers; holds = holds } in
+        let t = has_texts array cut bucket aux list news texts old mid a k.law k.file k.are k.committed k.changes.stops in
+        stops_record array cut bucket aux list news bytes old mid new a t is (second.changes _ (journal_stays array cut bucket aux list news old mid a t)).stops;
+    gains = λ payloads is_open.
+        let before = gains_none bucket.journal bucket.aux.file _ payloads (run_bytes news) old mid k.apart is_open k.changes.stops in
+        let still = still_open bucket.journal bucket.aux.file _ payloads old mid k.law k.apart k.changes.stops is_open in
+        gains_one bucket.journal payloads bytes (run_bytes news) old mid new is before (second.changes payloads still).stops;
+    others = record {
+      told = tells_both (IsFileOfBucket bucket) _ _ _ (tells_one (IsFileOfBucket bucket) bucket.aux.file _ _ _ (inr refl) k.changes.told)
+          (tells_one (IsFileOfBucket bucket) bucket.journal.file _ _ _ (inl refl) second.others.told);
+      stops = leaves_both (IsFileOfBucket bucket) old mid new k.law (leaves_one (IsFileOfBucket bucket) bucket.aux.file _ _ _ (inr refl) k.changes.stops)
+          (leaves_one (IsFileOfBucket bucket) bucket.journal.file _ _ _ (inl refl) second.others.stops);
+      taken = second.others.taken ∙ k.changes.taken;
+      cause = cause_then answered old.faults mid.faults new.faults k.changes.cause.later (cause_for failed answered mid.faults new.faults what second.others.cause);
+    };
+  }
+
+  -- and what the bucket has at their end
+  module _ {E : Type 0} (done : Unit) (failed : Type 0) (second : Recorded {E = E} (Ok done) failed (bytes ∷ []) bucket.journal tail mid new) where
+    pub holds_both : (n array cut : ℕ) (list : List Tuple) → n ≡ length news → IsConsistent new → IsRun array news → HoldsBucket old.images array cut bucket list
+        → HoldsBucket new.images array cut (record bucket { journal = tail; aux = aux; durable = bucket.durable + n }) (list ++ news)
+    holds_both n array cut list count law run holds =
+        let a : Appends array cut bucket list news old = record { apart = k.apart; run = run; offers = k.offers; holds = holds } in
+        let t = has_texts array cut bucket aux list news texts old mid a k.law k.file k.are k.committed k.changes.stops in
+        subst (λ (m : ℕ). HoldsBucket new.images array cut (record bucket { journal = tail; aux = aux; durable = bucket.durable + m }) (list ++ news)) (sym count)
+        (holds_more array cut bucket tail aux list news bytes old mid new a t is law (leaves_one (λ f. f ≡ bucket.journal.file) bucket.journal.file _ _ _ refl second.others.stops) second.acknowledged)
+
+    pub gains_both : Gains news bucket.journal tail old new
+    gains_both = λ payloads is_open.
+        let still = still_open bucket.journal bucket.aux.file _ payloads old mid k.law k.apart k.changes.stops is_open in
+        subst (λ (one : List ℕ). IsOpen new.images tail (payloads ++ one ∷ [])) is (second.acknowledged payloads still)
+
+    pub long_both : (durable : ℕ) → ForSome old.files (IsLongBucket bucket) → ForSome new.files (IsLongBucket (record bucket { journal = tail; aux = aux; durable = durable }))
+    long_both durable long = λ files told.
+        let journal = bucket.journal.file in
+        let within = still_within (λ g. g ≡ bucket.aux.file) bucket.journal _ _ (tells_one (λ g. g ≡ bucket.aux.file) bucket.aux.file _ _ _ refl k.changes.told) k.apart
+        (λ files told. (long files told).journal) in
+        let behind = record_long journal bucket.journal.end (records_text (bytes ∷ [])) mid.files new.files within second.bytes files told in
+        let put = texts_long bucket.aux.file bucket.aux.length texts old.files mid.files (λ files told. (long files told).aux) k.bytes in
+        let still = still_long (λ g. g ≡ journal) bucket.aux.file (bucket.aux.length + length texts) mid.files new.files
+        (tells_one (λ g. g ≡ journal) journal _ _ _ refl second.others.told) (λ e. k.apart (sym e)) put files told in
+        record {
+          journal = subst (λ (h : ℕ). tail.end < length (files h)) (sym second.file) (omega (arith, behind, second.end));
+          aux = subst (λ (h : ℕ). aux.length ≤ length (files h)) (sym k.file) (omega (arith, still, k.end));
+        }

@@ -1,12 +1,12 @@
 -- A bucket that is opened: what its journal was found to have, against the list that its files have.
-use Rattle.std.proofs.Common.{◌≡◌, ◌∙◌, ℕ, ◌+◌, ◌<◌, ◌≤◌, List, [], ◌∷◌, ◌++◌, length, map, take, drop, ◌⊎◌, inl, inr, ⊎_elim, Some, refl, sym, ap, subst, arith, append_assoc, append-nil, length-append, take-append-drop, take_all}
+use Rattle.std.proofs.Common.{◌≡◌, ◌∙◌, ℕ, ◌+◌, ◌<◌, ◌≤◌, List, [], ◌∷◌, ◌++◌, length, map, take, drop, ◌⊎◌, inl, inr, ⊎_elim, refl, sym, ap, subst, arith, append_assoc, append-nil, length-append, take-append-drop, take_all}
 use Rattle.std.proofs.lemmas.List.{map-append, length-map}
 use Rattle.std.proofs.lemmas.List.Folds.{flat_map-map}
 use Rattle.std.proofs.lemmas.List.Concat.{flat_map-cons}
-use Rattle.std.proofs.Math.Seq.{take-append_seam, drop-append_seam}
+use Rattle.std.proofs.Math.Seq.{take-append_seam}
 use Rattle.std.specs.List.{flat_map, take-map, AllByRecursion}
 use Rattle.irl_offer.specs.Buckets.{bucket_of}
-use Rattle.irl_offer.specs.Entries.{entry_bytes, entry_of}
+use Rattle.irl_offer.specs.Entries.{entry_bytes}
 use Rattle.irl_offer.specs.Tuple.{Tuple}
 use Rattle.irl_offer.specs.declared.entry.Entry.{Entry}
 use Rattle.irl_offer.specs.declared.settings.Settings.{Settings}
@@ -21,12 +21,13 @@ use Rattle.irl_journal.specs.declared.fault.JournalFault.TheVariants.{Failed as 
 use Rattle.irl_journal.proofs.Fronts.{begins_take}
 use Rattle.irl_bay.specs.declared.bucket.Bucket.{Bucket}
 use Rattle.irl_bay.specs.declared.found.Found.{Found}
-use Rattle.irl_bay.specs.declared.tally.Tally.{Tally}
-use Rattle.irl_bay.specs.Damage.{IsEntryOf, IsEntryRun, IsDamagedJournal, AreRunPayloads, entries_bytes, entries_in, text_length}
+use Rattle.irl_bay.specs.declared.tally.TallyVisitor.{TallyVisitor}
+use Rattle.irl_bay.specs.Damage.{IsDamagedJournal}
+use Rattle.irl_layout.specs.EntryRuns.{IsEntryOf, IsEntryRun, AreRunPayloads, entries_bytes, entries_in, text_length}
 use Rattle.irl_bay.specs.Faults.{fault_of}
 use Rattle.irl_bay.specs.Holding.{HoldsBucket}
-use Rattle.irl_bay.specs.Runs.{HasBucket, AreRuns, IsRun, IsOffer, entry_of_offer, run_bytes, texts_of}
-use Rattle.irl_bay.proofs.EntryBytes.{entry_read, room_of, entries-cons, text_length-cons, length-entries, below_or_not}
+use Rattle.irl_layout.specs.Runs.{HasBucket, AreRuns, IsRun, IsOffer, entry_of_offer, run_bytes, texts_of}
+use Rattle.irl_layout.proofs.EntryBytes.{text_length-cons, below_or_not, each_room, same_entries}
 use Rattle.irl_bay.proofs.Finding.{TakesRun, HasFound}
 
 -- ---- damage
@@ -37,7 +38,7 @@ damaged_fault f JournalMemory g at is = absurd (cc)
 damaged_fault f (JournalDamaged place) g at is = (cc, cc)
 
 -- the records that were taken are runs of the bucket
-pub record TookEach (settings : Settings) (b : ℕ) (payloads : List (List ℕ)) (new : Tally) : Type 0 where
+pub record TookEach (settings : Settings) (b : ℕ) (payloads : List (List ℕ)) (new : TallyVisitor) : Type 0 where
   pub are : AreRunPayloads settings b payloads
   pub settings_are : new.settings ≡ settings
   pub bucket : new.bucket ≡ b
@@ -48,12 +49,12 @@ cons-cons x y xs ys p q = cc
 run_moved : (s t : Settings) (m n : ℕ) (run : List Entry) → s ≡ t → m ≡ n → IsEntryRun s m run → IsEntryRun t n run
 run_moved s t m n run same_settings same_bucket is = subst (λ (k : Settings). IsEntryRun k n run) same_settings (subst (λ (k : ℕ). IsEntryRun s k run) same_bucket is)
 
-pub took_each : (settings : Settings) (b at : ℕ) (old new : Tally) (payloads : List (List ℕ)) → old.settings ≡ settings → old.bucket ≡ b → TakesAll TakesRun old (placed_from at payloads) new
+pub took_each : (settings : Settings) (b at : ℕ) (old new : TallyVisitor) (payloads : List (List ℕ)) → old.settings ≡ settings → old.bucket ≡ b → TakesAll TakesRun old (placed_from at payloads) new
     → TookEach settings b payloads new
 took_each settings b at old new [] is_settings is_bucket took = record {
   are = ([], tt, refl);
-  settings_are = ap (λ (t : Tally). t.settings) took ∙ is_settings;
-  bucket = ap (λ (t : Tally). t.bucket) took ∙ is_bucket;
+  settings_are = ap (λ (t : TallyVisitor). t.settings) took ∙ is_settings;
+  bucket = ap (λ (t : TallyVisitor). t.bucket) took ∙ is_bucket;
 }
 took_each settings b at old new (payload ∷ payloads) is_settings is_bucket took =
     let step = took.1 in
@@ -80,10 +81,10 @@ last_run settings b (p ∷ payloads) payload (run ∷ runs) each is =
     last_run settings b payloads payload runs each.1 rest
 
 -- damage of the journal is damage of the bucket
-abbrev pub RefusesRun : Tally → ℕ → List ℕ → Tally → Type 0
+abbrev pub RefusesRun : TallyVisitor → ℕ → List ℕ → TallyVisitor → Type 0
 RefusesRun old at payload new = (run : List Entry) → IsEntryRun old.settings old.bucket run → payload ≡ entries_bytes run → ⊥
 
-pub damaged_runs : (settings : Settings) (b : ℕ) (old after : Tally) (file : List ℕ) (at : ℕ) → old.settings ≡ settings → old.bucket ≡ b → IsBrokenFor TakesRun old after file at
+pub damaged_runs : (settings : Settings) (b : ℕ) (old after : TallyVisitor) (file : List ℕ) (at : ℕ) → old.settings ≡ settings → old.bucket ≡ b → IsBrokenFor TakesRun old after file at
     ⊎ IsRefusedAt TakesRun RefusesRun old after file at → IsDamagedJournal (AreRunPayloads settings b) file at
 damaged_runs settings b old after file at is_settings is_bucket (inl broken) = inl
     (record { broken = broken.broken; before = (took_each settings b 0 old after broken.broken.payloads is_settings is_bucket broken.took).are })
@@ -164,22 +165,6 @@ runs_of settings b (run ∷ runs) sizes each here =
     )
 
 -- ---- one list of runs
-same_entry_bytes : (buckets b : ℕ) (x y : Entry) (xs ys : List ℕ) → IsEntryOf buckets b x → IsEntryOf buckets b y → entry_bytes x ++ xs ≡ entry_bytes y ++ ys → (x ≡ y) × (xs ≡ ys)
-same_entry_bytes buckets b x y xs ys is_x is_y same =
-    let front : entry_bytes x ≡ entry_bytes y = sym (take-append_seam (entry_bytes x) xs) ∙ ap (take 27) same ∙ take-append_seam (entry_bytes y) ys in
-    let read : Some x ≡ Some y = sym (entry_read x (room_of buckets b x is_x)) ∙ ap entry_of front ∙ entry_read y (room_of buckets b y is_y) in
-    (cc, sym (drop-append_seam (entry_bytes x) xs) ∙ ap (drop 27) same ∙ drop-append_seam (entry_bytes y) ys)
-
-same_run : (buckets b : ℕ) (xs ys : List Entry) → AllByRecursion (IsEntryOf buckets b) xs → AllByRecursion (IsEntryOf buckets b) ys → entries_bytes xs ≡ entries_bytes ys → xs ≡ ys
-same_run buckets b [] [] each_x each_y same = refl
-same_run buckets b [] (y ∷ ys) each_x each_y same = absurd (omega (arith, ap length same, length-entries (y ∷ ys)))
-same_run buckets b (x ∷ xs) [] each_x each_y same = absurd (omega (arith, ap length same, length-entries (x ∷ xs)))
-same_run buckets b (x ∷ xs) (y ∷ ys) each_x each_y same =
-    let parts = same_entry_bytes buckets b x y (entries_bytes xs) (entries_bytes ys) each_x.0 each_y.0 (sym (entries-cons x xs) ∙ same ∙ entries-cons y ys) in
-    let behind : xs ≡ ys = same_run buckets b xs ys each_x.1 each_y.1 parts.1 in
-    let first : x ≡ y = parts.0 in
-    cc
-
 pub same_runs : (settings : Settings) (b : ℕ) (xs ys : List (List Entry)) → AllByRecursion (IsEntryRun settings b) xs → AllByRecursion (IsEntryRun settings b) ys
     → map entries_bytes xs ≡ map entries_bytes ys → xs ≡ ys
 same_runs settings b [] [] each_x each_y same = refl
@@ -188,7 +173,7 @@ same_runs settings b (x ∷ xs) [] each_x each_y same = cc
 same_runs settings b (x ∷ xs) (y ∷ ys) each_x each_y same =
     let front : entries_bytes x ≡ entries_bytes y = cc in
     let rest : map entries_bytes xs ≡ map entries_bytes ys = cc in
-    let first : x ≡ y = same_run settings.buckets b x y each_x.0.each each_y.0.each front in
+    let first : x ≡ y = same_entries x y (each_room settings.buckets b x each_x.0.each) (each_room settings.buckets b y each_y.0.each) front in
     let behind : xs ≡ ys = same_runs settings b xs ys each_x.1 each_y.1 rest in
     cc
 

@@ -1,11 +1,11 @@
 -- The files of an open bay, each by its part.
-use Rattle.std.proofs.Common.{ℕ, ◌≡◌, ◌+◌, ◌<◌, ◌≤◌, inl, inr, refl, subst, arith, Option, None, Some}
+use Rattle.std.proofs.Common.{ℕ, ◌≡◌, ◌≢◌, ◌+◌, ◌<◌, ◌≤◌, inl, inr, refl, subst, arith, Option, None, Some}
 use Rattle.std.specs.Prelude.{IfSome}
 use Rattle.irl_cache.specs.Reading.{TakesExactly}
-use Rattle.irl_disk.specs.Taken.{TakesOf}
-use Rattle.irl_bay.specs.BayFiles.{IsFileOf}
-use Rattle.irl_bay.specs.declared.layout.files.BayFile.TheVariants.{Cache, Journal, Aux}
-use Rattle.irl_bay.specs.Commits.{live_side, side_of}
+use Rattle.irl_disk.specs.Taken.{TakesOf, TakesOnly}
+use Rattle.irl_layout.specs.BayFiles.{IsFileOf}
+use Rattle.irl_layout.specs.declared.files.BayFile.TheVariants.{Cache, Journal, Aux}
+use Rattle.irl_layout.specs.Commits.{live_side, side_of}
 use Rattle.irl_bay.specs.Drum.{Drum, IsDrum, bucket_at, cache_front}
 use Rattle.irl_bay.specs.Holding.{IsFileOfBucket}
 
@@ -27,6 +27,11 @@ bucket_is_file drum b f is lt (inr aux) = (Aux (live_side drum.last) b, (live_lo
 pub takes_of_none : (f : ℕ) (old new : Option (ℕ → ℕ)) → new ≡ old → TakesOf f 0 old new
 takes_of_none f None new same = same
 takes_of_none f (Some old) new same = (old, same, omega arith)
+
+-- a call that read another file alone
+pub takes_of_other : (f g : ℕ) (old new : Option (ℕ → ℕ)) → g ≢ f → TakesOnly f old new → TakesOf g 0 old new
+takes_of_other f g None new apart takes = takes
+takes_of_other f g (Some old) new apart takes = let same = takes.2 g apart in (takes.0, takes.1, omega (arith, same))
 
 pub takes_of_both : (f m n : ℕ) (old mid new : Option (ℕ → ℕ)) → TakesOf f m old mid → TakesOf f n mid new → TakesOf f (m + n) old new
 takes_of_both f m n None mid new one two = subst (λ (t : Option (ℕ → ℕ)). TakesOf f n t new) one two

@@ -12,11 +12,11 @@ use Rattle.irl_journal.specs.Format.{records_text, record_text, placed_from}
 use Rattle.irl_journal.specs.Visiting.{TakesAll}
 use Rattle.irl_journal.proofs.Lists.{length-body}
 use Rattle.irl_journal.proofs.Reading.{records-append, length-cons}
-use Rattle.irl_bay.specs.Damage.{IsEntryOf, IsEntryRun, entries_bytes, entries_in, text_length}
+use Rattle.irl_layout.specs.EntryRuns.{IsEntryOf, IsEntryRun, entries_bytes, entries_in, text_length}
 use Rattle.irl_bay.specs.Finding.{Advances, nothing_found}
 use Rattle.irl_bay.specs.declared.found.Found.{Found}
-use Rattle.irl_bay.specs.declared.tally.Tally.{Tally}
-use Rattle.irl_bay.proofs.EntryBytes.{below_or_not, text_length-append, text_length-cons, length-entries}
+use Rattle.irl_bay.specs.declared.tally.TallyVisitor.{TallyVisitor}
+use Rattle.irl_layout.proofs.EntryBytes.{below_or_not, text_length-append, text_length-cons, length-entries}
 
 -- where the first offer stands that isn't judged
 pub record IsFirst (cut : ℕ) (runs : List (List Entry)) (found : Found) : Type 0 where
@@ -94,13 +94,13 @@ found_more cut at runs run old new so_far step here few few_bytes =
 
 -- ---- all runs
 -- a run is counted
-abbrev pub TakesRun : Tally → ℕ → List ℕ → Tally → Type 0
+abbrev pub TakesRun : TallyVisitor → ℕ → List ℕ → TallyVisitor → Type 0
 TakesRun old at payload new =
     (new.settings ≡ old.settings) × (new.bucket ≡ old.bucket) × (new.cut ≡ old.cut)
     × ((run : List Entry) × IsEntryRun old.settings old.bucket run × (payload ≡ entries_bytes run) × Advances old.cut at run old.found new.found)
 
 -- what was taken of a bucket's journal
-pub record TookRuns (settings : Settings) (b cut : ℕ) (payloads : List (List ℕ)) (new : Tally) : Type 0 where
+pub record TookRuns (settings : Settings) (b cut : ℕ) (payloads : List (List ℕ)) (new : TallyVisitor) : Type 0 where
   pub runs : List (List Entry)
   pub each : AllByRecursion (IsEntryRun settings b) runs
   pub payloads_are : payloads ≡ map entries_bytes runs
@@ -135,7 +135,7 @@ each-more P [] run each here = (here, tt)
 each-more P (r ∷ runs) run each here = (each.0, each-more P runs run each.1 here)
 
 -- what was taken of the records behind some runs
-record TookMore (settings : Settings) (b cut : ℕ) (runs : List (List Entry)) (payloads : List (List ℕ)) (new : Tally) : Type 0 where
+record TookMore (settings : Settings) (b cut : ℕ) (runs : List (List Entry)) (payloads : List (List ℕ)) (new : TallyVisitor) : Type 0 where
   more : List (List Entry)
   each : AllByRecursion (IsEntryRun settings b) (runs ++ more)
   payloads_are : payloads ≡ map entries_bytes more
@@ -147,7 +147,8 @@ record TookMore (settings : Settings) (b cut : ℕ) (runs : List (List Entry)) (
 both_cons : (x y : List ℕ) (xs ys : List (List ℕ)) → x ≡ y → xs ≡ ys → x ∷ xs ≡ y ∷ ys
 both_cons x y xs ys p q = cc
 
-took_more : (settings : Settings) (b cut at : ℕ) (runs : List (List Entry)) (old new : Tally) (payloads : List (List ℕ)) → AllByRecursion (IsEntryRun settings b) runs → HasFound cut runs old.found
+took_more : (settings : Settings) (b cut at : ℕ) (runs : List (List Entry)) (old new : TallyVisitor) (payloads : List (List ℕ)) → AllByRecursion (IsEntryRun settings b) runs
+    → HasFound cut runs old.found
     → old.settings ≡ settings → old.bucket ≡ b → old.cut ≡ cut
     → at ≡ length (records_text (map entries_bytes runs)) → at + length (records_text payloads) < 2 ^ 64 → TakesAll TakesRun old (placed_from at payloads) new
     → TookMore settings b cut runs payloads new
@@ -155,10 +156,10 @@ took_more settings b cut at runs old new [] each so_far is_settings is_bucket is
   more = [];
   each = subst (λ (rs : List (List Entry)). AllByRecursion (IsEntryRun settings b) rs) (sym (append-nil runs)) each;
   payloads_are = refl;
-  found = subst (λ (t : Tally). HasFound cut (runs ++ []) t.found) (sym took) (subst (λ (rs : List (List Entry)). HasFound cut rs old.found) (sym (append-nil runs)) so_far);
-  settings_are = ap (λ (t : Tally). t.settings) took ∙ is_settings;
-  bucket = ap (λ (t : Tally). t.bucket) took ∙ is_bucket;
-  cut_is = ap (λ (t : Tally). t.cut) took ∙ is_cut;
+  found = subst (λ (t : TallyVisitor). HasFound cut (runs ++ []) t.found) (sym took) (subst (λ (rs : List (List Entry)). HasFound cut rs old.found) (sym (append-nil runs)) so_far);
+  settings_are = ap (λ (t : TallyVisitor). t.settings) took ∙ is_settings;
+  bucket = ap (λ (t : TallyVisitor). t.bucket) took ∙ is_bucket;
+  cut_is = ap (λ (t : TallyVisitor). t.cut) took ∙ is_cut;
 }
 took_more settings b cut at runs old new (payload ∷ payloads) each so_far is_settings is_bucket is_cut here fits took =
     let mid = took.0 in
@@ -190,7 +191,7 @@ took_more settings b cut at runs old new (payload ∷ payloads) each so_far is_s
     }
 
 -- what was taken of a journal from its beginning
-pub took_runs : (settings : Settings) (b cut : ℕ) (old new : Tally) (payloads : List (List ℕ)) → old.found ≡ nothing_found → old.settings ≡ settings → old.bucket ≡ b → old.cut ≡ cut
+pub took_runs : (settings : Settings) (b cut : ℕ) (old new : TallyVisitor) (payloads : List (List ℕ)) → old.found ≡ nothing_found → old.settings ≡ settings → old.bucket ≡ b → old.cut ≡ cut
     → length (records_text payloads) < 2 ^ 64
     → TakesAll TakesRun old (placed_from 0 payloads) new → TookRuns settings b cut payloads new
 took_runs settings b cut old new payloads none is_settings is_bucket is_cut fits took =
@@ -199,7 +200,7 @@ took_runs settings b cut old new payloads none is_settings is_bucket is_cut fits
     record { runs = all.more; each = all.each; payloads_are = all.payloads_are; found = all.found; settings_are = all.settings_are; bucket = all.bucket; cut_is = all.cut_is }
 
 -- where the first offer stands that isn't judged lies within what was read
-pub first_within : (settings : Settings) (b cut : ℕ) (payloads : List (List ℕ)) (new : Tally) → TookRuns settings b cut payloads new → cut < new.found.count
+pub first_within : (settings : Settings) (b cut : ℕ) (payloads : List (List ℕ)) (new : TallyVisitor) → TookRuns settings b cut payloads new → cut < new.found.count
     → (new.found.gate ≤ length (records_text payloads)) × (new.found.text ≤ new.found.texts)
 first_within settings b cut payloads new took below =
     let first = took.found.first (omega (arith, below, took.found.count)) in

@@ -20,22 +20,25 @@ use Rattle.irl_journal.specs.Format.{StandsFor, HasRecords}
 use Rattle.irl_journal.specs.Appending.{IsOpen}
 use Rattle.irl_journal.specs.Blob.{BeginsWith, IsCommitted}
 use Rattle.irl_bay.specs.declared.bucket.Bucket.{Bucket}
-use Rattle.irl_bay.specs.declared.layout.files.BayFile.TheVariants.{Journal, Aux}
-use Rattle.irl_bay.specs.BayFiles.{file_of, IsBucketFile}
-use Rattle.irl_bay.specs.Runs.{texts_of, IsOffer, HasBucket}
-use Rattle.irl_bay.specs.Commits.{Commit, IsCommitOf, AreCommitsOf, first_commit, last_commit, commit_bytes, live_side, live_offers, starts}
+use Rattle.irl_layout.specs.declared.files.BayFile.TheVariants.{Journal, Aux}
+use Rattle.irl_layout.specs.BayFiles.{file_of, IsBucketFile}
+use Rattle.irl_layout.specs.Runs.{texts_of, IsOffer, HasBucket}
+use Rattle.irl_layout.specs.Commits.{Commit, IsCommitOf, AreCommitsOf, first_commit, last_commit, commit_bytes, live_side, live_offers, starts}
 use Rattle.irl_bay.specs.Cache.{HasCache}
 use Rattle.irl_cache.specs.SortedRun.{pairs_bytes}
-use Rattle.irl_bay.specs.JudgedEntries.{judged_entries}
+use Rattle.irl_layout.specs.JudgedEntries.{judged_entries}
 use Rattle.irl_bay.specs.Standing.{IsBookOf, HasBucketOf, Stands}
 use Rattle.irl_bay.specs.Drum.{Drum, IsDrum, IsBucket, bucket_at, judged_at, durables, no_bucket, cache_front, judged_front, texts_front}
 use Rattle.irl_bay.specs.Holding.{Holds, HoldsBucket, BucketBecomes, Becomes, IsLong, IsFileOfBucket}
+use Rattle.irl_base.specs.Faults.{HasCause}
+use Rattle.irl_bay.specs.Flushing.{MayGain, MayFlush, FlushMayLeave}
+use Rattle.irl_bay.specs.Opening.{IsLongBucket}
 use Rattle.irl_bay.proofs.HeldBuckets.{start_within}
 use Rattle.irl_bay.proofs.JudgedBooks.{each_append}
 use Rattle.irl_bay.proofs.Live.{live_flushed, live_beside}
 use Rattle.irl_bay.proofs.Standing.{bucket_stands, holds_stands}
 use Rattle.irl_bay.proofs.Staying.{only_wider, told_before, open_stays, committed_stays}
-use Rattle.irl_bay.proofs.Bucketing.{bucket_stays}
+use Rattle.irl_bay.proofs.Bucketing.{BucketMayLeave, bucket_stays}
 
 -- ---- which files are whose
 -- a file below those of the buckets is of none
@@ -388,9 +391,9 @@ on_err (Err error) P p = p
 -- what is told is as long as what is then committed
 pub flush_long : (drum : Drum) (sound : Bool) (b : ℕ) (bucket : Bucket) (old new : Option Files) → IsDrum drum → b < drum.settings.buckets
     → TellsOnly (IsBucketFile drum.base (live_side drum.last) b) old new → ForSome old (λ files. IsLong drum files)
-    → ForSome new (λ files. bucket.journal.end < length (files bucket.journal.file)) → ForSome new (λ files. bucket.aux.length ≤ length (files bucket.aux.file))
+    → ForSome new (IsLongBucket bucket)
     → ForSome new (λ files. IsLong (with_bucket drum sound b bucket) files)
-flush_long drum sound b bucket old new law within tells before journal aux = λ files told.
+flush_long drum sound b bucket old new law within tells before here = λ files told.
     let was = told_before (IsBucketFile drum.base (live_side drum.last) b) old new files tells told in
     let long = before was.0 was.1 in
     record {
@@ -404,14 +407,14 @@ flush_long drum sound b bucket old new law within tells before journal aux = λ 
           long.texts;
       journals = λ c inside. ⊎_elim
           (λ (e : c ≡ b). subst (λ (one : Bucket). one.journal.end < length (files one.journal.file))
-          (sym (ap (bucket_at (with_bucket drum sound b bucket)) e ∙ bucket_here drum sound b bucket (omega (arith, law.count)))) (journal files told))
+          (sym (ap (bucket_at (with_bucket drum sound b bucket)) e ∙ bucket_here drum sound b bucket (omega (arith, law.count)))) (here files told).journal)
           (λ (other : c ≢ b). subst (λ (one : Bucket). one.journal.end < length (files one.journal.file)) (sym (bucket_elsewhere drum sound b c bucket other))
           (subst (λ (file : List ℕ). (bucket_at drum c).journal.end < length file)
           (sym (was.2 (bucket_at drum c).journal.file (other_out drum.base (live_side drum.last) b c _ other (inl (law.buckets c inside).journal)))) (long.journals c inside)))
           (same_or_other c b);
       auxes = λ c inside. ⊎_elim
           (λ (e : c ≡ b). subst (λ (one : Bucket). one.aux.length ≤ length (files one.aux.file))
-          (sym (ap (bucket_at (with_bucket drum sound b bucket)) e ∙ bucket_here drum sound b bucket (omega (arith, law.count)))) (aux files told))
+          (sym (ap (bucket_at (with_bucket drum sound b bucket)) e ∙ bucket_here drum sound b bucket (omega (arith, law.count)))) (here files told).aux)
           (λ (other : c ≢ b). subst (λ (one : Bucket). one.aux.length ≤ length (files one.aux.file)) (sym (bucket_elsewhere drum sound b c bucket other))
           (subst (λ (file : List ℕ). (bucket_at drum c).aux.length ≤ length file)
           (sym (was.2 (bucket_at drum c).aux.file (other_out drum.base (live_side drum.last) b c _ other (inr (law.buckets c inside).aux)))) (long.auxes c inside)))
@@ -428,3 +431,31 @@ gained_none drum b payloads payload now law within consistent is_open =
     subst (λ (f : ℕ). LeavesGained f payloads payload now now) (law.buckets b within).journal
     (stays now (λ (image : Files). HasRecords (image (bucket_at drum b).journal.file) payloads
     ⊎ HasRecords (image (bucket_at drum b).journal.file) (payloads ++ payload ∷ [])) consistent (λ image left. inl (is_open image left).records))
+
+-- what a stop leaves of the bucket, as it is said of the bay
+pub flush_leaves : (drum : Drum) (b : ℕ) (was : Bucket) (news : List Tuple) (failed answered : Type 0) (old new : Told) → IsDrum drum → was ≡ bucket_at drum b → MayFlush b news drum
+    → AllByRecursion IsOffer news → BucketMayLeave failed news was old new → HasCause answered old.faults new.faults → FlushMayLeave answered b news drum old new
+flush_leaves drum b was news failed answered old new law is may fit left cause =
+    let here = subst (λ (one : Bucket). BucketMayLeave failed news one old new) is left in
+    record {
+      stops = λ book holds. stops_flush drum b news book old new law may.bucket may.offers fit holds (λ cut list has. here.stops drum.settings.array cut list (may.some, may.few) has);
+      gains = subst (λ (f : ℕ). MayGain news f (bucket_at drum b).journal old new) (law.buckets b may.bucket).journal here.gains;
+      others = record {
+        told = tells_named drum b (bucket_at drum b) old.files new.files law may.bucket refl here.others.told;
+        stops = leaves_named drum b (bucket_at drum b) old new law may.bucket refl here.others.stops;
+        taken = here.others.taken;
+        cause = cause;
+      };
+    }
+
+-- a bucket's two files are its own, and as long as what is committed of them
+pub apart_bucket : (drum : Drum) (b : ℕ) (was : Bucket) → IsDrum drum → b < drum.settings.buckets → was ≡ bucket_at drum b → was.journal.file ≢ was.aux.file
+apart_bucket drum b was law within is =
+    let here = law.buckets b within in
+    subst (λ (one : Bucket). one.journal.file ≢ one.aux.file) (sym is) (λ e. omega (arith, e, here.journal, here.aux))
+
+pub long_bucket : (drum : Drum) (b : ℕ) (was : Bucket) (told : Option Files) → b < drum.settings.buckets → was ≡ bucket_at drum b → ForSome told (λ files. IsLong drum files)
+    → ForSome told (IsLongBucket was)
+long_bucket drum b was told within is before = λ files tells.
+    let long = before files tells in
+    subst (λ (one : Bucket). IsLongBucket one files) (sym is) (record { journal = long.journals b within; aux = long.auxes b within })

@@ -14,24 +14,28 @@ use Rattle.irl_journal.specs.Format.{records_text, record_text, body_text, open_
 use Rattle.irl_journal.specs.Appending.{Ends}
 use Rattle.irl_journal.specs.Visiting.{TakesAll, HandsOver, StopsAt, RefusesAt, RefusesOneFrom}
 use Rattle.irl_bay.specs.declared.bucket.Bucket.{Bucket}
-use Rattle.irl_bay.specs.declared.gathering.Gathering.{Gathering}
-use Rattle.irl_bay.specs.Damage.{IsEntryOf, IsEntryRun, entries_bytes, entries_in}
+use Rattle.irl_bay.specs.declared.gathering.GatheringVisitor.{GatheringVisitor}
+use Rattle.irl_layout.specs.EntryRuns.{IsEntryOf, IsEntryRun, entries_bytes, entries_in}
 use Rattle.irl_bay.specs.Holding.{HoldsBucket}
-use Rattle.irl_bay.specs.Pending.{HasEntries, IsSpoiltJournal, HasRunsTo, IsCutShort, IsNoRun, IsClosed, AreEntriesFrom}
-use Rattle.irl_bay.specs.Runs.{entry_of_offer, run_bytes, IsOffer, IsRun}
-use Rattle.irl_bay.proofs.EntryBytes.{HasRoom, room_of}
-use Rattle.irl_bay.proofs.PendingRuns.{same_entries}
+use Rattle.irl_bay.specs.Pending.{HasEntries, IsSpoiltJournal, HasRunsTo, IsCutShort, IsNoRun, IsClosed}
+use Rattle.irl_layout.specs.Runs.{entry_of_offer, run_bytes, IsOffer, IsRun}
+use Rattle.irl_layout.proofs.EntryBytes.{HasRoom, each_room, same_entries}
+
+-- behind so many entries these are those of the offers that a list has from a number on
+pub record AreEntriesFrom (skip cut : ℕ) (list : List Tuple) (entries : List Entry) : Type 0 where
+  pub entries_are : drop skip entries ≡ map entry_of_offer (drop cut list)
+  pub count : length entries + cut ≡ skip + length list
 
 -- what the visitor takes, and what it refuses
-abbrev pub Gathers : Gathering → ℕ → List ℕ → Gathering → Type 0
+abbrev pub Gathers : GatheringVisitor → ℕ → List ℕ → GatheringVisitor → Type 0
 Gathers old at payload new = (new.settings ≡ old.settings) × (new.bucket ≡ old.bucket)
     × ((run : List Entry) × IsEntryRun old.settings old.bucket run × (payload ≡ entries_bytes run) × (new.entries.items ≡ old.entries.items ++ run))
 
-abbrev pub Refuses : Gathering → ℕ → List ℕ → Gathering → Type 0
+abbrev pub Refuses : GatheringVisitor → ℕ → List ℕ → GatheringVisitor → Type 0
 Refuses old at payload new = (run : List Entry) → IsEntryRun old.settings old.bucket run → payload ≡ entries_bytes run → ⊥
 
 -- ---- the runs that were taken
-pub record Gathered (settings : Settings) (b : ℕ) (old new : Gathering) (payloads : List (List ℕ)) : Type 0 where
+pub record Gathered (settings : Settings) (b : ℕ) (old new : GatheringVisitor) (payloads : List (List ℕ)) : Type 0 where
   pub settings_is : new.settings ≡ settings
   pub bucket_is : new.bucket ≡ b
   pub runs : List (List Entry)
@@ -39,15 +43,16 @@ pub record Gathered (settings : Settings) (b : ℕ) (old new : Gathering) (paylo
   pub payloads_are : payloads ≡ map entries_bytes runs
   pub joined : new.entries.items ≡ old.entries.items ++ entries_in runs
 
-pub gathered : (settings : Settings) (b : ℕ) (old new : Gathering) (at : ℕ) (payloads : List (List ℕ)) → old.settings ≡ settings → old.bucket ≡ b → TakesAll Gathers old (placed_from at payloads) new
+pub gathered : (settings : Settings) (b : ℕ) (old new : GatheringVisitor) (at : ℕ) (payloads : List (List ℕ)) → old.settings ≡ settings → old.bucket ≡ b
+    → TakesAll Gathers old (placed_from at payloads) new
     → Gathered settings b old new payloads
 gathered settings b old new at [] s k is = record {
-  settings_is = ap (λ (g : Gathering). g.settings) is ∙ s;
-  bucket_is = ap (λ (g : Gathering). g.bucket) is ∙ k;
+  settings_is = ap (λ (g : GatheringVisitor). g.settings) is ∙ s;
+  bucket_is = ap (λ (g : GatheringVisitor). g.bucket) is ∙ k;
   runs = [];
   each = tt;
   payloads_are = refl;
-  joined = ap (λ (g : Gathering). g.entries.items) is ∙ sym (append-nil old.entries.items);
+  joined = ap (λ (g : GatheringVisitor). g.entries.items) is ∙ sym (append-nil old.entries.items);
 }
 gathered settings b old new at (payload ∷ payloads) s k took =
     let mid = took.0 in
@@ -65,7 +70,7 @@ gathered settings b old new at (payload ∷ payloads) s k took =
 
 -- ---- how far they reach in the file
 -- runs up to a place, and what stands there
-pub record Reached (settings : Settings) (b from : ℕ) (file : List ℕ) (old new : Gathering) (at : ℕ) : Type 0 where
+pub record Reached (settings : Settings) (b from : ℕ) (file : List ℕ) (old new : GatheringVisitor) (at : ℕ) : Type 0 where
   pub runs : List (List Entry)
   pub behind : List ℕ
   pub has : HasRunsTo settings b from file runs at behind
@@ -77,7 +82,7 @@ split_at n bytes front within is = (
   sym (length-take-le n bytes within) ∙ ap length is,
 )
 
-reached_by : (settings : Settings) (b from at n : ℕ) (file : List ℕ) (old new : Gathering) (closed : Bool) → old.settings ≡ settings → old.bucket ≡ b → at ≡ from + n
+reached_by : (settings : Settings) (b from at n : ℕ) (file : List ℕ) (old new : GatheringVisitor) (closed : Bool) → old.settings ≡ settings → old.bucket ≡ b → at ≡ from + n
     → HandsOver Gathers old new from n closed (drop from file) → Reached settings b from file old new at
 reached_by settings b from at n file old new closed s k place handed =
     let g = gathered settings b old new from handed.payloads s k handed.took in
@@ -94,32 +99,33 @@ reached_by settings b from at n file old new closed s k place handed =
       joined = g.joined;
     }
 
-pub stopped : (settings : Settings) (b from at : ℕ) (file : List ℕ) (old new : Gathering) (closed : Bool) → old.settings ≡ settings → old.bucket ≡ b
+pub stopped : (settings : Settings) (b from at : ℕ) (file : List ℕ) (old new : GatheringVisitor) (closed : Bool) → old.settings ≡ settings → old.bucket ≡ b
     → StopsAt Gathers old new from closed (drop from file) at → Reached settings b from file old new at
 stopped settings b from at file old new closed s k stops = reached_by settings b from at stops.count file old new closed s k stops.place stops.handed
 
 -- no call was made
-pub reached_none : (settings : Settings) (b from at : ℕ) (file : List ℕ) (old new : Gathering) → from ≡ at → new ≡ old → Reached settings b from file old new at
+pub reached_none : (settings : Settings) (b from at : ℕ) (file : List ℕ) (old new : GatheringVisitor) → from ≡ at → new ≡ old → Reached settings b from file old new at
 reached_none settings b from at file old new place same = record {
   runs = [];
   behind = drop from file;
   has = record { bytes = refl; each = tt; place = sym place ∙ (let e : from ≡ from + 0 = omega arith in e) };
-  joined = ap (λ (g : Gathering). g.entries.items) same ∙ sym (append-nil old.entries.items);
+  joined = ap (λ (g : GatheringVisitor). g.entries.items) same ∙ sym (append-nil old.entries.items);
 }
 
 -- ---- where they end too early
-pub cut_short_there : (settings : Settings) (b from at : ℕ) (file : List ℕ) (old new : Gathering) (s : old.settings ≡ settings) (k : old.bucket ≡ b)
+pub cut_short_there : (settings : Settings) (b from at : ℕ) (file : List ℕ) (old new : GatheringVisitor) (s : old.settings ≡ settings) (k : old.bucket ≡ b)
     (stops : StopsAt Gathers old new from false (drop from file) at) → IsCutShort (stopped settings b from at file old new false s k stops).behind
 unfolding stopped reached_by
 cut_short_there settings b from at file old new s k stops = stops.handed.cut_short refl
 
-pub closed_there : (settings : Settings) (b from at : ℕ) (file : List ℕ) (old new : Gathering) (s : old.settings ≡ settings) (k : old.bucket ≡ b)
+pub closed_there : (settings : Settings) (b from at : ℕ) (file : List ℕ) (old new : GatheringVisitor) (s : old.settings ≡ settings) (k : old.bucket ≡ b)
     (stops : StopsAt Gathers old new from true (drop from file) at) → IsClosed (stopped settings b from at file old new true s k stops).behind
 unfolding stopped reached_by
 closed_there settings b from at file old new s k stops = stops.handed.ended refl
 
 -- a record that was refused is no run
-pub refused_there : (settings : Settings) (b from at : ℕ) (file : List ℕ) (old new : Gathering) → old.settings ≡ settings → old.bucket ≡ b → RefusesAt Gathers Refuses old new from (drop from file) at
+pub refused_there : (settings : Settings) (b from at : ℕ) (file : List ℕ) (old new : GatheringVisitor) → old.settings ≡ settings → old.bucket ≡ b
+    → RefusesAt Gathers Refuses old new from (drop from file) at
     → (runs : List (List Entry)) × ((behind : List ℕ) × (HasRunsTo settings b from file runs at behind × IsNoRun settings b behind))
 refused_there settings b from at file old new s k refuses =
     let g = gathered settings b old refuses.reached from refuses.payloads s k refuses.took in
@@ -153,10 +159,6 @@ offers_room : (run : List Tuple) → AllByRecursion IsOffer run → AllByRecursi
 offers_room [] h = tt
 offers_room (o ∷ run) h = (record { key = h.0.key; value = h.0.value; from = h.0.from; aux = h.0.aux }, offers_room run h.1)
 
-runs_room : (settings : Settings) (b : ℕ) (es : List Entry) → AllByRecursion (IsEntryOf settings.buckets b) es → AllByRecursion HasRoom es
-runs_room settings b [] h = tt
-runs_room settings b (e ∷ es) h = (room_of settings.buckets b e h.0, runs_room settings b es h.1)
-
 -- the runs of a list, of which the journal has the records
 pub same_runs : (settings : Settings) (b : ℕ) (lists : List (List Tuple)) (runs : List (List Entry)) → AllByRecursion (AllByRecursion IsOffer) lists → AllByRecursion (IsEntryRun settings b) runs
     → map run_bytes lists ≡ map entries_bytes runs → entries_in runs ≡ map entry_of_offer (flat_map (λ run. run) lists)
@@ -166,7 +168,7 @@ same_runs settings b (list ∷ lists) [] l r e = cc
 same_runs settings b (list ∷ lists) (run ∷ runs) l r e =
     let first : run_bytes list ≡ entries_bytes run = cc in
     let others : map run_bytes lists ≡ map entries_bytes runs = cc in
-    let same : run ≡ map entry_of_offer list = same_entries run (map entry_of_offer list) (runs_room settings b run r.0.each) (offers_room list l.0) (sym first ∙ run_entries list) in
+    let same : run ≡ map entry_of_offer list = same_entries run (map entry_of_offer list) (each_room settings.buckets b run r.0.each) (offers_room list l.0) (sym first ∙ run_entries list) in
     ap (λ (x : List Entry). x ++ entries_in runs) same ∙ ap (λ (x : List Entry). map entry_of_offer list ++ x) (same_runs settings b lists runs l.1 r.1 others)
     ∙ sym (map-append entry_of_offer list (flat_map (λ run. run) lists))
 
@@ -200,7 +202,7 @@ module _ (images : Files → Type 0) (settings : Settings) (b cut : ℕ) (bucket
   pub ends_there : (image : Files) → images image → Ends bucket.journal.end (image bucket.journal.file) (map run_bytes holds.before ++ map run_bytes holds.behind)
   ends_there image now = subst (Ends bucket.journal.end (image bucket.journal.file)) (map-append run_bytes holds.before holds.behind) (holds.journal image now)
 
-  pub gathered_list : (old new : Gathering) → old.settings ≡ settings → old.bucket ≡ b → old.entries.items ≡ [] → TakesAll Gathers old (placed_from bucket.gate (map run_bytes holds.behind)) new
+  pub gathered_list : (old new : GatheringVisitor) → old.settings ≡ settings → old.bucket ≡ b → old.entries.items ≡ [] → TakesAll Gathers old (placed_from bucket.gate (map run_bytes holds.behind)) new
       → AreEntriesFrom bucket.skip cut list new.entries.items
   gathered_list old new s k none took =
       let g = gathered settings b old new bucket.gate (map run_bytes holds.behind) s k took in
@@ -237,7 +239,7 @@ refuses_none settings b (list ∷ lists) (p ∷ first) payload more sizes offers
     refuses_none settings b lists first payload more sizes.1 offers.1 buckets.1 others none
 
 -- ---- a bucket's journal, gathered from its first pending offer's gate on
-module _ (settings : Settings) (b : ℕ) (bucket : Bucket) (files : Files) (old new : Gathering) (s : old.settings ≡ settings) (k : old.bucket ≡ b) (none : old.entries.items ≡ []) where
+module _ (settings : Settings) (b : ℕ) (bucket : Bucket) (files : Files) (old new : GatheringVisitor) (s : old.settings ≡ settings) (k : old.bucket ≡ b) (none : old.entries.items ≡ []) where
   reaches : Reached settings b bucket.gate (files bucket.journal.file) old new bucket.journal.end → HasEntries settings b bucket files new.entries.items
   reaches reached = record {
     runs = reached.runs;

@@ -13,7 +13,7 @@ use Rattle.irl_disk.specs.Disk.{Files}
 use Rattle.irl_bay.specs.declared.bucket.Bucket.{Bucket}
 use Rattle.irl_bay.specs.Cache.{HasCache}
 use Rattle.irl_cache.specs.SortedRun.{AreWords}
-use Rattle.irl_bay.specs.Commits.{live_offers, starts}
+use Rattle.irl_layout.specs.Commits.{live_offers, starts}
 use Rattle.irl_bay.specs.Drum.{Drum, IsDrum, bucket_at, no_bucket, durable_at, durables, judged_at, pending_at}
 use Rattle.irl_bay.specs.Holding.{Holds}
 use Rattle.irl_bay.proofs.JudgedBooks.{each_drop}

@@ -22,12 +22,12 @@ use Rattle.irl_offer.specs.Tuple.{Tuple}
 use Rattle.irl_model.specs.Judging.{KeyMap, enters, combined, entered, answer}
 use Rattle.irl_model.specs.Book.{Book, IsBook, stretch, stretches, judged, judged_as, judged_offers}
 use Rattle.irl_model.proofs.JudgingLaws.{judged_on, judgements-judged_on}
-use Rattle.irl_bay.specs.declared.layout.judged_entry.JudgedEntry.{JudgedEntry}
+use Rattle.irl_layout.specs.declared.judged_entry.JudgedEntry.{JudgedEntry}
 use Rattle.irl_bay.specs.Drum.{Drum}
-use Rattle.irl_bay.specs.JudgedEntries.{entry_spelling, entry_at, judged_bytes, judged_entries, known_value, IsJudgedEntry, with_text, with_texts, texts_length, first_place}
+use Rattle.irl_layout.specs.JudgedEntries.{entry_spelling, entry_at, judged_bytes, judged_entries, known_value, IsJudgedEntry, with_text, with_texts, texts_length, first_place}
 use Rattle.irl_bay.specs.JudgedSpoilt.{FitsBehind, FitEach}
-use Rattle.irl_bay.specs.Runs.{IsOffer, texts_of}
-use Rattle.irl_bay.proofs.Spellings.{spelling_injective}
+use Rattle.irl_layout.specs.Runs.{IsOffer, texts_of}
+use Rattle.irl_layout.proofs.Spellings.{spelling_injective}
 use Rattle.irl_bay.proofs.JudgedReading.{texts_length-cons, length-spellings}
 
 -- ---- what holds of each of some offers holds of those that are judged

@@ -9,14 +9,14 @@ use Rattle.irl_model.specs.Book.{Book, gone, judged}
 use Rattle.irl_disk.specs.Disk.{Files}
 use Rattle.irl_journal.specs.Blob.{BeginsWith}
 use Rattle.irl_journal.proofs.Fronts.{begins_part}
-use Rattle.irl_bay.specs.declared.layout.judged_entry.JudgedEntry.{JudgedEntry}
+use Rattle.irl_layout.specs.declared.judged_entry.JudgedEntry.{JudgedEntry}
 use Rattle.irl_bay.specs.Drum.{Drum, IsDrum, judged_front, texts_front}
 use Rattle.irl_bay.specs.Holding.{Holds}
-use Rattle.irl_bay.specs.JudgedEntries.{entry_spelling, with_texts, texts_length, first_place, IsJudgedEntry}
+use Rattle.irl_layout.specs.JudgedEntries.{entry_spelling, with_texts, texts_length, first_place, IsJudgedEntry}
 use Rattle.irl_bay.specs.JudgedSpoilt.{FitsBehind, FitEach, StandsBefore, IsSpoiltEntry}
 use Rattle.irl_bay.specs.Standing.{IsBookOf}
-use Rattle.irl_bay.specs.Runs.{IsOffer}
-use Rattle.irl_bay.proofs.Spellings.{spelling_injective}
+use Rattle.irl_layout.specs.Runs.{IsOffer}
+use Rattle.irl_layout.proofs.Spellings.{spelling_injective}
 use Rattle.irl_bay.proofs.JudgedReading.{length-spellings}
 use Rattle.irl_bay.proofs.JudgedBooks.{each_take, each_drop, each_judged, HasWords, no_words, IsOffered, book_offered, texts_behind, book_texts, entries_at, length-entries, entries_spelled, entries_fit, take-entries, drop-entries, take-spellings, drop-spellings, same_entries, fit_entries, texts_room, texts_stretch, pieces_back}
 

@@ -11,10 +11,10 @@ use Rattle.irl_offer.specs.Tuple.{Tuple}
 use Rattle.irl_model.specs.Book.{Book, judged, judged_offers}
 use Rattle.irl_model.proofs.Stretches.{here, judged_here_are}
 use Rattle.irl_journal.specs.Blob.{BeginsWith}
-use Rattle.irl_bay.specs.declared.layout.judged_entry.JudgedEntry.{JudgedEntry}
-use Rattle.irl_bay.specs.Commits.{Commit, IsCommitOf, starts, live_offers}
-use Rattle.irl_bay.specs.JudgedEntries.{judged_entries, with_texts, IsJudgedEntry}
-use Rattle.irl_bay.specs.Runs.{IsOffer, texts_of}
+use Rattle.irl_layout.specs.declared.judged_entry.JudgedEntry.{JudgedEntry}
+use Rattle.irl_layout.specs.Commits.{Commit, IsCommitOf, starts, live_offers}
+use Rattle.irl_layout.specs.JudgedEntries.{judged_entries, with_texts, IsJudgedEntry}
+use Rattle.irl_layout.specs.Runs.{IsOffer, texts_of}
 use Rattle.irl_bay.specs.Standing.{IsBookOf}
 use Rattle.irl_bay.proofs.JudgedBooks.{HasWords, IsOffered, no_words, each_judged, book_offered, book_texts, few_buckets, entries_at, entries_spelled, length-entries, same_entries, texts_back, texts_behind}
 use Rattle.irl_bay.proofs.JudgedMore.{offers_back, offers_of}

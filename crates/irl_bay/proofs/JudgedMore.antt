@@ -17,10 +17,10 @@ use Rattle.irl_model.specs.Judging.{KeyMap, entered, judgements}
 use Rattle.irl_model.proofs.JudgingLaws.{judged_on, judgements-judged_on}
 use Rattle.irl_model.proofs.Merges.{uniques_from-append}
 use Rattle.irl_offer.specs.declared.entry.Entry.{Entry}
-use Rattle.irl_bay.specs.JudgedEntries.{verdict_number, known_value, judged_bytes, judged_entries, row, rows}
-use Rattle.irl_bay.specs.Runs.{entry_of_offer, texts_of}
+use Rattle.irl_layout.specs.JudgedEntries.{verdict_number, known_value, judged_bytes, judged_entries, row, rows}
+use Rattle.irl_layout.specs.Runs.{entry_of_offer, texts_of}
 use Rattle.irl_bay.specs.Telling.{judged_with}
-use Rattle.irl_bay.proofs.WordBytes.{low_word}
+use Rattle.irl_layout.proofs.WordBytes.{low_word}
 
 -- ---- the entries of judged offers
 -- the offers of judged ones

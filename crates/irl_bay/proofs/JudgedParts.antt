@@ -3,9 +3,9 @@ use Rattle.std.proofs.Common.{◌≡◌, ◌∙◌, ℕ, zero, suc, ◌+◌, ◌
 use Rattle.std.specs.Prelude.{slice_get}
 use Rattle.std.proofs.lemmas.List.{drop-drop}
 use Rattle.irl_offer.specs.declared.receipt.Judged.{Judged}
-use Rattle.irl_bay.specs.declared.layout.judged_entry.JudgedEntry.{JudgedEntry}
+use Rattle.irl_layout.specs.declared.judged_entry.JudgedEntry.{JudgedEntry}
 use Rattle.irl_bay.specs.Drum.{Drum}
-use Rattle.irl_bay.specs.JudgedEntries.{with_text, with_texts, texts_length, first_place}
+use Rattle.irl_layout.specs.JudgedEntries.{with_text, with_texts, texts_length, first_place}
 use Rattle.irl_bay.specs.JudgedParts.{AreJoined, IsPart}
 use Rattle.irl_bay.specs.JudgedSpoilt.{FitEach}
 use Rattle.irl_bay.proofs.JudgedHeld.{length-with_texts}

@@ -7,9 +7,9 @@ use Rattle.std.proofs.lemmas.Grind.{flat_map-append}
 use Rattle.std.proofs.lemmas.List.Sums.{sum_by-cons}
 use Rattle.std.specs.List.{flat_map, AllByRecursion}
 use Rattle.irl_base.specs.Limits.{max_text}
-use Rattle.irl_bay.specs.declared.layout.judged_entry.JudgedEntry.{JudgedEntry}
+use Rattle.irl_layout.specs.declared.judged_entry.JudgedEntry.{JudgedEntry}
 use Rattle.irl_bay.specs.Drum.{Drum}
-use Rattle.irl_bay.specs.JudgedEntries.{entry_spelling, first_place, texts_length}
+use Rattle.irl_layout.specs.JudgedEntries.{entry_spelling, first_place, texts_length}
 use Rattle.irl_bay.specs.JudgedSpoilt.{FitsBehind, FitEach, StandsBefore, NoneFits}
 
 -- ---- one entry more

@@ -1,12 +1,14 @@
 -- A merge judges a bucket after another: what stays while it writes, and where damage stands.
-use Rattle.std.proofs.Common.{◌≡◌, ◌≢◌, ◌∙◌, ◌⊎◌, ⊎_elim, inl, inr, ℕ, suc, ◌+◌, ◌-◌, ◌*◌, ◌/◌, ◌^◌, ◌<◌, ◌≤◌, List, [], ◌∷◌, ◌++◌, map, length, take, drop, Option, None, Some, refl, sym, ap, subst, arith, rules, append-nil, length-append, length-drop, length-take-le, take-append-drop, zero-add}
+use Rattle.std.proofs.Common.{◌≡◌, ◌≢◌, ◌∙◌, ◌⊎◌, ⊎_elim, inl, inr, ℕ, suc, ◌+◌, ◌-◌, ◌*◌, ◌/◌, ◌^◌, ◌<◌, ◌≤◌, List, [], ◌∷◌, ◌++◌, map, length, take, drop, Option, None, Some, Result, Err, refl, sym, ap, subst, arith, rules, append-nil, length-append, length-drop, length-take-le, take-append-drop, zero-add}
 use Rattle.std.proofs.lemmas.Bool.Decides.{nat_tests}
 use Rattle.std.proofs.lemmas.List.{length-map, length-replicate}
 use Rattle.std.proofs.lemmas.List.Sums.{sum_by-append}
 use Rattle.std.proofs.Math.Seq.{take-append_seam}
 use Rattle.std.specs.List.{All, AllByRecursion}
 use Rattle.std.specs.Option.{ForSome}
-use Rattle.std.specs.Prelude.{replicate}
+use Rattle.std.specs.Prelude.{replicate, IsErrOf}
+use Rattle.irl_base.specs.declared.fault.Fault.{Fault}
+use Rattle.irl_base.specs.declared.fault.Fault.TheVariants.{Damaged, Failed, Full, Memory}
 use Rattle.std.specs.FinMap.{entries}
 use Rattle.irl_offer.specs.Buckets.{IsBucketCount, bucket_of}
 use Rattle.irl_offer.specs.Tuple.{Tuple}
@@ -30,19 +32,20 @@ use Rattle.irl_cache.specs.SortedRun.{AreWordPairs, AreWords, EndsEarly, FallsAt
 use Rattle.irl_journal.specs.Growing.{HasPut}
 use Rattle.irl_cache.specs.Writing.{HasWritten, RunWriter}
 use Rattle.irl_merge.specs.Queries.{AreEntriesOf, bare, bare_entry}
-use Rattle.irl_bay.specs.Damage.{text_length}
+use Rattle.irl_layout.specs.EntryRuns.{text_length}
 use Rattle.irl_bay.specs.Drum.{Drum, IsDrum, bucket_at, cache_front, pending_at}
 use Rattle.irl_bay.specs.Holding.{Holds, IsLong}
+use Rattle.irl_bay.specs.Judging.{Judges}
 use Rattle.irl_bay.specs.Merging.{KeepsCommitted, Writes}
 use Rattle.irl_bay.specs.Pending.{AreOffersOf, HasEntries, HasRunsTo, IsSpoiltBucket}
 use Rattle.irl_bay.specs.Sides.{HasMerged, IsSidesOf, rest_of}
-use Rattle.irl_bay.specs.Runs.{entry_of_offer}
+use Rattle.irl_layout.specs.Runs.{entry_of_offer}
 use Rattle.irl_bay.specs.Spoilt.{IsSpoiltAt}
 use Rattle.irl_bay.specs.Telling.{HasTold, IsTellingOf}
 use Rattle.irl_bay.specs.declared.bucket.Bucket.{Bucket}
 use Rattle.irl_bay.specs.declared.sides.Sides.{Sides}
 use Rattle.irl_bay.specs.declared.telling.Telling.{Telling}
-use Rattle.irl_bay.proofs.BatchWrites.{still_long, tells_from}
+use Rattle.irl_bay.proofs.BatchWrites.{on_for, on_none, still_long, tells_from}
 use Rattle.irl_bay.proofs.CachePairs.{length-pairs, none_falls_there, same_pairs}
 use Rattle.irl_bay.proofs.HeldBuckets.{cache_held, words_held}
 use Rattle.irl_bay.proofs.MergeFrames.{batch_keeps_manifest, batch_stays, holds_written}
@@ -353,3 +356,29 @@ nothing_told drum told telling law of judged texts place unique = record {
   place = omega (arith, place, law.last.texts);
   unique = omega (arith, unique, law.last.unique);
 }
+
+-- ---- the answers of a call that judges
+-- it refused for want of memory
+pub judges_none : {A : Type 0} (result : Result A Fault) (drum : Drum) (now : Told) → IsConsistent now → result ≡ Err Memory → Judges result drum now now
+judges_none result drum now law is = record {
+  spoilt = λ f at e. absurd (cc);
+  whole = λ f at e. absurd (cc);
+  full = λ n e. cc;
+  writes = on_for drum ⊥ _ now now (λ e. cc) (on_none drum now law);
+}
+
+-- it hands on the fault that it was answered
+pub judges_for : {A B : Type 0} (found : Fault) (result : Result A Fault) (answered : Result B Fault) (drum : Drum) (old new : Told) → result ≡ Err found → answered ≡ Err found
+    → Judges result drum old new → Judges answered drum old new
+judges_for {A = A} {B = B} found result answered drum old new is gave judges = record {
+  spoilt = λ f at e. judges.spoilt f at (back (Damaged f at) e);
+  whole = λ f at e. judges.whole f at (back (Damaged f at) e);
+  full = λ n e. judges.full n (back (Full n) e);
+  writes = on_for drum _ _ old new (back Failed) judges.writes;
+}
+  where
+    back : (named : Fault) → IsErrOf answered named → IsErrOf result named
+    back named e =
+        let same : found ≡ named = cc in
+        let of : Fault → Result A Fault = λ fault. Err fault in
+        is ∙ ap of same

@@ -13,11 +13,11 @@ use Rattle.irl_disk.proofs.Stretches.{stays, widens, widens_by, joins, joins_by,
 use Rattle.irl_journal.specs.Appending.{Tail, IsOpen, HasOrGains}
 use Rattle.irl_journal.specs.Format.{StandsFor, HasRecords}
 use Rattle.irl_journal.proofs.Fronts.{keeps_both}
-use Rattle.irl_bay.specs.BayFiles.{file_of, IsSideFile}
+use Rattle.irl_layout.specs.BayFiles.{file_of, IsSideFile}
 use Rattle.irl_bay.specs.declared.bucket.Bucket.{Bucket}
-use Rattle.irl_bay.specs.declared.layout.files.BayFile.TheVariants.{Journal, Aux}
-use Rattle.irl_bay.specs.Runs.{run_bytes, IsRun}
-use Rattle.irl_bay.specs.Commits.{Commit, IsCommit, HasLiveRecords, commit_bytes, first_commit, last_commit, live_side, live_offers}
+use Rattle.irl_layout.specs.declared.files.BayFile.TheVariants.{Journal, Aux}
+use Rattle.irl_layout.specs.Runs.{run_bytes, IsRun}
+use Rattle.irl_layout.specs.Commits.{Commit, IsCommit, HasLiveRecords, commit_bytes, first_commit, last_commit, live_side, live_offers}
 use Rattle.irl_bay.specs.Drum.{bucket_at, durable_at, Drum, IsDrum, SomePending}
 use Rattle.irl_bay.specs.Holding.{Holds, HoldsBucket, Becomes, IsLong}
 use Rattle.irl_bay.specs.Merging.{AreEmpty, Batch, KeepsCommitted, FitsBatch, IsBatchFile, IsMergeFile, IsJudged, IsLongBatch, emptied, next_commit, next_cache, next_judged, next_texts, with_commit, Writes}
@@ -389,16 +389,14 @@ long_said drum is_sound told long = λ files is.
     let l = long files is in
     record { manifest = l.manifest; cache = l.cache; judged = l.judged; texts = l.texts; journals = l.journals; auxes = l.auxes }
 
-pub merge_long : (drum : Drum) (batch : Batch) (manifest : Tail) (payload : List ℕ) (b d e : Option Files) → IsDrum drum → ForSome b (IsLongBatch drum batch) → TellsOnly (IsOtherSide drum) b d
-    → ForSome d (IsOtherEmpty drum) → Changes drum.manifest.file (λ _ _. ⊤) d e → ForSome e (λ files. drum.manifest.end + length payload < length (files drum.manifest.file))
-    → manifest.file ≡ drum.manifest.file
-    → manifest.end ≡ drum.manifest.end + length payload → ForSome e (λ files. IsLong (with_commit manifest (next_commit drum batch) drum) files)
-merge_long drum batch manifest payload b d e law batch_long emptying empty appended longer file end = λ files told.
+pub merge_long : (drum : Drum) (batch : Batch) (manifest : Tail) (b d e : Option Files) → IsDrum drum → ForSome b (IsLongBatch drum batch) → TellsOnly (IsOtherSide drum) b d
+    → ForSome d (IsOtherEmpty drum) → Changes drum.manifest.file (λ _ _. ⊤) d e → ForSome e (λ files. manifest.end < length (files manifest.file))
+    → ForSome e (λ files. IsLong (with_commit manifest (next_commit drum batch) drum) files)
+merge_long drum batch manifest b d e law batch_long emptying empty appended longer = λ files told.
     let third = told_from drum.manifest.file (λ _ _. ⊤) d e files appended told in
     let second = told_before (IsOtherSide drum) b d third.0 emptying third.1 in
     let long = batch_long second.0 second.1 in
     let m = law.manifest in
-    let manifest_is : manifest.end < length (files drum.manifest.file) = omega (arith, longer files told, end) in
     let cache_same : files (next_cache drum batch).file ≡ second.0 (next_cache drum batch).file =
     stays files third.0 second.0 (next_cache drum batch).file (omega arith) (omega (arith, m)) third.2 second.2 in
     let judged_same : files (next_judged drum batch).file ≡ second.0 (next_judged drum batch).file =
@@ -406,7 +404,7 @@ merge_long drum batch manifest payload b d e law batch_long emptying empty appen
     let texts_same : files (next_texts drum batch).file ≡ second.0 (next_texts drum batch).file =
     stays files third.0 second.0 (next_texts drum batch).file (omega arith) (omega (arith, m)) third.2 second.2 in
     record {
-      manifest = subst (λ (f : ℕ). manifest.end < length (files f)) (sym file) manifest_is;
+      manifest = longer files told;
       cache = subst (λ (bytes : List ℕ). (next_cache drum batch).length ≤ length bytes) (sym cache_same) long.cache;
       judged = subst (λ (bytes : List ℕ). (next_judged drum batch).length ≤ length bytes) (sym judged_same) long.judged;
       texts = subst (λ (bytes : List ℕ). (next_texts drum batch).length ≤ length bytes) (sym texts_same) long.texts;

@@ -10,8 +10,8 @@ use Rattle.irl_model.specs.Judging.{judgements}
 use Rattle.irl_model.specs.Book.{Book, last_cut, judged, judged_offers, judged_as, is_unique, gone, stretches, with_cuts}
 use Rattle.irl_model.proofs.JudgingLaws.{length-judgements}
 use Rattle.irl_model.proofs.Merges.{earlier_all}
-use Rattle.irl_bay.specs.Commits.{Commit, IsCommitOf, AreCommitsOf, first_commit, last_commit}
-use Rattle.irl_bay.specs.Runs.{texts_of}
+use Rattle.irl_layout.specs.Commits.{Commit, IsCommitOf, AreCommitsOf, first_commit, last_commit}
+use Rattle.irl_layout.specs.Runs.{texts_of}
 use Rattle.irl_bay.specs.Standing.{IsBookOf}
 
 last_at : (first : Commit) (commits : List Commit) (n : ℕ) (d : Commit) → length commits ≡ n + 1 → last_commit first commits ≡ get_or commits n d

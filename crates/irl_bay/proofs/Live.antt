@@ -4,7 +4,7 @@ use Rattle.std.proofs.lemmas.List.{get_or-replicate}
 use Rattle.irl_offer.specs.declared.settings.Settings.{Settings}
 use Rattle.irl_offer.specs.Tuple.{Tuple}
 use Rattle.irl_model.specs.Book.{Book, flushed, flushed_lists, merged, lengths_of, list_lengths}
-use Rattle.irl_bay.specs.Commits.{Commit, starts, starts_by, live_offers}
+use Rattle.irl_layout.specs.Commits.{Commit, starts, starts_by, live_offers}
 use Rattle.irl_bay.specs.Standing.{IsBookOf}
 
 -- ---- the first of them

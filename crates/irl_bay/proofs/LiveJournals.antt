@@ -4,27 +4,30 @@ use Rattle.std.specs.Option.{ForSome}
 use Rattle.irl_offer.specs.declared.settings.Settings.{Settings}
 use Rattle.irl_model.specs.Book.{Book}
 use Rattle.irl_disk.specs.Disk.{Files, Changes, ChangesFile, ChangesAmong, TellsBy}
-use Rattle.irl_disk.specs.Images.{Told, IsConsistent, Follows, LeavesBy, LeavesSame}
+use Rattle.irl_base.specs.Faults.{HasCause}
+use Rattle.irl_disk.specs.Effects.{OnlyReads, ReadsAndChanges}
+use Rattle.irl_disk.specs.Images.{Told, IsConsistent, Follows, LeavesBy}
+use Rattle.irl_disk.proofs.Effects.{told_none}
 use Rattle.irl_disk.specs.Taken.{TakesAmong, TakesOnly}
-use Rattle.irl_disk.proofs.Frames.{among_one, told_from, takes_both, takes_only}
-use Rattle.irl_disk.proofs.Stretches.{joins, left_now, reads_on, widens, widens_by}
+use Rattle.irl_disk.proofs.Frames.{among_one, told_from, takes_none, takes_both, takes_only}
+use Rattle.irl_disk.proofs.Stretches.{joins, left_now, reads_on, same_by, stays, widens, widens_by}
 use Rattle.irl_journal.specs.Appending.{Tail, IsOpen}
 use Rattle.irl_journal.specs.Format.{StandsFor, records_text, placed_from}
 use Rattle.irl_journal.specs.Visiting.{IsOpened, TakesAll, TookUpTo}
 use Rattle.irl_journal.proofs.Lists.{few_bytes, one_list}
-use Rattle.irl_bay.specs.BayFiles.{file_of}
-use Rattle.irl_bay.specs.declared.layout.files.BayFile.TheVariants.{Manifest, Journal}
-use Rattle.irl_bay.specs.declared.history.History.{History}
-use Rattle.irl_bay.specs.Commits.{Commit, commit_bytes, first_commit, last_commit, live_side}
+use Rattle.irl_layout.specs.BayFiles.{file_of}
+use Rattle.irl_layout.specs.declared.files.BayFile.TheVariants.{Manifest, Journal}
+use Rattle.irl_bay.specs.declared.history.HistoryVisitor.{HistoryVisitor}
+use Rattle.irl_layout.specs.Commits.{Commit, commit_bytes, first_commit, last_commit, live_side}
 use Rattle.irl_bay.specs.Damage.{HasManifest, IsLiveJournal, IsAdopted}
 use Rattle.irl_bay.specs.Making.{IsJournalOn, IsJournalOf}
-use Rattle.irl_bay.specs.Opening.{IsJournalBelow, OpensBelow, AdoptsTo, ReadsLive}
+use Rattle.irl_bay.specs.Opening.{IsJournalBelow, OpensBelow, AdoptMayLeave}
 use Rattle.irl_bay.specs.Standing.{Stands}
 use Rattle.irl_bay.proofs.Adopted.{first_is, last_is, manifest_of, takes_wider, took_side}
 use Rattle.irl_bay.proofs.AdoptedBook.{same_commits}
 use Rattle.irl_bay.proofs.Adopting.{opened_none, opened_both, side_fits}
 use Rattle.irl_bay.proofs.Apart.{stands_opened}
-use Rattle.irl_bay.proofs.EntryBytes.{below_or_not}
+use Rattle.irl_layout.proofs.EntryBytes.{below_or_not}
 use Rattle.irl_bay.proofs.Flushing.{same_or_other}
 use Rattle.irl_bay.proofs.Reached.{TakesCommit, rise_each, took_commits}
 
@@ -94,106 +97,129 @@ tells_buckets base side buckets (Some old) mid new first live second =
     let next = subst (λ (files : Option Files). TellsBy (OpensBelow base side buckets) files new) first.1 second in
     (next.0, next.1, adopted_then base side buckets old first.0 next.0 first.2 (live first.0 first.1) next.2)
 
-pub adopts_first : (base buckets f : ℕ) (old new : Told) → f ≡ file_of base 0 Manifest → Changes f IsOpened old.files new.files → LeavesBy (ChangesFile f IsOpened) old new
-    → AdoptsTo base buckets old new
-adopts_first base buckets f old new is changes stops = record {
-  files = tells_manifest base buckets old.files new.files (subst (λ (n : ℕ). Changes n IsOpened old.files new.files) is changes);
-  stops = widens_by old new _ (IsAdopted base buckets) (subst (λ (n : ℕ). LeavesBy (ChangesFile n IsOpened) old new) is stops) (adopted_manifest base buckets);
+-- ---- one call after the other
+-- no byte is read but of the manifest and of the buckets' journals on one side; where the store tells its files, that is
+-- the live one
+record ReadsLive (base buckets : ℕ) (files : Option Files) (old new : Option (ℕ → ℕ)) : Type 0 where
+  side : ℕ
+  fits : side ≤ 1
+  among : TakesAmong (IsJournalOn base side buckets) old new
+  live : ForSome files (λ told. TakesAmong (IsLiveJournal base buckets told) old new)
+
+-- from one snapshot to a later one the files change at most as opening the bay may, for what is told and at each stop
+pub record AdoptsTo (base buckets : ℕ) (old new : Told) : Type 0 where
+  files : TellsBy (IsAdopted base buckets) old.files new.files
+  stops : LeavesBy (IsAdopted base buckets) old new
+  reads : ReadsLive base buckets old.files old.taken new.taken
+
+adopted_none : (base buckets : ℕ) (files : Files) → IsAdopted base buckets files files
+adopted_none base buckets files = record { changed = λ f is. opened_none (files f); others = λ f out. refl }
+
+pub adopts_none : (base buckets : ℕ) (now : Told) → IsConsistent now → AdoptsTo base buckets now now
+adopts_none base buckets now law = record {
+  files = told_none (IsAdopted base buckets) now.files now.files (adopted_none base buckets) refl;
+  stops = same_by now now (IsAdopted base buckets) (adopted_none base buckets) (stays now now.images law (λ image left. left));
+  reads = record {
+    side = 0;
+    fits = omega arith;
+    among = takes_none (IsJournalOn base 0 buckets) now.taken now.taken refl;
+    live = λ told is. takes_none (IsLiveJournal base buckets told) now.taken now.taken refl;
+  };
 }
 
-pub adopts_same : (base buckets : ℕ) (old mid new : Told) → IsConsistent mid → AdoptsTo base buckets old mid → new.files ≡ mid.files → LeavesSame mid new → AdoptsTo base buckets old new
-adopts_same base buckets old mid new law first same stops = record {
-  files = subst (TellsBy (IsAdopted base buckets) old.files) (sym same) first.files;
-  stops = reads_on old mid new _ law first.stops stops;
+-- the manifest is opened
+pub adopts_first : (base buckets f : ℕ) (failed : Type 0) (old new : Told) → f ≡ file_of base 0 Manifest → ReadsAndChanges (λ g. g ≡ f) (ChangesFile f IsOpened) failed old new
+    → AdoptsTo base buckets old new
+adopts_first base buckets f failed old new is step = record {
+  files = tells_manifest base buckets old.files new.files (subst (λ (n : ℕ). Changes n IsOpened old.files new.files) is step.told);
+  stops = widens_by old new _ (IsAdopted base buckets) (subst (λ (n : ℕ). LeavesBy (ChangesFile n IsOpened) old new) is step.stops) (adopted_manifest base buckets);
+  reads = record {
+    side = 0;
+    fits = omega arith;
+    among = takes_only (IsJournalOn base 0 buckets) f old.taken new.taken (inl is) step.taken;
+    live = λ told is_told. takes_only (IsLiveJournal base buckets told) f old.taken new.taken (inl is) step.taken;
+  };
+}
+
+-- a call reads no file but the manifest, and changes nothing
+pub adopts_read : (base buckets : ℕ) (among : ℕ → Type 0) (failed : Type 0) (old mid new : Told) → IsConsistent mid → ((f : ℕ) → among f → f ≡ file_of base 0 Manifest) → AdoptsTo base buckets old mid
+    → OnlyReads among failed mid new → AdoptsTo base buckets old new
+adopts_read base buckets among failed old mid new law within first step = record {
+  files = subst (TellsBy (IsAdopted base buckets) old.files) (sym step.same) first.files;
+  stops = reads_on old mid new _ law first.stops step.stops;
+  reads = record {
+    side = first.reads.side;
+    fits = first.reads.fits;
+    among = takes_both (IsJournalOn base first.reads.side buckets) old.taken mid.taken new.taken first.reads.among
+        (takes_wider among (IsJournalOn base first.reads.side buckets) mid.taken new.taken (λ f is. inl (within f is)) step.taken);
+    live = λ told is. takes_both (IsLiveJournal base buckets told) old.taken mid.taken new.taken (first.reads.live told is)
+        (takes_wider among (IsLiveJournal base buckets told) mid.taken new.taken (λ f among_it. inl (within f among_it)) step.taken);
+  };
 }
 
 -- ---- what opening the manifest gives
 pub record IsVisited (base buckets side : ℕ) (old mid : Told) : Type 0 where
-  pub adopts : AdoptsTo base buckets old mid
-  pub fits : side ≤ 1
+  adopts : AdoptsTo base buckets old mid
+  taken : TakesOnly (file_of base 0 Manifest) old.taken mid.taken
+  fits : side ≤ 1
   -- the side that it leaves live, in what was told, and in what each stop leaves from then on
-  pub told : ForSome old.files (HasLive base buckets side)
-  pub live : (image : Files) → mid.images image → HasLive base buckets side image
+  told : ForSome old.files (HasLive base buckets side)
+  live : (image : Files) → mid.images image → HasLive base buckets side image
 
 -- a visitor that took its records has its last commit
-live_of : (base buckets f : ℕ) (files : Files) (blank new : History) (last : Commit) (payloads : List (List ℕ)) → f ≡ file_of base 0 Manifest → blank.buckets ≡ buckets
+live_of : (base buckets f : ℕ) (files : Files) (blank new : HistoryVisitor) (last : Commit) (payloads : List (List ℕ)) → f ≡ file_of base 0 Manifest → blank.buckets ≡ buckets
     → blank.last ≡ first_commit buckets → blank.count ≡ 0 → last ≡ new.last
     → StandsFor (files f) payloads → TakesAll TakesCommit blank (placed_from 0 payloads) new → HasLive base buckets (live_side last) files
 live_of base buckets f files blank new last payloads is many first none same stands took =
     let told = manifest_of base buckets f files blank.last blank.count payloads new is first none stands (took_commits buckets 0 blank new payloads many (omega (arith, none)) took) in
     record { commits = told.commits; has = told.has; live = ap live_side (sym told.last_is ∙ sym same) }
 
-pub visited : (base buckets f : ℕ) (old mid : Told) (journal : Tail) (blank new : History) (last : Commit) → IsConsistent mid → f ≡ file_of base 0 Manifest → journal.file ≡ f → blank.buckets ≡ buckets
-    → blank.last ≡ first_commit buckets → blank.count ≡ 0 → last ≡ new.last
-    → Changes f IsOpened old.files mid.files → LeavesBy (ChangesFile f IsOpened) old mid → ForSome old.files (λ files. (payloads : List (List ℕ)) × StandsFor (files f) payloads)
+pub visited : (base buckets f : ℕ) (failed : Type 0) (old mid : Told) (journal : Tail) (blank new : HistoryVisitor) (last : Commit) → IsConsistent mid → f ≡ file_of base 0 Manifest → journal.file ≡ f
+    → blank.buckets ≡ buckets → blank.last ≡ first_commit buckets → blank.count ≡ 0 → last ≡ new.last
+    → ReadsAndChanges (λ g. g ≡ f) (ChangesFile f IsOpened) failed old mid
+    → ForSome old.files (λ files. (payloads : List (List ℕ)) × StandsFor (files f) payloads)
     → ForSome old.files (λ files. (payloads : List (List ℕ)) → StandsFor (files f) payloads → (journal.end ≡ length (records_text payloads)) × TakesAll TakesCommit blank (placed_from 0 payloads) new
     × IsOpen mid.images journal payloads)
     → TookUpTo TakesCommit blank new 0 journal.end → IsVisited base buckets (live_side last) old mid
-visited base buckets f old mid journal blank new last law is_file is_journal many first none same changes stops found records took = record {
-  adopts = adopts_first base buckets f old mid is_file changes stops;
+visited base buckets f failed old mid journal blank new last law is_file is_journal many first none same step found records took = record {
+  adopts = adopts_first base buckets f failed old mid is_file step;
+  taken = subst (λ (n : ℕ). TakesOnly n old.taken mid.taken) is_file step.taken;
   fits = took_side buckets blank.last blank.count took.payloads new last first (took_commits buckets 0 blank new took.payloads many (omega (arith, none)) took.took) same;
   told = λ files tells.
       let list = found files tells in
       live_of base buckets f files blank new last list.0 is_file many first none same list.1 (records files tells list.0 list.1).1;
   live = λ image left.
       let after = law.tells image left in
-      let before = told_from f IsOpened old.files mid.files after.0 changes after.1 in
+      let before = told_from f IsOpened old.files mid.files after.0 step.told after.1 in
       let list = found before.0 before.1 in
       let read = records before.0 before.1 list.0 list.1 in
       live_of base buckets f image blank new last list.0 is_file many first none same (subst (λ (n : ℕ). StandsFor (image n) list.0) is_journal (inr (read.2 image left).records)) read.1;
 }
 
 -- and then the buckets are opened, after files were synced
-pub adopts_buckets : (base side buckets : ℕ) (old mid synced new : Told) → IsVisited base buckets side old mid → IsConsistent mid → IsConsistent synced → synced.files ≡ mid.files
-    → LeavesSame mid synced → TellsBy (OpensBelow base side buckets) synced.files new.files → LeavesBy (OpensBelow base side buckets) synced new
-    → AdoptsTo base buckets old new
-adopts_buckets base side buckets old mid synced new visit law law_synced same reads files stops =
-    let first = adopts_same base buckets old mid synced law visit.adopts same reads in
-    let live = λ (image : Files) (left : synced.images image). visit.live image (left_now mid synced mid.images law_synced reads image left) in
+pub adopts_buckets : (base side buckets : ℕ) (failed other : Type 0) (old mid synced new : Told) → IsVisited base buckets side old mid → IsConsistent mid → IsConsistent synced
+    → OnlyReads (λ f. ⊥) failed mid synced → ReadsAndChanges (IsJournalBelow base side buckets) (OpensBelow base side buckets) other synced new → AdoptsTo base buckets old new
+adopts_buckets base side buckets failed other old mid synced new visit law law_synced reads step =
+    let first = adopts_read base buckets (λ f. ⊥) failed old mid synced law (λ f none. absurd none) visit.adopts reads in
+    let live = λ (image : Files) (left : synced.images image). visit.live image (left_now mid synced mid.images law_synced reads.stops image left) in
+    let front = λ (among : ℕ → Type 0) (is : among (file_of base 0 Manifest)). takes_both among old.taken mid.taken synced.taken
+    (takes_only among (file_of base 0 Manifest) old.taken mid.taken is visit.taken)
+    (takes_wider (λ f. ⊥) among mid.taken synced.taken (λ f none. absurd none) reads.taken) in
     record {
-      files = tells_buckets base side buckets old.files synced.files new.files first.files (λ files told. live files (law_synced.told files told)) files;
+      files = tells_buckets base side buckets old.files synced.files new.files first.files (λ files told. live files (law_synced.told files told)) step.told;
       stops = joins old synced new (Follows (IsAdopted base buckets) old.images) first.stops
-          (widens synced new (Follows (OpensBelow base side buckets) synced.images) (Follows (IsAdopted base buckets) old.images) stops (λ image from.
+          (widens synced new (Follows (OpensBelow base side buckets) synced.images) (Follows (IsAdopted base buckets) old.images) step.stops (λ image from.
           let was = left_now old synced (Follows (IsAdopted base buckets) old.images) law_synced first.stops from.0 from.1 in
           (was.0, was.1, adopted_then base side buckets was.0 from.0 image was.2 (live from.0 from.1) from.2)));
+      reads = record {
+        side = side;
+        fits = visit.fits;
+        among = takes_both (IsJournalOn base side buckets) old.taken synced.taken new.taken (front (IsJournalOn base side buckets) (inl refl))
+            (takes_wider (IsJournalBelow base side buckets) (IsJournalOn base side buckets) synced.taken new.taken (λ g below. inr below) step.taken);
+        live = λ files told. takes_both (IsLiveJournal base buckets files) old.taken synced.taken new.taken (front (IsLiveJournal base buckets files) (inl refl))
+            (takes_wider (IsJournalBelow base side buckets) (IsLiveJournal base buckets files) synced.taken new.taken (live_below base buckets side files (visit.told files told)) step.taken);
+      };
     }
-
--- ---- what is read
--- the manifest alone
-pub takes_first : (base buckets f : ℕ) (files : Option Files) (old new : Option (ℕ → ℕ)) → f ≡ file_of base 0 Manifest → TakesOnly f old new → ReadsLive base buckets files old new
-takes_first base buckets f files old new is takes = record {
-  side = (0, omega arith, takes_only (IsJournalOn base 0 buckets) f old new (inl is) takes);
-  live = λ told is_told. takes_only (IsLiveJournal base buckets told) f old new (inl is) takes;
-}
-
--- and then nothing
-pub takes_first_alone : (base buckets f : ℕ) (files : Option Files) (old mid new : Option (ℕ → ℕ)) → f ≡ file_of base 0 Manifest → TakesOnly f old mid → new ≡ mid
-    → ReadsLive base buckets files old new
-takes_first_alone base buckets f files old mid new is takes same = subst (ReadsLive base buckets files old) (sym same) (takes_first base buckets f files old mid is takes)
-
--- the manifest, and the buckets' journals
-pub takes_buckets : (base side buckets f : ℕ) (was now : Told) (old mid synced new : Option (ℕ → ℕ)) → f ≡ file_of base 0 Manifest → IsVisited base buckets side was now → TakesOnly f old mid
-    → synced ≡ mid → TakesAmong (IsJournalBelow base side buckets) synced new → ReadsLive base buckets was.files old new
-takes_buckets base side buckets f was now old mid synced new is visit first same second =
-    let read = subst (λ (from : Option (ℕ → ℕ)). TakesAmong (IsJournalBelow base side buckets) from new) same second in
-    record {
-      side = (
-        side,
-        visit.fits,
-        takes_both (IsJournalOn base side buckets) old mid new (takes_only (IsJournalOn base side buckets) f old mid (inl is) first)
-            (takes_wider (IsJournalBelow base side buckets) (IsJournalOn base side buckets) mid new (λ g below. inr below) read),
-      );
-      live = λ files told. takes_both (IsLiveJournal base buckets files) old mid new (takes_only (IsLiveJournal base buckets files) f old mid (inl is) first)
-          (takes_wider (IsJournalBelow base side buckets) (IsLiveJournal base buckets files) mid new (live_below base buckets side files (visit.told files told)) read);
-    }
-
--- and the manifest once more
-pub takes_more : (base buckets f : ℕ) (files : Option Files) (old mid new : Option (ℕ → ℕ)) → f ≡ file_of base 0 Manifest → ReadsLive base buckets files old mid → TakesOnly f mid new
-    → ReadsLive base buckets files old new
-takes_more base buckets f files old mid new is first second = record {
-  side = (first.side.0, first.side.1, takes_both (IsJournalOn base first.side.0 buckets) old mid new first.side.2 (takes_only (IsJournalOn base first.side.0 buckets) f mid new (inl is) second));
-  live = λ told is_told. takes_both (IsLiveJournal base buckets told) old mid new (first.live told is_told) (takes_only (IsLiveJournal base buckets told) f mid new (inl is) second);
-}
 
 -- ---- journals on both sides
 -- bytes are others or not
@@ -244,3 +270,14 @@ adopted_wider base buckets old new step = record {
 -- so files that stand for a book stand for it
 pub stands_adopted : (base : ℕ) (settings : Settings) (book : Book) (old new : Files) → IsAdopted base settings.buckets old new → Stands base settings book old → Stands base settings book new
 stands_adopted base settings book old new step stands = stands_opened base settings book old new (adopted_wider base settings.buckets old new step) stands
+
+-- ---- what a stop leaves
+pub may_leave : (failed : Type 0) (base : ℕ) (settings : Settings) (old new : Told) → AdoptsTo base settings.buckets old new → HasCause failed old.faults new.faults
+    → AdoptMayLeave failed base settings old new
+may_leave failed base settings old new to cause = record {
+  stands = λ book all. widens old new _ (λ (image : Files). Stands base settings book image) to.stops (λ image from. stands_adopted base settings book from.0 image from.2 (all from.0 from.1));
+  side = to.reads.side;
+  fits = to.reads.fits;
+  changes = record { told = to.files; stops = to.stops; taken = to.reads.among; cause = cause };
+  live = to.reads.live;
+}

@@ -7,10 +7,10 @@ use Rattle.irl_disk.specs.Images.{Follows}
 use Rattle.irl_journal.specs.Appending.{Tail, Ends, IsOpen}
 use Rattle.irl_journal.specs.Blob.{Front, KeepsFront, IsCommitted}
 use Rattle.irl_journal.proofs.Fronts.{keeps_none, keeps_both}
-use Rattle.irl_bay.specs.BayFiles.{file_of, IsBucketFile, IsSideFile}
+use Rattle.irl_layout.specs.BayFiles.{file_of, IsBucketFile, IsSideFile}
 use Rattle.irl_bay.specs.declared.bucket.Bucket.{Bucket}
-use Rattle.irl_bay.specs.declared.layout.files.BayFile.TheVariants.{Cache, Judged, Texts}
-use Rattle.irl_bay.specs.Commits.{commit_bytes, live_side, side_of}
+use Rattle.irl_layout.specs.declared.files.BayFile.TheVariants.{Cache, Judged, Texts}
+use Rattle.irl_layout.specs.Commits.{commit_bytes, live_side, side_of}
 use Rattle.irl_bay.specs.Drum.{Drum, IsDrum, bucket_at, durable_at, cache_front, judged_front, texts_front}
 use Rattle.irl_bay.specs.Holding.{Holds, HoldsBucket}
 use Rattle.irl_bay.specs.Merging.{IsBatchFile, KeepsCommitted, emptied}

@@ -8,13 +8,13 @@ use Rattle.irl_offer.specs.declared.receipt.Judged.{Judged}
 use Rattle.irl_model.specs.Book.{Book, merged, with_cuts, judged, judged_offers, judged_cut, lengths_of, uniques_from, is_unique, gone}
 use Rattle.irl_model.proofs.Merges.{merged_cut, earlier_merged, earlier_all}
 use Rattle.irl_journal.specs.Appending.{Tail}
-use Rattle.irl_bay.specs.BayFiles.{file_of}
+use Rattle.irl_layout.specs.BayFiles.{file_of}
 use Rattle.irl_bay.specs.Merging.{Batch}
 use Rattle.irl_bay.specs.declared.bucket.Bucket.{Bucket}
-use Rattle.irl_bay.specs.declared.layout.files.BayFile.TheVariants.{Manifest}
-use Rattle.irl_bay.specs.Runs.{texts_of}
-use Rattle.irl_bay.specs.JudgedEntries.{judged_bytes, judged_entries}
-use Rattle.irl_bay.specs.Commits.{Commit, IsCommit, IsCommitOf, AreCommitsOf, GrowFrom, NameFrom, first_commit, last_commit, side_of, live_side}
+use Rattle.irl_layout.specs.declared.files.BayFile.TheVariants.{Manifest}
+use Rattle.irl_layout.specs.Runs.{texts_of}
+use Rattle.irl_layout.specs.JudgedEntries.{judged_bytes, judged_entries}
+use Rattle.irl_layout.specs.Commits.{Commit, IsCommit, IsCommitOf, AreCommitsOf, GrowFrom, NameFrom, first_commit, last_commit, side_of, live_side}
 use Rattle.irl_bay.specs.Drum.{Drum, IsDrum, IsBucket, HasNumbers, SomePending, CountsMerge, no_bucket, durables, durable_at}
 use Rattle.irl_bay.specs.Merging.{FitsBatch, IsBatchOf, HasRoom, next_commit, emptied, emptied_from, with_commit}
 

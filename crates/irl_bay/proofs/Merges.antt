@@ -15,10 +15,10 @@ use Rattle.irl_journal.specs.Format.{HasRecords, record_text, records_text}
 use Rattle.irl_journal.proofs.Gates.{length-push}
 use Rattle.irl_bay.specs.Merging.{Batch}
 use Rattle.irl_bay.specs.declared.bucket.Bucket.{Bucket}
-use Rattle.irl_bay.specs.Runs.{texts_of}
+use Rattle.irl_layout.specs.Runs.{texts_of}
 use Rattle.irl_cache.specs.SortedRun.{pairs_bytes}
-use Rattle.irl_bay.specs.JudgedEntries.{judged_entries}
-use Rattle.irl_bay.specs.Commits.{Commit, IsCommit, IsCommitOf, commit_bytes, first_commit, last_commit, live_side, live_offers, starts}
+use Rattle.irl_layout.specs.JudgedEntries.{judged_entries}
+use Rattle.irl_layout.specs.Commits.{Commit, IsCommit, IsCommitOf, commit_bytes, first_commit, last_commit, live_side, live_offers, starts}
 use Rattle.irl_bay.specs.Drum.{Drum, IsDrum, SomePending, bucket_at, durable_at}
 use Rattle.irl_bay.specs.Holding.{Holds, HoldsBucket}
 use Rattle.irl_bay.specs.Merging.{FitsBatch, IsBatchOf, HasRoom, IsWritten, next_commit, emptied, with_commit, next_cache, next_judged, next_texts}

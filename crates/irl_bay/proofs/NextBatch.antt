@@ -17,10 +17,10 @@ use Rattle.irl_model.proofs.FrontLaws.{merged_offers}
 use Rattle.irl_model.proofs.Merges.{merged_judged, merged_uniques, merged_seen}
 use Rattle.irl_model.proofs.PlainLemmas.{stretch_more}
 use Rattle.irl_cache.specs.SortedRun.{pairs_bytes}
-use Rattle.irl_bay.specs.JudgedEntries.{judged_entries}
+use Rattle.irl_layout.specs.JudgedEntries.{judged_entries}
 use Rattle.irl_bay.specs.Judging.{batch_of, waiting}
 use Rattle.irl_bay.specs.Merging.{Batch, FitsBatch, HasRoom, IsBatchOf, next_commit}
-use Rattle.irl_bay.specs.Runs.{texts_of}
+use Rattle.irl_layout.specs.Runs.{texts_of}
 use Rattle.irl_bay.proofs.JudgedMore.{entries_both, length-entries, offers_back, offers_of, same_count, with_uniques}
 use Rattle.irl_bay.proofs.CachePairs.{length-pairs}
 use Rattle.irl_bay.specs.Drum.{Drum, IsDrum, durables}

@@ -15,15 +15,15 @@ use Rattle.irl_model.specs.Judging.{KeyMap}
 use Rattle.irl_model.specs.Book.{Book, last_cut}
 use Rattle.irl_disk.specs.Disk.{Files}
 use Rattle.irl_journal.proofs.Lists.{one_list}
-use Rattle.irl_bay.specs.BayFiles.{file_of}
-use Rattle.irl_bay.specs.declared.layout.files.BayFile.TheVariants.{Manifest, Judged, Texts, Journal, Aux}
-use Rattle.irl_bay.specs.Runs.{entry_of_offer, run_bytes, texts_of, IsOffer, HasBucket}
-use Rattle.irl_bay.specs.Commits.{Commit, IsCommit, IsCommitOf, AreCommitsOf, commit_bytes, first_commit, last_commit, live_side, live_offers, sides_byte}
+use Rattle.irl_layout.specs.BayFiles.{file_of}
+use Rattle.irl_layout.specs.declared.files.BayFile.TheVariants.{Manifest, Judged, Texts, Journal, Aux}
+use Rattle.irl_layout.specs.Runs.{entry_of_offer, run_bytes, texts_of, IsOffer, HasBucket}
+use Rattle.irl_layout.specs.Commits.{Commit, IsCommit, IsCommitOf, AreCommitsOf, commit_bytes, first_commit, last_commit, live_side, live_offers, sides_byte}
 use Rattle.irl_bay.specs.Standing.{Stands, HasBucketOf}
-use Rattle.irl_bay.proofs.CommitBytes.{same_sides}
+use Rattle.irl_layout.proofs.CommitBytes.{same_sides}
 use Rattle.irl_bay.proofs.JudgedLists.{same_parts, same_lists_at}
 use Rattle.irl_bay.proofs.LastCommit.{last_of_book}
-use Rattle.irl_bay.proofs.Runs.{length-run_bytes}
+use Rattle.irl_layout.proofs.Runs.{length-run_bytes}
 
 -- ---- an offer
 -- bytes read as the numbers of an offer

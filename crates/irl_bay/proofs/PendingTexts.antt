@@ -5,9 +5,9 @@ use Rattle.std.proofs.lemmas.Grind.{flat_map-append}
 use Rattle.irl_offer.specs.declared.entry.Entry.{Entry}
 use Rattle.irl_offer.specs.Tuple.{Tuple}
 use Rattle.irl_journal.specs.Blob.{BeginsWith}
-use Rattle.irl_bay.specs.Damage.{text_length}
-use Rattle.irl_bay.specs.Runs.{entry_of_offer, texts_of}
-use Rattle.irl_bay.proofs.EntryBytes.{text_length-cons}
+use Rattle.irl_layout.specs.EntryRuns.{text_length}
+use Rattle.irl_layout.specs.Runs.{entry_of_offer, texts_of}
+use Rattle.irl_layout.proofs.EntryBytes.{text_length-cons}
 
 pub length-texts : (offers : List Tuple) → length (texts_of offers) ≡ text_length (map entry_of_offer offers)
 length-texts [] = refl

@@ -7,19 +7,19 @@ use Rattle.irl_model.specs.Book.{IsBelow}
 use Rattle.irl_journal.specs.Format.{records_text, record_text, body_text, open_gate, placed_from}
 use Rattle.irl_journal.specs.Visiting.{TakesAll, IsBrokenFor, IsRefusedAt}
 use Rattle.irl_journal.proofs.Reading.{length-cons}
-use Rattle.irl_bay.specs.Commits.{Commit, IsCommit, commit_bytes, first_commit, last_commit}
+use Rattle.irl_layout.specs.Commits.{Commit, IsCommit, commit_bytes, first_commit, last_commit}
 use Rattle.irl_bay.specs.Damage.{IsAtOrAbove, RiseFrom, AreCommitPayloads, IsDamagedJournal}
 use Rattle.irl_bay.specs.Opening.{IsFirstAbove, IsWithin}
-use Rattle.irl_bay.specs.declared.history.History.{History}
-use Rattle.irl_bay.specs.declared.history.Reaching.{Reaching}
-use Rattle.irl_bay.proofs.CommitBytes.{one_commit}
+use Rattle.irl_bay.specs.declared.history.HistoryVisitor.{HistoryVisitor}
+use Rattle.irl_bay.specs.declared.history.ReachingVisitor.{ReachingVisitor}
+use Rattle.irl_layout.proofs.CommitBytes.{one_commit}
 
 -- ---- against the lists
-abbrev pub TakesBelow : Reaching → ℕ → List ℕ → Reaching → Type 0
+abbrev pub TakesBelow : ReachingVisitor → ℕ → List ℕ → ReachingVisitor → Type 0
 TakesBelow old at payload new = (commit : Commit) × IsCommit old.buckets commit × (payload ≡ commit_bytes commit) × IsWithin old.lengths.items old.most commit.cut × (new ≡ old)
 
 -- commits that were taken are within the bounds
-pub took_below : (buckets at : ℕ) (old new : Reaching) (commits : List Commit) → old.buckets ≡ buckets → AllByRecursion (IsCommit buckets) commits
+pub took_below : (buckets at : ℕ) (old new : ReachingVisitor) (commits : List Commit) → old.buckets ≡ buckets → AllByRecursion (IsCommit buckets) commits
     → TakesAll TakesBelow old (placed_from at (map commit_bytes commits)) new
     → AllByRecursion (λ (commit : Commit). IsWithin old.lengths.items old.most commit.cut) commits × (new ≡ old)
 took_below buckets at old new [] same each took = (tt, took)
@@ -27,7 +27,7 @@ took_below buckets at old new (commit ∷ commits) same each took =
     let step = took.1 in
     let is : commit ≡ step.0 = one_commit buckets (commit_bytes commit) commit step.0 each.0 (subst (λ (k : ℕ). IsCommit k step.0) same step.1) refl step.2 in
     let rest = took_below buckets (at + length (record_text (commit_bytes commit))) old new commits same each.1
-    (subst (λ (v : Reaching). TakesAll TakesBelow v (placed_from (at + length (record_text (commit_bytes commit))) (map commit_bytes commits)) new) step.4 took.2) in
+    (subst (λ (v : ReachingVisitor). TakesAll TakesBelow v (placed_from (at + length (record_text (commit_bytes commit))) (map commit_bytes commits)) new) step.4 took.2) in
     ((subst (λ (x : Commit). IsWithin old.lengths.items old.most x.cut) (sym is) step.3, rest.0), rest.1)
 
 pub rise_each : (buckets : ℕ) (old : Commit) (commits : List Commit) → RiseFrom buckets old commits → AllByRecursion (IsCommit buckets) commits
@@ -38,15 +38,15 @@ cons-cons : (x y : List ℕ) (xs ys : List (List ℕ)) → x ≡ y → xs ≡ ys
 cons-cons x y xs ys p q = cc
 
 -- commits whose payloads these are, one among them
-record Splits (commits : List Commit) (first : List (List ℕ)) (payload : List ℕ) : Type 0 where
-  before : List Commit
-  commit : Commit
-  more : List Commit
-  among : commits ≡ before ++ commit ∷ more
-  first_are : first ≡ map commit_bytes before
-  payload_is : payload ≡ commit_bytes commit
+pub record Splits (commits : List Commit) (first : List (List ℕ)) (payload : List ℕ) : Type 0 where
+  pub before : List Commit
+  pub commit : Commit
+  pub more : List Commit
+  pub among : commits ≡ before ++ commit ∷ more
+  pub first_are : first ≡ map commit_bytes before
+  pub payload_is : payload ≡ commit_bytes commit
 
-splits : (commits : List Commit) (first : List (List ℕ)) (payload : List ℕ) (rest : List (List ℕ)) → map commit_bytes commits ≡ first ++ payload ∷ rest → Splits commits first payload
+pub splits : (commits : List Commit) (first : List (List ℕ)) (payload : List ℕ) (rest : List (List ℕ)) → map commit_bytes commits ≡ first ++ payload ∷ rest → Splits commits first payload
 splits [] [] payload rest is = cc
 splits [] (p ∷ first) payload rest is = cc
 splits (commit ∷ commits) [] payload rest is = record { before = []; commit = commit; more = commits; among = refl; first_are = refl; payload_is = cc }
@@ -63,12 +63,12 @@ splits (commit ∷ commits) (p ∷ first) payload rest is =
       payload_is = so.payload_is;
     }
 
-all-apart : (P : Commit → Type 0) (xs ys : List Commit) → AllByRecursion P (xs ++ ys) → AllByRecursion P xs × AllByRecursion P ys
+pub all-apart : (P : Commit → Type 0) (xs ys : List Commit) → AllByRecursion P (xs ++ ys) → AllByRecursion P xs × AllByRecursion P ys
 all-apart P [] ys each = (tt, each)
 all-apart P (x ∷ xs) ys each = let rest = all-apart P xs ys each.1 in ((each.0, rest.0), rest.1)
 
 -- a commit that was refused is the first that isn't
-pub first_refused : (buckets at : ℕ) (old reached : Reaching) (commits : List Commit) (first : List (List ℕ)) (payload : List ℕ) (rest : List (List ℕ)) → old.buckets ≡ buckets
+pub first_refused : (buckets at : ℕ) (old reached : ReachingVisitor) (commits : List Commit) (first : List (List ℕ)) (payload : List ℕ) (rest : List (List ℕ)) → old.buckets ≡ buckets
     → RiseFrom buckets (first_commit buckets) commits
     → map commit_bytes commits ≡ first ++ payload ∷ rest → at ≡ 0 + length (records_text first) → TakesAll TakesBelow old (placed_from 0 first) reached
     → ((commit : Commit) → IsCommit reached.buckets commit → payload ≡ commit_bytes commit → IsWithin reached.lengths.items reached.most commit.cut → ⊥)
@@ -84,8 +84,8 @@ first_refused buckets at old reached commits first payload rest same rise is pla
       among = so.among;
       place = omega (arith, place, ap (λ (ps : List (List ℕ)). length (records_text ps)) so.first_are);
       within = below.0;
-      above = λ here. refused so.commit (subst (λ (v : Reaching). IsCommit v.buckets so.commit) (sym below.1) (subst (λ (k : ℕ). IsCommit k so.commit) (sym same) each.1.0)) so.payload_is
-          (subst (λ (v : Reaching). IsWithin v.lengths.items v.most so.commit.cut) (sym below.1) here);
+      above = λ here. refused so.commit (subst (λ (v : ReachingVisitor). IsCommit v.buckets so.commit) (sym below.1) (subst (λ (k : ℕ). IsCommit k so.commit) (sym same) each.1.0)) so.payload_is
+          (subst (λ (v : ReachingVisitor). IsWithin v.lengths.items v.most so.commit.cut) (sym below.1) here);
     }
 
 -- the same of what is known of the visitor
@@ -114,7 +114,7 @@ zeros_below (suc n) (x ∷ xs) same = (omega arith, zeros_below n xs (omega (ari
 zeros_few : (n most : ℕ) → sum (replicate n 0) ≤ most
 zeros_few n most = omega (arith, sum_by-replicate (λ (m : ℕ). m) n 0)
 
-pub all_within : (buckets : ℕ) (old new : Reaching) (commits : List Commit) → old.buckets ≡ buckets → length old.lengths.items ≡ buckets → RiseFrom buckets (first_commit buckets) commits
+pub all_within : (buckets : ℕ) (old new : ReachingVisitor) (commits : List Commit) → old.buckets ≡ buckets → length old.lengths.items ≡ buckets → RiseFrom buckets (first_commit buckets) commits
     → TakesAll TakesBelow old (placed_from 0 (map commit_bytes commits)) new
     → IsWithin old.lengths.items old.most (last_commit (first_commit buckets) commits).cut
 all_within buckets old new commits same count rise took =
@@ -122,12 +122,12 @@ all_within buckets old new commits same count rise took =
     (took_below buckets 0 old new commits same (rise_each buckets (first_commit buckets) commits rise) took).0
 
 -- ---- the history of a manifest
-abbrev pub TakesCommit : History → ℕ → List ℕ → History → Type 0
+abbrev pub TakesCommit : HistoryVisitor → ℕ → List ℕ → HistoryVisitor → Type 0
 TakesCommit old at payload new = IsCommit old.buckets new.last × (payload ≡ commit_bytes new.last) × IsAtOrAbove old.last new.last × (new.count ≡ min (old.count + 1) (2 ^ 64 - 1))
     × (new.buckets ≡ old.buckets)
 
 -- what was taken of a manifest
-pub record TookCommits (buckets : ℕ) (first : Commit) (count : ℕ) (payloads : List (List ℕ)) (new : History) : Type 0 where
+pub record TookCommits (buckets : ℕ) (first : Commit) (count : ℕ) (payloads : List (List ℕ)) (new : HistoryVisitor) : Type 0 where
   pub commits : List Commit
   pub rise : RiseFrom buckets first commits
   pub payloads_are : payloads ≡ map commit_bytes commits
@@ -135,15 +135,15 @@ pub record TookCommits (buckets : ℕ) (first : Commit) (count : ℕ) (payloads 
   pub counted : new.count ≡ min (count + length commits) (2 ^ 64 - 1)
   pub buckets_are : new.buckets ≡ buckets
 
-pub took_commits : (buckets at : ℕ) (old new : History) (payloads : List (List ℕ)) → old.buckets ≡ buckets → old.count < 2 ^ 64 → TakesAll TakesCommit old (placed_from at payloads) new
+pub took_commits : (buckets at : ℕ) (old new : HistoryVisitor) (payloads : List (List ℕ)) → old.buckets ≡ buckets → old.count < 2 ^ 64 → TakesAll TakesCommit old (placed_from at payloads) new
     → TookCommits buckets old.last old.count payloads new
 took_commits buckets at old new [] same fits took = record {
   commits = [];
   rise = tt;
   payloads_are = refl;
-  last = ap (λ (h : History). h.last) took;
-  counted = omega (arith, ap (λ (h : History). h.count) took, fits);
-  buckets_are = ap (λ (h : History). h.buckets) took ∙ same;
+  last = ap (λ (h : HistoryVisitor). h.last) took;
+  counted = omega (arith, ap (λ (h : HistoryVisitor). h.count) took, fits);
+  buckets_are = ap (λ (h : HistoryVisitor). h.buckets) took ∙ same;
 }
 took_commits buckets at old new (payload ∷ payloads) same fits took =
     let mid = took.0 in
@@ -177,10 +177,10 @@ last_of buckets old (one ∷ taken) (commit ∷ commits) payload rise_t rise_c i
     last_of buckets one taken commits payload rise_t.2 (subst (λ (x : Commit). RiseFrom buckets x commits) same rise_c.2) behind
 
 -- damage of the journal is damage of the manifest
-abbrev pub RefusesCommit : History → ℕ → List ℕ → History → Type 0
+abbrev pub RefusesCommit : HistoryVisitor → ℕ → List ℕ → HistoryVisitor → Type 0
 RefusesCommit old at payload new = (commit : Commit) → IsCommit old.buckets commit → payload ≡ commit_bytes commit → IsAtOrAbove old.last commit → ⊥
 
-pub damaged_commits : (buckets : ℕ) (old after : History) (file : List ℕ) (at : ℕ) → old.buckets ≡ buckets → old.last ≡ first_commit buckets → old.count < 2 ^ 64
+pub damaged_commits : (buckets : ℕ) (old after : HistoryVisitor) (file : List ℕ) (at : ℕ) → old.buckets ≡ buckets → old.last ≡ first_commit buckets → old.count < 2 ^ 64
     → IsBrokenFor TakesCommit old after file at ⊎ IsRefusedAt TakesCommit RefusesCommit old after file at → IsDamagedJournal (AreCommitPayloads buckets) file at
 damaged_commits buckets old after file at same first fits (inl broken) =
     let took = took_commits buckets 0 old after broken.broken.payloads same fits broken.took in

@@ -12,10 +12,10 @@ use Rattle.irl_journal.specs.Format.{StandsFor}
 use Rattle.irl_journal.proofs.Fronts.{begins_long}
 use Rattle.irl_journal.proofs.Gates.{within}
 use Rattle.irl_bay.specs.declared.bucket.Bucket.{Bucket}
-use Rattle.irl_bay.specs.declared.layout.files.BayFile.TheVariants.{Aux}
-use Rattle.irl_bay.specs.BayFiles.{file_of}
-use Rattle.irl_bay.specs.Runs.{HasBucket}
-use Rattle.irl_bay.specs.Commits.{Commit, commit_bytes, live_side, live_offers}
+use Rattle.irl_layout.specs.declared.files.BayFile.TheVariants.{Aux}
+use Rattle.irl_layout.specs.BayFiles.{file_of}
+use Rattle.irl_layout.specs.Runs.{HasBucket}
+use Rattle.irl_layout.specs.Commits.{Commit, commit_bytes, live_side, live_offers}
 use Rattle.irl_bay.specs.Cache.{HasCache}
 use Rattle.irl_bay.specs.Standing.{HasBucketOf, Stands}
 use Rattle.irl_bay.specs.Drum.{Drum, IsDrum, bucket_at, cache_front, judged_front, texts_front}

@@ -13,9 +13,11 @@ use Rattle.irl_model.specs.Pairs.{ArePairsOf, IsRising, keys_of, pair_of}
 use Rattle.irl_model.proofs.Parts.{each_too, parts_after, parts_judged, parts_of_pairs}
 use Rattle.irl_model.proofs.RisingKeys.{pairs_rise, rising_back, rising_front}
 use Rattle.irl_disk.specs.Disk.{Files, Changes, ChangesFile}
-use Rattle.irl_disk.specs.Images.{Told, IsConsistent, LeavesBy, LeavesSame}
-use Rattle.irl_disk.proofs.Stretches.{joins_by, same_by}
-use Rattle.irl_disk.proofs.Frames.{told_from}
+use Rattle.irl_disk.specs.Effects.{OnlyChanges, OnlyReads, ReadsAndChanges}
+use Rattle.irl_disk.specs.Images.{Told, IsConsistent}
+use Rattle.irl_disk.proofs.Effects.{cause_for, cause_then, told_none, told_then}
+use Rattle.irl_disk.proofs.Stretches.{joins_by, same_by, stays}
+use Rattle.irl_disk.proofs.Frames.{takes_both, takes_none, told_from}
 use Rattle.irl_journal.specs.Blob.{BeginsWith, KeepsFront}
 use Rattle.irl_journal.proofs.Fronts.{keeps_both, keeps_none}
 use Rattle.irl_cache.specs.Reading.{HasRead, Reader, ReachesRead, TakesExactly, read_of}
@@ -27,7 +29,7 @@ use Rattle.irl_merge.specs.declared.sweep.Sweep.{Sweep}
 use Rattle.irl_merge.specs.Sweeping.{HasSwept}
 use Rattle.irl_merge.proofs.Given.{given_is_rising, given_within}
 use Rattle.irl_bay.specs.declared.sides.Sides.{Sides}
-use Rattle.irl_bay.specs.Sides.{HasMerged, IsSweeping, IsDone, IsSameCache, LieFrom, rest_of}
+use Rattle.irl_bay.specs.Sides.{HasMerged, IsSweeping, IsDone, IsSameCache, LieFrom, ReadsAndPuts, ReadsOn, rest_of}
 use Rattle.irl_bay.proofs.CachePairs.{length-pairs}
 use Rattle.irl_bay.proofs.InBuckets.{all_both, all_front, all_two, above_first, below_border, border_of, bucket_after, from_border, from_here, here_is, is_here, lie_now, lie_on, put_below, rises_from_last, rising_both}
 
@@ -302,22 +304,47 @@ module _ (f : ℕ) where
   step_both : (x y z : Files) → ChangesFile f (KeepsFront 0) x y → ChangesFile f (KeepsFront 0) y z → ChangesFile f (KeepsFront 0) x z
   step_both x y z one two = record { changed = keeps_both 0 (x f) (y f) (z f) one.changed two.changed; others = λ g out. two.others g out ∙ one.others g out }
 
-  pub changes_none : (told new : Option Files) → new ≡ told → Changes f (KeepsFront 0) told new
-  changes_none None new same = same
-  changes_none (Some files) new same = (files, same, step_none files)
+-- ---- calls that read the live side and write the other
+module _ (sides : Sides) where
+  abbrev pub puts_step : Files → Files → Type 0
+  puts_step = ChangesFile sides.writer.out.file (KeepsFront 0)
 
-  pub changes_both : (told mid new : Option Files) → Changes f (KeepsFront 0) told mid → Changes f (KeepsFront 0) mid new → Changes f (KeepsFront 0) told new
-  changes_both None mid new one two = rw one at two
-  changes_both (Some files) mid new one two =
-      let then_ = rw one.1 at two in
-      (then_.0, then_.1, step_both files one.0 then_.0 one.2 then_.2)
+  pub puts_none : (now : Told) → IsConsistent now → ReadsAndPuts sides ⊥ now now
+  puts_none now law = record {
+    told = told_none puts_step now.files now.files (step_none sides.writer.out.file) refl;
+    stops = same_by now now puts_step (step_none sides.writer.out.file) (stays now now.images law (λ image was. was));
+    taken = takes_none _ now.taken now.taken refl;
+    cause = record { later = omega arith; rose = λ no. absurd no };
+  }
 
-  pub stops_none : (old new : Told) → LeavesSame old new → LeavesBy (ChangesFile f (KeepsFront 0)) old new
-  stops_none old new same = same_by old new _ step_none same
+  pub puts_for : (failed answered : Type 0) (old new : Told) → (answered → failed) → ReadsAndPuts sides failed old new → ReadsAndPuts sides answered old new
+  puts_for failed answered old new gave puts = record { told = puts.told; stops = puts.stops; taken = puts.taken; cause = cause_for failed answered old.faults new.faults gave puts.cause }
 
-  pub stops_both : (old mid new : Told) → IsConsistent mid → LeavesBy (ChangesFile f (KeepsFront 0)) old mid → LeavesBy (ChangesFile f (KeepsFront 0)) mid new
-      → LeavesBy (ChangesFile f (KeepsFront 0)) old new
-  stops_both old mid new law one two = joins_by old mid new _ law step_both one two
+  pub puts_then : (failed answered : Type 0) (old mid new : Told) → IsConsistent mid → ReadsAndPuts sides failed old mid → ReadsAndPuts sides answered mid new → ReadsAndPuts sides answered old new
+  puts_then failed answered old mid new law first second = record {
+    told = told_then puts_step old.files mid.files new.files (step_both sides.writer.out.file) first.told second.told;
+    stops = joins_by old mid new puts_step law (step_both sides.writer.out.file) first.stops second.stops;
+    taken = takes_both _ old.taken mid.taken new.taken first.taken second.taken;
+    cause = cause_then answered old.faults mid.faults new.faults first.cause.later second.cause;
+  }
+
+  -- a call that only writes, and one that only reads
+  pub puts_only : (failed : Type 0) (old new : Told) → OnlyChanges puts_step failed old new → ReadsAndPuts sides failed old new
+  puts_only failed old new changes = record { told = changes.told; stops = changes.stops; taken = takes_none _ old.taken new.taken changes.taken; cause = changes.cause }
+
+  pub puts_read : (failed : Type 0) (old new : Told) → OnlyReads (λ f. f ≡ sides.reader.file) failed old new → ReadsAndPuts sides failed old new
+  puts_read failed old new reads = record {
+    told = told_none puts_step old.files new.files (step_none sides.writer.out.file) reads.same;
+    stops = same_by old new puts_step (step_none sides.writer.out.file) reads.stops;
+    taken = reads.taken;
+    cause = reads.cause;
+  }
+
+-- the same of sides that have the same files
+pub puts_of : (from sides : Sides) (failed : Type 0) (old new : Told) → IsSameCache from sides → ReadsAndPuts sides failed old new → ReadsAndPuts from failed old new
+puts_of from sides failed old new same puts =
+    subst (λ (f : ℕ). ReadsAndChanges (λ g. g ≡ f) (ChangesFile from.writer.out.file (KeepsFront 0)) failed old new) same.from
+    (subst (λ (f : ℕ). ReadsAndChanges (λ g. g ≡ sides.reader.file) (ChangesFile f (KeepsFront 0)) failed old new) same.to puts)
 
 -- ---- damage of the side that is read was there before the other was written
 pub spoilt_before : (f g count h at : ℕ) (step : List ℕ → List ℕ → Type 0) (told new : Option Files) → g ≢ f → Changes f step told new → ForSome new (λ files. (h ≡ g) × IsSpoiltRun count (files h) at)
@@ -358,10 +385,6 @@ still_reached told new writer same reached = λ files is.
     subst (λ (file : List ℕ). writer.place ≤ length file) (sym from.2) (reached from.0 from.1)
 
 -- ---- how much of the live side is read
--- through one stretch of calls, each key once
-abbrev pub ReadsOn : Reader → Reader → Option (ℕ → ℕ) → Option (ℕ → ℕ) → Type 0
-ReadsOn from to old new = (read_of from ≤ read_of to) × TakesExactly from.file (16 * (read_of to - read_of from)) old new
-
 pub reads_none : (from to : Reader) (old new : Option (ℕ → ℕ)) → to ≡ from → new ≡ old → ReadsOn from to old new
 reads_none from to old new same taken =
     let none : 0 ≡ 16 * (read_of to - read_of from) = omega (arith, ap (λ (r : Reader). read_of r) same) in

@@ -1,10 +1,11 @@
 -- Files that stand for a book are damaged nowhere.
-use Rattle.std.proofs.Common.{◌≡◌, ◌∙◌, ℕ, suc, zero, ◌+◌, ◌<◌, ◌≤◌, List, [], ◌∷◌, ◌++◌, length, map, take, drop, get_or, inl, inr, refl, sym, ap, subst, arith, length-append}
+use Rattle.std.proofs.Common.{◌≡◌, ◌∙◌, ℕ, suc, zero, ◌+◌, ◌<◌, ◌≤◌, List, [], ◌∷◌, ◌++◌, length, map, take, drop, get_or, inl, inr, Option, refl, sym, ap, subst, arith, length-append}
 use Rattle.std.proofs.lemmas.List.{length-map}
 use Rattle.std.proofs.lemmas.Grind.{flat_map-append}
 use Rattle.std.proofs.Math.Seq.{take-add, take-append-add}
 use Rattle.std.proofs.lemmas.List.Sums.{sum_by-cons}
-use Rattle.std.specs.Prelude.{IsSome, sum}
+use Rattle.std.specs.Prelude.{IsSome, sum, Result, IsErrOf}
+use Rattle.std.specs.Option.{ForSome}
 use Rattle.std.specs.List.{take-map, AllByRecursion}
 use Rattle.std.specs.FinMap.{entries}
 use Rattle.irl_offer.specs.Tuple.{Tuple}
@@ -14,17 +15,22 @@ use Rattle.irl_model.specs.Judging.{after}
 use Rattle.irl_model.specs.Book.{Book, IsBook, IsFront, IsBelow, IsPrefixOf, AreCuts, last_cut, judged_cut, lengths_of, judged, judged_offers, uniques, with_cuts}
 use Rattle.irl_model.proofs.FrontLaws.{prefixes_same, judged_offers_front, judged_front, uniques_front}
 use Rattle.irl_model.proofs.Merges.{earlier_book}
+use Rattle.irl_base.specs.declared.fault.Fault.{Fault}
+use Rattle.irl_base.specs.declared.fault.Fault.TheVariants.{Damaged, Full}
 use Rattle.irl_disk.specs.Disk.{Files}
 use Rattle.irl_journal.specs.Format.{StandsFor}
 use Rattle.irl_journal.proofs.Lists.{one_list, whole_list, record_behind}
 use Rattle.irl_journal.proofs.Fronts.{begins_long}
-use Rattle.irl_bay.specs.BayFiles.{file_of}
-use Rattle.irl_bay.specs.declared.layout.files.BayFile.TheVariants.{Manifest, Cache, Judged, Texts, Journal, Aux}
+use Rattle.irl_layout.specs.BayFiles.{file_of}
+use Rattle.irl_layout.specs.declared.files.BayFile.TheVariants.{Manifest, Cache, Judged, Texts, Journal, Aux}
 use Rattle.irl_cache.specs.SortedRun.{pairs_bytes}
-use Rattle.irl_bay.specs.Commits.{Commit, IsCommit, IsCommitOf, GrowFrom, NameFrom, commit_bytes, first_commit, last_commit, live_side, live_offers}
-use Rattle.irl_bay.specs.Damage.{IsAtOrAbove, RiseFrom, AreCommitPayloads, AreRunPayloads, IsDamagedJournal, IsDamagedFront, IsDamagedBucket, IsDamagedBehind, IsDamagedAt, IsReached, IsWholeBucket, HasFronts, HasManifest, HasRuns, IsEntryRun, entries_bytes, entries_in, text_length}
-use Rattle.irl_bay.specs.JudgedEntries.{judged_entries}
-use Rattle.irl_bay.specs.Runs.{IsOffer, entry_of_offer, texts_of}
+use Rattle.irl_layout.specs.Commits.{Commit, IsCommit, IsCommitOf, GrowFrom, NameFrom, commit_bytes, first_commit, last_commit, live_side, live_offers}
+use Rattle.irl_bay.specs.Damage.{IsAtOrAbove, RiseFrom, AreCommitPayloads, IsDamagedJournal, IsDamagedFront, IsDamagedBucket, IsDamagedBehind, IsDamagedAt, IsReached, IsWholeBucket, HasFronts, HasManifest, HasRuns}
+use Rattle.irl_layout.specs.EntryRuns.{AreRunPayloads, IsEntryRun, entries_bytes, entries_in, text_length}
+use Rattle.irl_layout.specs.JudgedEntries.{judged_entries}
+use Rattle.irl_layout.specs.Runs.{IsOffer, entry_of_offer, texts_of}
+use Rattle.irl_bay.specs.Drum.{Drum}
+use Rattle.irl_bay.specs.Opening.{AdoptRefused}
 use Rattle.irl_bay.specs.Standing.{Stands, IsBookOf, HasBucketOf}
 use Rattle.irl_bay.proofs.Adopted.{first_is, last_is}
 use Rattle.irl_bay.proofs.AdoptedBook.{IsLastOf, cut_in, cut_sum, live_here, length-pairs, length-judged, same_commits}
@@ -274,3 +280,12 @@ pub stands_whole : (base : ℕ) (settings : Settings) (book : Book) (files : Fil
 stands_whole base settings book files f at stands =
     let last = last_commit (first_commit book.buckets) stands.commits in
     undamaged base settings files stands.commits last f at (stands_sane base settings book files last stands refl)
+
+-- a refusal that names such damage names none over files that stand for a book
+pub refused_by : (result : Result Drum Fault) (base : ℕ) (settings : Settings) (files : Option Files) → ((n : ℕ) → IsErrOf result (Full n) → ⊥)
+    → ((f at : ℕ) → IsErrOf result (Damaged f at) → ForSome files (λ told. IsDamagedAt base settings told f at)) → AdoptRefused result base settings files
+refused_by result base settings files full damaged = record {
+  damaged = damaged;
+  whole = λ f at is told tells book stands. stands_whole base settings book told f at stands (damaged f at is told tells);
+  full = full;
+}

@@ -12,7 +12,7 @@ use Rattle.irl_offer.specs.Tuple.{Tuple}
 use Rattle.irl_model.specs.Book.{Book, stretch, stretches, judged_offers, seen}
 use Rattle.irl_model.specs.Judging.{KeyMap, after, combined, entered, enters}
 use Rattle.irl_cache.specs.SortedRun.{AreWords}
-use Rattle.irl_bay.specs.Runs.{IsOffer}
+use Rattle.irl_layout.specs.Runs.{IsOffer}
 
 abbrev IsWord : ℕ × ℕ → Type 0
 IsWord p = (p.0 < 2 ^ 64) × (p.1 < 2 ^ 64)

@@ -6,9 +6,9 @@ use Rattle.irl_model.specs.Judging.{KeyMap}
 use Rattle.irl_disk.specs.Disk.{Files}
 use Rattle.irl_journal.specs.Blob.{BeginsWith}
 use Rattle.irl_cache.specs.SortedRun.{pairs_bytes}
-use Rattle.irl_bay.specs.BayFiles.{file_of}
-use Rattle.irl_bay.specs.declared.layout.files.BayFile.TheVariants.{Cache}
-use Rattle.irl_bay.specs.Commits.{Commit}
+use Rattle.irl_layout.specs.BayFiles.{file_of}
+use Rattle.irl_layout.specs.declared.files.BayFile.TheVariants.{Cache}
+use Rattle.irl_layout.specs.Commits.{Commit}
 
 -- the side that a commit names has these keys
 pub record HasCache (base : ℕ) (commit : Commit) (keys : KeyMap) (files : Files) : Type 0 where

@@ -12,9 +12,10 @@ use Rattle.irl_model.specs.Book.{IsBelow}
 use Rattle.irl_disk.specs.Disk.{Files, ChangesAmong}
 use Rattle.irl_journal.specs.Format.{StandsFor, IsBrokenAt, IsPayload, records_text, body_text, open_gate}
 use Rattle.irl_journal.specs.Visiting.{IsOpened}
-use Rattle.irl_bay.specs.BayFiles.{file_of}
-use Rattle.irl_bay.specs.declared.layout.files.BayFile.TheVariants.{Manifest, Cache, Judged, Texts, Journal, Aux}
-use Rattle.irl_bay.specs.Commits.{Commit, IsCommit, HasCommits, commit_bytes, first_commit, last_commit, live_side, starts_by}
+use Rattle.irl_layout.specs.BayFiles.{file_of}
+use Rattle.irl_layout.specs.declared.files.BayFile.TheVariants.{Manifest, Cache, Judged, Texts, Journal, Aux}
+use Rattle.irl_layout.specs.Commits.{Commit, IsCommit, HasCommits, commit_bytes, first_commit, last_commit, live_side, starts_of}
+use Rattle.irl_layout.specs.EntryRuns.{IsEntryRun, AreRunPayloads, entries_bytes, entries_in, text_length}
 
 -- a file is shorter than what is committed of it, and this is where it ends
 pub record IsShort (length_committed : ℕ) (file : List ℕ) (at : ℕ) : Type 0 where
@@ -89,36 +90,6 @@ pub record HasFronts (base : ℕ) (last : Commit) (files : Files) : Type 0 where
   pub texts : last.texts ≤ length (files (file_of base 0 Texts))
 
 -- ---- a bucket
--- an entry of a bucket, whose numbers and text have their room
-pub record IsEntryOf (buckets b : ℕ) (entry : Entry) : Type 0 where
-  pub key : entry.key < 2 ^ 64
-  pub value : entry.value < 2 ^ 64
-  pub from : entry.from < 2 ^ 64
-  pub aux : entry.aux_len ≤ max_text
-  pub bucket : bucket_of buckets entry.key ≡ b
-
--- a run of a bucket's entries: at least one and at most as many as an array holds
-pub record IsEntryRun (settings : Settings) (b : ℕ) (run : List Entry) : Type 0 where
-  pub some : 1 ≤ length run
-  pub few : length run ≤ settings.array
-  pub each : AllByRecursion (IsEntryOf settings.buckets b) run
-
--- the payload of a run
-abbrev pub entries_bytes : List Entry → List ℕ
-entries_bytes entries = flat_map entry_bytes entries
-
--- payloads that a bucket's journal may have
-abbrev pub AreRunPayloads : Settings → ℕ → List (List ℕ) → Type 0
-AreRunPayloads settings b payloads = (runs : List (List Entry)) × AllByRecursion (IsEntryRun settings b) runs
-    × (payloads ≡ map entries_bytes runs)
-
--- all entries of runs, and how many bytes their texts have
-abbrev pub entries_in : List (List Entry) → List Entry
-entries_in runs = flat_map (λ run. run) runs
-
-abbrev pub text_length : List Entry → ℕ
-text_length entries = sum_by (λ entry. entry.aux_len) entries
-
 -- a bucket's journal on a side has these runs
 pub record HasRuns (base side : ℕ) (settings : Settings) (b : ℕ) (files : Files) (runs : List (List Entry)) : Type 0
   where
@@ -138,10 +109,6 @@ IsWholeBucket base side settings files b = (runs : List (List Entry)) × HasRuns
     × (text_length (entries_in runs) ≤ length (files (file_of base 0 (Aux side b))))
 
 -- ---- a commit against the lists
--- the number of the first offer in each bucket's live files, where no first offer was dropped
-abbrev pub starts_of : ℕ → Commit → List ℕ
-starts_of buckets last = starts_by (replicate buckets 0) last.cut last.live
-
 -- Behind this last commit, the lists have the offers that a commit says are judged. Where the last names a side, the
 -- live files begin at its own cut, and the offers before it stand in the judged file alone, which opening doesn't read.
 -- But each judged offer is one bucket's, so that no cut of a bay counts more offers in all than are judged.

@@ -5,10 +5,10 @@ use Rattle.irl_offer.specs.Settings.{AreValid}
 use Rattle.irl_model.specs.Book.{Book, lengths_of}
 use Rattle.irl_journal.specs.Appending.{Tail}
 use Rattle.irl_journal.specs.Blob.{Front}
-use Rattle.irl_bay.specs.BayFiles.{file_of, max_base}
-use Rattle.irl_bay.specs.declared.layout.files.BayFile.TheVariants.{Manifest, Cache, Judged, Texts, Journal, Aux}
+use Rattle.irl_layout.specs.BayFiles.{file_of, max_base}
+use Rattle.irl_layout.specs.declared.files.BayFile.TheVariants.{Manifest, Cache, Judged, Texts, Journal, Aux}
 use Rattle.irl_bay.specs.declared.bucket.Bucket.{Bucket}
-use Rattle.irl_bay.specs.Commits.{Commit, live_side, IsCommit, IsCommitOf}
+use Rattle.irl_layout.specs.Commits.{Commit, live_side, IsCommit, IsCommitOf}
 
 pub record Drum : Type 0 where
   -- its first file

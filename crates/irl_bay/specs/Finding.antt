@@ -1,7 +1,7 @@
 -- What is found in the runs of a bucket's journal, one run after the other.
 use Rattle.std.specs.Prelude.{◌≡◌, ◌⊎◌, ℕ, ◌+◌, ◌-◌, ◌^◌, ◌<◌, ◌≤◌, min, List, length, take}
 use Rattle.irl_offer.specs.declared.entry.Entry.{Entry}
-use Rattle.irl_bay.specs.Damage.{text_length}
+use Rattle.irl_layout.specs.EntryRuns.{text_length}
 use Rattle.irl_bay.specs.declared.found.Found.{Found}
 
 abbrev pub nothing_found : Found

@@ -1,23 +1,25 @@
 -- An open bay holds a book: what it keeps in memory is the book's, and each joint image that a stop now may leave
 -- stands for it.
-use Rattle.std.specs.Prelude.{◌≡◌, ◌⊎◌, ℕ, ◌+◌, ◌-◌, ◌<◌, ◌≤◌, List, [], ◌++◌, map, length, take, slice_index, slice_index_or, Option, None, Some}
+use Rattle.std.specs.Prelude.{◌≡◌, ◌⊎◌, ◌↔◌, ℕ, ◌+◌, ◌-◌, ◌<◌, ◌≤◌, List, [], ◌++◌, map, length, take, slice_index, slice_index_or, true, false, Option, None, Some}
 use Rattle.std.specs.List.{flat_map, AllByRecursion}
+use Rattle.std.specs.Option.{ForSome}
 use Rattle.std.specs.FinMap.{entries}
 use Rattle.irl_offer.specs.declared.settings.Settings.{Settings}
 use Rattle.irl_offer.specs.Tuple.{Tuple}
 use Rattle.irl_model.specs.Book.{Book, judged, judged_offers}
 use Rattle.irl_model.specs.Judging.{after}
 use Rattle.irl_disk.specs.Disk.{Files, ChangesOnly}
+use Rattle.irl_disk.specs.Images.{Told}
 use Rattle.irl_journal.specs.Format.{records_text}
 use Rattle.irl_journal.specs.Appending.{IsOpen}
 use Rattle.irl_journal.specs.Blob.{IsCommitted}
 use Rattle.irl_bay.specs.declared.bucket.Bucket.{Bucket}
-use Rattle.irl_bay.specs.Runs.{run_bytes, texts_of, IsOffer, AreRuns, HasBucket}
-use Rattle.irl_bay.specs.Commits.{Commit, commit_bytes, first_commit, last_commit, starts, live_offers, AreCommitsOf}
+use Rattle.irl_layout.specs.Runs.{run_bytes, texts_of, IsOffer, AreRuns, HasBucket}
+use Rattle.irl_layout.specs.Commits.{Commit, commit_bytes, first_commit, last_commit, starts, live_offers, AreCommitsOf}
 use Rattle.irl_cache.specs.SortedRun.{pairs_bytes}
-use Rattle.irl_bay.specs.JudgedEntries.{judged_entries}
+use Rattle.irl_layout.specs.JudgedEntries.{judged_entries}
 use Rattle.irl_bay.specs.Standing.{IsBookOf, Stands}
-use Rattle.irl_bay.specs.Drum.{Drum, HasNumbers, bucket_at, judged_at, cache_front, judged_front, texts_front}
+use Rattle.irl_bay.specs.Drum.{Drum, IsDrum, HasNumbers, bucket_at, judged_at, cache_front, judged_front, texts_front}
 
 -- A bucket's files have this list, of which so many are judged.
 pub record HoldsBucket (images : Files → Type 0) (array cut : ℕ) (bucket : Bucket) (list : List Tuple) : Type 0 where
@@ -82,3 +84,11 @@ pub record IsLong (drum : Drum) (files : Files) : Type 0 where
       → (bucket_at drum b).journal.end < length (files (bucket_at drum b).journal.file)
   pub auxes : (b : ℕ) → b < drum.settings.buckets
       → (bucket_at drum b).aux.length ≤ length (files (bucket_at drum b).aux.file)
+
+-- ---- what each call leaves
+-- A bay after a call that may end its soundness: `failed` says that a fault of the store was answered.
+pub record GoesOn (failed : Type 0) (new : Drum) (after : Told) : Type 0 where
+  pub drum : IsDrum new
+  pub sound : (new.is_sound ≡ false) ↔ failed
+  -- a sound bay may be asked again
+  pub long : new.is_sound ≡ true → ForSome after.files (λ files. IsLong new files)

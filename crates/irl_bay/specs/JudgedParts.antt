@@ -3,9 +3,9 @@ use Rattle.std.specs.Prelude.{◌≡◌, ℕ, ◌+◌, ◌≤◌, List, [], ◌�
 use Rattle.std.specs.List.{AllByRecursion}
 use Rattle.irl_offer.specs.declared.receipt.Judged.{Judged}
 use Rattle.irl_base.specs.Limits.{max_text}
-use Rattle.irl_bay.specs.declared.layout.judged_entry.JudgedEntry.{JudgedEntry}
+use Rattle.irl_layout.specs.declared.judged_entry.JudgedEntry.{JudgedEntry}
 use Rattle.irl_bay.specs.declared.judged_part.JudgedRef.{JudgedRef}
-use Rattle.irl_bay.specs.JudgedEntries.{texts_length}
+use Rattle.irl_layout.specs.JudgedEntries.{texts_length}
 
 -- entries of which each text stands right behind that of the one before
 abbrev pub AreJoined : List JudgedEntry → Type 0

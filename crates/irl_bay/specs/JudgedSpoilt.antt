@@ -2,8 +2,8 @@
 use Rattle.std.specs.Prelude.{◌≡◌, ◌⊎◌, ℕ, ◌+◌, ◌-◌, ◌*◌, ◌<◌, ◌≤◌, List, [], ◌∷◌, take, drop, Option, Some, IfSome}
 use Rattle.irl_offer.specs.Buckets.{bucket_of}
 use Rattle.irl_disk.specs.Disk.{Files}
-use Rattle.irl_bay.specs.declared.layout.judged_entry.JudgedEntry.{JudgedEntry}
-use Rattle.irl_bay.specs.JudgedEntries.{IsJudgedEntry, entry_spelling}
+use Rattle.irl_layout.specs.declared.judged_entry.JudgedEntry.{JudgedEntry}
+use Rattle.irl_layout.specs.JudgedEntries.{IsJudgedEntry, entry_spelling}
 use Rattle.irl_bay.specs.Drum.{Drum, judged_front, texts_front}
 
 -- an entry that may stand behind another, where one is looked at before it: it names the bucket of its key, and a text

@@ -1,22 +1,23 @@
 -- What a merge writes: the keys that are then judged, the entries of the offers that it judges, and their texts.
-use Rattle.std.specs.Prelude.{◌≡◌, ◌⊎◌, ℕ, ◌+◌, ◌-◌, ◌*◌, ◌^◌, ◌<◌, ◌≤◌, min, true, List, [], ◌∷◌, ◌++◌, length, sum, Option, None, Some}
+use Rattle.std.specs.Prelude.{◌≡◌, ◌⊎◌, ℕ, ◌+◌, ◌-◌, ◌*◌, ◌^◌, ◌<◌, ◌≤◌, min, true, List, [], ◌∷◌, ◌++◌, length, sum, Some}
 use Rattle.std.specs.FinMap.{entries}
 use Rattle.irl_model.specs.Book.{Book, judged, uniques, judged_offers, merged}
 use Rattle.irl_model.specs.Judging.{after}
 use Rattle.std.specs.Option.{ForSome}
 use Rattle.irl_disk.specs.Disk.{Files, ChangesOnly, TellsBy}
+use Rattle.irl_disk.specs.Effects.{ReadsAndChanges}
 use Rattle.irl_disk.specs.Images.{Told, LeavesBy}
 use Rattle.irl_journal.specs.Appending.{Tail}
 use Rattle.irl_journal.specs.Blob.{Front, KeepsFront, IsCommitted}
-use Rattle.irl_bay.specs.BayFiles.{file_of, IsSideFile}
-use Rattle.irl_bay.specs.declared.layout.files.BayFile.TheVariants.{Manifest, Cache, Judged, Texts, Journal, Aux}
+use Rattle.irl_layout.specs.BayFiles.{file_of, IsFileOf, IsSideFile}
+use Rattle.irl_layout.specs.declared.files.BayFile.TheVariants.{Manifest, Cache, Judged, Texts, Journal, Aux}
 use Rattle.irl_bay.specs.declared.bucket.Bucket.{Bucket}
 use Rattle.irl_bay.specs.Drum.{Drum, durables, judged_front, texts_front}
-use Rattle.irl_bay.specs.Runs.{texts_of}
-use Rattle.irl_bay.specs.Commits.{Commit, live_side, IsCommit}
+use Rattle.irl_layout.specs.Runs.{texts_of}
+use Rattle.irl_layout.specs.Commits.{Commit, live_side, IsCommit}
 use Rattle.irl_bay.specs.Holding.{Holds}
 use Rattle.irl_cache.specs.SortedRun.{pairs_bytes}
-use Rattle.irl_bay.specs.JudgedEntries.{judged_entries}
+use Rattle.irl_layout.specs.JudgedEntries.{judged_entries}
 
 -- what it writes behind what is committed, and to the other side of the cache: so many keys, so many entries, of which
 -- so many are Unique, and texts; and the new cut
@@ -84,6 +85,13 @@ emptied_from base side b [] = []
 emptied_from base side b (bucket ∷ buckets) = emptied base side b bucket.durable
     ∷ emptied_from base side (b + 1) buckets
 
+-- A commit of all offers, and the buckets that the bay has then.
+pub record MayCommit (next : Commit) (buckets : List Bucket) (drum : Drum) : Type 0 where
+  pub room : HasRoom drum.settings.buckets next
+  pub cut : next.cut ≡ durables drum
+  pub live : next.live ≡ Some (1 - live_side drum.last)
+  pub buckets_are : buckets ≡ emptied_from drum.base (1 - live_side drum.last) 0 drum.buckets
+
 -- a side whose files were cut: each bucket's journal has one byte, that of its first gate, and its texts have none
 pub record AreEmpty (base side buckets : ℕ) (files : Files) : Type 0 where
   pub journals : (b : ℕ) → b < buckets → length (files (file_of base 0 (Journal side b))) ≡ 1
@@ -141,6 +149,11 @@ pub record KeepsCommitted (drum : Drum) (old new : Files) : Type 0 where
 pub record Writes (drum : Drum) (old new : Told) : Type 0 where
   pub told : TellsBy (KeepsCommitted drum) old.files new.files
   pub stops : LeavesBy (KeepsCommitted drum) old new
+
+-- by a call that reads the bay's files
+abbrev pub WritesOn : Drum → Type 0 → Told → Told → Type 0
+WritesOn drum failed before after = ReadsAndChanges (IsFileOf drum.base drum.settings.buckets) (KeepsCommitted drum)
+    failed before after
 
 -- a batch is written and synced, and this is its commit
 pub record IsSynced (drum : Drum) (batch : Batch) (old new : Told) (next : Commit) : Type 0 where

@@ -1,14 +1,23 @@
 -- The pending offers of a bucket, as its files give them: the entries of the records from a gate on, and their texts.
-use Rattle.std.specs.Prelude.{◌≡◌, ◌≢◌, ◌⊎◌, ℕ, ◌+◌, ◌-◌, List, [], ◌∷◌, ◌++◌, map, length, drop}
-use Rattle.std.specs.List.{AllByRecursion}
+use Rattle.std.specs.Prelude.{◌≡◌, ◌≢◌, ◌⊎◌, ℕ, ◌+◌, ◌-◌, List, [], ◌∷◌, ◌++◌, map, length, drop, Vec, Result, IfOk, IsErrOf}
+use Rattle.std.specs.List.{All, AllByRecursion}
+use Rattle.std.specs.Option.{ForSome}
+use Rattle.std.specs.declared.alloc.Global.{Global}
+use Rattle.irl_base.specs.declared.fault.Fault.{Fault}
+use Rattle.irl_base.specs.declared.fault.Fault.TheVariants.{Damaged, Failed, Full}
+use Rattle.irl_offer.specs.Buckets.{bucket_of}
 use Rattle.irl_offer.specs.declared.entry.Entry.{Entry}
 use Rattle.irl_offer.specs.declared.settings.Settings.{Settings}
 use Rattle.irl_offer.specs.Tuple.{Tuple}
 use Rattle.irl_disk.specs.Disk.{Files}
+use Rattle.irl_disk.specs.Effects.{OnlyReads}
+use Rattle.irl_disk.specs.Images.{Told}
 use Rattle.irl_journal.specs.Format.{HasNoRecord, records_text, body_text, open_gate}
-use Rattle.irl_bay.specs.Damage.{IsEntryRun, entries_bytes, entries_in, text_length}
+use Rattle.irl_layout.specs.EntryRuns.{IsEntryRun, entries_bytes, entries_in, text_length}
 use Rattle.irl_bay.specs.declared.bucket.Bucket.{Bucket}
-use Rattle.irl_bay.specs.Runs.{entry_of_offer, texts_of}
+use Rattle.irl_bay.specs.declared.pending.Pending.{Pending}
+use Rattle.irl_bay.specs.Holding.{HoldsBucket}
+use Rattle.irl_layout.specs.Runs.{entry_of_offer, texts_of}
 
 -- from a gate on a file has runs of a bucket's entries in whole open records, up to this place, and then these bytes
 pub record HasRunsTo (settings : Settings) (b from : ℕ) (file : List ℕ) (runs : List (List Entry)) (at : ℕ)
@@ -24,11 +33,6 @@ pub record HasEntries (settings : Settings) (b : ℕ) (bucket : Bucket) (files :
     pub behind : List ℕ
     pub has : HasRunsTo settings b bucket.gate (files bucket.journal.file) runs bucket.journal.end behind
     pub joined : entries ≡ entries_in runs
-
--- behind so many entries these are those of the offers that a list has from a number on
-pub record AreEntriesFrom (skip cut : ℕ) (list : List Tuple) (entries : List Entry) : Type 0 where
-  pub entries_are : drop skip entries ≡ map entry_of_offer (drop cut list)
-  pub count : length entries + cut ≡ skip + length list
 
 -- these are the entries of these offers, and their texts, one behind the other
 pub record AreOffersOf (offers : List Tuple) (entries : List Entry) (texts : List ℕ) : Type 0 where
@@ -77,3 +81,35 @@ IsSpoiltBucket settings b bucket pending files f at =
     ((f ≡ bucket.journal.file) × IsSpoiltJournal settings b bucket files at)
     ⊎ ((f ≡ bucket.journal.file) × (at ≡ bucket.gate) × IsMiscounted settings b bucket pending files)
     ⊎ ((f ≡ bucket.aux.file) × (at ≡ bucket.text) × IsTextOff settings b bucket files)
+
+-- ---- reading them
+-- The entries, by the answer, where so many offers wait.
+pub record ReadsPending (result : Result Pending Fault) (settings : Settings) (b : ℕ) (bucket : Bucket) (waiting : ℕ)
+    (before after : Told) : Type 0 where
+  pub count : IfOk result (λ found. length (drop found.skip found.entries.items) ≡ waiting)
+  -- the texts are as long as their file says
+  pub texts : IfOk result (λ found.
+      text_length (drop found.skip found.entries.items) ≡ bucket.aux.length - bucket.text)
+  pub here : IfOk result (λ found.
+      All (λ entry. bucket_of settings.buckets entry.key ≡ b) (drop found.skip found.entries.items))
+  -- they are those of the list that the files have
+  pub held : IfOk result (λ found. ForSome before.files (λ _. (cut : ℕ) (list : List Tuple)
+      → HoldsBucket before.images settings.array cut bucket list
+      → map entry_of_offer (drop cut list) ≡ drop found.skip found.entries.items))
+  -- damage is named only where it is, and never over files that have a list of the bucket's offers
+  pub damaged : (f at : ℕ) → IsErrOf result (Damaged f at)
+      → ForSome before.files (λ files. IsSpoiltBucket settings b bucket waiting files f at)
+  pub whole : (f at : ℕ) → IsErrOf result (Damaged f at) → ForSome before.files (λ _. (cut : ℕ) (list : List Tuple)
+      → HoldsBucket before.images settings.array cut bucket list
+      → AllByRecursion (λ offer. bucket_of settings.buckets offer.key ≡ b) list → waiting + cut ≡ length list → ⊥)
+  pub full : (n : ℕ) → IsErrOf result (Full n) → ⊥
+  pub reads : OnlyReads (λ f. f ≡ bucket.journal.file) (IsErrOf result Failed) before after
+
+-- Their texts, one behind the other. A store that tells has the bytes.
+pub record ReadsTexts (result : Result (Vec ℕ Global) Fault) (bucket : Bucket) (before after : Told) : Type 0 where
+  pub length : IfOk result (λ texts. length texts.items ≡ bucket.aux.length - bucket.text)
+  pub held : IfOk result (λ texts. ForSome before.files (λ _. (array cut : ℕ) (list : List Tuple)
+      → HoldsBucket before.images array cut bucket list → texts.items ≡ texts_of (drop cut list)))
+  pub damaged : (f at : ℕ) → IsErrOf result (Damaged f at) → ForSome before.files (λ _. ⊥)
+  pub full : (n : ℕ) → IsErrOf result (Full n) → ⊥
+  pub reads : OnlyReads (λ f. f ≡ bucket.aux.file) (IsErrOf result Failed) before after

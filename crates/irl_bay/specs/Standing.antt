@@ -7,12 +7,12 @@ use Rattle.irl_model.specs.Book.{Book, IsBook, judged, judged_offers}
 use Rattle.irl_model.specs.Judging.{after}
 use Rattle.irl_disk.specs.Disk.{Files}
 use Rattle.irl_journal.specs.Blob.{BeginsWith}
-use Rattle.irl_bay.specs.BayFiles.{file_of}
-use Rattle.irl_bay.specs.declared.layout.files.BayFile.TheVariants.{Judged, Texts, Journal, Aux}
-use Rattle.irl_bay.specs.Runs.{texts_of, IsOffer, HasBucket}
-use Rattle.irl_bay.specs.Commits.{Commit, first_commit, last_commit, live_side, live_offers, AreCommitsOf, HasCommits}
+use Rattle.irl_layout.specs.BayFiles.{file_of}
+use Rattle.irl_layout.specs.declared.files.BayFile.TheVariants.{Judged, Texts, Journal, Aux}
+use Rattle.irl_layout.specs.Runs.{texts_of, IsOffer, HasBucket}
+use Rattle.irl_layout.specs.Commits.{Commit, first_commit, last_commit, live_side, live_offers, AreCommitsOf, HasCommits}
 use Rattle.irl_bay.specs.Cache.{HasCache}
-use Rattle.irl_bay.specs.JudgedEntries.{judged_entries}
+use Rattle.irl_layout.specs.JudgedEntries.{judged_entries}
 
 -- a book that a bay with these settings may have: none of its offers is dropped
 pub record IsBookOf (settings : Settings) (book : Book) : Type 0 where

@@ -7,8 +7,8 @@ use Rattle.irl_model.specs.Book.{judged_as, uniques_from}
 use Rattle.irl_disk.specs.Disk.{Files}
 use Rattle.irl_journal.specs.Growing.{HasPut}
 use Rattle.irl_bay.specs.Drum.{Drum, judged_front, texts_front}
-use Rattle.irl_bay.specs.JudgedEntries.{judged_entries}
-use Rattle.irl_bay.specs.Runs.{texts_of}
+use Rattle.irl_layout.specs.JudgedEntries.{judged_entries}
+use Rattle.irl_layout.specs.Runs.{texts_of}
 use Rattle.irl_bay.specs.declared.telling.Telling.{Telling}
 
 -- offers with the verdicts on them, as they are told

@@ -1,31 +1,19 @@
-ghost use Rattle.std.specs.Prelude.{◌≡◌, ◌⊎◌, ◌↔◌, ◌≤◌, ◌<◌, ◌+◌, ◌++◌, ◌∷◌, ℕ, List, [], true, false, length};
-ghost use Rattle.std.specs.Prelude.{IfOk, OnOk, OnErr, IsErrOf, slice_index};
-ghost use Rattle.std.specs.List.{AllByRecursion};
+ghost use Rattle.std.specs.Prelude.{◌≡◌, ◌≤◌, ◌<◌, ◌+◌, true, length};
+ghost use Rattle.std.specs.Prelude.{IsErrOf, slice_index};
 ghost use Rattle.std.specs.Option.{ForSome};
-ghost use Rattle.irl_offer.specs.Buckets.{bucket_of};
-ghost use Rattle.irl_base.specs.Faults.{HasCause};
 ghost use Rattle.irl_offer.specs.Settings.{AreValid};
-ghost use Rattle.irl_base.specs.declared.fault.Fault.TheVariants.{Failed as FailedFault, Memory as MemoryFault};
-ghost use Rattle.irl_base.specs.declared.fault.Fault.TheVariants.{Full as FullFault, Damaged as DamagedFault};
-ghost use Rattle.irl_model.specs.Book.{Book, blank_book, flushed, judged, uniques, judged_cut, lengths_of};
-ghost use Rattle.irl_disk.specs.Disk.{TellsOnly, TellsBy, ChangesOnly};
-ghost use Rattle.irl_disk.specs.Images.{Leaves, LeavesBy};
-ghost use Rattle.irl_journal.specs.Appending.{IsOpen};
-ghost use Rattle.irl_journal.specs.Format.{HasRecords};
-ghost use Rattle.irl_bay.specs.BayFiles.{file_of, max_base, IsBucketFile};
-ghost use Rattle.irl_bay.specs.declared.layout.files.BayFile.TheVariants.{Journal as JournalFile};
-ghost use Rattle.irl_bay.specs.Commits.{live_side};
-ghost use Rattle.irl_bay.specs.Runs.{run_bytes};
-ghost use Rattle.irl_bay.specs.Drum.{Drum, IsDrum, bucket_at, durable_at, pending_at};
-ghost use Rattle.irl_bay.specs.Drum.{HasNumbers, KeepsCounts, CountsFlush};
-ghost use Rattle.irl_bay.specs.Holding.{Holds, IsLong, Becomes};
-ghost use Rattle.irl_bay.specs.Making.{IsUnmade, Makes};
+ghost use Rattle.irl_model.specs.Book.{Book, judged, uniques, judged_cut, lengths_of};
+ghost use Rattle.irl_layout.specs.BayFiles.{max_base};
+ghost use Rattle.irl_bay.specs.Drum.{Drum, IsDrum, HasNumbers, durable_at, pending_at};
+ghost use Rattle.irl_bay.specs.Flushing.{MayFlush, Flushes, FlushRefused, FlushMayLeave};
+ghost use Rattle.irl_bay.specs.Holding.{IsLong, GoesOn};
+ghost use Rattle.irl_bay.specs.Making.{IsUnmade, MakesBay};
 
 use crate::bucket::Bucket;
-use crate::layout::{BayFile, Commit, Run};
 use irl_array::Array;
 use irl_disk::{Failed, Store};
 use irl_journal::Journal;
+use irl_layout::{BayFile, Commit, Run};
 use irl_offer::{Fault, Settings};
 use std::alloc::{AllocError, Global};
 use std::marker::Model;
@@ -83,23 +71,7 @@ impl Bay {
         requires base { base ≤ max_base }
         requires settings { AreValid settings.now }
         requires unmade { ForSome (S.told store.old).files (λ files. IsUnmade base settings.now.buckets files) }
-        ensures base { IfOk result (λ bay. bay.base ≡ base) }
-        ensures settings { IfOk result (λ bay. bay.settings ≡ settings.now) }
-        ensures sound { IfOk result (λ bay. bay.is_sound ≡ true) }
-        ensures drum { IfOk result (λ bay. IsDrum bay) }
-        // From then on each stop leaves files that stand for the book without an offer.
-        ensures holds { IfOk result (λ bay. Holds (S.told store.new).images bay
-            (blank_book settings.now.buckets settings.now.rule)) }
-        // A stop at any moment leaves each file as it was, but that the manifest or a journal on side 0 of at most one
-        // byte has at most one.
-        ensures files { TellsBy (Makes base settings.now.buckets)
-            (S.told store.old).files (S.told store.new).files }
-        ensures stops { LeavesBy (Makes base settings.now.buckets) (S.told store.old) (S.told store.new) }
-        ensures memory_same { IsErrOf result Fault.Memory → store.new ≡ store.old }
-        ensures full { (n : ℕ) → IsErrOf result (Fault.Full n) → ⊥ }
-        ensures damaged { (f at : ℕ) → IsErrOf result (Fault.Damaged f at) → ⊥ }
-        ensures taken { (S.told store.new).taken ≡ (S.told store.old).taken }
-        ensures cause { HasCause (IsErrOf result Fault.Failed) (S.told store.old).faults (S.told store.new).faults }
+        ensures { MakesBay result base settings.now store.old store.new (S.told store.old) (S.told store.new) }
     {
         let mut buckets = Vec::with_capacity(alloc, settings.buckets as usize)?;
         let last = Commit::first(alloc, settings.buckets)?;
@@ -125,54 +97,16 @@ impl Bay {
     /// soundness. The array keeps its offers at each refusal.
     pub fn flush<S: Store>(&mut self, store: &mut S, b: u32, array: &mut Array) -> Result<(), Fault>
         requires sound { self.old.is_sound ≡ true }
-        requires bucket { b < self.old.settings.buckets }
-        requires some { 1 ≤ length array.old.items }
-        requires few { length array.old.items ≤ self.old.settings.array }
-        requires offers { AllByRecursion (λ offer. bucket_of self.old.settings.buckets offer.key ≡ b) array.old.items }
-        requires pending { pending_at self.old b < self.old.settings.trigger }
+        requires offers { MayFlush b array.old.items self.old }
         requires long { ForSome (S.told store.old).files (λ files. IsLong self.old files) }
-        // The bay has the book with the offers at the end of the bucket's list, and from then on each stop leaves it.
-        ensures holds { OnOk result ((book : Book) → Holds (S.told store.old).images self.old book →
-            Holds (S.told store.new).images self.new (flushed b array.old.items book)) }
-        ensures drum { IsDrum self.new }
-        // A sound bay may be asked again.
-        ensures long_kept { self.new.is_sound ≡ true →
-            ForSome (S.told store.new).files (λ files. IsLong self.new files) }
-        ensures counts { OnOk result (CountsFlush b (length array.old.items) self.old self.new) }
-        ensures counts_kept { OnErr result (KeepsCounts self.old self.new) }
-        ensures emptied { OnOk result (array.new ≡ record { room = array.old.room; items = [] }) }
-        ensures array_kept { OnErr result (array.new ≡ array.old) }
-        ensures full { (n : ℕ) → IsErrOf result (Fault.Full n) →
-            (n ≡ b) × (self.old.settings.cap < durable_at self.old b + length array.old.items) }
-        ensures not_full { OnOk result (durable_at self.old b + length array.old.items ≤ self.old.settings.cap) }
-        ensures full_first { self.old.settings.cap < durable_at self.old b + length array.old.items →
-            IsErrOf result (Fault.Full b) }
-        ensures damaged { (f at : ℕ) → IsErrOf result (Fault.Damaged f at) → ⊥ }
-        ensures sound { (self.new.is_sound ≡ false) ↔ IsErrOf result Fault.Failed }
-        ensures memory_same { IsErrOf result Fault.Memory → (store.new ≡ store.old) × (self.new ≡ self.old) }
-        ensures full_same { (n : ℕ) → IsErrOf result (Fault.Full n) → (store.new ≡ store.old) × (self.new ≡ self.old) }
-        // A stop at any moment leaves files that stand for the book, with the offers or without, and no other file
-        // changes.
-        ensures stops { (book : Book) → Holds (S.told store.old).images self.old book →
-            LeavesBy (Becomes (IsBucketFile self.old.base (live_side self.old.last) b) self.old.base self.old.settings book
-            (flushed b array.old.items book)) (S.told store.old) (S.told store.new) }
-        // The bucket's journal has one record more, of all these offers.
-        ensures gains { OnOk result ((payloads : List (List ℕ)) →
-            IsOpen (S.told store.old).images (bucket_at self.old b).journal payloads →
-            IsOpen (S.told store.new).images (bucket_at self.new b).journal
-            (payloads ++ run_bytes array.old.items ∷ [])) }
-        ensures gains_stop { (payloads : List (List ℕ)) →
-            IsOpen (S.told store.old).images (bucket_at self.old b).journal payloads →
-            Leaves (S.told store.old) (S.told store.new) (λ image.
-            HasRecords (image (file_of self.old.base 0 (JournalFile (live_side self.old.last) b))) payloads
-            ⊎ HasRecords (image (file_of self.old.base 0 (JournalFile (live_side self.old.last) b)))
-            (payloads ++ run_bytes array.old.items ∷ [])) }
-        ensures others { TellsOnly (IsBucketFile self.old.base (live_side self.old.last) b)
-            (S.told store.old).files (S.told store.new).files }
-        ensures others_stop { LeavesBy (ChangesOnly (IsBucketFile self.old.base (live_side self.old.last) b))
+        ensures flushes { Flushes result b array.old array.new self.old self.new
             (S.told store.old) (S.told store.new) }
-        ensures taken { (S.told store.new).taken ≡ (S.told store.old).taken }
-        ensures cause { HasCause (IsErrOf result Fault.Failed) (S.told store.old).faults (S.told store.new).faults }
+        ensures refused { FlushRefused result b array.old array.new self.old self.new store.old store.new }
+        // A stop at any moment leaves the book with the offers or without, and no file but the bucket's two live ones
+        // changes.
+        ensures leaves { FlushMayLeave (IsErrOf result Fault.Failed) b array.old.items self.old
+            (S.told store.old) (S.told store.new) }
+        ensures goes_on { GoesOn (IsErrOf result Fault.Failed) self.new (S.told store.new) }
     {
         let left = self
             .settings
@@ -183,7 +117,11 @@ impl Bay {
         }
         let mut run = Run::of(self.alloc, array.items())?;
         self.is_sound = false;
-        self.buckets[b as usize].append(store, array.items(), &mut run)?;
+        // The texts are written first, so that whatever a stop leaves of the record has them.
+        let bucket = &mut self.buckets[b as usize];
+        bucket.aux.append(store, &run.texts)?;
+        bucket.journal.append(store, &mut run.frame)?;
+        bucket.durable += u64::from(array.len());
         self.is_sound = true;
         array.clear();
         Ok(())

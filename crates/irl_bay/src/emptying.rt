@@ -1,18 +1,17 @@
 ghost use Rattle.std.specs.Prelude.{◌≡◌, ◌-◌, ◌<◌, ◌≤◌, ℕ, [], vec_capacity, IfOk, OnOk, IsErr};
 ghost use Rattle.std.specs.Option.{ForSome};
-ghost use Rattle.irl_disk.specs.Disk.{TellsOnly, ChangesOnly};
-ghost use Rattle.irl_base.specs.Faults.{HasCause};
-ghost use Rattle.irl_disk.specs.Images.{LeavesBy};
-ghost use Rattle.irl_bay.specs.BayFiles.{IsSideFile};
-ghost use Rattle.irl_bay.specs.Commits.{live_side};
+ghost use Rattle.irl_disk.specs.Disk.{ChangesOnly};
+ghost use Rattle.irl_disk.specs.Effects.{OnlyChanges};
+ghost use Rattle.irl_layout.specs.BayFiles.{IsSideFile};
+ghost use Rattle.irl_layout.specs.Commits.{live_side};
 ghost use Rattle.irl_bay.specs.Drum.{durable_at};
 ghost use Rattle.irl_bay.specs.Holding.{HoldsBucket};
 ghost use Rattle.irl_bay.specs.Merging.{AreEmpty, emptied, emptied_from};
 
 use crate::bay::Bay;
 use crate::bucket::Bucket;
-use crate::layout::BayFile;
 use irl_disk::{Failed, Store};
+use irl_layout::BayFile;
 
 impl Bay {
     /// Empties the buckets' files on the side that isn't live: cuts each to nothing, and writes the closed gates of
@@ -34,13 +33,9 @@ impl Bay {
         // and what is told has a byte of each journal, and no text.
         ensures empty { OnOk result (ForSome (S.told store.new).files
             (AreEmpty self.now.base (1 - live_side self.now.last) self.now.settings.buckets)) }
-        ensures others { TellsOnly (IsSideFile self.now.base (1 - live_side self.now.last) self.now.settings.buckets)
-            (S.told store.old).files (S.told store.new).files }
-        ensures others_stop { LeavesBy
+        ensures others { OnlyChanges
             (ChangesOnly (IsSideFile self.now.base (1 - live_side self.now.last) self.now.settings.buckets))
-            (S.told store.old) (S.told store.new) }
-        ensures taken { (S.told store.new).taken ≡ (S.told store.old).taken }
-        ensures cause { HasCause (IsErr result) (S.told store.old).faults (S.told store.new).faults }
+            (IsErr result) (S.told store.old) (S.told store.new) }
     {
         let side = 1 - self.last.live_side();
         self.cut_side(store, side)?;
@@ -57,12 +52,8 @@ impl Bay {
         requires { side ≤ 1 }
         ensures cut { OnOk result (ForSome (S.told store.new).files (λ files. (f : ℕ) →
             IsSideFile self.now.base side self.now.settings.buckets f → files f ≡ [])) }
-        ensures others { TellsOnly (IsSideFile self.now.base side self.now.settings.buckets)
-            (S.told store.old).files (S.told store.new).files }
-        ensures others_stop { LeavesBy (ChangesOnly (IsSideFile self.now.base side self.now.settings.buckets))
-            (S.told store.old) (S.told store.new) }
-        ensures taken { (S.told store.new).taken ≡ (S.told store.old).taken }
-        ensures cause { HasCause (IsErr result) (S.told store.old).faults (S.told store.new).faults }
+        ensures others { OnlyChanges (ChangesOnly (IsSideFile self.now.base side self.now.settings.buckets))
+            (IsErr result) (S.told store.old) (S.told store.new) }
     {
         for b in 0..self.settings.buckets {
             store.cut(BayFile::Journal(side, b).number(self.base), 0)?;

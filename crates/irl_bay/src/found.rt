@@ -1,9 +1,7 @@
-ghost use Rattle.std.specs.Prelude.{◌≡◌, ◌+◌, ◌*◌, ◌^◌, ◌<◌, ◌≤◌, ℕ, List, length};
-ghost use Rattle.std.specs.List.{AllByRecursion};
-ghost use Rattle.irl_offer.specs.declared.entry.Entry.{Entry};
-ghost use Rattle.irl_bay.specs.Damage.{IsEntryOf, entries_bytes, text_length as text_length_of};
+ghost use Rattle.std.specs.Prelude.{◌≡◌, ◌+◌, ◌^◌, ◌<◌, ◌≤◌, length};
+ghost use Rattle.irl_layout.specs.EntryRuns.{text_length as text_length_of};
 
-use irl_offer::{ENTRY_LEN, decode};
+use irl_offer::Entry;
 
 /// What is found in the runs of a bucket's journal.
 #[derive(Clone, Copy, Debug, PartialEq, Eq)]
@@ -35,16 +33,15 @@ impl Found {
     }
 
     /// What is found with one run more, whose gate stands at this place. Of all offers those below the cut are judged.
-    pub fn advanced(&self, cut: u64, at: u64, run: &[u8]) -> Found
-        ensures { (buckets b : ℕ) (entries : List Entry) → AllByRecursion (IsEntryOf buckets b) entries →
-            run.now ≡ entries_bytes entries → Advances cut at entries self.now result }
+    pub fn advanced(&self, cut: u64, at: u64, run: &[Entry]) -> Found
+        ensures { Advances cut at run.now self.now result }
     {
-        let length = (run.len() / ENTRY_LEN) as u64;
+        let length = run.len() as u64;
         let count = self.count.saturating_add(length);
         let texts = self.texts.saturating_add(text_length(run));
         if self.count <= cut && cut - self.count < length {
             let skip = cut - self.count;
-            let before = text_length(&run[..ENTRY_LEN * skip as usize]);
+            let before = text_length(&run[..skip as usize]);
             return Found {
                 count,
                 texts,
@@ -62,17 +59,8 @@ impl Found {
 }
 
 // How many bytes the texts of a run's entries have.
-fn text_length(run: &[u8]) -> u128
-    ensures { (buckets b : ℕ) (entries : List Entry) → AllByRecursion (IsEntryOf buckets b) entries →
-        run.now ≡ entries_bytes entries → result ≡ text_length_of entries }
+fn text_length(run: &[Entry]) -> u128
+    ensures { result ≡ text_length_of run.now }
 {
-    let mut length = 0;
-    let mut rest = run;
-    while let Some((bytes, behind)) = rest.split_first_chunk::<27>() {
-        if let Some(entry) = decode(bytes) {
-            length += u128::from(entry.aux_len);
-        }
-        rest = behind;
-    }
-    length
+    run.iter().map(|entry| u128::from(entry.aux_len)).sum()
 }

@@ -1,31 +1,31 @@
 ghost use Rattle.std.specs.Prelude.{◌≡◌, ◌+◌, ◌-◌, ◌^◌, ◌≤◌, ℕ, List, min, true, IfOk, IsTrue, ◌↔◌, length};
 ghost use Rattle.std.specs.Prelude.{sum};
 ghost use Rattle.irl_model.specs.Book.{IsBelow};
-ghost use Rattle.irl_bay.specs.Commits.{Commit as CommitValue, IsCommit, commit_bytes, first_commit};
+ghost use Rattle.irl_layout.specs.Commits.{Commit as CommitValue, IsCommit, commit_bytes, first_commit};
 ghost use Rattle.irl_bay.specs.Damage.{IsAtOrAbove};
 ghost use Rattle.irl_bay.specs.Opening.{IsWithin};
 
-use crate::layout::Commit;
 use irl_journal::Visit;
+use irl_layout::Commit;
 use std::alloc::{AllocError, Global};
 
 /// Takes a manifest's commits, and keeps the last and their count.
 #[derive(Drop)]
-pub struct History {
+pub struct HistoryVisitor {
     alloc: Global,
     buckets: u32,
     pub last: Commit,
     pub count: u64,
 }
 
-impl History {
+impl HistoryVisitor {
     /// What is kept before the first commit.
-    pub fn blank(alloc: Global, buckets: u32) -> Result<History, AllocError>
+    pub fn blank(alloc: Global, buckets: u32) -> Result<HistoryVisitor, AllocError>
         ensures last { IfOk result (λ history. history.last ≡ first_commit buckets) }
         ensures count { IfOk result (λ history. history.count ≡ 0) }
         ensures buckets { IfOk result (λ history. history.buckets ≡ buckets) }
     {
-        Ok(History {
+        Ok(HistoryVisitor {
             alloc,
             buckets,
             last: Commit::first(alloc, buckets)?,
@@ -34,12 +34,12 @@ impl History {
     }
 
     /// What takes the commits that lists of these lengths have.
-    pub fn reaching(&self, lengths: Vec<u64>) -> Reaching
+    pub fn reaching(&self, lengths: Vec<u64>) -> ReachingVisitor
         ensures buckets { result.buckets ≡ self.now.buckets }
         ensures lengths { result.lengths.items ≡ lengths.items }
         ensures most { result.most ≡ self.now.last.judged }
     {
-        Reaching {
+        ReachingVisitor {
             alloc: self.alloc,
             buckets: self.buckets,
             lengths,
@@ -48,7 +48,7 @@ impl History {
     }
 }
 
-impl Visit for History {
+impl Visit for HistoryVisitor {
     ghost takes = { λ old _ payload new. IsCommit old.buckets new.last × (payload ≡ commit_bytes new.last)
         × IsAtOrAbove old.last new.last × (new.count ≡ min (old.count + 1) (2 ^ 64 - 1))
         × (new.buckets ≡ old.buckets) };
@@ -113,7 +113,7 @@ pub fn is_sum_within(numbers: &[u64], most: u64) -> bool
 
 /// Takes the commits whose cut is below these lengths of the buckets' lists, and counts no more offers than are judged.
 #[derive(Drop)]
-pub struct Reaching {
+pub struct ReachingVisitor {
     alloc: Global,
     buckets: u32,
     lengths: Vec<u64>,
@@ -121,7 +121,7 @@ pub struct Reaching {
     pub most: u64,
 }
 
-impl Visit for Reaching {
+impl Visit for ReachingVisitor {
     ghost takes = { λ old _ payload new. (commit : CommitValue) × IsCommit old.buckets commit
         × (payload ≡ commit_bytes commit) × IsWithin old.lengths.items old.most commit.cut × (new ≡ old) };
 

@@ -2,22 +2,20 @@ ghost use Rattle.std.specs.Prelude.{◌≡◌, ◌+◌, ◌-◌, ◌*◌, ◌≤
 ghost use Rattle.std.specs.Prelude.{IfOk, IfSome, IsErrOf, slice_get};
 ghost use Rattle.std.specs.List.{flat_map};
 ghost use Rattle.std.specs.Option.{ForSome};
-ghost use Rattle.irl_base.specs.Faults.{HasCause};
-ghost use Rattle.irl_model.specs.Book.{Book, gone, judged as judged_of};
-ghost use Rattle.irl_disk.specs.Images.{LeavesSame};
-ghost use Rattle.irl_disk.specs.Taken.{TakesAmong, TakesOnly};
-ghost use Rattle.irl_bay.specs.declared.layout.judged_entry.JudgedEntry.{JudgedEntry};
-ghost use Rattle.irl_bay.specs.Drum.{judged_front, texts_front};
-ghost use Rattle.irl_bay.specs.Holding.{Holds, IsLong};
-ghost use Rattle.irl_bay.specs.JudgedEntries.{entry_spelling};
-ghost use Rattle.irl_bay.specs.JudgedEntries.{first_place as place_of_first, texts_length as length_of_texts};
-ghost use Rattle.irl_bay.specs.JudgedSpoilt.{FitsBehind, FitEach, NoneFits, IsJudgedSpoiltAt, IsJudgedFile};
+ghost use Rattle.irl_model.specs.Book.{gone, judged as judged_of};
+ghost use Rattle.irl_layout.specs.declared.judged_entry.JudgedEntry.{JudgedEntry};
+ghost use Rattle.irl_bay.specs.Drum.{judged_front};
+ghost use Rattle.irl_bay.specs.Holding.{IsLong};
+ghost use Rattle.irl_layout.specs.JudgedEntries.{entry_spelling};
+ghost use Rattle.irl_layout.specs.JudgedEntries.{first_place as place_of_first, texts_length as length_of_texts};
+ghost use Rattle.irl_bay.specs.JudgedSpoilt.{FitsBehind, FitEach, NoneFits};
+ghost use Rattle.irl_bay.specs.Merges.{ReadsJudged};
 
 use crate::bay::Bay;
 use crate::judged_part::JudgedPart;
-use crate::layout::{BayFile, JudgedEntry};
 use irl_disk::Store;
 use irl_journal::read_part;
+use irl_layout::{BayFile, JudgedEntry};
 use irl_offer::{Fault, Judged, bucket_of};
 
 impl Bay {
@@ -34,24 +32,26 @@ impl Bay {
         requires long { ForSome (S.told store.old).files (λ files. IsLong self.now files) }
         ensures count { IfOk result (λ found. length found ≡ min most (self.now.last.judged - i)) }
         // They are those of the book.
-        ensures value { IfOk result (λ found. ForSome (S.told store.old).files (λ _. (book : Book) →
-            Holds (S.told store.old).images self.now book →
-            found ≡ take most (drop (i - gone book) (judged_of book)))) }
-        // Damage is named only where it is, and never over files that stand for a book.
-        ensures damaged { (f at : ℕ) → IsErrOf result (Fault.Damaged f at) →
-            ForSome (S.told store.old).files (λ files. IsJudgedSpoiltAt self.now files f at) }
-        ensures whole { (f at : ℕ) → IsErrOf result (Fault.Damaged f at) →
-            ForSome (S.told store.old).files (λ _. (book : Book) →
-            Holds (S.told store.old).images self.now book → ⊥) }
-        ensures full { (n : ℕ) → IsErrOf result (Fault.Full n) → ⊥ }
-        ensures same { (S.told store.new).files ≡ (S.told store.old).files }
-        ensures stops { LeavesSame (S.told store.old) (S.told store.new) }
-        ensures taken { TakesAmong (IsJudgedFile self.now) (S.told store.old).taken (S.told store.new).taken }
-        ensures cause { HasCause (IsErrOf result Fault.Failed) (S.told store.old).faults (S.told store.new).faults }
+        ensures reads { ReadsJudged result (λ found book. found ≡ take most (drop (i - gone book) (judged_of book)))
+            self.now (S.told store.old) (S.told store.new) }
     {
         let count = u64::from(most).min(self.last.judged - i);
-        let entries = self.entries_from(store, i, count)?;
-        let texts = self.texts_of(store, &entries)?;
+        let bytes = read_part(
+            self.alloc,
+            store,
+            BayFile::Judged.number(self.base),
+            48 * i,
+            48 * count,
+        )?;
+        let entries = self.decode_entries(&bytes, i)?;
+        let (from, length) = (first_place(&entries), texts_length(&entries));
+        let texts = read_part(
+            self.alloc,
+            store,
+            BayFile::Texts.number(self.base),
+            from,
+            length,
+        )?;
         Ok(JudgedPart::new(entries, texts))
     }
 
@@ -61,52 +61,12 @@ impl Bay {
         requires place { i < self.now.last.judged }
         requires long { ForSome (S.told store.old).files (λ files. IsLong self.now files) }
         // It is that of the book.
-        ensures value { IfOk result (λ found. ForSome (S.told store.old).files (λ _. (book : Book) →
-            Holds (S.told store.old).images self.now book →
-            slice_get (judged_of book) (i - gone book) ≡ Some found)) }
-        // Damage is named only where it is, and never over files that stand for a book.
-        ensures damaged { (f at : ℕ) → IsErrOf result (Fault.Damaged f at) →
-            ForSome (S.told store.old).files (λ files. IsJudgedSpoiltAt self.now files f at) }
-        ensures whole { (f at : ℕ) → IsErrOf result (Fault.Damaged f at) →
-            ForSome (S.told store.old).files (λ _. (book : Book) →
-            Holds (S.told store.old).images self.now book → ⊥) }
-        ensures full { (n : ℕ) → IsErrOf result (Fault.Full n) → ⊥ }
-        ensures same { (S.told store.new).files ≡ (S.told store.old).files }
-        ensures stops { LeavesSame (S.told store.old) (S.told store.new) }
-        ensures taken { TakesAmong (IsJudgedFile self.now) (S.told store.old).taken (S.told store.new).taken }
-        ensures cause { HasCause (IsErrOf result Fault.Failed) (S.told store.old).faults (S.told store.new).faults }
+        ensures reads { ReadsJudged result (λ found book. slice_get (judged_of book) (i - gone book) ≡ Some found)
+            self.now (S.told store.old) (S.told store.new) }
     {
         let part = self.judged_from(store, i, 1)?;
         let mut found = part.to_vec(self.alloc)?;
         Ok(found.swap_remove(0))
-    }
-
-    // The entries of so many judged offers, from the one with this place on.
-    fn entries_from<S: Store>(
-        &self,
-        store: &mut S,
-        i: u64,
-        count: u64,
-    ) -> Result<Vec<JudgedEntry>, Fault>
-        requires within { i + count ≤ self.now.last.judged }
-        requires few { count < 2 ^ 32 }
-        requires long { ForSome (S.told store.old).files (λ files. IsLong self.now files) }
-        ensures count { IfOk result (λ entries. length entries.items ≡ count) }
-        ensures fit { IfOk result (λ entries. FitEach self.now None entries.items) }
-        ensures bytes { IfOk result (λ entries. ForSome (S.told store.old).files (λ files.
-            flat_map entry_spelling entries.items
-            ≡ take (48 * count) (drop (48 * i) (files (judged_front self.now).file)))) }
-        ensures damaged { (f at : ℕ) → IsErrOf result (Fault.Damaged f at) →
-            ForSome (S.told store.old).files (λ files. IsJudgedSpoiltAt self.now files f at) }
-        ensures full { (n : ℕ) → IsErrOf result (Fault.Full n) → ⊥ }
-        ensures same { (S.told store.new).files ≡ (S.told store.old).files }
-        ensures stops { LeavesSame (S.told store.old) (S.told store.new) }
-        ensures taken { TakesOnly (judged_front self.now).file (S.told store.old).taken (S.told store.new).taken }
-        ensures cause { HasCause (IsErrOf result Fault.Failed) (S.told store.old).faults (S.told store.new).faults }
-    {
-        let file = BayFile::Judged.number(self.base);
-        let bytes = read_part(self.alloc, store, file, 48 * i, 48 * count)?;
-        self.decode_entries(&bytes, i)
     }
 
     // The entries that these bytes of the judged file are, the first of which is that of the judged offer with this
@@ -160,27 +120,6 @@ impl Bay {
         } else {
             None
         }
-    }
-
-    // The texts of entries, in one piece.
-    fn texts_of<S: Store>(&self, store: &mut S, entries: &[JudgedEntry]) -> Result<Vec<u8>, Fault>
-        requires fit { FitEach self.now None entries.now }
-        requires long { ForSome (S.told store.old).files (λ files. IsLong self.now files) }
-        ensures length { IfOk result (λ texts. length texts.items ≡ length_of_texts entries.now) }
-        ensures bytes { IfOk result (λ texts. ForSome (S.told store.old).files (λ files. texts.items
-            ≡ take (length_of_texts entries.now)
-            (drop (place_of_first entries.now) (files (texts_front self.now).file)))) }
-        ensures damaged { (f at : ℕ) → IsErrOf result (Fault.Damaged f at) →
-            ForSome (S.told store.old).files (λ _. ⊥) }
-        ensures full { (n : ℕ) → IsErrOf result (Fault.Full n) → ⊥ }
-        ensures same { (S.told store.new).files ≡ (S.told store.old).files }
-        ensures stops { LeavesSame (S.told store.old) (S.told store.new) }
-        ensures taken { TakesOnly (texts_front self.now).file (S.told store.old).taken (S.told store.new).taken }
-        ensures cause { HasCause (IsErrOf result Fault.Failed) (S.told store.old).faults (S.told store.new).faults }
-    {
-        let from = first_place(entries);
-        let file = BayFile::Texts.number(self.base);
-        read_part(self.alloc, store, file, from, texts_length(entries))
     }
 }
 

@@ -1,11 +1,11 @@
-ghost use Rattle.std.specs.Prelude.{◌≡◌, ◌≤◌, ◌<◌, ◌↔◌, true, length, IfOk, Some, slice_get};
+ghost use Rattle.std.specs.Prelude.{◌≡◌, ◌≤◌, ◌<◌, length, IfOk, Some, slice_get};
 ghost use Rattle.std.specs.List.{AllByRecursion};
 ghost use Rattle.irl_base.specs.Limits.{max_text};
-ghost use Rattle.irl_bay.specs.JudgedEntries.{texts_length as length_of_texts};
-ghost use Rattle.irl_bay.specs.JudgedEntries.{with_text as judged_with_text, with_texts as judged_with_texts};
+ghost use Rattle.irl_layout.specs.JudgedEntries.{texts_length as length_of_texts};
+ghost use Rattle.irl_layout.specs.JudgedEntries.{with_text as judged_with_text, with_texts as judged_with_texts};
 ghost use Rattle.irl_bay.specs.JudgedParts.{IsPart, as_judged};
 
-use crate::layout::JudgedEntry;
+use irl_layout::JudgedEntry;
 use irl_offer::{Judged, Offer, Op, Text, Verdict};
 use std::alloc::{AllocError, Global};
 use std::marker::Model;
@@ -32,7 +32,7 @@ pub struct JudgedRef<'a> {
 impl Model for JudgedPart {
     ghost use Rattle.std.specs.Prelude.{List};
     ghost use Rattle.irl_offer.specs.declared.receipt.Judged.{Judged};
-    ghost use Rattle.irl_bay.specs.JudgedEntries.{with_texts};
+    ghost use Rattle.irl_layout.specs.JudgedEntries.{with_texts};
     ghost use Rattle.irl_bay.specs.JudgedParts.{IsPart};
 
     ghost Value = { List Judged };
@@ -56,13 +56,6 @@ impl JudgedPart {
         ensures { result ≡ length self.now }
     {
         self.entries.len()
-    }
-
-    /// Whether it has none.
-    pub fn is_empty(&self) -> bool
-        ensures { (result ≡ true) ↔ (length self.now ≡ 0) }
-    {
-        self.entries.is_empty()
     }
 
     /// A judged offer, by its place in the part. It takes no memory.

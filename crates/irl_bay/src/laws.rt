@@ -3,7 +3,7 @@ ghost use Rattle.irl_offer.specs.Settings.{AreValid};
 ghost use Rattle.irl_model.specs.Book.{Book, blank_book};
 ghost use Rattle.irl_disk.specs.Disk.{Files, ChangesAmong};
 ghost use Rattle.irl_journal.specs.Visiting.{IsOpened};
-ghost use Rattle.irl_bay.specs.BayFiles.{IsFileOf, IsBucketFile};
+ghost use Rattle.irl_layout.specs.BayFiles.{IsFileOf, IsBucketFile};
 ghost use Rattle.irl_bay.specs.Standing.{Stands};
 ghost use Rattle.irl_bay.specs.Drum.{Drum, IsDrum};
 ghost use Rattle.irl_bay.specs.Holding.{Holds, IsLong};

@@ -2,17 +2,17 @@
 #![tactic(auto)]
 
 mod adopt;
-mod batch;
 mod bay;
 mod bucket;
+mod cuts;
 mod emptying;
 mod found;
 mod gathering;
 mod history;
+mod judge;
 mod judged;
 mod judged_part;
 mod laws;
-mod layout;
 mod merge;
 mod parts;
 mod pending;

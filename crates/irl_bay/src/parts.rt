@@ -1,30 +1,26 @@
-ghost use Rattle.std.specs.Prelude.{◌≡◌, ◌⊎◌, ◌<◌, ◌≤◌, ◌^◌, ℕ, List, true, length as len, take, IfOk, OnOk, IfSome};
+ghost use Rattle.std.specs.Prelude.{◌≡◌, ◌⊎◌, ◌<◌, ◌≤◌, ◌^◌, ℕ, length as len, take, IfOk, OnOk, IfSome};
 ghost use Rattle.std.specs.Prelude.{IsNone, IsErr, IsErrOf};
 ghost use Rattle.std.specs.Option.{ForSome};
 ghost use Rattle.irl_base.specs.Faults.{HasCause};
 ghost use Rattle.irl_offer.specs.Settings.{AreValid};
-ghost use Rattle.irl_offer.specs.Tuple.{Tuple};
 ghost use Rattle.irl_base.specs.declared.fault.Fault.TheVariants.{Failed as FailedFault, Memory as MemoryFault};
 ghost use Rattle.irl_base.specs.declared.fault.Fault.TheVariants.{Full as FullFault, Damaged as DamagedFault};
-ghost use Rattle.irl_disk.specs.Disk.{Changes, ChangesFile};
-ghost use Rattle.irl_disk.specs.Images.{LeavesBy, LeavesSame};
-ghost use Rattle.irl_disk.specs.Taken.{TakesOnly};
+ghost use Rattle.irl_disk.specs.Disk.{ChangesFile};
+ghost use Rattle.irl_disk.specs.Effects.{OnlyReads, ReadsAndChanges};
 ghost use Rattle.irl_journal.specs.Blob.{IsCommitted};
 ghost use Rattle.irl_journal.specs.Visiting.{IsOpened};
-ghost use Rattle.irl_bay.specs.BayFiles.{file_of, max_base};
-ghost use Rattle.irl_bay.specs.declared.layout.files.BayFile.TheVariants.{Journal as JournalFile, Aux as AuxFile};
-ghost use Rattle.irl_bay.specs.Damage.{IsDamagedBucket};
+ghost use Rattle.irl_layout.specs.BayFiles.{file_of, max_base};
+ghost use Rattle.irl_layout.specs.declared.files.BayFile.TheVariants.{Journal as JournalFile, Aux as AuxFile};
+ghost use Rattle.irl_bay.specs.Damage.{IsDamagedBucket, IsShort};
 ghost use Rattle.irl_bay.specs.Faults.{fault_of};
-ghost use Rattle.irl_bay.specs.Holding.{HoldsBucket};
-ghost use Rattle.irl_bay.specs.Opening.{IsOpenBucket, HasWhole, IsLongBucket, HasListOf};
-ghost use Rattle.irl_bay.specs.Damage.{IsShort};
+ghost use Rattle.irl_bay.specs.Opening.{OpensBucket, Refuses};
 
 use crate::bucket::Bucket;
 use crate::found::Found;
-use crate::layout::{BayFile, Live};
-use crate::tally::Tally;
+use crate::tally::TallyVisitor;
 use irl_disk::{Failed, Store};
 use irl_journal::{Blob, Journal, JournalFault};
+use irl_layout::{BayFile, Live};
 use irl_offer::{Fault, Settings};
 use std::alloc::Global;
 
@@ -51,10 +47,7 @@ pub fn open_blob<S: Store>(store: &mut S, f: u16, length: u128) -> Result<Blob, 
     ensures damaged { (g at : ℕ) → IsErrOf result (Fault.Damaged g at) → (g ≡ f)
         × ForSome (S.told store.old).files (λ files. IsShort length (files f) at) }
     ensures full { (n : ℕ) → IsErrOf result (Fault.Full n) → ⊥ }
-    ensures same { (S.told store.new).files ≡ (S.told store.old).files }
-    ensures stops { LeavesSame (S.told store.old) (S.told store.new) }
-    ensures taken { (S.told store.new).taken ≡ (S.told store.old).taken }
-    ensures cause { HasCause (IsErrOf result Fault.Failed) (S.told store.old).faults (S.told store.new).faults }
+    ensures reads { OnlyReads (λ _. ⊥) (IsErrOf result Fault.Failed) (S.told store.old) (S.told store.new) }
 {
     match find_blob(store, f, length)? {
         Some(blob) => Ok(blob),
@@ -73,10 +66,7 @@ fn find_blob<S: Store>(store: &mut S, f: u16, length: u128) -> Result<Option<Blo
         IsCommitted (S.told store.new).images blob (take length (files f))))) }
     ensures short { IfOk result (λ found. IsNone found → (2 ^ 64 ≤ length)
         ⊎ ForSome (S.told store.old).files (λ files. len (files f) < length)) }
-    ensures same { (S.told store.new).files ≡ (S.told store.old).files }
-    ensures stops { LeavesSame (S.told store.old) (S.told store.new) }
-    ensures taken { (S.told store.new).taken ≡ (S.told store.old).taken }
-    ensures cause { HasCause (IsErr result) (S.told store.old).faults (S.told store.new).faults }
+    ensures reads { OnlyReads (λ _. ⊥) (IsErr result) (S.told store.old) (S.told store.new) }
 {
     match u64::try_from(length) {
         Ok(length) => Blob::open(store, f, length),
@@ -98,32 +88,18 @@ impl Bucket {
         requires settings { AreValid settings.now }
         requires bucket { b < 64 }
         requires side { live.side ≤ 1 }
-        ensures opened { IfOk result (λ bucket. IsOpenBucket base live.side b live.start bucket) }
-        // The files have runs of offers,
-        ensures found { IfOk result (λ bucket. ForSome (S.told store.old).files (λ files.
-            HasWhole base live.side settings.now b files bucket)) }
-        ensures long { IfOk result (λ bucket. ForSome (S.told store.new).files (λ files.
-            IsLongBucket bucket files)) }
-        // and where they have a list, the bucket has it.
-        ensures holds { IfOk result (λ bucket. ForSome (S.told store.old).files (λ files. (list : List Tuple) →
-            HasListOf base live.side settings.now b live.start live.judged list files →
-            HoldsBucket (S.told store.new).images settings.now.array live.judged bucket list)) }
-        ensures damaged { (f at : ℕ) → IsErrOf result (Fault.Damaged f at) →
-            ForSome (S.told store.old).files (λ files. IsDamagedBucket base live.side settings.now b files f at) }
-        ensures full { (n : ℕ) → IsErrOf result (Fault.Full n) → ⊥ }
-        ensures changes { Changes (file_of base 0 (JournalFile live.side b)) IsOpened
-            (S.told store.old).files (S.told store.new).files }
-        ensures stops { LeavesBy (ChangesFile (file_of base 0 (JournalFile live.side b)) IsOpened)
+        ensures opened { IfOk result (OpensBucket base settings.now b live (S.told store.old) (S.told store.new)) }
+        ensures refused { Refuses result (S.told store.old).files (IsDamagedBucket base live.side settings.now b) }
+        ensures changes { ReadsAndChanges (λ f. f ≡ file_of base 0 (JournalFile live.side b))
+            (ChangesFile (file_of base 0 (JournalFile live.side b)) IsOpened) (IsErrOf result Fault.Failed)
             (S.told store.old) (S.told store.new) }
-        ensures taken { TakesOnly (file_of base 0 (JournalFile live.side b)) (S.told store.old).taken
-            (S.told store.new).taken }
-        ensures cause { HasCause (IsErrOf result Fault.Failed) (S.told store.old).faults (S.told store.new).faults }
     {
-        let mut tally = Tally {
+        let mut tally = TallyVisitor {
             settings: *settings,
             bucket: b,
             cut: live.judged,
             found: Found::nothing(),
+            run: Vec::new(alloc),
         };
         let f = BayFile::Journal(live.side, b).number(base);
         let journal = match Journal::visit(alloc, store, f, &mut tally) {

@@ -1,20 +1,15 @@
-ghost use Rattle.std.specs.Prelude.{◌≡◌, ◌≢◌, ◌+◌, ◌-◌, ◌*◌, ◌<◌, ◌≤◌, ◌++◌, ℕ, List, Option, [], true, false, length, take};
+ghost use Rattle.std.specs.Prelude.{◌≡◌, ◌≢◌, ◌+◌, ◌<◌, ◌≤◌, ◌++◌, ℕ, List, Option, [], true, false, length, take};
 ghost use Rattle.std.specs.Prelude.{slice_index_or, IfOk, OnOk, IsErrOf};
 ghost use Rattle.std.specs.List.{AllByRecursion};
-ghost use Rattle.std.specs.Option.{ForSome};
 ghost use Rattle.irl_offer.specs.Buckets.{IsBucketCount, bucket_of as bucket_of_key};
-ghost use Rattle.irl_base.specs.Faults.{HasCause};
 ghost use Rattle.irl_offer.specs.Tuple.{Tuple};
 ghost use Rattle.irl_offer.specs.declared.offer.Verdict.{Verdict as VerdictValue};
 ghost use Rattle.irl_offer.specs.declared.receipt.Pair.{Pair as PairValue};
-ghost use Rattle.irl_disk.specs.Disk.{Changes, ChangesFile};
-ghost use Rattle.irl_disk.specs.Images.{LeavesBy, LeavesSame};
-ghost use Rattle.irl_disk.specs.Taken.{TakesOnly};
+ghost use Rattle.irl_disk.specs.Disk.{ChangesFile};
+ghost use Rattle.irl_disk.specs.Effects.{OnlyChanges, OnlyReads};
 ghost use Rattle.irl_journal.specs.Blob.{KeepsFront};
-ghost use Rattle.irl_cache.specs.Reading.{TakesExactly, read_of};
-ghost use Rattle.irl_cache.specs.SortedRun.{IsSpoiltRun};
-ghost use Rattle.irl_merge.specs.Queries.{AreEntriesOf};
 ghost use Rattle.irl_merge.specs.declared.sweep.Sweep.{Sweep as SweepValue};
+ghost use Rattle.irl_bay.specs.Faults.{NamesNone};
 
 use irl_cache::{CacheReader, CacheWriter};
 use irl_disk::Store;
@@ -40,9 +35,11 @@ pub struct Sides {
 }
 
 impl Sides {
-    ghost use Rattle.irl_bay.specs.Sides.{HasMerged, IsSweeping, IsSameCache, IsDone, rest_of};
+    ghost use Rattle.irl_bay.specs.Sides.{AreHere, HasMerged, IsDone, IsSameCache, IsSweeping, IsSwept, Passes};
+    ghost use Rattle.irl_bay.specs.Sides.{ReadsAndPuts, StaysSwept, rest_of};
 
-    /// Judges a bucket's entries in one pass through its keys. The buckets are judged one after the other, the first first.
+    /// Judges a bucket's entries in one pass through its keys. The buckets are judged one after the other, the first
+    /// first.
     pub fn sweep<S: Store>(
         &mut self,
         store: &mut S,
@@ -51,63 +48,32 @@ impl Sides {
     ) -> Result<Vec<Option<Verdict>>, Fault>
         requires merged { (offers : List Tuple) × (verdicts : List (Option VerdictValue)) ×
             HasMerged b offers verdicts (S.told store.old).files self.old }
-        requires entries { (news : List Tuple) × AreEntriesOf news entries.now
-            × AllByRecursion (λ offer. bucket_of_key self.old.buckets offer.key ≡ b) news }
+        requires entries { (news : List Tuple) × AreHere b self.old entries.now news }
         ensures merged { IfOk result (λ found.
             (offers : List Tuple) (verdicts : List (Option VerdictValue)) (news : List Tuple) →
-            HasMerged b offers verdicts (S.told store.old).files self.old → AreEntriesOf news entries.now →
-            AllByRecursion (λ offer. bucket_of_key self.old.buckets offer.key ≡ b) news →
+            HasMerged b offers verdicts (S.told store.old).files self.old → AreHere b self.old entries.now news →
             HasMerged (b + 1) (offers ++ news) (verdicts ++ found.items) (S.told store.new).files self.new) }
         ensures count { IfOk result (λ found. length found.items ≡ length entries.now) }
-        ensures same { IsSameCache self.old self.new }
-        ensures damaged { (f at : ℕ) → IsErrOf result (Fault.Damaged f at) →
-            ForSome (S.told store.old).files (λ files.
-            (f ≡ self.old.reader.file) × IsSpoiltRun self.old.reader.entries (files f) at) }
-        ensures full { (n : ℕ) → IsErrOf result (Fault.Full n) → ⊥ }
-        ensures changes { Changes self.old.writer.out.file (KeepsFront 0)
-            (S.told store.old).files (S.told store.new).files }
-        ensures stops { LeavesBy (ChangesFile self.old.writer.out.file (KeepsFront 0))
-            (S.told store.old) (S.told store.new) }
-        ensures taken { TakesOnly self.old.reader.file (S.told store.old).taken (S.told store.new).taken }
-        // Each key of the live side is read once.
-        ensures read { OnOk result ((read_of self.old.reader ≤ read_of self.new.reader)
-            × TakesExactly self.old.reader.file (16 * (read_of self.new.reader - read_of self.old.reader))
-            (S.told store.old).taken (S.told store.new).taken) }
-        ensures cause { HasCause (IsErrOf result Fault.Failed) (S.told store.old).faults (S.told store.new).faults }
+        ensures passes { Passes result self.old self.new (S.told store.old) (S.told store.new) }
+        ensures others { ReadsAndPuts self.old (IsErrOf result Fault.Failed) (S.told store.old) (S.told store.new) }
     {
         let mut sweep = Sweep::new(self.alloc, self.rule, entries)?;
         while self.feed(store, b, &mut sweep)? {}
         self.end(store, sweep)
     }
 
-    // Feeds the piece of the block that is the bucket's. Answers whether the bucket may go on in a further block, which is
-    // then read.
+    // Feeds the piece of the block that is the bucket's. Answers whether the bucket may go on in a further block, which
+    // is then read.
     fn feed<S: Store>(&mut self, store: &mut S, b: u32, sweep: &mut Sweep) -> Result<bool, Fault>
         requires sound { sweep.old.is_sound ≡ true }
-        requires sweeping { (offers : List Tuple) × (verdicts : List (Option VerdictValue)) × (news : List Tuple) ×
-            IsSweeping b offers verdicts news (S.told store.old).files sweep.old self.old }
-        ensures sweeping { OnOk result
-            ((offers : List Tuple) (verdicts : List (Option VerdictValue)) (news : List Tuple) →
-            IsSweeping b offers verdicts news (S.told store.old).files sweep.old self.old →
-            IsSweeping b offers verdicts news (S.told store.new).files sweep.new self.new) }
+        requires sweeping { IsSwept b (S.told store.old).files sweep.old self.old }
+        ensures sweeping { OnOk result (StaysSwept b (S.told store.old).files sweep.old self.old
+            (S.told store.new).files sweep.new self.new) }
         ensures more { IfOk result (λ more. more ≡ true → self.old.reader.given < self.new.reader.given) }
         ensures done { IfOk result (λ more. more ≡ false → IsDone b self.new) }
         ensures sound { OnOk result (sweep.new.is_sound ≡ true) }
-        ensures same { IsSameCache self.old self.new }
-        ensures damaged { (f at : ℕ) → IsErrOf result (Fault.Damaged f at) →
-            ForSome (S.told store.old).files (λ files.
-            (f ≡ self.old.reader.file) × IsSpoiltRun self.old.reader.entries (files f) at) }
-        ensures full { (n : ℕ) → IsErrOf result (Fault.Full n) → ⊥ }
-        ensures changes { Changes self.old.writer.out.file (KeepsFront 0)
-            (S.told store.old).files (S.told store.new).files }
-        ensures stops { LeavesBy (ChangesFile self.old.writer.out.file (KeepsFront 0))
-            (S.told store.old) (S.told store.new) }
-        ensures taken { TakesOnly self.old.reader.file (S.told store.old).taken (S.told store.new).taken }
-        // Each key of the live side is read once.
-        ensures read { OnOk result ((read_of self.old.reader ≤ read_of self.new.reader)
-            × TakesExactly self.old.reader.file (16 * (read_of self.new.reader - read_of self.old.reader))
-            (S.told store.old).taken (S.told store.new).taken) }
-        ensures cause { HasCause (IsErrOf result Fault.Failed) (S.told store.old).faults (S.told store.new).faults }
+        ensures passes { Passes result self.old self.new (S.told store.old) (S.told store.new) }
+        ensures others { ReadsAndPuts self.old (IsErrOf result Fault.Failed) (S.told store.old) (S.told store.new) }
     {
         if self.feed_piece(store, b, sweep)? {
             self.next_block(store)
@@ -124,25 +90,17 @@ impl Sides {
         sweep: &mut Sweep,
     ) -> Result<bool, Fault>
         requires sound { sweep.old.is_sound ≡ true }
-        requires sweeping { (offers : List Tuple) × (verdicts : List (Option VerdictValue)) × (news : List Tuple) ×
-            IsSweeping b offers verdicts news (S.told store.old).files sweep.old self.old }
-        ensures sweeping { OnOk result
-            ((offers : List Tuple) (verdicts : List (Option VerdictValue)) (news : List Tuple) →
-            IsSweeping b offers verdicts news (S.told store.old).files sweep.old self.old →
-            IsSweeping b offers verdicts news (S.told store.new).files sweep.new self.new) }
+        requires sweeping { IsSwept b (S.told store.old).files sweep.old self.old }
+        ensures sweeping { OnOk result (StaysSwept b (S.told store.old).files sweep.old self.old
+            (S.told store.new).files sweep.new self.new) }
         ensures used_up { IfOk result (λ is_used_up. is_used_up ≡ true → rest_of self.new ≡ []) }
         ensures done { IfOk result (λ is_used_up. is_used_up ≡ false → IsDone b self.new) }
         ensures sound { OnOk result (sweep.new.is_sound ≡ true) }
         ensures reader { self.new.reader ≡ self.old.reader }
         ensures same { IsSameCache self.old self.new }
-        ensures damaged { (f at : ℕ) → IsErrOf result (Fault.Damaged f at) → ⊥ }
-        ensures full { (n : ℕ) → IsErrOf result (Fault.Full n) → ⊥ }
-        ensures changes { Changes self.old.writer.out.file (KeepsFront 0)
-            (S.told store.old).files (S.told store.new).files }
-        ensures stops { LeavesBy (ChangesFile self.old.writer.out.file (KeepsFront 0))
-            (S.told store.old) (S.told store.new) }
-        ensures taken { (S.told store.new).taken ≡ (S.told store.old).taken }
-        ensures cause { HasCause (IsErrOf result Fault.Failed) (S.told store.old).faults (S.told store.new).faults }
+        ensures refuses { NamesNone result }
+        ensures changes { OnlyChanges (ChangesFile self.old.writer.out.file (KeepsFront 0))
+            (IsErrOf result Fault.Failed) (S.told store.old) (S.told store.new) }
     {
         let rest = &self.reader.block()[self.fed..];
         let count = count_up_to(rest, self.buckets, b);
@@ -157,29 +115,15 @@ impl Sides {
     // Reads the next block, once the one before it is used up. Answers whether there was one.
     fn next_block<S: Store>(&mut self, store: &mut S) -> Result<bool, Fault>
         requires used_up { rest_of self.old ≡ [] }
-        requires sweeping { (b : ℕ) × (offers : List Tuple) × (verdicts : List (Option VerdictValue))
-            × (news : List Tuple) × (sweep : SweepValue) ×
-            IsSweeping b offers verdicts news (S.told store.old).files sweep self.old }
-        ensures sweeping { OnOk result ((b : ℕ) (offers : List Tuple) (verdicts : List (Option VerdictValue))
-            (news : List Tuple) (sweep : SweepValue) →
-            IsSweeping b offers verdicts news (S.told store.old).files sweep self.old →
-            IsSweeping b offers verdicts news (S.told store.new).files sweep self.new) }
+        requires sweeping { (b : ℕ) × (sweep : SweepValue) × IsSwept b (S.told store.old).files sweep self.old }
+        ensures sweeping { OnOk result ((b : ℕ) (sweep : SweepValue) →
+            StaysSwept b (S.told store.old).files sweep self.old (S.told store.new).files sweep self.new) }
         ensures more { IfOk result (λ more. more ≡ true → self.old.reader.given < self.new.reader.given) }
         ensures done { IfOk result (λ more. more ≡ false → (b : ℕ) → IsDone b self.new) }
         ensures writer { self.new.writer ≡ self.old.writer }
-        ensures same { IsSameCache self.old self.new }
-        ensures damaged { (f at : ℕ) → IsErrOf result (Fault.Damaged f at) →
-            ForSome (S.told store.old).files (λ files.
-            (f ≡ self.old.reader.file) × IsSpoiltRun self.old.reader.entries (files f) at) }
-        ensures full { (n : ℕ) → IsErrOf result (Fault.Full n) → ⊥ }
-        ensures same_files { (S.told store.new).files ≡ (S.told store.old).files }
-        ensures stops { LeavesSame (S.told store.old) (S.told store.new) }
-        ensures taken { TakesOnly self.old.reader.file (S.told store.old).taken (S.told store.new).taken }
-        // Each key of the live side is read once.
-        ensures read { OnOk result ((read_of self.old.reader ≤ read_of self.new.reader)
-            × TakesExactly self.old.reader.file (16 * (read_of self.new.reader - read_of self.old.reader))
-            (S.told store.old).taken (S.told store.new).taken) }
-        ensures cause { HasCause (IsErrOf result Fault.Failed) (S.told store.old).faults (S.told store.new).faults }
+        ensures passes { Passes result self.old self.new (S.told store.old) (S.told store.new) }
+        ensures reads { OnlyReads (λ f. f ≡ self.old.reader.file) (IsErrOf result Fault.Failed)
+            (S.told store.old) (S.told store.new) }
     {
         self.fed = 0;
         Ok(self.reader.next_block(store)? > 0)
@@ -188,9 +132,7 @@ impl Sides {
     // Ends a bucket's sweep.
     fn end<S: Store>(&mut self, store: &mut S, sweep: Sweep) -> Result<Vec<Option<Verdict>>, Fault>
         requires sound { sweep.is_sound ≡ true }
-        requires sweeping { (b : ℕ) × (offers : List Tuple) × (verdicts : List (Option VerdictValue))
-            × (news : List Tuple) × IsDone b self.old
-            × IsSweeping b offers verdicts news (S.told store.old).files sweep self.old }
+        requires sweeping { (b : ℕ) × IsDone b self.old × IsSwept b (S.told store.old).files sweep self.old }
         ensures merged { IfOk result (λ found.
             (b : ℕ) (offers : List Tuple) (verdicts : List (Option VerdictValue)) (news : List Tuple) →
             IsDone b self.old → IsSweeping b offers verdicts news (S.told store.old).files sweep self.old →
@@ -201,14 +143,9 @@ impl Sides {
             length found.items ≡ length news) }
         ensures reader { self.new.reader ≡ self.old.reader }
         ensures same { IsSameCache self.old self.new }
-        ensures damaged { (f at : ℕ) → IsErrOf result (Fault.Damaged f at) → ⊥ }
-        ensures full { (n : ℕ) → IsErrOf result (Fault.Full n) → ⊥ }
-        ensures changes { Changes self.old.writer.out.file (KeepsFront 0)
-            (S.told store.old).files (S.told store.new).files }
-        ensures stops { LeavesBy (ChangesFile self.old.writer.out.file (KeepsFront 0))
-            (S.told store.old) (S.told store.new) }
-        ensures taken { (S.told store.new).taken ≡ (S.told store.old).taken }
-        ensures cause { HasCause (IsErrOf result Fault.Failed) (S.told store.old).faults (S.told store.new).faults }
+        ensures refuses { NamesNone result }
+        ensures changes { OnlyChanges (ChangesFile self.old.writer.out.file (KeepsFront 0))
+            (IsErrOf result Fault.Failed) (S.told store.old) (S.told store.new) }
     {
         self.out.clear();
         let verdicts = sweep.end(&mut self.out)?;

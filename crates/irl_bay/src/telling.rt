@@ -2,22 +2,22 @@ ghost use Rattle.std.specs.Prelude.{◌≡◌, ◌≢◌, ◌⊎◌, ◌<◌, �
 ghost use Rattle.std.specs.List.{AllByRecursion};
 ghost use Rattle.std.specs.Option.{ForSome};
 ghost use Rattle.irl_offer.specs.Buckets.{bucket_of};
-ghost use Rattle.irl_base.specs.Faults.{HasCause};
 ghost use Rattle.irl_offer.specs.Tuple.{Tuple};
 ghost use Rattle.irl_offer.specs.declared.offer.Verdict.{Verdict as VerdictValue};
 ghost use Rattle.irl_model.specs.Book.{is_unique as is_unique_of};
-ghost use Rattle.irl_disk.specs.Disk.{Changes, ChangesFile, TellsOnly};
-ghost use Rattle.irl_disk.specs.Images.{LeavesBy};
+ghost use Rattle.irl_disk.specs.Disk.{ChangesFile, ChangesOnly};
+ghost use Rattle.irl_disk.specs.Effects.{OnlyChanges};
 ghost use Rattle.irl_journal.specs.Blob.{KeepsFront};
 ghost use Rattle.irl_journal.specs.Growing.{HasPut, ReachesPlace};
 ghost use Rattle.irl_bay.specs.Drum.{Drum};
-ghost use Rattle.irl_bay.specs.JudgedEntries.{rows};
+ghost use Rattle.irl_bay.specs.Faults.{NamesNone};
+ghost use Rattle.irl_layout.specs.JudgedEntries.{rows};
 ghost use Rattle.irl_bay.specs.Merging.{Writes};
 ghost use Rattle.irl_bay.specs.Pending.{AreOffersOf};
 
-use crate::layout::push_judged;
 use irl_disk::Store;
 use irl_journal::FileWriter;
+use irl_layout::push_judged;
 use irl_offer::{Entry, Fault, Verdict};
 use std::alloc::Global;
 
@@ -55,14 +55,11 @@ impl Telling {
             AreOffersOf news entries.now texts.now →
             AllByRecursion (λ offer. bucket_of drum.settings.buckets offer.key ≡ b) news →
             HasTold drum (offers ++ news) (before ++ verdicts.now) (S.told store.new).files self.new) }
-        ensures damaged { (f at : ℕ) → IsErrOf result (Fault.Damaged f at) → ⊥ }
-        ensures full { (n : ℕ) → IsErrOf result (Fault.Full n) → ⊥ }
+        ensures refuses { NamesNone result }
         ensures step { (drum : Drum) → IsTellingOf drum self.old →
             Writes drum (S.told store.old) (S.told store.new) }
-        ensures others { TellsOnly (λ f. (f ≡ self.old.judged.file) ⊎ (f ≡ self.old.texts.file))
-            (S.told store.old).files (S.told store.new).files }
-        ensures taken { (S.told store.new).taken ≡ (S.told store.old).taken }
-        ensures cause { HasCause (IsErrOf result Fault.Failed) (S.told store.old).faults (S.told store.new).faults }
+        ensures others { OnlyChanges (ChangesOnly (λ f. (f ≡ self.old.judged.file) ⊎ (f ≡ self.old.texts.file)))
+            (IsErrOf result Fault.Failed) (S.told store.old) (S.told store.new) }
     {
         self.put_rows(store, b, entries, verdicts)?;
         self.texts.put(store, texts)?;
@@ -91,14 +88,9 @@ impl Telling {
         ensures texts { self.new.texts ≡ self.old.texts }
         ensures place { self.new.place ≡ self.old.place }
         ensures unique { self.new.unique ≡ self.old.unique }
-        ensures damaged { (f at : ℕ) → IsErrOf result (Fault.Damaged f at) → ⊥ }
-        ensures full { (n : ℕ) → IsErrOf result (Fault.Full n) → ⊥ }
-        ensures changes { Changes self.old.judged.file (KeepsFront self.old.judged.kept)
-            (S.told store.old).files (S.told store.new).files }
-        ensures stops { LeavesBy (ChangesFile self.old.judged.file (KeepsFront self.old.judged.kept))
-            (S.told store.old) (S.told store.new) }
-        ensures taken { (S.told store.new).taken ≡ (S.told store.old).taken }
-        ensures cause { HasCause (IsErrOf result Fault.Failed) (S.told store.old).faults (S.told store.new).faults }
+        ensures refuses { NamesNone result }
+        ensures changes { OnlyChanges (ChangesFile self.old.judged.file (KeepsFront self.old.judged.kept))
+            (IsErrOf result Fault.Failed) (S.told store.old) (S.told store.new) }
     {
         let mut row = Vec::with_capacity(self.alloc, 48)?;
         let mut next = self.place;

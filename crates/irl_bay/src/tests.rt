@@ -1,9 +1,9 @@
-ghost use Rattle.std.specs.Prelude.{◌≡◌, ◌<◌, ◌≤◌, ⊤, true, length, IsTrue, IfOk, OnOk};
+ghost use Rattle.std.specs.Prelude.{◌≡◌, ⊤, true, IsTrue, IfOk, OnOk};
 ghost use Rattle.std.specs.List.{AllByRecursion};
 ghost use Rattle.irl_offer.specs.Buckets.{IsBucketCount, bucket_of as bucket_of_key};
 ghost use Rattle.irl_model.specs.Book.{Book};
 ghost use Rattle.irl_disk.specs.Memory.{told_by};
-ghost use Rattle.irl_bay.specs.Drum.{pending_at};
+ghost use Rattle.irl_bay.specs.Flushing.{MayFlush};
 ghost use Rattle.irl_bay.specs.Holding.{Holds};
 
 mod cache_file;
@@ -98,12 +98,7 @@ fn are_of(offers: &[Offer], buckets: u32, b: u32) -> bool
 // Whether the array can be flushed to this bucket.
 fn can_flush(bay: &Bay, b: u32, array: &Array) -> bool
     ensures sound { IsTrue result → bay.now.is_sound ≡ true }
-    ensures bucket { IsTrue result → b < bay.now.settings.buckets }
-    ensures some { IsTrue result → 1 ≤ length array.now.items }
-    ensures few { IsTrue result → length array.now.items ≤ bay.now.settings.array }
-    ensures pending { IsTrue result → pending_at bay.now b < bay.now.settings.trigger }
-    ensures offers { IsTrue result →
-        AllByRecursion (λ offer. bucket_of_key bay.now.settings.buckets offer.key ≡ b) array.now.items }
+    ensures offers { IsTrue result → MayFlush b array.now.items bay.now }
 {
     bay.is_sound
         && b < bay.settings.buckets

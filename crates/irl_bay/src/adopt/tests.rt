@@ -254,6 +254,28 @@ fn damage_of_the_second_commit_is_named(rt: HostRuntime) -> Result<(), Fail> {
 }
 
 #[test]
+fn each_cut_tells_how_many_offers_were_judged(rt: HostRuntime) -> Result<(), Fail> {
+    let alloc = rt.alloc();
+    let mut store = MemStore::new(alloc, Vec::new(alloc));
+    put(&mut store, 100, ungated(&commit([2, 0, 1, 0, 0, 1])))?;
+    put(&mut store, 100, &commit([3, 0, 3, 0, 0, 3]))?;
+    put(&mut store, 103, &[0; 144])?;
+    let bay = Bay::adopt(alloc, &mut store, 100, &settings_of(1)?)?;
+    assert_eq!(rt;
+        bay.judged_at_cuts(alloc, &mut store)?.as_slice(),
+        [1, 3].as_slice()
+    );
+    // A manifest that ends before the second commit.
+    let mut other = MemStore::new(alloc, Vec::new(alloc));
+    put(&mut other, 100, &commit([2, 0, 1, 0, 0, 1]))?;
+    assert_eq!(rt;
+        bay.judged_at_cuts(alloc, &mut other).err(),
+        Some(Fault::Damaged(100, 46))
+    );
+    Ok(())
+}
+
+#[test]
 fn a_length_past_every_file_is_damage(rt: HostRuntime) -> Result<(), Fail> {
     let alloc = rt.alloc();
     let mut bytes = commit([0, 0, 0, 0, 0, 0]);

@@ -1,8 +1,8 @@
 use Rattle.std.proofs.Common.{◌≡◌, ◌∙◌, ℕ, ◌≤◌, IsTrue, List, sym, ap, subst, rules}
 use Rattle.std.specs.Prelude.{sum}
-use Rattle.irl_bay.specs.Commits.{Commit, first_commit, last_commit}
+use Rattle.irl_layout.specs.Commits.{Commit, first_commit, last_commit}
 use Rattle.irl_bay.specs.Damage.{RiseFrom}
-use Rattle.irl_bay.specs.declared.history.History.{History}
+use Rattle.irl_bay.specs.declared.history.HistoryVisitor.{HistoryVisitor}
 use Rattle.irl_bay.proofs.Reached.{first_as}
 use Rattle.irl_bay.proofs.adopt.check_cuts.Goals as goal
 
@@ -22,7 +22,7 @@ first_above-requires-then-not-is_sum_within-clause-above g c = λ files tells.
       subst (λ (k : ℕ). RiseFrom k (first_commit k) last.0) (sym says.buckets) last.2,
       λ within.
           let cut : c.deref-3.result.now ≡ (last_commit (first_commit c.reaching-reaching-2.result.buckets) last.0).cut =
-          c.deref-3.ensures.value ∙ ap (λ (x : Commit). x.cut) (ap (λ (h : History). h.last) c.history.view_is ∙ last.3)
+          c.deref-3.ensures.value ∙ ap (λ (x : Commit). x.cut) (ap (λ (h : HistoryVisitor). h.last) c.history.view_is ∙ last.3)
           ∙ ap (λ (k : ℕ). (last_commit (first_commit k) last.0).cut) (sym says.buckets) in
           let yes = c.is_sum_within.ensures.1 (subst (λ (l : List ℕ). sum l ≤ c.reaching-reaching-2.result.most) (sym cut) within.all) in
           let never = subst IsTrue c.if-not-is_sum_within.true yes in

@@ -1,5 +1,5 @@
 use Rattle.std.proofs.Common.{◌∙◌, [], map, refl, sym, rules}
-use Rattle.irl_bay.specs.Commits.{commit_bytes}
+use Rattle.irl_layout.specs.Commits.{commit_bytes}
 use Rattle.irl_bay.proofs.Buckets.{damaged_fault}
 use Rattle.irl_bay.proofs.Reached.{first_refused, all_within}
 use Rattle.irl_bay.proofs.adopt.first_above.Goals as goal

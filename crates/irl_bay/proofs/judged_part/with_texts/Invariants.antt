@@ -1,5 +1,5 @@
 use Rattle.std.proofs.Common.{◌≡◌, ◌≤◌, ◌++◌, length, drop, vec_capacity}
-use Rattle.irl_bay.specs.JudgedEntries.{with_texts, texts_length}
+use Rattle.irl_layout.specs.JudgedEntries.{with_texts, texts_length}
 use Rattle.irl_bay.proofs.judged_part.with_texts.Given as goal
 
 abbrev pub invariant-loop-entry : goal.invariant-loop-entry

@@ -2,8 +2,8 @@
 use Rattle.std.proofs.Common.{◌≡◌, ◌∙◌, ℕ, ◌+◌, ◌-◌, ◌*◌, List, [], ◌∷◌, length, take, drop, Option, None, sym, ap, subst, arith, length-append}
 use Rattle.std.proofs.lemmas.List.{drop-drop}
 use Rattle.std.specs.List.{flat_map}
-use Rattle.irl_bay.specs.declared.layout.judged_entry.JudgedEntry.{JudgedEntry}
-use Rattle.irl_bay.specs.JudgedEntries.{entry_spelling}
+use Rattle.irl_layout.specs.declared.judged_entry.JudgedEntry.{JudgedEntry}
+use Rattle.irl_layout.specs.JudgedEntries.{entry_spelling}
 use Rattle.irl_bay.specs.JudgedSpoilt.{FitsBehind, FitEach}
 use Rattle.irl_bay.proofs.JudgedReading.{last_of, last_more, fit_more, bytes_more}
 use Rattle.irl_bay.proofs.bay.Bay.decode_entries.Goals as goal

@@ -1,7 +1,7 @@
 use Rattle.std.proofs.Common.{◌≡◌, ◌+◌, ◌*◌, ◌/◌, ◌^◌, ◌<◌, ◌≤◌, length, take, drop, None, vec_capacity}
 use Rattle.std.specs.Prelude.{IfSome}
 use Rattle.std.specs.List.{flat_map}
-use Rattle.irl_bay.specs.JudgedEntries.{entry_spelling}
+use Rattle.irl_layout.specs.JudgedEntries.{entry_spelling}
 use Rattle.irl_bay.specs.JudgedSpoilt.{FitEach, StandsBefore}
 use Rattle.irl_bay.proofs.JudgedReading.{last_of}
 use Rattle.irl_bay.proofs.bay.Bay.decode_entries.Given as goal

@@ -1,12 +1,12 @@
 -- The files are cut, and one journal after the other is made.
-use Rattle.std.proofs.Common.{◌≡◌, ◌∙◌, ◌+◌, ◌-◌, ◌<◌, ℕ, inl, List, length, sym, ap, subst, arith}
+use Rattle.std.proofs.Common.{◌≡◌, ◌∙◌, ◌+◌, ◌-◌, ◌<◌, ℕ, inl, List, length, refl, sym, ap, subst, arith}
 use Rattle.irl_bay.specs.declared.bucket.Bucket.{Bucket}
-use Rattle.irl_bay.specs.declared.layout.files.BayFile.TheVariants.{Journal}
-use Rattle.irl_bay.specs.BayFiles.{file_of}
-use Rattle.irl_bay.specs.Commits.{live_side}
+use Rattle.irl_layout.specs.declared.files.BayFile.TheVariants.{Journal}
+use Rattle.irl_layout.specs.BayFiles.{file_of}
+use Rattle.irl_layout.specs.Commits.{live_side}
 use Rattle.irl_bay.specs.Drum.{Drum, IsDrum, durable_at}
 use Rattle.irl_bay.specs.Merging.{emptied}
-use Rattle.irl_bay.proofs.Emptied.{EmptiedSoFar, emptied_none, emptied_more, emptied_all, side_leaves, side_tells}
+use Rattle.irl_bay.proofs.Emptied.{EmptiedSoFar, emptied_none, emptied_more, emptied_all, side_changes}
 use Rattle.irl_bay.proofs.HeldBuckets.{same_bucket}
 use Rattle.irl_bay.proofs.bay.Bay.empty_side.Goals as goal
 
@@ -18,10 +18,8 @@ loop-b-init g c =
     record {
       made = subst (λ (side : ℕ). EmptiedSoFar now side now.settings.buckets (tells c.args.store.now) (tells c.cut_side.new.store) c.args.room.items 0) side_is
           (emptied_none now (1 - c.live_side-side.result) now.settings.buckets (tells c.args.store.now) (tells c.cut_side.new.store) c.args.room.items c.requires.none c.in_ok-cut_side.ensures.cut
-          c.cut_side.ensures.others c.cut_side.ensures.others_stop);
+          _ c.in_ok-cut_side.ensures.others);
       room = c.requires.room;
-      taken = c.cut_side.ensures.taken;
-      later = c.cut_side.ensures.cause.later;
     }
 
 -- a journal is refused
@@ -32,20 +30,9 @@ returns-in_err-make-clause-others g c =
     let within : c.loop-b.b < now.settings.buckets = subst (λ (d : Drum). c.loop-b.b < d.settings.buckets) c.self.view_is c.loop-b-test.true in
     let base_is : c.self.inside.base ≡ now.base = ap (λ (d : Drum). d.base) c.self.view_is in
     let side_is : c.live_side-side.result ≡ live_side now.last = c.live_side-side.ensures ∙ ap (λ (d : Drum). live_side d.last) c.self.view_is in
-    side_tells now.base (1 - live_side now.last) now.settings.buckets (file_of c.self.inside.base 0 (Journal (1 - c.live_side-side.result) c.loop-b.b)) c.loop-b.b within
-    (inl (omega (arith, base_is, side_is))) _ (tells c.args.store.now).files (tells c.loop-b.store).files (tells c.make.new.store).files
-    c.loop-b.invariant.made.others c.in_err-make.ensures.err
-
-pub returns-in_err-make-clause-others_stop : goal.returns-in_err-make-clause-others_stop
-returns-in_err-make-clause-others_stop g c =
-    let tells = g.S.Store.told in
-    let now = c.args.self.now in
-    let within : c.loop-b.b < now.settings.buckets = subst (λ (d : Drum). c.loop-b.b < d.settings.buckets) c.self.view_is c.loop-b-test.true in
-    let base_is : c.self.inside.base ≡ now.base = ap (λ (d : Drum). d.base) c.self.view_is in
-    let side_is : c.live_side-side.result ≡ live_side now.last = c.live_side-side.ensures ∙ ap (λ (d : Drum). live_side d.last) c.self.view_is in
-    side_leaves now.base (1 - live_side now.last) now.settings.buckets (file_of c.self.inside.base 0 (Journal (1 - c.live_side-side.result) c.loop-b.b)) c.loop-b.b within
-    (inl (omega (arith, base_is, side_is))) _ (tells c.args.store.now) (tells c.loop-b.store) (tells c.make.new.store)
-    (g.met.S.Store.is_consistent c.loop-b.store) c.loop-b.invariant.made.stops c.make.ensures.stops
+    side_changes now.base (1 - live_side now.last) now.settings.buckets (file_of c.self.inside.base 0 (Journal (1 - c.live_side-side.result) c.loop-b.b)) c.loop-b.b within
+    (inl (omega (arith, base_is, side_is))) _ _ _ _ (tells c.args.store.now) (tells c.loop-b.store) (tells c.make.new.store) (λ is. refl) (g.met.S.Store.is_consistent c.loop-b.store)
+    c.loop-b.invariant.made.others c.make.ensures.changes.told c.make.ensures.changes.stops c.make.ensures.changes.taken c.in_err-make.ensures.changes.cause
 
 pub loop-b-preserved : goal.loop-b-preserved
 loop-b-preserved g c =
@@ -69,10 +56,8 @@ loop-b-preserved g c =
           (emptied_more now (1 - live_side now.last) now.settings.buckets (file_of inside.base 0 (Journal (1 - c.live_side-side.result) c.loop-b.b)) (tells c.args.store.now) (tells c.loop-b.store)
           (tells c.make.new.store) c.loop-b.buckets.items c.loop-b.b c.in_ok-make.field-0
           (laws c.loop-b.store) (laws c.make.new.store) within law.count c.loop-b.invariant.made (omega (arith, base_is, side_is)) bucket_is c.in_ok-make.ensures.holds c.in_ok-make.ensures.ok
-          c.make.ensures.stops);
+          c.make.ensures.changes.stops c.make.ensures.changes.taken _ c.in_ok-make.ensures.changes.cause);
       room = omega (arith, c.loop-b.invariant.room, c.push_reserved.ensures.capacity);
-      taken = c.make.ensures.taken ∙ c.loop-b.invariant.taken;
-      later = omega (arith, c.loop-b.invariant.later, c.make.ensures.cause.later);
     }
 
 -- all are made

@@ -1,5 +1,5 @@
-use Rattle.std.proofs.Common.{◌≡◌, ◌≤◌, ◌-◌, vec_capacity}
-use Rattle.irl_bay.specs.Commits.{live_side}
+use Rattle.std.proofs.Common.{◌≤◌, ◌-◌, vec_capacity}
+use Rattle.irl_layout.specs.Commits.{live_side}
 use Rattle.irl_bay.proofs.Emptied.{EmptiedSoFar}
 use Rattle.irl_bay.proofs.bay.Bay.empty_side.Given as goal
 
@@ -10,6 +10,4 @@ invariant-loop-b g l =
     record {
       made : EmptiedSoFar l.self (1 - live_side l.self.last) l.self.settings.buckets (store.told l.fn.store) (store.told l.store) l.buckets.items l.b;
       room : l.self.settings.buckets ≤ vec_capacity l.buckets;
-      taken : (store.told l.store).taken ≡ (store.told l.fn.store).taken;
-      later : (store.told l.fn.store).faults ≤ (store.told l.store).faults;
     }

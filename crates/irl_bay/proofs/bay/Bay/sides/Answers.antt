@@ -1,10 +1,11 @@
-use Rattle.std.proofs.Common.{ap}
+use Rattle.std.proofs.Common.{ap, rules}
 use Rattle.irl_cache.specs.Reading.{Reader, read_of}
 use Rattle.irl_bay.proofs.Judges.{nothing_merged}
 use Rattle.irl_bay.proofs.bay.Bay.sides.Goals as goal
 
-pub returns-clause-none : goal.returns-clause-none
-returns-clause-none c = λ told. nothing_merged told _ (ap (λ (r : Reader). r.block) c.in_ok-new.ensures.value) (c.in_ok-new.ensures.read told) (c.in_ok-new-2.ensures.written told)
-
-pub returns-clause-unread : goal.returns-clause-unread
-returns-clause-unread c = ap (λ (r : Reader). read_of r) c.in_ok-new.ensures.value
+pub returns : goal.returns
+returns c = record {
+  none = λ told. nothing_merged told _ (ap (λ (r : Reader). r.block) c.in_ok-new.ensures.value) (c.in_ok-new.ensures.read told) (c.in_ok-new-2.ensures.written told);
+  of = search rules;
+  unread = ap (λ (r : Reader). read_of r) c.in_ok-new.ensures.value;
+}

@@ -1,8 +1,8 @@
 use Rattle.std.proofs.Common.{◌≡◌, ◌∙◌, ◌*◌, length, ap, subst, arith, ℕ}
 use Rattle.irl_journal.specs.Growing.{Writer}
-use Rattle.irl_bay.specs.BayFiles.{file_of}
+use Rattle.irl_layout.specs.BayFiles.{file_of}
 use Rattle.irl_bay.specs.declared.bay.Bay.TheInside.{Inside}
-use Rattle.irl_bay.specs.declared.layout.files.BayFile.TheVariants.{Judged, Texts}
+use Rattle.irl_layout.specs.declared.files.BayFile.TheVariants.{Judged, Texts}
 use Rattle.irl_bay.specs.Drum.{Drum, IsDrum, judged_front, texts_front}
 use Rattle.irl_bay.proofs.Judges.{nothing_told}
 use Rattle.irl_bay.proofs.bay.Bay.telling.Goals as goal

@@ -1,5 +1,5 @@
 use Rattle.std.proofs.Common.{◌≡◌, ◌∙◌, ◌-◌, ℕ, List, Some, take, drop, sym, ap, arith}
-use Rattle.irl_bay.specs.JudgedEntries.{with_text}
+use Rattle.irl_layout.specs.JudgedEntries.{with_text}
 use Rattle.irl_bay.proofs.JudgedParts.{within, begins, ends, told}
 use Rattle.irl_bay.proofs.judged_part.JudgedPart.get.Goals as goal
 

@@ -9,19 +9,19 @@ use Rattle.irl_bay.proofs.Sweeps.{ends, has_place, last_rises, same_file}
 use Rattle.irl_bay.proofs.sides.Sides.end.Goals as goal
 
 pub put_all-requires-clause-long : goal.put_all-requires-clause-long
-put_all-requires-clause-long g c = has_place _ _ c.args.self.now.writer c.requires.sweeping.5.written
+put_all-requires-clause-long g c = has_place _ _ c.args.self.now.writer c.requires.sweeping.2.3.written
 
 pub put_all-requires-clause-rising : goal.put_all-requires-clause-rising
 put_all-requires-clause-rising g c =
     let now = c.args.self.now in
     let told = (g.S.Store.told c.args.store.now).files in
     let r = c.requires.sweeping in
-    let is = r.5 in
+    let is = r.2.3 in
     let more = c.end.new.out.items in
     let all : more ≡ c.clear.new.self.items ++ more = rw c.clear.ensures.items refl in
-    let given : ArePairsOf (after now.rule (keys_of is.fed) r.3) (is.given ++ more) =
-    c.in_ok-verdicts.ensures.pairs now.rule r.3 is.fed is.given more (keys_of is.fed) all is.swept (pairs_are is.fed is.swept.rising) in
-    subst (λ (l : List Pair). RisesFrom now.writer.last l) (sym c.deref.ensures.value) (last_rises r.0 r.1 r.2 r.3 told c.args.sweep now is now.valid more given)
+    let given : ArePairsOf (after now.rule (keys_of is.fed) r.2.2) (is.given ++ more) =
+    c.in_ok-verdicts.ensures.pairs now.rule r.2.2 is.fed is.given more (keys_of is.fed) all is.swept (pairs_are is.fed is.swept.rising) in
+    subst (λ (l : List Pair). RisesFrom now.writer.last l) (sym c.deref.ensures.value) (last_rises r.0 r.2.0 r.2.1 r.2.2 told c.args.sweep now is now.valid more given)
 
 pub returns-clause-merged : goal.returns-clause-merged
 returns-clause-merged g c = λ b offers verdicts news done is.

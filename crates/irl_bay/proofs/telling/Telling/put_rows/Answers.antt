@@ -1,5 +1,5 @@
 -- Each row that is put is one more of a bucket's.
-use Rattle.std.proofs.Common.{◌≡◌, ◌∙◌, ◌+◌, ◌%◌, ◌^◌, ◌<◌, ◌++◌, ◌∷◌, ℕ, suc, List, Option, None, drop, get_or, length, sym, ap, subst, arith, append_assoc, drop-cons}
+use Rattle.std.proofs.Common.{◌≡◌, ◌∙◌, ◌+◌, ◌%◌, ◌^◌, ◌<◌, ◌++◌, ◌∷◌, ℕ, suc, List, Option, None, drop, get_or, length, sym, ap, subst, arith, rules, append_assoc, drop-cons}
 use Rattle.irl_offer.specs.declared.entry.Entry.{Entry}
 use Rattle.irl_offer.specs.declared.offer.Op.TheVariants.{Check}
 use Rattle.irl_offer.specs.declared.offer.Verdict.{Verdict}
@@ -8,7 +8,7 @@ use Rattle.irl_disk.specs.Images.{Told, IsConsistent, LeavesBy}
 use Rattle.irl_journal.specs.Blob.{KeepsFront}
 use Rattle.irl_journal.specs.Growing.{HasPut}
 use Rattle.irl_journal.proofs.Growing.{keeps_then, stops_then}
-use Rattle.irl_bay.specs.JudgedEntries.{row, rows}
+use Rattle.irl_layout.specs.JudgedEntries.{row, rows}
 use Rattle.irl_bay.proofs.JudgedMore.{rows_low}
 use Rattle.irl_bay.proofs.telling.Telling.put_rows.Goals as goal
 
@@ -40,12 +40,12 @@ step found new all next b i entries verdicts d some one put before =
 pub returns-in_err-put-clause-changes : goal.returns-in_err-put-clause-changes
 returns-in_err-put-clause-changes g c =
     let so_far = c.loop-i.invariant in
-    changes_on _ _ _ _ _ _ _ so_far.file so_far.kept so_far.changes c.put.ensures.changes.told
-
-pub returns-in_err-put-clause-stops : goal.returns-in_err-put-clause-stops
-returns-in_err-put-clause-stops g c =
-    let so_far = c.loop-i.invariant in
-    stops_on _ _ _ _ _ _ _ (g.met.S.Store.is_consistent c.loop-i.store) so_far.file so_far.kept so_far.stops c.put.ensures.changes.stops
+    record {
+      told = changes_on _ _ _ _ _ _ _ so_far.file so_far.kept so_far.changes c.put.ensures.changes.told;
+      stops = stops_on _ _ _ _ _ _ _ (g.met.S.Store.is_consistent c.loop-i.store) so_far.file so_far.kept so_far.stops c.put.ensures.changes.stops;
+      taken = search rules;
+      cause = search rules;
+    }
 
 pub loop-i-preserved : goal.loop-i-preserved
 loop-i-preserved g c =

@@ -5,7 +5,7 @@ use Rattle.irl_disk.specs.Disk.{Changes, ChangesFile}
 use Rattle.irl_disk.specs.Images.{LeavesBy}
 use Rattle.irl_journal.specs.Blob.{KeepsFront}
 use Rattle.irl_journal.specs.Growing.{HasPut, ReachesPlace}
-use Rattle.irl_bay.specs.JudgedEntries.{rows}
+use Rattle.irl_layout.specs.JudgedEntries.{rows}
 use Rattle.irl_bay.proofs.telling.Telling.put_rows.Given as goal
 
 abbrev pub invariant-loop-i : goal.invariant-loop-i

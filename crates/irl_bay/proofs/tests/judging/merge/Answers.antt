@@ -10,4 +10,4 @@ pub merge-requires-clause-long : goal.merge-requires-clause-long
 merge-requires-clause-long c = λ files told. holds_long (told_by c.args.kept.now.store) c.args.kept.now.bay c.requires.0 files (consistent c.args.kept.now.store) c.requires.1 told
 
 pub returns : goal.returns
-returns c = IfOk-weaker c.merge.result _ _ (λ cuts more. (merged c.requires.0, more (files_in c.args.kept.now.store) refl c.requires.0 c.requires.1)) c.merge.ensures.holds
+returns c = IfOk-weaker c.merge.result _ _ (λ cuts more. (merged c.requires.0, more (files_in c.args.kept.now.store) refl c.requires.0 c.requires.1)) c.merge.ensures.merges.holds
