@@ -5,7 +5,8 @@ use Rattle.std.specs.Option.{ForSome}
 use Rattle.irl_offer.specs.Settings.{AreValid, settings_of}
 use Rattle.irl_offer.specs.declared.settings.Asked.{Asked}
 use Rattle.irl_offer.specs.declared.settings.Settings.{Settings}
-use Rattle.irl_offer.specs.declared.settings.Kind.TheVariants.{Crawl}
+use Rattle.irl_offer.specs.declared.settings.Kind.{Kind}
+use Rattle.irl_offer.specs.declared.settings.Kind.TheVariants.{Lines, Tuples, Crawl}
 use Rattle.irl_events.specs.State.{State, blank_state}
 use Rattle.irl_disk.specs.Disk.{Files, Changes, ChangesFile, TellsBy}
 use Rattle.irl_disk.specs.Images.{Told, IsConsistent, Follows, Leaves, LeavesBy, LeavesSame}
@@ -17,22 +18,26 @@ use Rattle.irl_journal.specs.Format.{StandsFor}
 use Rattle.irl_journal.specs.Visiting.{IsOpened}
 use Rattle.irl_journal.proofs.Lists.{few_bytes}
 use Rattle.irl_journal.proofs.Opened.{opened_stands}
-use Rattle.irl_bay.specs.BayFiles.{file_of, IsFileOf}
-use Rattle.irl_bay.specs.Commits.{Commit, IsCommit, first_commit, last_commit, live_side, side_of}
-use Rattle.irl_bay.specs.declared.layout.files.BayFile.TheVariants.{Manifest, Cache, Judged, Texts, Journal, Aux}
+use Rattle.irl_layout.specs.BayFiles.{file_of, IsFileOf}
+use Rattle.irl_layout.specs.Commits.{Commit, IsCommit, first_commit, last_commit, live_side, side_of}
+use Rattle.irl_layout.specs.declared.files.BayFile.TheVariants.{Manifest, Cache, Judged, Texts, Journal, Aux}
 use Rattle.irl_bay.specs.Damage.{IsAdopted}
 use Rattle.irl_bay.specs.Making.{IsJournalOn, IsJournalOf, Makes}
 use Rattle.irl_bay.proofs.Adopted.{takes_wider}
 use Rattle.irl_bay.proofs.Apart.{stands_kept, unmade_stands, journal_files}
 use Rattle.irl_bay.proofs.LiveJournals.{adopted_wider}
-use Rattle.irl_yard.specs.StoreFiles.{head_file, crawl_file, urls_base, IsOtherFile}
-use Rattle.irl_yard.specs.Head.{head_bytes}
-use Rattle.irl_yard.specs.Standing.{IsBlank, IsMade, HasState}
+use Rattle.irl_head.specs.StoreFiles.{head_file, crawl_file, urls_base, IsOtherFile}
+use Rattle.irl_head.specs.Head.{head_bytes}
+use Rattle.irl_head.specs.Opening.{IsBlank, HasHead, KeepsBlank}
+use Rattle.irl_yard.specs.Standing.{IsMade, HasState}
 use Rattle.irl_yard.specs.Holding.{HasLiveJournal, HasOneOf}
 use Rattle.irl_yard.specs.Opening.{new_state, entered_state}
-use Rattle.irl_yard.specs.Entering.{IsRestFile, GainsFirst, IsStoreJournal, OpensStore, MakesStore, Enters, KeepsBlank}
-use Rattle.irl_yard.proofs.Beginning.{same_then, file_stays}
-use Rattle.irl_yard.proofs.Grounds.{blank_has, none_or_one}
+use Rattle.irl_head.specs.Writing.{GainsFirst}
+use Rattle.irl_yard.specs.Entering.{IsRestFile, IsKindJournal, IsStoreJournal, IsToldJournal, OpensStore, MakesStore, Enters}
+use Rattle.irl_head.proofs.Beginning.{same_then, file_stays}
+use Rattle.irl_head.proofs.Grounds.{none_or_one, one_head}
+use Rattle.irl_yard.proofs.Grounds.{blank_has, made_head}
+use Rattle.irl_yard.proofs.ByKind.{new_has, rest_stays}
 use Rattle.irl_yard.proofs.Rest.{few, pairs_rest, one_side, head_no_side, head_no_journal, rest_no_head, rest_no_urls}
 use Rattle.irl_yard.proofs.Making.{urls_other, pairs_other, head_no_urls}
 
@@ -70,10 +75,40 @@ journal_or_none buckets f (inr (side, b, low, within, e)) = ⊎_elim (λ below. 
 journal_no_head : (f : ℕ) → IsJournalOf urls_base 64 f → f ≢ head_file
 journal_no_head f is = λ e. head_no_journal 64 (omega arith) (subst (IsJournalOf urls_base 64) e is)
 
+no_kind_journal : (kind : Kind) (buckets f : ℕ) → IsKindJournal kind buckets f → ⊥
+no_kind_journal Lines buckets f is = is
+no_kind_journal Tuples buckets f is = is
+no_kind_journal Crawl buckets f is = is
+
+pub store_journal : (kind : Kind) (buckets f : ℕ) → IsStoreJournal kind buckets f → (f ≡ head_file) ⊎ IsJournalOf urls_base buckets f
+store_journal kind buckets f (inl head) = inl head
+store_journal kind buckets f (inr (inl journal)) = inr journal
+store_journal kind buckets f (inr (inr other)) = absurd (no_kind_journal kind buckets f other)
+
+-- of what was told: the head, and those of the bay of URLs by the settings that it has
+abbrev IsHeadOrUrls : Option Files → ℕ → Type 0
+IsHeadOrUrls told f = (f ≡ head_file) ⊎ ((settings : Settings) × AreValid settings × ForSome told (HasHead settings) × IsJournalOf urls_base settings.buckets f)
+
+told_parts : (told : Option Files) (f : ℕ) → IsToldJournal told f → IsHeadOrUrls told f
+told_parts told f (inl head) = inl head
+told_parts told f (inr (settings, valid, has, is)) = ⊎_elim (λ (head : f ≡ head_file). inl head) (λ (journal : IsJournalOf urls_base settings.buckets f). inr (settings, valid, has, journal))
+    (store_journal settings.kind settings.buckets f is)
+
+-- they are among those of the most buckets
+pub told_journal : (told : Option Files) (f : ℕ) → IsToldJournal told f → (f ≡ head_file) ⊎ IsJournalOf urls_base 64 f
+told_journal told f is = wide (told_parts told f is)
+  where
+    wide : IsHeadOrUrls told f → (f ≡ head_file) ⊎ IsJournalOf urls_base 64 f
+    wide (inl head) = inl head
+    wide (inr (settings, valid, has, journal)) = inr (journal_wider settings.buckets f (few settings valid) journal)
+
 -- the other files of the state are none
-rest_no_journal : (buckets f : ℕ) → buckets ≤ 64 → IsRestFile buckets f → IsStoreJournal f → ⊥
-rest_no_journal buckets f small rest (inl head) = rest_no_head buckets f rest head
-rest_no_journal buckets f small rest (inr is) = rest_no_urls buckets 64 f small (omega arith) rest is
+rest_no_journal : (told : Option Files) (buckets f : ℕ) → buckets ≤ 64 → IsRestFile buckets f → IsToldJournal told f → ⊥
+rest_no_journal told buckets f small rest is = none (told_journal told f is)
+  where
+    none : (f ≡ head_file) ⊎ IsJournalOf urls_base 64 f → ⊥
+    none (inl head) = rest_no_head buckets f rest head
+    none (inr journal) = rest_no_urls buckets 64 f small (omega arith) rest journal
 
 -- ---- a step of opening
 opened_twice : (a b c : List ℕ) → IsOpened a b → IsOpened b c → IsOpened a c
@@ -86,36 +121,45 @@ opened_short : (old new : List ℕ) → length old ≤ 1 → IsOpened old new �
 opened_short old new short (inl same) = subst (λ (file : List ℕ). length file ≤ 1) (sym same) short
 opened_short old new short (inr s) = s.2
 
-pub opens_none : (files : Files) → OpensStore files files
-opens_none files = record { changed = λ f is. inl refl; others = λ f out. refl }
+-- what is changed of the head may be changed again
+pub looks_twice : (x y z : Files) → ChangesFile head_file IsOpened x y → ChangesFile head_file IsOpened y z → ChangesFile head_file IsOpened x z
+looks_twice x y z first second = record {
+  changed = opened_twice (x head_file) (y head_file) (z head_file) first.changed second.changed;
+  others = λ f other. second.others f other ∙ first.others f other;
+}
 
-head_opens : (x y z : Files) → ChangesFile head_file IsOpened x y → OpensStore y z → OpensStore x z
-head_opens x y z first second = record {
+pub opens_none : (told : Option Files) (files : Files) → OpensStore told files files
+opens_none told files = record { changed = λ f is. inl refl; others = λ f out. refl }
+
+head_opens : (told : Option Files) (x y z : Files) → ChangesFile head_file IsOpened x y → OpensStore told y z → OpensStore told x z
+head_opens told x y z first second = record {
   changed = λ f is. ⊎_elim
       (λ (e : f ≡ head_file). subst (λ (h : ℕ). IsOpened (x h) (z h)) (sym e) (opened_twice (x head_file) (y head_file) (z head_file) first.changed (second.changed head_file (inl refl))))
-      (λ (journal : IsJournalOf urls_base 64 f). subst (λ (file : List ℕ). IsOpened file (z f)) (first.others f (journal_no_head f journal)) (second.changed f (inr journal)))
-      is;
+      (λ (journal : IsJournalOf urls_base 64 f). subst (λ (file : List ℕ). IsOpened file (z f)) (first.others f (journal_no_head f journal)) (second.changed f is))
+      (told_journal told f is);
   others = λ f out. second.others f out ∙ first.others f (λ e. out (inl e));
 }
 
 -- the bay's journals are opened
-pub adopted_opens : (buckets : ℕ) (old new : Files) → buckets ≤ 64 → IsAdopted urls_base buckets old new → OpensStore old new
-adopted_opens buckets old new small step =
+pub adopted_opens : (told : Option Files) (settings : Settings) (old new : Files) → AreValid settings → ForSome told (HasHead settings) → IsAdopted urls_base settings.buckets old new
+    → OpensStore told old new
+adopted_opens told settings old new valid has step =
+    let buckets = settings.buckets in
     let adopted = adopted_wider urls_base buckets old new step in
     record {
       changed = λ f is. ⊎_elim
-          (λ (e : f ≡ head_file). inl (adopted.others f (λ journal. head_no_journal buckets small (subst (IsJournalOf urls_base buckets) e journal))))
+          (λ (e : f ≡ head_file). inl (adopted.others f (λ journal. head_no_journal buckets (few settings valid) (subst (IsJournalOf urls_base buckets) e journal))))
           (λ (journal : IsJournalOf urls_base 64 f). ⊎_elim (λ within. adopted.changed f within) (λ out. inl (adopted.others f (λ within. out (journal_files urls_base buckets f within))))
           (journal_or_none buckets f journal))
-          is;
-      others = λ f out. adopted.others f (λ within. out (inr (journal_wider buckets f small within)));
+          (told_journal told f is);
+      others = λ f out. adopted.others f (λ within. out (inr (settings, valid, has, inr (inl within))));
     }
 
 -- ---- a step of making
 pub makes_then : (settings : Settings) (x y z : Files) → settings.buckets ≤ 64 → Makes urls_base settings.buckets x y → ChangesFile head_file (GainsFirst (head_bytes settings)) y z
     → MakesStore settings x z
 makes_then settings x y z small makes gains = record {
-  others = λ f no out. gains.others f no ∙ makes.others f (λ journal. out (one_side 0 settings.buckets f (omega arith) journal));
+  others = λ f out. gains.others f (λ e. out (inl e)) ∙ makes.others f (λ journal. out (inr (inl (one_side 0 settings.buckets f (omega arith) journal))));
   unmade = λ unmade f is. subst (λ (file : List ℕ). length file ≤ 1) (sym (gains.others f (head_no_urls urls_base settings.buckets f refl small is))) (makes.unmade unmade f is);
   head = λ none. gains.changed (subst (λ (file : List ℕ). StandsFor file []) (sym (makes.others head_file (head_no_side settings.buckets small))) none);
 }
@@ -125,18 +169,18 @@ makes_alone settings x y small makes = makes_then settings x y y small makes (fi
 
 head_makes : (settings : Settings) (x y z : Files) → settings.buckets ≤ 64 → ChangesFile head_file IsOpened x y → MakesStore settings y z → MakesStore settings x z
 head_makes settings x y z small first second = record {
-  others = λ f no out. second.others f no out ∙ first.others f no;
+  others = λ f out. second.others f out ∙ first.others f (λ e. out (inl e));
   unmade = λ unmade. second.unmade (λ f is. subst (λ (file : List ℕ). length file ≤ 1) (sym (first.others f (head_no_urls urls_base settings.buckets f refl small is))) (unmade f is));
   head = λ none. second.head (opened_stands (x head_file) (y head_file) [] first.changed none);
 }
 
 -- ---- entering behind a look at the head
 head_enters : (asked : Asked) (told : Option Files) (x y z : Files) → ChangesFile head_file IsOpened x y → Enters asked told y z → Enters asked told x z
-head_enters asked told x y z first (inl opens) = inl (head_opens x y z first opens)
+head_enters asked told x y z first (inl opens) = inl (head_opens told x y z first opens)
 head_enters asked told x y z first (inr (blank, valid, makes)) = inr (blank, valid, head_makes (settings_of asked) x y z (few (settings_of asked) valid) first makes)
 
 pub head_alone : (asked : Asked) (told : Option Files) (old new : Told) → LeavesBy (ChangesFile head_file IsOpened) old new → LeavesBy (Enters asked told) old new
-head_alone asked told old new look = widens_by old new _ _ look (λ x y first. inl (head_opens x y y first (opens_none y)))
+head_alone asked told old new look = widens_by old new _ _ look (λ x y first. inl (head_opens told x y y first (opens_none told y)))
 
 pub entered_then : (asked : Asked) (told : Option Files) (old mid new : Told) → IsConsistent mid → LeavesBy (ChangesFile head_file IsOpened) old mid → LeavesBy (Enters asked told) mid new
     → LeavesBy (Enters asked told) old new
@@ -148,7 +192,7 @@ entered_then asked told old mid new law look enters =
 
 -- a stretch that changes nothing enters
 pub same_enters : (asked : Asked) (told : Option Files) (old new : Told) → LeavesSame old new → LeavesBy (Enters asked told) old new
-same_enters asked told old new same = same_by old new (Enters asked told) (λ files. inl (opens_none files)) same
+same_enters asked told old new same = same_by old new (Enters asked told) (λ files. inl (opens_none told files)) same
 
 pub tells_wider : (step wide : Files → Files → Type 0) (old new : Option Files) → ((x y : Files) → step x y → wide x y) → TellsBy step old new → TellsBy wide old new
 tells_wider step wide None new allows tells = tells
@@ -163,7 +207,7 @@ makes_enters asked told settings x y new blank valid makes = inr (blank, subst A
 pub made_steps : (asked : Asked) (told : Option Files) (settings : Settings) (old mid new : Told) → settings ≡ settings_of asked → ForSome told IsBlank → AreValid settings → IsConsistent mid
     → LeavesSame old mid → LeavesBy (Makes urls_base settings.buckets) mid new → LeavesBy (Enters asked told) old new
 made_steps asked told settings old mid new is_new blank valid law same makes =
-    same_then old mid new (Enters asked told) law (λ x. inl (opens_none x)) same
+    same_then old mid new (Enters asked told) law (λ x. inl (opens_none told x)) same
     (widens_by mid new (Makes urls_base settings.buckets) (Enters asked told) makes (λ x y step.
     makes_enters asked told settings x y is_new blank valid (makes_alone settings x y (few settings valid) step)))
 
@@ -178,7 +222,7 @@ written_steps asked told settings old mid made new is_new blank valid law law_ma
     (widens made new (Follows (ChangesFile head_file (GainsFirst (head_bytes settings))) made.images) (Follows (MakesStore settings) mid.images) gains (λ image from.
     let was = left_now mid made (Follows (Makes urls_base settings.buckets) mid.images) law_made makes from.0 from.1 in
     (was.0, was.1, makes_then settings was.0 from.0 image small was.2 from.2))) in
-    same_then old mid new (Enters asked told) law (λ x. inl (opens_none x)) same
+    same_then old mid new (Enters asked told) law (λ x. inl (opens_none told x)) same
     (widens_by mid new (MakesStore settings) (Enters asked told) stores (λ x y step. makes_enters asked told settings x y is_new blank valid step))
 
 -- the same of what is told
@@ -205,47 +249,69 @@ written_told asked told settings old mid made new is_new blank valid same makes 
     (both_told settings mid made new (few settings valid) makes gains))
 
 -- ---- the state
-opens_blank : (old new : Files) → OpensStore old new → IsBlank old → IsBlank new
-opens_blank old new opens blank = record {
+opens_blank : (told : Option Files) (old new : Files) → OpensStore told old new → IsBlank old → IsBlank new
+opens_blank told old new opens blank = record {
   head = opened_stands (old head_file) (new head_file) [] (opens.changed head_file (inl refl)) blank.head;
   others = λ f is. ⊎_elim
       (λ (short : length (new f) < 2). omega (arith, short))
       (λ (long : 2 ≤ length (new f)).
-      let no : IsStoreJournal f → ⊥ = λ journal. (let short = opened_short (old f) (new f) (blank.others f is) (opens.changed f journal) in omega (arith, short, long)) in
+      let no : IsToldJournal told f → ⊥ = λ journal. (let short = opened_short (old f) (new f) (blank.others f is) (opens.changed f journal) in omega (arith, short, long)) in
       subst (λ (file : List ℕ). length file ≤ 1) (sym (opens.others f no)) (blank.others f is))
       (below_or_above (length (new f)) 2);
 }
 
-opens_made : (settings : Settings) (state : State) (old new : Files) → OpensStore old new → IsMade settings state old → IsMade settings state new
-opens_made settings state old new opens made = record {
+-- each journal of the store that was told changes at most as opening one may, whatever buckets are asked for
+opens_each : (told : Option Files) (files : Files) (state : State) (old new : Files) → told ≡ Some files → HasState state files → OpensStore told old new → (f : ℕ) → IsJournalOf urls_base 64 f
+    → IsOpened (old f) (new f)
+opens_each told files state old new is_told has opens f journal = each has
+  where
+    unmade : IsBlank files → IsHeadOrUrls told f → ⊥
+    unmade blank (inl head) = journal_no_head f journal head
+    unmade blank (inr (settings, valid, kept, urls)) = none_or_one (files head_file) (head_bytes settings) blank.head (kept files is_told).head
+
+    beside : (settings : Settings) → HasHead settings files → (IsFileOf urls_base settings.buckets f → ⊥) → IsHeadOrUrls told f → ⊥
+    beside settings head out (inl is) = journal_no_head f journal is
+    beside settings head out (inr (other, valid, kept, urls)) =
+        out (journal_files urls_base settings.buckets f (subst (λ (s : Settings). IsJournalOf urls_base s.buckets f) (one_head other settings files (kept files is_told) head) urls))
+
+    each : HasState state files → IsOpened (old f) (new f)
+    each (inl blank) = inl (opens.others f (λ is. unmade blank.0 (told_parts told f is)))
+    each (inr (settings, made)) =
+        let head = made_head settings state files made in
+        ⊎_elim
+        (λ (within : IsJournalOf urls_base settings.buckets f). opens.changed f
+        (inr (settings, made.valid, (λ others is. (let same : files ≡ others = cc in subst (HasHead settings) same head)), inr (inl within))))
+        (λ (out : IsFileOf urls_base settings.buckets f → ⊥). inl (opens.others f (λ is. beside settings head out (told_parts told f is))))
+        (journal_or_none settings.buckets f journal)
+
+opens_made : (told : Option Files) (settings : Settings) (state : State) (old new : Files) → OpensStore told old new → ((f : ℕ) → IsJournalOf urls_base 64 f → IsOpened (old f) (new f))
+    → IsMade settings state old → IsMade settings state new
+opens_made told settings state old new opens each made = record {
   settings_are = made.settings_are;
   valid = made.valid;
-  kind = made.kind;
   head = opened_stands (old head_file) (new head_file) (head_bytes settings ∷ []) (opens.changed head_file (inl refl)) made.head;
   urls = stands_kept urls_base settings state.urls old new (record {
-    journals = λ f is payloads. opened_stands (old f) (new f) payloads (opens.changed f (inr (journal_wider settings.buckets f small is)));
-    others = λ f is out. opens.others f (apart f is out);
+    journals = λ f is payloads. opened_stands (old f) (new f) payloads (each f (journal_wider settings.buckets f small is));
+    others = λ f is out. opens.others f (λ told_is. apart f is out (told_journal told f told_is));
   }) made.urls;
-  crawl = stays crawl_file (inl refl) made.crawl;
-  pairs_are = made.pairs_are;
-  events_are = made.events_are;
-  pairs = λ f is. stays f (pairs_rest settings.buckets f is) (made.pairs f is);
+  rest = rest_stays settings.buckets state.pairs state.events settings.kind old new (stays crawl_file (inl refl), λ f is. stays f (pairs_rest settings.buckets f is)) made.rest;
 }
   where
     small : settings.buckets ≤ 64
     small = few settings made.valid
 
-    apart : (f : ℕ) → IsFileOf urls_base settings.buckets f → (IsJournalOf urls_base settings.buckets f → ⊥) → IsStoreJournal f → ⊥
+    apart : (f : ℕ) → IsFileOf urls_base settings.buckets f → (IsJournalOf urls_base settings.buckets f → ⊥) → (f ≡ head_file) ⊎ IsJournalOf urls_base 64 f → ⊥
     apart f is out (inl e) = head_no_urls urls_base settings.buckets f refl small is e
     apart f is out (inr journal) = ⊎_elim out (λ none. none is) (journal_or_none settings.buckets f journal)
 
     stays : (f : ℕ) → IsRestFile settings.buckets f → length (old f) ≤ 1 → length (new f) ≤ 1
-    stays f rest short = subst (λ (file : List ℕ). length file ≤ 1) (sym (opens.others f (rest_no_journal settings.buckets f small rest))) short
+    stays f rest short = subst (λ (file : List ℕ). length file ≤ 1) (sym (opens.others f (rest_no_journal told settings.buckets f small rest))) short
 
 -- opening keeps it
-pub opens_keeps : (state : State) (old new : Files) → OpensStore old new → HasState state old → HasState state new
-opens_keeps state old new opens (inl blank) = inl (opens_blank old new opens blank.0, blank.1)
-opens_keeps state old new opens (inr (settings, made)) = inr (settings, opens_made settings state old new opens made)
+pub opens_keeps : (told : Option Files) (files : Files) (state : State) (old new : Files) → told ≡ Some files → HasState state files → OpensStore told old new → HasState state old → HasState state new
+opens_keeps told files state old new is_told has_told opens (inl blank) = inl (opens_blank told old new opens blank.0, blank.1)
+opens_keeps told files state old new is_told has_told opens (inr (settings, made)) =
+    inr (settings, opens_made told settings state old new opens (opens_each told files state old new is_told has_told opens) made)
 
 -- making leaves a store that wasn't made as one, or makes it
 makes_short : (settings : Settings) (old new : Files) → settings.buckets ≤ 64 → MakesStore settings old new → IsBlank old → (f : ℕ) → IsOtherFile f → length (new f) ≤ 1
@@ -254,7 +320,8 @@ makes_short settings old new small makes blank f is = ⊎_elim
     (λ (long : 2 ≤ length (new f)).
     let unmade = makes.unmade (λ g of. blank.others g (urls_other settings.buckets g small of)) in
     let no : IsJournalOf urls_base settings.buckets f → ⊥ = λ journal. (let short = unmade f (journal_files urls_base settings.buckets f journal) in omega (arith, short, long)) in
-    subst (λ (file : List ℕ). length file ≤ 1) (sym (makes.others f (λ e. omega (arith, e, is.0)) no)) (blank.others f is))
+    let none : (f ≡ head_file) ⊎ IsJournalOf urls_base settings.buckets f → ⊥ = ⊎_elim (λ (e : f ≡ head_file). omega (arith, e, is.0)) no in
+    subst (λ (file : List ℕ). length file ≤ 1) (sym (makes.others f (λ journal. none (store_journal settings.kind settings.buckets f journal)))) (blank.others f is))
     (below_or_above (length (new f)) 2)
 
 pub makes_state : (settings : Settings) (old new : Files) → AreValid settings → settings.kind ≢ Crawl → MakesStore settings old new → IsBlank old → IsBlank new ⊎ HasState (new_state settings) new
@@ -268,13 +335,12 @@ makes_state settings old new valid kind makes blank =
       record {
         settings_are = refl;
         valid = valid;
-        kind = kind;
         head = inr has;
         urls = unmade_stands urls_base settings new valid (λ f is. others f (urls_other settings.buckets f small is));
-        crawl = others crawl_file (omega arith, omega arith);
-        pairs_are = refl;
-        events_are = refl;
-        pairs = λ f is. others f (pairs_other settings.buckets f small is);
+        rest = new_has settings.kind settings.buckets new kind (record {
+          crawl = others crawl_file (omega arith, omega arith);
+          pairs = λ f is. others f (pairs_other settings.buckets f small is);
+        });
       },
     )))
     (makes.head blank.head)
@@ -286,7 +352,7 @@ blank_still state files is (inr (settings, made)) = let no : None ≡ Some setti
 -- so entering leaves the state, or of a store that wasn't made the new store's
 pub enters_keeps : (asked : Asked) (told : Option Files) (files : Files) (state : State) (old new : Files) → asked.kind ≢ Crawl → told ≡ Some files → HasState state files → HasState state old
     → Enters asked told old new → HasOneOf state (entered_state asked state) new
-enters_keeps asked told files state old new kind is_told has_told has (inl opens) = inl (opens_keeps state old new opens has)
+enters_keeps asked told files state old new kind is_told has_told has (inl opens) = inl (opens_keeps told files state old new is_told has_told opens has)
 enters_keeps asked told files state old new kind is_told has_told has (inr (blank, valid, makes)) =
     let was = blank files is_told in
     let same = (blank_has state files was.head has_told).1 in
@@ -315,8 +381,8 @@ stops_keep asked old new state kind law enters has =
 
 -- ---- a store that wasn't made yet
 -- it stays so while its head is looked at,
-looks_blank : (old new : Files) → ChangesFile head_file IsOpened old new → KeepsBlank old new
-looks_blank old new look = opens_blank old new (head_opens old new new look (opens_none new))
+pub looks_blank : (old new : Files) → ChangesFile head_file IsOpened old new → KeepsBlank old new
+looks_blank old new look = opens_blank None old new (head_opens None old new new look (opens_none None new))
 
 pub looked_blank : (old new : Told) → LeavesBy (ChangesFile head_file IsOpened) old new → LeavesBy KeepsBlank old new
 looked_blank old new look = widens_by old new (ChangesFile head_file IsOpened) KeepsBlank look looks_blank
@@ -353,7 +419,7 @@ bay_told settings old mid new small same makes =
 -- and while one is entered that was made
 enters_blank : (asked : Asked) (told : Option Files) (settings : Settings) (files x y : Files) → told ≡ Some files → StandsFor (files head_file) (head_bytes settings ∷ []) → Enters asked told x y
     → KeepsBlank x y
-enters_blank asked told settings files x y is head (inl opens) = opens_blank x y opens
+enters_blank asked told settings files x y is head (inl opens) = opens_blank told x y opens
 enters_blank asked told settings files x y is head (inr (blank, valid, makes)) = absurd (none_or_one (files head_file) (head_bytes settings) (blank files is).head head)
 
 pub opened_blank : (asked : Asked) (settings : Settings) (old new : Told) → IsConsistent old → ForSome old.files (λ files. StandsFor (files head_file) (head_bytes settings ∷ []))
@@ -380,14 +446,13 @@ pub blank_stops : (old new : Told) → LeavesBy KeepsBlank old new → ((image :
 blank_stops old new keeps blank = widens old new (Follows KeepsBlank old.images) IsBlank keeps (λ image from. from.2 (blank from.0 from.1))
 
 -- ---- bytes taken
-pub head_takes : (old new : Option (ℕ → ℕ)) → TakesOnly head_file old new → TakesAmong IsStoreJournal old new
-head_takes old new takes = takes_only IsStoreJournal head_file old new (inl refl) takes
+pub head_takes : (told : Option Files) (old new : Option (ℕ → ℕ)) → TakesOnly head_file old new → TakesAmong (IsToldJournal told) old new
+head_takes told old new takes = takes_only (IsToldJournal told) head_file old new (inl refl) takes
 
-pub adopted_takes : (buckets : ℕ) (old mid new : Option (ℕ → ℕ)) → buckets ≤ 64 → mid ≡ old → (side : ℕ) × (side ≤ 1) × TakesAmong (IsJournalOn urls_base side buckets) mid new
-    → TakesAmong IsStoreJournal old new
-adopted_takes buckets old mid new small same takes =
-    subst (λ (from : Option (ℕ → ℕ)). TakesAmong IsStoreJournal from new) same (takes_wider (IsJournalOn urls_base takes.0 buckets) IsStoreJournal mid new (λ f is.
-    inr (journal_wider buckets f small (one_side takes.0 buckets f takes.1 is))) takes.2)
+pub adopted_takes : (told : Option Files) (settings : Settings) (old new : Option (ℕ → ℕ)) (side : ℕ) → AreValid settings → ForSome told (HasHead settings) → side ≤ 1
+    → TakesAmong (IsJournalOn urls_base side settings.buckets) old new → TakesAmong (IsToldJournal told) old new
+adopted_takes told settings old new side valid has low takes =
+    takes_wider (IsJournalOn urls_base side settings.buckets) (IsToldJournal told) old new (λ f is. inr (settings, valid, has, inr (inl (one_side side settings.buckets f low is)))) takes
 
 -- ---- the records of a bucket
 live_low : (live : Option ℕ) → IfSome live (λ side. side ≤ 1) → side_of live ≤ 1
@@ -421,7 +486,7 @@ enters_records asked told files state old new buckets b payloads is_told has_tol
     low = last_low buckets (first_commit buckets) journal.commits (omega arith) journal.form
 
     stands : Enters asked told old new → (f : ℕ) → IsJournalOf urls_base 64 f → IsOtherFile f → (list : List (List ℕ)) → StandsFor (old f) list → StandsFor (new f) list
-    stands (inl opens) f is other list was = opened_stands _ _ list (opens.changed f (inr is)) was
+    stands (inl opens) f is other list was = opened_stands _ _ list (opens_each told files state old new is_told has_told opens f is) was
     stands (inr (blank, valid, makes)) f is other list was =
         let same = (blank_has state files (blank files is_told).head has_told).1 in
         let before = blank_still state old same has in

@@ -1,46 +1,55 @@
 -- A store that holds a state: each joint image has it, and calls that change the bay's files alone leave the rest.
 use Rattle.std.proofs.Common.{◌≡◌, ◌∙◌, inl, inr, ⊎_elim, ℕ, ◌<◌, ◌≤◌, List, [], ◌∷◌, length, Some, Result, Ok, Err, OnOk, sym, ap, subst, arith}
 use Rattle.irl_offer.specs.declared.settings.Settings.{Settings}
-use Rattle.irl_offer.specs.declared.offer.Rule.TheVariants.{Keep}
 use Rattle.irl_offer.specs.Buckets.{IsBucketCount}
-use Rattle.irl_model.specs.Book.{Book, blank_book}
+use Rattle.irl_model.specs.Book.{Book}
 use Rattle.irl_events.specs.State.{State}
 use Rattle.irl_disk.specs.Disk.{Files, ChangesOnly}
 use Rattle.irl_disk.specs.Images.{Told, IsConsistent, Follows, Leaves, LeavesBy, LeavesSame}
 use Rattle.irl_disk.proofs.Stretches.{widens, left_now}
 use Rattle.irl_journal.specs.Format.{HasRecords}
-use Rattle.irl_bay.specs.BayFiles.{IsFileOf}
-use Rattle.irl_bay.specs.Making.{IsUnmade}
-use Rattle.irl_bay.specs.Standing.{Stands}
+use Rattle.irl_layout.specs.BayFiles.{IsFileOf}
+use Rattle.irl_bay.specs.Standing.{IsBookOf, Stands}
 use Rattle.irl_bay.specs.Drum.{Drum, IsDrum}
 use Rattle.irl_bay.specs.Holding.{Holds, Becomes}
 use Rattle.irl_bay.proofs.MergeFrames.{holds_fewer}
 use Rattle.irl_bay.proofs.Standing.{holds_stands}
 use Rattle.irl_bay.proofs.Apart.{files_within, files_of_both}
-use Rattle.irl_yard.specs.StoreFiles.{head_file, crawl_file, urls_base, pairs_base}
-use Rattle.irl_yard.specs.Head.{head_bytes}
-use Rattle.irl_yard.specs.Standing.{HasState}
-use Rattle.irl_yard.specs.Holding.{HasRest, HoldsUrls, HasOneOf}
+use Rattle.irl_head.specs.StoreFiles.{head_file, crawl_file, urls_base, pairs_base}
+use Rattle.irl_head.specs.Head.{head_bytes}
+use Rattle.irl_yard.specs.Standing.{HasRest, HasState, IsMade, IsStateOf, with_urls}
+use Rattle.irl_yard.specs.Holding.{HoldsRest, HoldsUrls, HasOneOf}
+use Rattle.irl_yard.proofs.ByKind.{StaysShort, held_rest, held_stays, rest_of_files, rest_of_held, rest_stays}
 
 -- these files are those of the bay of URLs
 abbrev pub AreOfUrls : Drum → (ℕ → Type 0) → Type 0
 AreOfUrls urls among = (f : ℕ) → among f → IsFileOf urls.base urls.settings.buckets f
 
--- a state with another book of URLs
-abbrev pub with_urls : Book → State → State
-with_urls book state = record state { urls = book }
-
 few_buckets : (buckets : ℕ) → IsBucketCount buckets → buckets ≤ 64
 few_buckets buckets valid = grind arith
 
 -- ---- a joint image has the state
--- the rest stays where only files of the bay of URLs change
-pub rest_kept : (among : ℕ → Type 0) (urls : Drum) (old new : Files) → IsDrum urls → urls.base ≡ urls_base → AreOfUrls urls among → ChangesOnly among old new → HasRest urls old → HasRest urls new
-rest_kept among urls old new law base are changes rest = record {
-  head = subst (λ (file : List ℕ). HasRecords file (head_bytes urls.settings ∷ [])) (sym (changes head_file (λ is. low head_file (omega arith) (are head_file is)))) rest.head;
-  crawl = subst (λ (file : List ℕ). length file ≤ 1) (sym (changes crawl_file (λ is. low crawl_file (omega arith) (are crawl_file is)))) rest.crawl;
-  pairs = λ f is. subst (λ (file : List ℕ). length file ≤ 1) (sym (changes f (λ was. apart f (are f was) is))) (rest.pairs f is);
+-- what stands beside the bay of URLs in it
+pub record IsBeside (urls : Drum) (state : State) (image : Files) : Type 0 where
+  pub head : HasRecords (image head_file) (head_bytes urls.settings ∷ [])
+  pub rest : HasRest urls.settings.kind urls.settings.buckets state.pairs state.events image
+
+pub held_beside : (images : Files → Type 0) (urls : Drum) (state : State) (image : Files) → HoldsUrls images urls state → images image → IsBeside urls state image
+held_beside images urls state image holds left = record {
+  head = holds.head image left;
+  rest = held_rest urls.settings.buckets state.pairs state.events images urls.settings.kind image holds.rest left;
 }
+
+-- the head and the rest stay where only files of the bay of URLs change
+beside_same : (among : ℕ → Type 0) (urls : Drum) (old new : Files) → IsDrum urls → urls.base ≡ urls_base → AreOfUrls urls among → ChangesOnly among old new
+    → (new head_file ≡ old head_file) × StaysShort urls.settings.buckets old new
+beside_same among urls old new law base are changes = (
+  changes head_file (λ is. low head_file (omega arith) (are head_file is)),
+  (
+    subst (λ (file : List ℕ). length file ≤ 1) (sym (changes crawl_file (λ is. low crawl_file (omega arith) (are crawl_file is)))),
+    λ f is. subst (λ (file : List ℕ). length file ≤ 1) (sym (changes f (λ was. apart f (are f was) is))),
+  ),
+)
   where
     few : urls.settings.buckets ≤ 64
     few = few_buckets urls.settings.buckets law.settings.buckets
@@ -51,27 +60,51 @@ rest_kept among urls old new law base are changes rest = record {
     apart : (f : ℕ) → IsFileOf urls.base urls.settings.buckets f → IsFileOf pairs_base urls.settings.buckets f → ⊥
     apart f one two = files_of_both urls.settings.buckets f few (subst (λ (n : ℕ). IsFileOf n urls.settings.buckets f) base one) two
 
+pub rest_kept : (among : ℕ → Type 0) (urls : Drum) (state : State) (old new : Files) → IsDrum urls → urls.base ≡ urls_base → AreOfUrls urls among → ChangesOnly among old new → IsBeside urls state old
+    → IsBeside urls state new
+rest_kept among urls state old new law base are changes beside =
+    let same = beside_same among urls old new law base are changes in
+    record {
+      head = subst (λ (file : List ℕ). HasRecords file (head_bytes urls.settings ∷ [])) (sym same.0) beside.head;
+      rest = rest_stays urls.settings.buckets state.pairs state.events urls.settings.kind old new same.1 beside.rest;
+    }
+
 -- files that stand for a book of URLs, beside the rest
-pub has_state : (images : Files → Type 0) (urls : Drum) (state : State) (book : Book) (image : Files) → IsDrum urls → HoldsUrls images urls state → HasRest urls image
+pub has_state : (images : Files → Type 0) (urls : Drum) (state : State) (book : Book) (image : Files) → IsDrum urls → HoldsUrls images urls state → IsBeside urls state image
     → Stands urls.base urls.settings book image → HasState (with_urls book state) image
-has_state images urls state book image law holds rest stands = inr (
+has_state images urls state book image law holds beside stands = inr (
   urls.settings,
   record {
     settings_are = holds.settings;
     valid = law.settings;
-    kind = holds.kind;
-    head = inr rest.head;
+    head = inr beside.head;
     urls = subst (λ (base : ℕ). Stands base urls.settings book image) holds.base stands;
-    crawl = rest.crawl;
-    pairs_are = holds.pairs_are;
-    events_are = holds.events_are;
-    pairs = rest.pairs;
+    rest = beside.rest;
   },
 )
 
 -- what a stop now may leave has the state that is held
 pub held_has : (images : Files → Type 0) (urls : Drum) (state : State) (image : Files) → IsDrum urls → HoldsUrls images urls state → images image → HasState state image
-held_has images urls state image law holds left = has_state images urls state state.urls image law holds (holds.rest image left) (holds_stands images urls state.urls image law holds.urls_hold left)
+held_has images urls state image law holds left =
+    has_state images urls state state.urls image law holds (held_beside images urls state image holds left) (holds_stands images urls state.urls image law holds.urls_hold left)
+
+-- ---- states
+pub held_state : (images : Files → Type 0) (urls : Drum) (state : State) (book : Book) → IsDrum urls → HoldsUrls images urls state → IsBookOf urls.settings book
+    → IsStateOf urls.settings (with_urls book state)
+held_state images urls state book law holds is = record {
+  settings_are = holds.settings;
+  valid = law.settings;
+  book_is = is;
+  rest = rest_of_held urls.settings.buckets state.pairs state.events images urls.settings.kind holds.rest;
+}
+
+pub made_state : (settings : Settings) (state : State) (files : Files) → IsMade settings state files → IsStateOf settings state
+made_state settings state files made = record {
+  settings_are = made.settings_are;
+  valid = made.valid;
+  book_is = made.urls.book_is;
+  rest = rest_of_files settings.buckets state.pairs state.events settings.kind files made.rest;
+}
 
 -- ---- a call on the bay of URLs
 -- at its end the store holds the state with the book that the bay then holds
@@ -80,18 +113,16 @@ pub holds_after : (among : ℕ → Type 0) (old new : Told) (was now : Drum) (st
 holds_after among old new was now state book law consistent are stops base settings holds after = record {
   settings = holds.settings ∙ ap (λ (s : Settings). Some s) (sym settings);
   base = base ∙ holds.base;
-  kind = λ is. holds.kind (ap (λ (s : Settings). s.kind) (sym settings) ∙ is);
-  urls_hold = after;
-  pairs_are = holds.pairs_are ∙ ap (λ (s : Settings). blank_book s.buckets Keep) (sym settings);
-  events_are = holds.events_are;
-  rest = λ image left.
+  head = λ image left.
       let from = left_now old new _ consistent stops image left in
-      let rest = rest_kept among was from.0 image law holds.base are from.2 (holds.rest from.0 from.1) in
-      record {
-        head = subst (λ (s : Settings). HasRecords (image head_file) (head_bytes s ∷ [])) (sym settings) rest.head;
-        crawl = rest.crawl;
-        pairs = subst (λ (s : Settings). IsUnmade pairs_base s.buckets image) (sym settings) rest.pairs;
-      };
+      let same = beside_same among was from.0 image law holds.base are from.2 in
+      subst (λ (s : Settings). HasRecords (image head_file) (head_bytes s ∷ [])) (sym settings)
+      (subst (λ (file : List ℕ). HasRecords file (head_bytes was.settings ∷ [])) (sym same.0) (holds.head from.0 from.1));
+  urls_hold = after;
+  rest = subst (λ (s : Settings). HoldsRest new.images s.kind s.buckets state.pairs state.events) (sym settings)
+      (held_stays was.settings.buckets state.pairs state.events old.images new.images was.settings.kind (λ image left.
+      let from = left_now old new _ consistent stops image left in
+      (from.0, from.1, (beside_same among was from.0 image law holds.base are from.2).1)) holds.rest);
 }
 
 -- and a stop in it leaves the state, with the book before it or the one that it makes
@@ -99,7 +130,7 @@ pub stops_one_of : (among : ℕ → Type 0) (old new : Told) (urls : Drum) (stat
     → LeavesBy (Becomes among urls.base urls.settings state.urls book) old new → Leaves old new (HasOneOf state (with_urls book state))
 stops_one_of among old new urls state book law are holds stops =
     widens old new (Follows (Becomes among urls.base urls.settings state.urls book) old.images) _ stops (λ image from.
-    let rest = rest_kept among urls from.0 image law holds.base are from.2.others (holds.rest from.0 from.1) in
+    let rest = rest_kept among urls state from.0 image law holds.base are from.2.others (held_beside old.images urls state from.0 holds from.1) in
     ⊎_elim (λ was. inl (has_state old.images urls state state.urls image law holds rest was))
     (λ has. inr (has_state old.images urls state book image law holds rest has))
     from.2.stands)
@@ -107,15 +138,16 @@ stops_one_of among old new urls state book law are holds stops =
 -- ---- a call that changes nothing
 -- at its end the store holds the state
 pub holds_same : (old new : Told) (urls : Drum) (state : State) → IsDrum urls → IsConsistent new → LeavesSame old new → HoldsUrls old.images urls state → HoldsUrls new.images urls state
-holds_same old new urls state law consistent same holds = record {
-  settings = holds.settings;
-  base = holds.base;
-  kind = holds.kind;
-  urls_hold = holds_fewer old.images new.images urls state.urls law (left_now old new old.images consistent same) holds.urls_hold;
-  pairs_are = holds.pairs_are;
-  events_are = holds.events_are;
-  rest = λ image left. holds.rest image (left_now old new old.images consistent same image left);
-}
+holds_same old new urls state law consistent same holds =
+    let was = left_now old new old.images consistent same in
+    record {
+      settings = holds.settings;
+      base = holds.base;
+      head = λ image left. holds.head image (was image left);
+      urls_hold = holds_fewer old.images new.images urls state.urls law was holds.urls_hold;
+      rest = held_stays urls.settings.buckets state.pairs state.events old.images new.images urls.settings.kind (λ image left.
+          (image, was image left, ((λ short. short), λ f is short. short))) holds.rest;
+    }
 
 -- and each stop in it leaves the state
 pub stops_same : (old new : Told) (urls : Drum) (state : State) → IsDrum urls → HoldsUrls old.images urls state → LeavesSame old new → Leaves old new (HasState state)

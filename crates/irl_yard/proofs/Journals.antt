@@ -11,13 +11,13 @@ use Rattle.irl_disk.proofs.Stretches.{widens, left_now}
 use Rattle.irl_journal.specs.Appending.{Ends}
 use Rattle.irl_journal.specs.Format.{HasRecords, StandsFor}
 use Rattle.irl_journal.proofs.Lists.{one_list}
-use Rattle.irl_bay.specs.BayFiles.{file_of, IsBucketFile}
-use Rattle.irl_bay.specs.Commits.{Commit, IsCommit, HasCommits, HasLiveRecords, commit_bytes, first_commit, last_commit, live_side, side_of}
-use Rattle.irl_bay.specs.declared.layout.files.BayFile.TheVariants.{Manifest, Journal}
+use Rattle.irl_layout.specs.BayFiles.{file_of, IsBucketFile}
+use Rattle.irl_layout.specs.Commits.{Commit, IsCommit, HasCommits, HasLiveRecords, commit_bytes, first_commit, last_commit, live_side, side_of}
+use Rattle.irl_layout.specs.declared.files.BayFile.TheVariants.{Manifest, Journal}
 use Rattle.irl_bay.specs.Drum.{Drum, IsDrum, bucket_at}
 use Rattle.irl_bay.specs.Holding.{Holds}
 use Rattle.irl_bay.specs.Merging.{IsMergeFile}
-use Rattle.irl_bay.specs.Runs.{run_bytes}
+use Rattle.irl_layout.specs.Runs.{run_bytes}
 use Rattle.irl_yard.specs.Holding.{HoldsUrls, HasJournal, HasLiveJournal}
 use Rattle.irl_bay.proofs.Apart.{merge_files}
 use Rattle.irl_bay.proofs.OneBook.{same_commits}

@@ -1,13 +1,9 @@
-pub mod Asking
-pub mod Beginning
+pub mod Answered
+pub mod ByKind
 pub mod Entering
-pub mod Finding
 pub mod Grounds
-pub mod HeadBytes
 pub mod Holding
 pub mod Journals
 pub mod Making
 pub mod Rest
-pub mod SettingNumbers
 pub mod States
-pub mod Writing

@@ -1,19 +1,16 @@
 -- A store that wasn't made yet, while it is made.
-use Rattle.std.proofs.Common.{◌≡◌, ℕ, ◌≤◌, List, [], length, refl, sym, subst, arith, Option, None, Some, zero, suc, Result, Ok, Err}
+use Rattle.std.proofs.Common.{◌≡◌, ℕ, ◌≤◌, List, [], length, refl, sym, subst, arith, Option, None, Some, Result, Ok, Err}
 use Rattle.irl_disk.specs.Disk.{Files, TellsBy}
 use Rattle.irl_journal.specs.Format.{StandsFor}
-use Rattle.irl_bay.specs.BayFiles.{IsFileOf}
+use Rattle.irl_layout.specs.BayFiles.{IsFileOf}
 use Rattle.irl_bay.specs.Making.{Makes}
-use Rattle.irl_offer.specs.Settings.{settings_of}
-use Rattle.irl_offer.specs.declared.settings.Asked.{Asked}
-use Rattle.irl_offer.specs.declared.offer.Rule.{Rule}
-use Rattle.std.specs.Option.{ForSome, option_map}
-use Rattle.std.specs.Prelude.{unwrap_or, IsErrAnd, IfErr, IfOk, OnOk}
-use Rattle.irl_yard.specs.Head.{rule_number}
-use Rattle.irl_yard.specs.Opening.{Agrees}
+use Rattle.std.specs.Option.{ForSome}
+use Rattle.std.specs.Prelude.{IsErr, IsErrAnd, IsErrOf, IfErr, IfOk, OnOk}
 use Rattle.irl_bay.proofs.Apart.{files_within}
-use Rattle.irl_yard.specs.StoreFiles.{head_file, crawl_file, urls_base, pairs_base, IsOtherFile}
-use Rattle.irl_yard.specs.Standing.{IsBlank}
+use Rattle.irl_head.specs.declared.open_fault.OpenFault.{OpenFault}
+use Rattle.irl_head.specs.declared.open_fault.OpenFault.TheVariants.{Failed, Memory}
+use Rattle.irl_head.specs.StoreFiles.{head_file, crawl_file, urls_base, pairs_base, IsOtherFile}
+use Rattle.irl_head.specs.Opening.{IsBlank}
 use Rattle.irl_yard.proofs.Rest.{head_no_side}
 
 -- the files of both bays are files behind the head
@@ -35,32 +32,6 @@ no_record_yet buckets (Some old) new small makes blank = λ files told.
     let same : makes.0 ≡ files = cc in
     let head = subst (λ (file : List ℕ). StandsFor file []) (sym (makes.2.others head_file (head_no_side buckets small))) (blank old refl) in
     subst (λ (f : Files). StandsFor (f head_file) []) same head
-
--- ---- a new store is as it was asked for
-given_kind : (x a k : ℕ) → Some (Some x) ≡ Some (Some a) → Some x ≡ Some k → a ≡ k
-given_kind x a k one two = cc
-
-given_both : (o : Option ℕ) (d a k : ℕ) → Some o ≡ Some (Some a) → Some (unwrap_or o d) ≡ Some k → a ≡ k
-given_both None d a k one two = cc
-given_both (Some x) d a k one two = cc
-
-given_rules : (o : Option Rule) (d : Rule) (a k : ℕ) → Some (option_map rule_number o) ≡ Some (Some a) → Some (rule_number (unwrap_or o d)) ≡ Some k → a ≡ k
-given_rules None d a k one two = cc
-given_rules (Some x) d a k one two = cc
-
-pub new_agrees : (asked : Asked) → Agrees asked (settings_of asked)
-new_agrees asked zero a k one two = given_kind _ a k one two
-new_agrees asked (suc zero) a k one two = given_rules asked.rule _ a k one two
-new_agrees asked (suc (suc zero)) a k one two = given_both asked.buckets _ a k one two
-new_agrees asked (suc (suc (suc zero))) a k one two = given_both asked.array _ a k one two
-new_agrees asked (suc (suc (suc (suc zero)))) a k one two = given_both asked.trigger _ a k one two
-new_agrees asked (suc (suc (suc (suc (suc zero))))) a k one two = given_both asked.block _ a k one two
-new_agrees asked (suc (suc (suc (suc (suc (suc zero)))))) a k one two = given_both asked.cap _ a k one two
-new_agrees asked (suc (suc (suc (suc (suc (suc (suc zero))))))) a k one two = given_both asked.queues _ a k one two
-new_agrees asked (suc (suc (suc (suc (suc (suc (suc (suc zero)))))))) a k one two = given_both asked.base _ a k one two
-new_agrees asked (suc (suc (suc (suc (suc (suc (suc (suc (suc zero))))))))) a k one two = given_both asked.most _ a k one two
-new_agrees asked (suc (suc (suc (suc (suc (suc (suc (suc (suc (suc zero)))))))))) a k one two = given_both asked.ranks _ a k one two
-new_agrees asked (suc (suc (suc (suc (suc (suc (suc (suc (suc (suc (suc n))))))))))) a k one two = cc
 
 -- ---- the head is none of the bay's files
 pub head_no_urls : (base buckets f : ℕ) → base ≡ urls_base → buckets ≤ 64 → IsFileOf base buckets f → f ≡ head_file → ⊥
@@ -94,3 +65,20 @@ on_ok_then (Err error) gives has = tt
 pub if_err_then : {T E : Type 0} (result : Result T E) (P Q : E → Type 0) → ((error : E) → P error → Q error) → IfErr result P → IfErr result Q
 if_err_then (Ok value) P Q gives has = tt
 if_err_then (Err error) P Q gives has = gives error has
+
+-- an error that there is
+pub was_err : {T E : Type 0} (result : Result T E) (error : E) → result ≡ Err error → IsErr result
+was_err (Ok value) error was = cc
+was_err (Err other) error was = refl
+
+pub same_err : {T U E : Type 0} (result : Result T E) (other : Result U E) (error asked : E) → IsErrAnd result (λ e. e ≡ error) → other ≡ Err error → IsErrOf result asked → IsErrOf other asked
+same_err (Ok value) other error asked has was is = cc
+same_err (Err e) other error asked has was is = cc
+
+pub open_fault_of : {T : Type 0} {fault asked : OpenFault} → IsErrOf {T = T} (Err fault) asked → fault ≡ asked
+open_fault_of is = cc
+
+-- want of memory is no fault of the store
+pub only_memory : {T : Type 0} (result : Result T OpenFault) → IsErrAnd result (λ e. e ≡ Memory) → IsErrOf result Failed → ⊥
+only_memory (Ok value) has is = cc
+only_memory (Err e) has is = cc

@@ -3,16 +3,13 @@ use Rattle.std.proofs.Common.{◌≡◌, ◌≢◌, ◌⊎◌, inl, inr, ℕ, ze
 use Rattle.irl_offer.specs.Settings.{AreValid}
 use Rattle.irl_offer.specs.declared.settings.Settings.{Settings}
 use Rattle.irl_disk.specs.Disk.{Files}
-use Rattle.irl_journal.specs.Format.{HasRecords}
-use Rattle.irl_bay.specs.BayFiles.{IsFileOf}
-use Rattle.irl_bay.specs.declared.layout.files.BayFile.TheVariants.{Manifest, Cache, Judged, Texts, Journal, Aux}
-use Rattle.irl_bay.specs.Drum.{Drum}
-use Rattle.irl_bay.specs.Making.{IsUnmade, IsJournalOn, IsJournalOf}
+use Rattle.irl_layout.specs.BayFiles.{IsFileOf}
+use Rattle.irl_layout.specs.declared.files.BayFile.TheVariants.{Manifest, Cache, Judged, Texts, Journal, Aux}
+use Rattle.irl_bay.specs.Making.{IsJournalOn, IsJournalOf}
 use Rattle.irl_bay.proofs.Apart.{files_within, journal_files}
-use Rattle.irl_yard.specs.StoreFiles.{head_file, crawl_file, urls_base, pairs_base}
-use Rattle.irl_yard.specs.Head.{head_bytes}
-use Rattle.irl_yard.specs.Holding.{HasRest}
+use Rattle.irl_head.specs.StoreFiles.{head_file, crawl_file, urls_base, pairs_base}
 use Rattle.irl_yard.specs.Entering.{AreSynced, AreSyncedWithin, IsRestFile}
+use Rattle.irl_yard.proofs.ByKind.{StaysShort}
 
 pub few : (settings : Settings) → AreValid settings → settings.buckets ≤ 64
 few settings valid = let count = valid.buckets in grind arith
@@ -65,15 +62,12 @@ head_no_journal buckets few is = omega (arith, (files_within urls_base buckets h
 pub head_no_side : (buckets : ℕ) → buckets ≤ 64 → IsJournalOn urls_base 0 buckets head_file → ⊥
 head_no_side buckets few is = head_no_journal buckets few (one_side 0 buckets head_file (omega arith) is)
 
--- ---- a joint image with the head, and the rest as it was told
-pub rest_has : (urls : Drum) (settings : Settings) (files image : Files) → urls.settings ≡ settings → HasRecords (image head_file) (head_bytes settings ∷ [])
-    → ((f : ℕ) → IsRestFile settings.buckets f → image f ≡ files f) → length (files crawl_file) ≤ 1 → IsUnmade pairs_base settings.buckets files → HasRest urls image
-rest_has urls settings files image same head as_told crawl pairs = record {
-  head = subst (λ (s : Settings). HasRecords (image head_file) (head_bytes s ∷ [])) (sym same) head;
-  crawl = subst (λ (file : List ℕ). length file ≤ 1) (sym (as_told crawl_file (inl refl))) crawl;
-  pairs = subst (λ (s : Settings). IsUnmade pairs_base s.buckets image) (sym same) (λ f is.
-      subst (λ (file : List ℕ). length file ≤ 1) (sym (as_told f (pairs_rest settings.buckets f is))) (pairs f is));
-}
+-- ---- a joint image with the rest as it was told
+pub short_as_told : (buckets : ℕ) (files image : Files) → ((f : ℕ) → IsRestFile buckets f → image f ≡ files f) → StaysShort buckets files image
+short_as_told buckets files image as_told = (still crawl_file (inl refl), λ f is. still f (pairs_rest buckets f is))
+  where
+    still : (f : ℕ) → IsRestFile buckets f → length (files f) ≤ 1 → length (image f) ≤ 1
+    still f is short = subst (λ (file : List ℕ). length file ≤ 1) (sym (as_told f is)) short
 
 -- ---- none of them is the head
 pub rest_no_head : (buckets f : ℕ) → IsRestFile buckets f → f ≢ head_file

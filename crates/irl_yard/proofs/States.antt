@@ -1,10 +1,9 @@
 -- One set of files has one state, and a state is a front of what becomes of it.
 use Rattle.std.proofs.Common.{◌≡◌, ◌∙◌, inl, inr, ℕ, List, [], ◌∷◌, Option, None, Some, refl, sym, ap, subst}
-use Rattle.irl_offer.specs.declared.offer.Rule.TheVariants.{Keep}
 use Rattle.irl_offer.specs.declared.settings.Asked.{Asked}
 use Rattle.irl_offer.specs.declared.settings.Settings.{Settings}
 use Rattle.irl_offer.specs.Tuple.{Tuple}
-use Rattle.irl_model.specs.Book.{Book, IsPrefixOf, blank_book, judged}
+use Rattle.irl_model.specs.Book.{Book, IsPrefixOf, judged}
 use Rattle.irl_events.specs.Events.{Happened}
 use Rattle.irl_events.specs.State.{State, IsFrontState}
 use Rattle.irl_model.proofs.FrontLaws.{prefix_same, prefix_both, front_same, front_both, judged_front, flushed_front, merged_front}
@@ -12,12 +11,14 @@ use Rattle.irl_disk.specs.Disk.{Files}
 use Rattle.irl_journal.proofs.Lists.{one_list}
 use Rattle.irl_bay.specs.Standing.{Stands}
 use Rattle.irl_bay.proofs.OneBook.{one_book}
-use Rattle.irl_yard.specs.StoreFiles.{head_file, urls_base}
-use Rattle.irl_yard.specs.Head.{head_bytes}
+use Rattle.irl_head.specs.StoreFiles.{head_file, urls_base}
+use Rattle.irl_head.specs.Head.{head_bytes}
 use Rattle.irl_yard.specs.Holding.{with_offers, with_cut}
 use Rattle.irl_yard.specs.Opening.{entered_state}
-use Rattle.irl_yard.specs.Standing.{IsBlank, IsMade, HasState}
-use Rattle.irl_yard.proofs.HeadBytes.{one_settings}
+use Rattle.irl_head.specs.Opening.{IsBlank}
+use Rattle.irl_yard.specs.Standing.{IsMade, IsRest, HasState}
+use Rattle.irl_head.proofs.HeadBytes.{one_settings}
+use Rattle.irl_yard.proofs.ByKind.{one_rest, rest_of_files}
 
 -- ---- one state
 -- two lists of one payload
@@ -40,8 +41,9 @@ made_alike s t x y files for_x for_y =
     let bytes : head_bytes s ≡ head_bytes t = one_payload _ _ (one_list (files head_file) _ _ for_x.head for_y.head) in
     let same : s ≡ t = one_settings s t for_x.valid for_y.valid bytes in
     let urls : x.urls ≡ y.urls = one_book urls_base s x.urls y.urls files for_x.urls (subst (λ (c : Settings). Stands urls_base c y.urls files) (sym same) for_y.urls) in
-    same_parts x.settings x.urls x.pairs x.events y (for_x.settings_are ∙ ap (λ (c : Settings). Some c) same ∙ sym for_y.settings_are) urls
-    (for_x.pairs_are ∙ ap (λ (c : Settings). blank_book c.buckets Keep) same ∙ sym for_y.pairs_are) (for_x.events_are ∙ sym for_y.events_are)
+    let rest = one_rest s.kind s.buckets x.pairs y.pairs x.events y.events (rest_of_files s.buckets x.pairs x.events s.kind files for_x.rest)
+    (subst (λ (c : Settings). IsRest c.kind c.buckets y.pairs y.events) (sym same) (rest_of_files t.buckets y.pairs y.events t.kind files for_y.rest)) in
+    same_parts x.settings x.urls x.pairs x.events y (for_x.settings_are ∙ ap (λ (c : Settings). Some c) same ∙ sym for_y.settings_are) urls rest.0 rest.1
 
 pub one_state : (x y : State) (files : Files) → HasState x files → HasState y files → x ≡ y
 one_state x y files (inl a) (inl b) = a.1 ∙ sym b.1

@@ -1,23 +1,33 @@
 -- What the parts of opening a store do.
-use Rattle.std.specs.Prelude.{◌≡◌, ◌≢◌, ◌⊎◌, ℕ, ◌+◌, ◌*◌, ◌<◌, ◌≤◌, List, [], ◌∷◌, Option, None, Some, Result, Ok, Err, ⊤}
+use Rattle.std.specs.Prelude.{◌≡◌, ◌≢◌, ◌⊎◌, ℕ, ◌+◌, ◌*◌, ◌<◌, ◌≤◌, Option, ⊤}
+use Rattle.irl_base.specs.Faults.{HasCause}
 use Rattle.irl_base.specs.declared.fault.Fault.{Fault}
 use Rattle.irl_base.specs.declared.fault.Fault.TheVariants.{Failed as BayFailed, Memory as BayMemory, Full as BayFull, Damaged as BayDamaged}
 use Rattle.irl_offer.specs.declared.settings.Settings.{Settings}
 use Rattle.std.specs.Option.{ForSome}
 use Rattle.irl_offer.specs.Settings.{AreValid, settings_of}
 use Rattle.irl_offer.specs.declared.settings.Asked.{Asked}
-use Rattle.irl_disk.specs.Disk.{Files, ChangesAmong}
-use Rattle.irl_journal.specs.Format.{HasRecords, StandsFor}
+use Rattle.irl_offer.specs.declared.settings.Kind.{Kind}
+use Rattle.irl_offer.specs.declared.settings.Kind.TheVariants.{Lines, Tuples, Crawl}
+use Rattle.irl_events.specs.State.{State}
+use Rattle.irl_disk.specs.Disk.{Files, ChangesAmong, ChangesFile, ChangesOnly, TellsBy}
+use Rattle.irl_disk.specs.Images.{Told, Leaves, LeavesBy}
+use Rattle.irl_disk.specs.Taken.{TakesAmong}
 use Rattle.irl_journal.specs.Visiting.{IsOpened}
-use Rattle.irl_journal.specs.declared.fault.JournalFault.{JournalFault}
-use Rattle.irl_journal.specs.declared.fault.JournalFault.TheVariants.{Failed as JournalFailed, Memory as JournalMemory, Damaged as JournalDamaged}
-use Rattle.irl_yard.specs.declared.open_fault.OpenFault.{OpenFault}
-use Rattle.irl_yard.specs.declared.open_fault.OpenFault.TheVariants.{NotOurs, Damaged, OtherSettings, BadSettings, Failed, Memory}
+use Rattle.irl_head.specs.declared.open_fault.OpenFault.{OpenFault}
+use Rattle.irl_head.specs.declared.open_fault.OpenFault.TheVariants.{NotOurs, Damaged, OtherSettings, BadSettings, Failed, Memory}
+use Rattle.irl_bay.specs.Drum.{IsDrum}
+use Rattle.irl_bay.specs.Holding.{IsLong}
 use Rattle.irl_bay.specs.Making.{IsUnmade, IsJournalOf}
-use Rattle.irl_yard.specs.StoreFiles.{head_file, crawl_file, urls_base, pairs_base}
-use Rattle.irl_yard.specs.Head.{head_bytes}
-use Rattle.irl_yard.specs.Standing.{IsBlank}
-use Rattle.irl_yard.specs.Opening.{IsNotOursAt, IsKeptOtherwise, IsBadAsked, IsBadStore, IsStoreDamagedAt}
+use Rattle.irl_head.specs.StoreFiles.{head_file, crawl_file, urls_base, pairs_base}
+use Rattle.irl_head.specs.Head.{head_bytes}
+use Rattle.irl_head.specs.Opening.{IsBlank, IsNotOursAt, IsKeptOtherwise, IsBadStore, HasHead, HasSettings, DeniesState, IsUnwanted}
+use Rattle.irl_head.specs.Asking.{Agrees, IsBadAsked}
+use Rattle.irl_head.specs.Writing.{GainsFirst}
+use Rattle.irl_yard.specs.declared.parts.Parts.{Parts}
+use Rattle.irl_yard.specs.Holding.{IsSound, HoldsState, HasOneOf}
+use Rattle.irl_yard.specs.Opening.{IsStoreDamagedAt, entered_state}
+use Rattle.irl_yard.specs.Standing.{HasState}
 
 -- the files of a state beside the head and the bay of URLs; the bay of pairs has its buckets' files on two sides
 abbrev pub IsRestFile : ℕ → ℕ → Type 0
@@ -35,39 +45,40 @@ AreSyncedWithin images from end files = (image : Files) → images image → (f 
 abbrev pub AreSynced : (Files → Type 0) → ℕ → Files → Type 0
 AreSynced images buckets files = (image : Files) → images image → (f : ℕ) → IsRestFile buckets f → image f ≡ files f
 
--- a stop leaves the head with these settings
-abbrev pub KeepsHead : (Files → Type 0) → Settings → Type 0
-KeepsHead images settings = (image : Files) → images image → HasRecords (image head_file) (head_bytes settings ∷ [])
-
--- a journal without a record has none, or this one
-abbrev pub GainsFirst : List ℕ → List ℕ → List ℕ → Type 0
-GainsFirst payload old new = StandsFor old [] → StandsFor new [] ⊎ HasRecords new (payload ∷ [])
-
 -- ---- what entering does to the files
--- the journals of a store: the head, and those of its bay of URLs
-abbrev pub IsStoreJournal : ℕ → Type 0
-IsStoreJournal f = (f ≡ head_file) ⊎ IsJournalOf urls_base 64 f
+-- the journals that a store of a kind has beside the head and those of its bay of URLs: one of lines or of tuples has
+-- none
+abbrev pub IsKindJournal : Kind → ℕ → ℕ → Type 0
+IsKindJournal Lines buckets f = ⊥
+IsKindJournal Tuples buckets f = ⊥
+IsKindJournal Crawl buckets f = ⊥
 
--- a store is opened: each journal changes at most as opening one may, and every other file stays
-abbrev pub OpensStore : Files → Files → Type 0
-OpensStore old new = ChangesAmong IsStoreJournal (λ f. IsOpened) old new
+-- the journals of a store of a kind with so many buckets
+abbrev pub IsStoreJournal : Kind → ℕ → ℕ → Type 0
+IsStoreJournal kind buckets f = (f ≡ head_file) ⊎ IsJournalOf urls_base buckets f ⊎ IsKindJournal kind buckets f
 
--- A store is made: only the head and the journals of the bay change. A bay that wasn't made isn't made yet, and a head
--- without a record has none, or these settings.
+-- the journals of a store whose files were told as these: the head, and those of the settings that it has
+abbrev pub IsToldJournal : Option Files → ℕ → Type 0
+IsToldJournal told f = (f ≡ head_file)
+    ⊎ ((settings : Settings) × AreValid settings × ForSome told (HasHead settings)
+    × IsStoreJournal settings.kind settings.buckets f)
+
+-- it is opened: each of its journals changes at most as opening one may, and every other file stays
+abbrev pub OpensStore : Option Files → Files → Files → Type 0
+OpensStore told old new = ChangesAmong (IsToldJournal told) (λ f. IsOpened) old new
+
+-- A store is made: only its journals change. A bay that wasn't made isn't made yet, and a head without a record has
+-- none, or these settings.
 pub record MakesStore (settings : Settings) (old new : Files) : Type 0 where
-  pub others : (f : ℕ) → f ≢ head_file → (IsJournalOf urls_base settings.buckets f → ⊥) → new f ≡ old f
+  pub others : ChangesOnly (IsStoreJournal settings.kind settings.buckets) old new
   pub unmade : IsUnmade urls_base settings.buckets old → IsUnmade urls_base settings.buckets new
   pub head : GainsFirst (head_bytes settings) (old head_file) (new head_file)
 
 -- A store is entered whose files were told as these: it is opened, or it is made where a store was told that wasn't
 -- made yet.
 abbrev pub Enters : Asked → Option Files → Files → Files → Type 0
-Enters asked told old new = OpensStore old new ⊎ (ForSome told IsBlank × AreValid (settings_of asked)
+Enters asked told old new = OpensStore told old new ⊎ (ForSome told IsBlank × AreValid (settings_of asked)
     × MakesStore (settings_of asked) old new)
-
--- a store that wasn't made yet isn't made yet
-abbrev pub KeepsBlank : Files → Files → Type 0
-KeepsBlank old new = IsBlank old → IsBlank new
 
 -- ---- a refusal
 -- What is told of the files is the ground of it. That no store can be made as is asked is one whatever is told.
@@ -80,24 +91,6 @@ HasGround asked told (BadSettings n) = ForSome told (λ files. IsBadStore asked 
 HasGround asked told Failed = ⊤
 HasGround asked told Memory = ⊤
 
--- it says that the files stand for no state
-abbrev pub DeniesState : OpenFault → Type 0
-DeniesState (NotOurs at) = ⊤
-DeniesState (Damaged f at) = ⊤
-DeniesState (OtherSettings n kept wanted) = ⊥
-DeniesState (BadSettings n) = ⊥
-DeniesState Failed = ⊥
-DeniesState Memory = ⊥
-
--- the store is of another make, or something else was asked than there is or may be
-abbrev pub IsUnwanted : OpenFault → Type 0
-IsUnwanted (NotOurs at) = ⊤
-IsUnwanted (Damaged f at) = ⊥
-IsUnwanted (OtherSettings n kept wanted) = ⊤
-IsUnwanted (BadSettings n) = ⊤
-IsUnwanted Failed = ⊥
-IsUnwanted Memory = ⊥
-
 -- what a bay was refused with; `Full` is no refusal of an opening
 abbrev pub fault_of_bay : Fault → OpenFault
 fault_of_bay BayFailed = Failed
@@ -105,16 +98,48 @@ fault_of_bay BayMemory = Memory
 fault_of_bay (BayFull n) = Failed
 fault_of_bay (BayDamaged f at) = Damaged f at
 
--- what the head's journal was refused with, after what was found in it
-abbrev pub fault_in_head : Option (Result Settings ℕ) → JournalFault → OpenFault
-fault_in_head found JournalFailed = Failed
-fault_in_head found JournalMemory = Memory
-fault_in_head None (JournalDamaged at) = Damaged head_file at
-fault_in_head (Some (Ok settings)) (JournalDamaged at) = NotOurs at
-fault_in_head (Some (Err place)) (JournalDamaged at) = NotOurs place
+-- ---- what is answered
+-- What Ok gives: the parts of an open store, whose files were told as these before.
+pub record OpensYard (asked : Asked) (parts : Parts) (told : Option Files) (after : Told) : Type 0 where
+  -- a store that stands for a state is opened as it, and one that wasn't made yet is made; each stop from then on
+  -- leaves that
+  pub holds : ForSome told (λ files. (state : State) → HasState state files
+      → HoldsState after.images parts (entered_state asked state))
+  pub sound : IsSound parts
+  pub drum : IsDrum parts.urls
+  pub base : parts.urls.base ≡ urls_base
+  pub long : ForSome after.files (λ files. IsLong parts.urls files)
+  -- it has the settings that were kept, or those of a new store, which are as was asked
+  pub settings : ForSome told (λ files. HasSettings asked files parts.urls.settings)
+  pub agrees : Agrees asked parts.urls.settings
+  -- what is of another make or damaged is refused
+  pub ours : ForSome told (λ files. (at : ℕ) → IsNotOursAt files at → ⊥)
+  pub undamaged : ForSome told (λ files. (f at : ℕ) → IsStoreDamagedAt asked files f at → ⊥)
 
--- what was found in a head's journal that was read whole says
-abbrev pub found_in_head : Option (Result Settings ℕ) → Result (Option Settings) OpenFault
-found_in_head None = Ok None
-found_in_head (Some (Ok settings)) = Ok (Some settings)
-found_in_head (Some (Err at)) = Err (NotOurs at)
+-- Why there is a refusal, and what it leaves.
+pub record OpeningRefused (asked : Asked) (fault : OpenFault) (before after : Told) : Type 0 where
+  -- it has its ground in what is told; no store that stands for a state is of another make or damaged
+  pub ground : HasGround asked before.files fault
+  pub whole : DeniesState fault → ForSome before.files (λ files. (state : State) → HasState state files → ⊥)
+  -- what isn't ours, or was asked otherwise, stays as it is told; and a stop leaves it, but for the head's gate
+  pub same : IsUnwanted fault → after.files ≡ before.files
+  pub same_stops : IsUnwanted fault → LeavesBy (ChangesFile head_file IsOpened) before after
+  -- a made store's state is told still, and of one that wasn't made that or the new store's
+  pub told_err : (state : State) → ForSome before.files (λ files. HasState state files
+      → ForSome after.files (HasOneOf state (entered_state asked state)))
+  -- a store that wasn't made yet still isn't, but that a failed call may have made it
+  pub blank : fault ≢ Failed → ForSome before.files (λ files. IsBlank files → ForSome after.files IsBlank)
+  pub blank_stops : fault ≢ Failed → ((image : Files) → before.images image → IsBlank image)
+      → Leaves before after IsBlank
+
+-- What entering does to the store, whatever is answered; `failed` says that it is a fault of the store.
+pub record EntersStore (asked : Asked) (failed : Type 0) (before after : Told) : Type 0 where
+  -- the store is entered at most, and a stop at any moment leaves no more
+  pub files : TellsBy (Enters asked before.files) before.files after.files
+  pub steps : LeavesBy (Enters asked before.files) before after
+  -- so it leaves a made store's state, and of one that wasn't made that or the new store's
+  pub stops : (state : State) → ((image : Files) → before.images image → HasState state image)
+      → Leaves before after (HasOneOf state (entered_state asked state))
+  -- no byte is read but of the store's journals
+  pub taken : TakesAmong (IsToldJournal before.files) before.taken after.taken
+  pub cause : HasCause failed before.faults after.faults

@@ -1,45 +1,56 @@
 -- An open store holds a state: what it keeps in memory is the state's, and each joint image that a stop now may leave
 -- stands for it.
-use Rattle.std.specs.Prelude.{◌≡◌, ◌≢◌, ◌⊎◌, ℕ, ◌≤◌, List, [], ◌∷◌, length, true, false, Some}
+use Rattle.std.specs.Prelude.{◌≡◌, ◌⊎◌, ℕ, List, true, false, Some}
 use Rattle.std.specs.List.{AllByRecursion}
-use Rattle.irl_offer.specs.declared.offer.Rule.TheVariants.{Keep}
-use Rattle.irl_offer.specs.declared.settings.Kind.TheVariants.{Crawl}
-use Rattle.irl_model.specs.Book.{blank_book, flushed, merged}
+use Rattle.irl_offer.specs.declared.settings.Kind.{Kind}
+use Rattle.irl_offer.specs.declared.settings.Kind.TheVariants.{Lines, Tuples, Crawl}
+use Rattle.irl_model.specs.Book.{Book, flushed, merged}
+use Rattle.irl_events.specs.Events.{Happened}
 use Rattle.irl_events.specs.State.{State}
 use Rattle.irl_offer.specs.Tuple.{Tuple}
 use Rattle.irl_disk.specs.Disk.{Files}
 use Rattle.irl_journal.specs.Appending.{IsOpen}
-use Rattle.irl_journal.specs.Format.{HasRecords, StandsFor}
-use Rattle.irl_bay.specs.BayFiles.{file_of}
-use Rattle.irl_bay.specs.Commits.{Commit, IsCommit, HasCommits, first_commit, last_commit, live_side}
-use Rattle.irl_bay.specs.declared.layout.files.BayFile.TheVariants.{Journal}
-use Rattle.irl_bay.specs.Drum.{Drum, bucket_at}
+use Rattle.irl_journal.specs.Format.{StandsFor}
+use Rattle.irl_layout.specs.BayFiles.{file_of}
+use Rattle.irl_layout.specs.Commits.{Commit, IsCommit, HasCommits, first_commit, last_commit, live_side}
+use Rattle.irl_layout.specs.declared.files.BayFile.TheVariants.{Journal}
+use Rattle.irl_bay.specs.Drum.{Drum, IsDrum, bucket_at}
 use Rattle.irl_bay.specs.Holding.{Holds}
-use Rattle.irl_bay.specs.Making.{IsUnmade}
 use Rattle.irl_yard.specs.declared.parts.Parts.{Parts}
-use Rattle.irl_yard.specs.StoreFiles.{head_file, crawl_file, urls_base, pairs_base}
-use Rattle.irl_yard.specs.Head.{head_bytes}
-use Rattle.irl_yard.specs.Standing.{HasState}
+use Rattle.irl_head.specs.StoreFiles.{urls_base}
+use Rattle.irl_head.specs.Opening.{KeepsHead}
+use Rattle.irl_yard.specs.Standing.{ArePlainFiles, HasState, IsPlainState, with_urls}
 
--- what stands beside the bay of URLs in a joint image
-pub record HasRest (urls : Drum) (image : Files) : Type 0 where
-  pub head : HasRecords (image head_file) (head_bytes urls.settings ∷ [])
-  pub crawl : length (image crawl_file) ≤ 1
-  pub pairs : IsUnmade pairs_base urls.settings.buckets image
+-- ---- by the kind of store
+-- a stop leaves the files empty that a store of lines or of tuples lacks
+pub record HoldsPlain (images : Files → Type 0) (buckets : ℕ) (pairs : Book) (events : List Happened) : Type 0 where
+  pub state : IsPlainState buckets pairs events
+  pub images_are : (image : Files) → images image → ArePlainFiles buckets image
 
+-- the rest of a state, beside its settings and its book of URLs
+abbrev pub HoldsRest : (Files → Type 0) → Kind → ℕ → Book → List Happened → Type 0
+HoldsRest images Lines buckets pairs events = HoldsPlain images buckets pairs events
+HoldsRest images Tuples buckets pairs events = HoldsPlain images buckets pairs events
+HoldsRest images Crawl buckets pairs events = ⊥
+
+-- ---- a store
 -- no call failed
 abbrev pub IsSound : Parts → Type 0
 IsSound parts = (parts.urls.is_sound ≡ true) × (parts.has_failed ≡ false)
 
--- the bay of URLs has the state's book, and the rest is as the settings say
+-- A store after a call that may end its soundness: it may be asked again, but where the store failed.
+pub record StaysSound (failed : Type 0) (now : Parts) : Type 0 where
+  pub drum : IsDrum now.urls
+  pub sound : (failed → ⊥) → IsSound now
+  pub unsound : failed → IsSound now → ⊥
+
+-- the bay of URLs has the state's book, and the head and the rest are as the settings say
 pub record HoldsUrls (images : Files → Type 0) (urls : Drum) (state : State) : Type 0 where
   pub settings : state.settings ≡ Some urls.settings
   pub base : urls.base ≡ urls_base
-  pub kind : urls.settings.kind ≢ Crawl
+  pub head : KeepsHead images urls.settings
   pub urls_hold : Holds images urls state.urls
-  pub pairs_are : state.pairs ≡ blank_book urls.settings.buckets Keep
-  pub events_are : state.events ≡ []
-  pub rest : (image : Files) → images image → HasRest urls image
+  pub rest : HoldsRest images urls.settings.kind urls.settings.buckets state.pairs state.events
 
 -- an open store holds a state
 abbrev pub HoldsState : (Files → Type 0) → Parts → State → Type 0
@@ -47,11 +58,11 @@ HoldsState images parts state = HoldsUrls images parts.urls state
 
 -- these offers stand at the end of a bucket's list of URLs
 abbrev pub with_offers : ℕ → List Tuple → State → State
-with_offers b news state = record state { urls = flushed b news state.urls }
+with_offers b news state = with_urls (flushed b news state.urls) state
 
 -- all offers of URLs are judged
 abbrev pub with_cut : State → State
-with_cut state = record state { urls = merged state.urls }
+with_cut state = with_urls (merged state.urls) state
 
 -- a joint image stands for one of two states
 abbrev pub HasOneOf : State → State → Files → Type 0

@@ -1,7 +1,6 @@
 pub mod Entering
-pub mod Head
-pub mod Heading
+pub mod Flushing
 pub mod Holding
+pub mod Merges
 pub mod Opening
 pub mod Standing
-pub mod StoreFiles

@@ -1,38 +1,73 @@
--- The files of a store stand for a state. It is written for stores of lines and of tuples.
-use Rattle.std.specs.Prelude.{◌≡◌, ◌≢◌, ◌⊎◌, ℕ, ◌≤◌, [], ◌∷◌, length, Some}
+-- The files of a store stand for a state. What a store has beside its settings and its URLs goes by its kind; it is
+-- written for stores of lines and of tuples.
+use Rattle.std.specs.Prelude.{◌≡◌, ◌⊎◌, ℕ, ◌≤◌, List, [], ◌∷◌, length, Some}
 use Rattle.irl_offer.specs.Settings.{AreValid}
 use Rattle.irl_offer.specs.declared.offer.Rule.TheVariants.{Keep}
-use Rattle.irl_offer.specs.declared.settings.Kind.TheVariants.{Crawl}
+use Rattle.irl_offer.specs.declared.settings.Kind.{Kind}
+use Rattle.irl_offer.specs.declared.settings.Kind.TheVariants.{Lines, Tuples, Crawl}
 use Rattle.irl_offer.specs.declared.settings.Settings.{Settings}
-use Rattle.irl_model.specs.Book.{blank_book}
+use Rattle.irl_model.specs.Book.{Book, blank_book}
+use Rattle.irl_events.specs.Events.{Happened}
 use Rattle.irl_events.specs.State.{State, blank_state}
 use Rattle.irl_disk.specs.Disk.{Files}
 use Rattle.irl_journal.specs.Format.{StandsFor}
 use Rattle.irl_bay.specs.Making.{IsUnmade}
-use Rattle.irl_bay.specs.Standing.{Stands}
-use Rattle.irl_yard.specs.StoreFiles.{head_file, crawl_file, urls_base, pairs_base, IsOtherFile}
-use Rattle.irl_yard.specs.Head.{head_bytes}
+use Rattle.irl_bay.specs.Standing.{Stands, IsBookOf}
+use Rattle.irl_head.specs.StoreFiles.{head_file, crawl_file, urls_base, pairs_base}
+use Rattle.irl_head.specs.Head.{head_bytes}
+use Rattle.irl_head.specs.Opening.{IsBlank}
 
--- a store that wasn't made yet: its head has no record, and every other file has at most one byte
-pub record IsBlank (files : Files) : Type 0 where
-  pub head : StandsFor (files head_file) []
-  pub others : (f : ℕ) → IsOtherFile f → length (files f) ≤ 1
+-- ---- by the kind of store
+-- a store of lines or of tuples has no other book, and no event,
+pub record IsPlainState (buckets : ℕ) (pairs : Book) (events : List Happened) : Type 0 where
+  pub pairs_are : pairs ≡ blank_book buckets Keep
+  pub events_are : events ≡ []
 
--- a store with these settings
+-- and the files that it lacks are empty
+pub record ArePlainFiles (buckets : ℕ) (files : Files) : Type 0 where
+  pub crawl : length (files crawl_file) ≤ 1
+  pub pairs : IsUnmade pairs_base buckets files
+
+pub record IsPlain (buckets : ℕ) (pairs : Book) (events : List Happened) (files : Files) : Type 0 where
+  pub state : IsPlainState buckets pairs events
+  pub files_are : ArePlainFiles buckets files
+
+-- the rest of a state, beside its settings and its book of URLs
+abbrev pub IsRest : Kind → ℕ → Book → List Happened → Type 0
+IsRest Lines buckets pairs events = IsPlainState buckets pairs events
+IsRest Tuples buckets pairs events = IsPlainState buckets pairs events
+IsRest Crawl buckets pairs events = ⊥
+
+-- and files that stand for it
+abbrev pub HasRest : Kind → ℕ → Book → List Happened → Files → Type 0
+HasRest Lines buckets pairs events files = IsPlain buckets pairs events files
+HasRest Tuples buckets pairs events files = IsPlain buckets pairs events files
+HasRest Crawl buckets pairs events files = ⊥
+
+-- ---- a store
+-- one with these settings
 pub record IsMade (settings : Settings) (state : State) (files : Files) : Type 0 where
   pub settings_are : state.settings ≡ Some settings
   pub valid : AreValid settings
-  pub kind : settings.kind ≢ Crawl
   -- the head has the settings
   pub head : StandsFor (files head_file) (head_bytes settings ∷ [])
   -- the bay of URLs has its book
   pub urls : Stands urls_base settings state.urls files
-  -- what this kind of store lacks is empty
-  pub crawl : length (files crawl_file) ≤ 1
-  pub pairs_are : state.pairs ≡ blank_book settings.buckets Keep
-  pub events_are : state.events ≡ []
-  pub pairs : IsUnmade pairs_base settings.buckets files
+  -- and the other files have the rest
+  pub rest : HasRest settings.kind settings.buckets state.pairs state.events files
 
 -- the files stand for a state
 abbrev pub HasState : State → Files → Type 0
 HasState state files = (IsBlank files × (state ≡ blank_state)) ⊎ ((settings : Settings) × IsMade settings state files)
+
+-- ---- states
+-- a state with another book of URLs
+abbrev pub with_urls : Book → State → State
+with_urls book state = record state { urls = book }
+
+-- what a state keeps that files of a store with these settings stand for
+pub record IsStateOf (settings : Settings) (state : State) : Type 0 where
+  pub settings_are : state.settings ≡ Some settings
+  pub valid : AreValid settings
+  pub book_is : IsBookOf settings state.urls
+  pub rest : IsRest settings.kind settings.buckets state.pairs state.events

@@ -1,29 +1,20 @@
 ghost use Rattle.std.specs.Prelude.{◌≡◌, ◌≢◌, ◌<◌, ℕ, List, map, Some};
-ghost use Rattle.irl_offer.specs.Settings.{AreValid};
 ghost use Rattle.irl_offer.specs.Tuple.{Tuple};
 ghost use Rattle.irl_offer.specs.declared.settings.Asked.{Asked};
-ghost use Rattle.irl_offer.specs.declared.settings.Settings.{Settings};
 ghost use Rattle.irl_model.specs.Book.{IsPrefixOf, judged};
 ghost use Rattle.irl_events.specs.State.{State, IsFrontState};
 ghost use Rattle.irl_disk.specs.Disk.{Files};
-ghost use Rattle.irl_bay.specs.BayFiles.{IsBucketFile};
-ghost use Rattle.irl_bay.specs.Commits.{live_offers, live_side};
+ghost use Rattle.irl_layout.specs.BayFiles.{IsBucketFile};
+ghost use Rattle.irl_layout.specs.Commits.{live_offers, live_side};
 ghost use Rattle.irl_bay.specs.Drum.{Drum, IsDrum};
 ghost use Rattle.irl_bay.specs.Merging.{IsMergeFile};
-ghost use Rattle.irl_bay.specs.Runs.{AreRuns, run_bytes};
-ghost use Rattle.irl_yard.specs.Head.{head_bytes, IsNoHeadAt};
+ghost use Rattle.irl_layout.specs.Runs.{AreRuns, run_bytes};
 ghost use Rattle.irl_yard.specs.Holding.{HoldsState, HasJournal, with_offers, with_cut};
 ghost use Rattle.irl_yard.specs.Opening.{entered_state};
 ghost use Rattle.irl_yard.specs.Standing.{HasState};
 
 use crate::parts::Parts;
 use irl_disk::Store;
-
-/// The head's payload of valid settings is none nowhere, and tells them.
-pub fn a_head_tells_its_settings()
-    ensures whole { (settings : Settings) (at : ℕ) → AreValid settings → IsNoHeadAt (head_bytes settings) at → ⊥ }
-    ensures one { (x y : Settings) → AreValid x → AreValid y → head_bytes x ≡ head_bytes y → x ≡ y }
-{}
 
 /// The files of a store stand for at most one state.
 pub fn one_state()

@@ -3,6 +3,7 @@ ghost use Rattle.irl_offer.specs.declared.settings.Kind.TheVariants.{Crawl};
 
 use super::*;
 use irl_disk::{MemStore, Part};
+use irl_head::{FILES, HEAD, encode};
 use irl_offer::{Kind, Rule};
 use std::test::Fail;
 

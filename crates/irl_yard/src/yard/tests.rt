@@ -2,6 +2,7 @@ ghost use Rattle.std.specs.Prelude.{◌≡◌, ◌≢◌, ◌<◌, ◌≤◌, le
 ghost use Rattle.std.specs.List.{AllByRecursion};
 ghost use Rattle.irl_offer.specs.Buckets.{bucket_of as bucket_of_key, IsBucketCount};
 ghost use Rattle.irl_offer.specs.declared.settings.Kind.TheVariants.{Crawl};
+ghost use Rattle.irl_bay.specs.Flushing.{MayFlush};
 ghost use Rattle.irl_bay.specs.Drum.{pending_at, SomePending};
 ghost use Rattle.irl_yard.specs.Holding.{IsSound};
 
@@ -85,12 +86,7 @@ fn are_of(offers: &[Offer], buckets: u32, b: u32) -> bool
 // Whether the array can be flushed to this bucket.
 fn can_flush(yard: &Yard<MemStore>, b: u32, array: &Array) -> bool
     ensures sound { IsTrue result → IsSound yard.now.parts }
-    ensures bucket { IsTrue result → b < yard.now.parts.urls.settings.buckets }
-    ensures some { IsTrue result → 1 ≤ length array.now.items }
-    ensures few { IsTrue result → length array.now.items ≤ yard.now.parts.urls.settings.array }
-    ensures pending { IsTrue result → pending_at yard.now.parts.urls b < yard.now.parts.urls.settings.trigger }
-    ensures offers { IsTrue result →
-        AllByRecursion (λ offer. bucket_of_key yard.now.parts.urls.settings.buckets offer.key ≡ b) array.now.items }
+    ensures offers { IsTrue result → MayFlush b array.now.items yard.now.parts.urls }
 {
     let settings = yard.settings();
     yard.is_sound()

@@ -1,93 +1,130 @@
-use Rattle.std.proofs.Common.{◌∙◌, inl, ℕ, sym, ap, subst, Option, Some, Err, List, [], ◌∷◌}
+use Rattle.std.proofs.Common.{◌≡◌, ◌∙◌, inl, ℕ, sym, ap, subst, refl, Option, Some, IfSome, Err, List, [], ◌∷◌}
 use Rattle.irl_offer.specs.declared.settings.Settings.{Settings}
 use Rattle.irl_base.specs.declared.fault.Fault.{Fault}
-use Rattle.irl_offer.specs.declared.offer.Rule.TheVariants.{Keep}
-use Rattle.irl_model.specs.Book.{blank_book}
-use Rattle.irl_disk.specs.Disk.{Files, TellsBy}
-use Rattle.irl_disk.proofs.Stretches.{left_now, widens_by}
+use Rattle.irl_disk.specs.Disk.{Files}
+use Rattle.irl_disk.proofs.Effects.{cause_for}
+use Rattle.irl_disk.proofs.Stretches.{left_now}
 use Rattle.irl_journal.specs.Format.{HasRecords}
-use Rattle.irl_bay.specs.Damage.{IsAdopted}
 use Rattle.irl_bay.proofs.LiveJournals.{adopted_wider}
-use Rattle.irl_yard.specs.StoreFiles.{head_file, urls_base}
-use Rattle.irl_yard.specs.Head.{head_bytes}
-use Rattle.irl_yard.specs.Opening.{Agrees}
-use Rattle.irl_yard.specs.Holding.{HoldsUrls}
-use Rattle.irl_yard.specs.Entering.{Enters, HasGround}
-use Rattle.irl_yard.proofs.Beginning.{same_then}
-use Rattle.irl_yard.proofs.Entering.{adopted_opens, adopted_takes, opens_none, tells_wider}
-use Rattle.irl_yard.proofs.Grounds.{made_has, entered_made, bay_ground}
-use Rattle.irl_yard.proofs.Rest.{few, rest_has, rest_no_journal, head_no_journal}
+use Rattle.irl_head.specs.StoreFiles.{head_file, urls_base}
+use Rattle.irl_head.specs.Head.{head_bytes}
+use Rattle.irl_head.specs.Asking.{Agrees, IsOther}
+use Rattle.irl_head.specs.Opening.{HasHead, IsUnwanted}
+use Rattle.irl_head.specs.declared.open_fault.OpenFault.{OpenFault}
+use Rattle.irl_head.specs.declared.open_fault.OpenFault.TheVariants.{Failed}
+use Rattle.irl_head.proofs.Grounds.{settings_ours}
+use Rattle.irl_yard.specs.Holding.{HoldsRest, HoldsUrls}
+use Rattle.irl_yard.specs.Entering.{HasGround, OpeningRefused}
+use Rattle.irl_yard.proofs.Answered.{enters_none, enters_still, enters_adopted, refused_none, refused_still, refused_head, still}
+use Rattle.irl_yard.proofs.Grounds.{made_has, entered_made, bay_failed, bay_ground, bay_wanted, head_undamaged, kept_ground}
+use Rattle.irl_yard.proofs.Making.{if_err, open_fault_of, was_err}
+use Rattle.irl_yard.proofs.ByKind.{told_holds}
+use Rattle.irl_yard.proofs.Rest.{few, short_as_told, rest_no_journal, head_no_journal}
 use Rattle.irl_yard.proofs.enter.adopt.Goals as goal
 
-pub returns-in-Ok-clause-holds : goal.returns-in-Ok-clause-holds
-returns-in-Ok-clause-holds g c = λ files told state has.
-    let tells = g.S.Store.told in
+-- ---- something else was asked
+pub returns-in-Some-clause-refused : goal.returns-in-Some-clause-refused
+returns-in-Some-clause-refused g c =
+    let asked = c.args.asked.now in
     let settings = c.args.settings.now in
-    let same = c.in-Ok.ensures.settings in
+    let old = g.S.Store.told c.args.store.now in
+    let other = subst (λ (found : Option (ℕ × ℕ × ℕ)). IfSome found (λ it. IsOther asked settings it.0 it.1 it.2)) c.in-Some.is c.first_other.ensures.found in
+    refused_none asked _ old c.requires.kind (g.met.S.Store.is_consistent c.args.store.now) (kept_ground asked settings _ _ _ old.files c.requires.head other)
+
+pub returns-in-Some-clause-entered : goal.returns-in-Some-clause-entered
+returns-in-Some-clause-entered g c = enters_none c.args.asked.now _ (g.S.Store.told c.args.store.now) c.requires.kind (g.met.S.Store.is_consistent c.args.store.now) (λ is. let no : ⊥ = cc in no)
+
+-- ---- the rest isn't synced
+pub returns-in_err-sync_rest-clause-refused : goal.returns-in_err-sync_rest-clause-refused
+returns-in_err-sync_rest-clause-refused g c =
+    let old = g.S.Store.told c.args.store.now in
+    let new = g.S.Store.told c.sync_rest.new.store in
+    let law = g.met.S.Store.is_consistent c.args.store.now in
+    let call = c.sync_rest.ensures in
+    if_err c.from_residual.result Failed (λ fault. OpeningRefused c.args.asked.now fault old new) c.from_residual.ensures.1
+    (refused_still c.args.asked.now Failed _ old new c.requires.kind law tt (still _ old new call.same call.stops call.taken call.cause))
+
+pub returns-in_err-sync_rest-clause-entered : goal.returns-in_err-sync_rest-clause-entered
+returns-in_err-sync_rest-clause-entered g c =
+    let old = g.S.Store.told c.args.store.now in
+    let new = g.S.Store.told c.sync_rest.new.store in
+    let call = c.sync_rest.ensures in
+    enters_still c.args.asked.now _ old new c.requires.kind (g.met.S.Store.is_consistent c.args.store.now) (still _ old new call.same call.stops call.taken
+    (cause_for _ _ old.faults new.faults (λ failed. was_err c.sync_rest.result _ c.in_err-sync_rest.was) call.cause))
+
+-- ---- the bay is opened
+pub returns-in-Ok-clause-opened : goal.returns-in-Ok-clause-opened
+returns-in-Ok-clause-opened g c =
+    let tells = g.S.Store.told in
+    let asked = c.args.asked.now in
+    let settings = c.args.settings.now in
+    let adopts = c.in-Ok.ensures.adopts in
+    let same = adopts.settings in
     let small = few settings c.requires.valid in
-    let made = made_has settings state files (c.requires.head files told) has in
-    subst (HoldsUrls (tells c.adopt.new.store).images c.in-Ok.urls) (sym (entered_made c.args.asked.now settings state made.settings_are)) (record {
-      settings = made.settings_are ∙ ap (λ (s : Settings). Some s) (sym same);
-      base = c.in-Ok.ensures.base;
-      kind = λ is. made.kind (ap (λ (s : Settings). s.kind) (sym same) ∙ is);
-      urls_hold = c.in-Ok.ensures.holds files (c.sync_rest.ensures.same ∙ told) state.urls made.urls;
-      pairs_are = made.pairs_are ∙ ap (λ (s : Settings). blank_book s.buckets Keep) (sym same);
-      events_are = made.events_are;
-      rest = λ image left.
-          let from = left_now (tells c.sync_rest.new.store) (tells c.adopt.new.store) _ (g.met.S.Store.is_consistent c.adopt.new.store) c.adopt.ensures.stops image left in
-          let was = left_now (tells c.args.store.now) (tells c.sync_rest.new.store) _ (g.met.S.Store.is_consistent c.sync_rest.new.store) c.sync_rest.ensures.stops from.0 from.1 in
-          let opened = adopted_wider urls_base settings.buckets from.0 image from.2 in
-          rest_has c.in-Ok.urls settings files image same
-          (subst (λ (file : List ℕ). HasRecords file (head_bytes settings ∷ [])) (sym (opened.others head_file (head_no_journal settings.buckets small))) (c.requires.kept from.0 was))
-          (λ f is. opened.others f (rest_no_journal settings.buckets f small is) ∙ c.in_ok-sync_rest.ensures.synced files told from.0 from.1 f is)
-          made.crawl made.pairs;
-    })
+    let head = c.requires.head in
+    record {
+      holds = λ files told state has.
+          let made = made_has settings state files (head files told) has in
+          subst (HoldsUrls (tells c.adopt.new.store).images c.in-Ok.urls) (sym (entered_made asked settings state made.settings_are)) (record {
+            settings = made.settings_are ∙ ap (λ (s : Settings). Some s) (sym same);
+            base = adopts.base;
+            head = λ image left.
+                let from = left_now (tells c.sync_rest.new.store) (tells c.adopt.new.store) _ (g.met.S.Store.is_consistent c.adopt.new.store) c.adopt.ensures.leaves.changes.stops image left in
+                let was = left_now (tells c.args.store.now) (tells c.sync_rest.new.store) _ (g.met.S.Store.is_consistent c.sync_rest.new.store) c.sync_rest.ensures.stops from.0 from.1 in
+                let opened = adopted_wider urls_base settings.buckets from.0 image from.2 in
+                subst (λ (s : Settings). HasRecords (image head_file) (head_bytes s ∷ [])) (sym same)
+                (subst (λ (file : List ℕ). HasRecords file (head_bytes settings ∷ [])) (sym (opened.others head_file (head_no_journal settings.buckets small))) (c.requires.kept from.0 was));
+            urls_hold = adopts.holds files (c.sync_rest.ensures.same ∙ told) state.urls made.urls;
+            rest = subst (λ (s : Settings). HoldsRest (tells c.adopt.new.store).images s.kind s.buckets state.pairs state.events) (sym same)
+                (told_holds settings.buckets state.pairs state.events (tells c.adopt.new.store).images settings.kind files (λ image left.
+                let from = left_now (tells c.sync_rest.new.store) (tells c.adopt.new.store) _ (g.met.S.Store.is_consistent c.adopt.new.store) c.adopt.ensures.leaves.changes.stops image left in
+                let opened = adopted_wider urls_base settings.buckets from.0 image from.2 in
+                short_as_told settings.buckets files image
+                (λ f is. opened.others f (rest_no_journal settings.buckets f small is) ∙ c.in_ok-sync_rest.ensures.synced files told from.0 from.1 f is)) made.rest);
+          });
+      sound = (adopts.sound, refl);
+      drum = adopts.drum;
+      base = adopts.base;
+      long = adopts.long;
+      settings = λ files told. inl (subst (λ (s : Settings). HasHead s files) (sym same) (head files told));
+      agrees = subst (Agrees asked) (sym same) (c.first_other.ensures.none c.in_default.is);
+      ours = λ files told at. settings_ours asked files settings at (inl (head files told));
+      undamaged = λ files told f at. head_undamaged asked settings files f at (head files told) (adopts.sane files (c.sync_rest.ensures.same ∙ told) f at);
+    }
 
-pub returns-in-Ok-clause-agrees : goal.returns-in-Ok-clause-agrees
-returns-in-Ok-clause-agrees g c = subst (Agrees c.args.asked.now) (sym c.in-Ok.ensures.settings) (c.first_other.ensures.none c.in_default.is)
-
-pub returns-in-Ok-clause-undamaged : goal.returns-in-Ok-clause-undamaged
-returns-in-Ok-clause-undamaged g c = λ files told. c.in-Ok.ensures.sane files (c.sync_rest.ensures.same ∙ told)
-
-pub returns-in-Ok-clause-files : goal.returns-in-Ok-clause-files
-returns-in-Ok-clause-files g c =
+pub returns-in-Ok-clause-entered : goal.returns-in-Ok-clause-entered
+returns-in-Ok-clause-entered g c =
     let tells = g.S.Store.told in
-    let settings = c.args.settings.now in
-    subst (λ (old : Option Files). TellsBy (Enters c.args.asked.now (tells c.args.store.now).files) old (tells c.adopt.new.store).files) c.sync_rest.ensures.same
-    (tells_wider (IsAdopted urls_base settings.buckets) _ _ _ (λ x y adopted. inl (adopted_opens settings.buckets x y (few settings c.requires.valid) adopted)) c.adopt.ensures.files)
+    let law = g.met.S.Store.is_consistent in
+    let asked = c.args.asked.now in
+    enters_adopted asked c.args.settings.now _ (tells c.args.store.now) (tells c.sync_rest.new.store) (tells c.adopt.new.store) c.requires.kind (law c.args.store.now) (law c.sync_rest.new.store)
+    c.requires.valid c.requires.head
+    (still _ (tells c.args.store.now) (tells c.sync_rest.new.store) c.sync_rest.ensures.same c.sync_rest.ensures.stops c.sync_rest.ensures.taken c.sync_rest.ensures.cause) _ _ c.adopt.ensures.leaves
+    (λ is. let no : ⊥ = cc in absurd no)
 
-pub returns-in-Ok-clause-steps : goal.returns-in-Ok-clause-steps
-returns-in-Ok-clause-steps g c =
+pub returns-in-Err-clause-refused : goal.returns-in-Err-clause-refused
+returns-in-Err-clause-refused g c =
     let tells = g.S.Store.told in
-    let settings = c.args.settings.now in
-    same_then (tells c.args.store.now) (tells c.sync_rest.new.store) (tells c.adopt.new.store) _ (g.met.S.Store.is_consistent c.sync_rest.new.store) (λ x. inl (opens_none x)) c.sync_rest.ensures.stops
-    (widens_by (tells c.sync_rest.new.store) (tells c.adopt.new.store) _ _ c.adopt.ensures.stops (λ x y adopted. inl (adopted_opens settings.buckets x y (few settings c.requires.valid) adopted)))
+    let law = g.met.S.Store.is_consistent in
+    let asked = c.args.asked.now in
+    let enters = enters_adopted asked c.args.settings.now _ (tells c.args.store.now) (tells c.sync_rest.new.store) (tells c.adopt.new.store) c.requires.kind (law c.args.store.now)
+    (law c.sync_rest.new.store)
+    c.requires.valid c.requires.head
+    (still _ (tells c.args.store.now) (tells c.sync_rest.new.store) c.sync_rest.ensures.same c.sync_rest.ensures.stops c.sync_rest.ensures.taken c.sync_rest.ensures.cause) _ _ c.adopt.ensures.leaves
+    (λ is. is) in
+    refused_head asked c.args.settings.now _ _ (tells c.args.store.now) (tells c.adopt.new.store) c.requires.kind (law c.args.store.now) c.requires.head
+    (λ unwanted. bay_wanted c.in-Err.fault (subst IsUnwanted c.bay_fault.ensures unwanted))
+    (subst (HasGround asked (tells c.args.store.now).files) (sym c.bay_fault.ensures)
+    (bay_ground asked (tells c.args.store.now).files c.args.settings.now c.in-Err.fault c.requires.head (c.first_other.ensures.none c.in_default.is)
+    (λ f at is files told. c.in-Err.ensures.refused.damaged f at (ap (λ (fault : Fault). Err fault) is) files (c.sync_rest.ensures.same ∙ told))))
+    enters
 
-pub returns-in-Err-clause-ground : goal.returns-in-Err-clause-ground
-returns-in-Err-clause-ground g c =
+pub returns-in-Err-clause-entered : goal.returns-in-Err-clause-entered
+returns-in-Err-clause-entered g c =
     let tells = g.S.Store.told in
-    subst (HasGround c.args.asked.now (tells c.args.store.now).files) (sym c.bay_fault.ensures)
-    (bay_ground c.args.asked.now (tells c.args.store.now).files c.args.settings.now c.in-Err.fault c.requires.head (c.first_other.ensures.none c.in_default.is)
-    (λ f at is files told. c.in-Err.ensures.damaged f at (ap (λ (fault : Fault). Err fault) is) files (c.sync_rest.ensures.same ∙ told)))
-
-pub returns-in-Err-clause-files : goal.returns-in-Err-clause-files
-returns-in-Err-clause-files g c =
-    let tells = g.S.Store.told in
-    let settings = c.args.settings.now in
-    subst (λ (old : Option Files). TellsBy (Enters c.args.asked.now (tells c.args.store.now).files) old (tells c.adopt.new.store).files) c.sync_rest.ensures.same
-    (tells_wider (IsAdopted urls_base settings.buckets) _ _ _ (λ x y adopted. inl (adopted_opens settings.buckets x y (few settings c.requires.valid) adopted)) c.adopt.ensures.files)
-
-pub returns-in-Err-clause-steps : goal.returns-in-Err-clause-steps
-returns-in-Err-clause-steps g c =
-    let tells = g.S.Store.told in
-    let settings = c.args.settings.now in
-    same_then (tells c.args.store.now) (tells c.sync_rest.new.store) (tells c.adopt.new.store) _ (g.met.S.Store.is_consistent c.sync_rest.new.store) (λ x. inl (opens_none x)) c.sync_rest.ensures.stops
-    (widens_by (tells c.sync_rest.new.store) (tells c.adopt.new.store) _ _ c.adopt.ensures.stops (λ x y adopted. inl (adopted_opens settings.buckets x y (few settings c.requires.valid) adopted)))
-
-pub returns-in-Ok-clause-taken : goal.returns-in-Ok-clause-taken
-returns-in-Ok-clause-taken g c = adopted_takes c.args.settings.now.buckets (g.S.Store.told c.args.store.now).taken (g.S.Store.told c.sync_rest.new.store).taken (g.S.Store.told c.adopt.new.store).taken
-    (few c.args.settings.now c.requires.valid) c.sync_rest.ensures.taken c.adopt.ensures.taken
-
-pub returns-in-Err-clause-taken : goal.returns-in-Err-clause-taken
-returns-in-Err-clause-taken g c = adopted_takes c.args.settings.now.buckets (g.S.Store.told c.args.store.now).taken (g.S.Store.told c.sync_rest.new.store).taken
-    (g.S.Store.told c.adopt.new.store).taken (few c.args.settings.now c.requires.valid) c.sync_rest.ensures.taken c.adopt.ensures.taken
+    let law = g.met.S.Store.is_consistent in
+    let asked = c.args.asked.now in
+    enters_adopted asked c.args.settings.now _ (tells c.args.store.now) (tells c.sync_rest.new.store) (tells c.adopt.new.store) c.requires.kind (law c.args.store.now) (law c.sync_rest.new.store)
+    c.requires.valid c.requires.head
+    (still _ (tells c.args.store.now) (tells c.sync_rest.new.store) c.sync_rest.ensures.same c.sync_rest.ensures.stops c.sync_rest.ensures.taken c.sync_rest.ensures.cause) _ _ c.adopt.ensures.leaves
+    (λ is. bay_failed c.adopt.result c.in-Err.fault c.in-Err.is c.adopt.ensures.refused.full (sym c.bay_fault.ensures ∙ open_fault_of is))

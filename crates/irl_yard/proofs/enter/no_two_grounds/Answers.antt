@@ -1,4 +1,5 @@
-use Rattle.irl_yard.proofs.Grounds.{ours_or_damaged, ours_or_other, ours_or_bad, other_or_damaged, bad_or_damaged, other_or_bad}
+use Rattle.irl_head.proofs.Grounds.{ours_or_other, ours_or_bad, other_or_bad}
+use Rattle.irl_yard.proofs.Grounds.{ours_or_damaged, other_or_damaged, bad_or_damaged}
 use Rattle.irl_yard.proofs.enter.no_two_grounds.Goals as goal
 
 pub returns-clause-ours_or_damaged : goal.returns-clause-ours_or_damaged

@@ -1,7 +1,8 @@
 use super::merge;
 use super::rows::{ROW, Step, asked_of, built};
-use crate::{OpenFault, Yard};
+use crate::Yard;
 use irl_disk::{Failed, MemStore, Part, Store};
+use irl_head::OpenFault;
 use irl_offer::Fault;
 use std::alloc::Global;
 use std::process::Abort;

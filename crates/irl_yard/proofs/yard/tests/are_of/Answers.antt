@@ -2,7 +2,7 @@ use Rattle.std.proofs.Common.{◌≡◌, ◌∙◌, take_all, subst, sym, ap}
 use Rattle.std.specs.List.{AllByRecursion}
 use Rattle.irl_offer.specs.Tuple.{Tuple}
 use Rattle.irl_offer.specs.Buckets.{bucket_of}
-use Rattle.irl_bay.proofs.Runs.{all_more}
+use Rattle.irl_layout.proofs.Runs.{all_more}
 use Rattle.irl_yard.proofs.yard.tests.are_of.Goals as goal
 
 pub loop-offer-preserved : goal.loop-offer-preserved
