@@ -1,6 +1,3 @@
-pub mod Chains
-pub mod Counts
-pub mod Finishing
-pub mod Merging
-pub mod Outcomes
+pub mod Falling
 pub mod Steps
+pub mod Waits

@@ -1,2 +1,2 @@
-pub mod Feeding
-pub mod Schedule
+pub mod Advancing
+pub mod Arrays

@@ -1,7 +1,7 @@
 ghost use Rattle.std.specs.Prelude.{◌≡◌, ◌≢◌};
 ghost use Rattle.irl_offer.specs.declared.settings.Kind.TheVariants.{Crawl};
 
-use crate::Intake;
+use crate::{Intake, Next};
 use irl_disk::MemStore;
 use irl_model::judged;
 use irl_offer::{Asked, Fault, Judged, Kind, Offer, Op, Rule, Text, Verdict, bucket_of};
@@ -59,25 +59,39 @@ fn offer_of(alloc: Global, key: u64, text: &[u8; 1]) -> Result<Offer, AllocError
     })
 }
 
-// Hands an offer in.
-fn feed(intake: &mut Intake<MemStore>, offer: Offer) -> Result<(), Fault> {
-    if !intake.is_sound() {
+// The next step before an offer of a bucket, or at the end of the input.
+fn step(intake: &mut Intake<MemStore>, bucket: Option<u32>) -> Result<Next, Fault> {
+    if !intake.is_sound() || bucket.unwrap_or(0) >= intake.settings().buckets {
         return Err(Fault::Memory);
     }
+    intake.advance(bucket)
+}
+
+// Pushes an offer, where there is room for it.
+fn push(intake: &mut Intake<MemStore>, offer: Offer) -> Result<(), Fault> {
     let b = bucket_of(offer.key, intake.settings().buckets);
-    intake.merge_before_room(b)?;
-    intake.make_room(b)?;
+    if intake.is_full(b) {
+        return Err(Fault::Memory);
+    }
     intake.push(offer);
     Ok(())
 }
 
+// Hands an offer in. At most one merge runs alone before it.
+fn feed(intake: &mut Intake<MemStore>, offer: Offer) -> Result<(), Fault> {
+    let b = bucket_of(offer.key, intake.settings().buckets);
+    if step(intake, Some(b))? == Next::Merged {
+        step(intake, Some(b))?;
+    }
+    push(intake, offer)
+}
+
 // The end of the input.
 fn end(intake: &mut Intake<MemStore>) -> Result<(), Fault> {
-    if !intake.is_sound() {
-        return Err(Fault::Memory);
+    if step(intake, None)? == Next::Merged {
+        step(intake, None)?;
     }
-    intake.merge_before_end()?;
-    intake.finish()
+    Ok(())
 }
 
 // A letter for a verdict.
@@ -291,16 +305,14 @@ fn feed_seen(
     key: u64,
     seen: &mut Seen,
 ) -> Result<(), Fault> {
-    if !intake.is_sound() {
-        return Err(Fault::Memory);
-    }
     let offer = offer_of(alloc, key, b"t")?;
     let b = bucket_of(offer.key, intake.settings().buckets);
-    intake.merge_before_room(b)?;
+    if step(intake, Some(b))? == Next::Merged {
+        see(alloc, intake, seen)?;
+        step(intake, Some(b))?;
+    }
     see(alloc, intake, seen)?;
-    intake.make_room(b)?;
-    see(alloc, intake, seen)?;
-    intake.push(offer);
+    push(intake, offer)?;
     if let Some(list) = seen.lists.get_mut(b as usize) {
         add(list, offer_of(alloc, key, b"t")?)?;
     }

@@ -1,6 +1,6 @@
 use Rattle.std.proofs.Common.{◌≡◌, ℕ, ◌<◌, ◌≤◌, List, [], length, vec_capacity}
 use Rattle.irl_array.specs.Waiting.{Waiting}
-use Rattle.irl_intake.specs.Feeding.{array_at}
+use Rattle.irl_intake.specs.Arrays.{array_at}
 use Rattle.irl_intake.proofs.intake.arrays_of.Given as goal
 
 -- so many arrays stand there

@@ -1,101 +1,85 @@
-use Rattle.std.proofs.Common.{◌≡◌, ◌∙◌, inr, [], Err, sym, ap, arith}
+use Rattle.std.proofs.Common.{◌∙◌, [], Err, sym, ap, rules, subst, arith}
 use Rattle.std.proofs.lemmas.Result.{err_from_is_err_and}
-use Rattle.irl_intake.specs.Feeding.{waiting_at, moment, Moment}
-use Rattle.irl_intake.proofs.Counts.{moves_on}
-use Rattle.irl_intake.specs.Schedule.{none_more, one_more}
-use Rattle.irl_intake.proofs.Chains.{feeds_more, feeds_both, strands_more, strands_after, stays_both, none_before}
+use Rattle.irl_offer.specs.declared.settings.Settings.{Settings}
+use Rattle.irl_schedule.specs.Feeding.{Moment, moment}
+use Rattle.irl_schedule.specs.Schedule.{none_more, one_more}
+use Rattle.irl_schedule.proofs.Schedules.{answers_ok, schedules_more, schedules_then}
+use Rattle.irl_intake.specs.Arrays.{AreArrays, waiting_at}
+use Rattle.irl_intake.proofs.Steps.{all_done, handed_on, never_full, refused_at_end, refused_by, stops_last}
+use Rattle.irl_intake.proofs.Waits.{none_past}
 use Rattle.irl_intake.proofs.intake.Intake.finish.Goals as goal
 
-pub returns-in_err-flush_all-clause-fed : goal.returns-in_err-flush_all-clause-fed
-returns-in_err-flush_all-clause-fed g c = λ sound.
+pub invariant_of-self : goal.invariant_of-self
+invariant_of-self g c = record {
+  arrays_are = subst (λ (s : Settings). AreArrays s c.flush_all.new.self.arrays.items) (sym (c.merge_rest.ensures.schedules (λ n. [])).stays.settings) c.flush_all.new.self.arrays_are;
+}
+
+pub returns-in_err-flush_all-clause-schedules : goal.returns-in_err-flush_all-clause-schedules
+returns-in_err-flush_all-clause-schedules g c =
     let tells = g.S.Store.told in
     let was = c.args.self.now in
     let between = c.flush_all.new.self in
-    let old : Moment = moment tells was.yard.store was.yard.parts was.arrays.items in
-    let mid : Moment = moment tells between.yard.store between.yard.parts between.arrays.items in
+    let old : Moment = moment (tells was.yard.store) was.yard.parts.urls (waiting_at was.arrays.items) in
+    let mid : Moment = moment (tells between.yard.store) between.yard.parts.urls (waiting_at between.arrays.items) in
     let out = err_from_is_err_and c.from_residual.result c.from_residual.ensures.1 in
-    let same : c.from_residual.result ≡ c.flush_all.result = out.1 ∙ ap (λ e. Err e) out.2 ∙ sym c.in_err-flush_all.was in
-    feeds_more 0 1 one_more one_more [] old mid (omega arith) (λ n. omega arith) (c.flush_all.ensures.fed (λ failed. sound (same ∙ failed)))
+    handed_on c.flush_all.result c.from_residual.result _ 1 one_more [] old mid c.in_err-flush_all.was (out.1 ∙ ap (λ e. Err e) out.2)
+    (schedules_more c.flush_all.result 0 1 one_more one_more [] old mid (omega arith) (λ n. omega arith) c.flush_all.ensures.schedules)
 
-pub returns-in_err-flush_all-clause-stranded : goal.returns-in_err-flush_all-clause-stranded
-returns-in_err-flush_all-clause-stranded g c = λ failed.
-    let tells = g.S.Store.told in
-    let was = c.args.self.now in
-    let between = c.flush_all.new.self in
-    let old : Moment = moment tells was.yard.store was.yard.parts was.arrays.items in
-    let mid : Moment = moment tells between.yard.store between.yard.parts between.arrays.items in
+pub returns-in_err-flush_all-clause-advances : goal.returns-in_err-flush_all-clause-advances
+returns-in_err-flush_all-clause-advances g c =
     let out = err_from_is_err_and c.from_residual.result c.from_residual.ensures.1 in
-    let same : c.from_residual.result ≡ c.flush_all.result = out.1 ∙ ap (λ e. Err e) out.2 ∙ sym c.in_err-flush_all.was in
-    strands_more 0 1 one_more one_more [] old mid (omega arith) (λ n. omega arith) (c.flush_all.ensures.stranded (sym same ∙ failed))
+    refused_by c.flush_all.result c.from_residual.result _ _ _ c.in_err-flush_all.was (out.1 ∙ ap (λ e. Err e) out.2) c.flush_all.ensures.ordered c.requires.ready
 
-pub returns-then-not-has_pending-clause-fed : goal.returns-then-not-has_pending-clause-fed
-returns-then-not-has_pending-clause-fed g c = λ sound.
+pub returns-in_err-merge_rest-clause-schedules : goal.returns-in_err-merge_rest-clause-schedules
+returns-in_err-merge_rest-clause-schedules g c =
     let tells = g.S.Store.told in
     let was = c.args.self.now in
     let between = c.flush_all.new.self in
-    let old : Moment = moment tells was.yard.store was.yard.parts was.arrays.items in
-    let mid : Moment = moment tells between.yard.store between.yard.parts between.arrays.items in
-    let flushed = c.in_ok-flush_all.ensures.fed (λ failed. let no : ⊥ = cc in absurd no) in
-    feeds_more 0 1 one_more one_more [] old mid (omega arith) (λ n. omega arith) flushed
+    let next = c.merge_rest.new.self in
+    let old : Moment = moment (tells was.yard.store) was.yard.parts.urls (waiting_at was.arrays.items) in
+    let mid : Moment = moment (tells between.yard.store) between.yard.parts.urls (waiting_at between.arrays.items) in
+    let new : Moment = moment (tells next.store) next.parts.urls (waiting_at between.arrays.items) in
+    let whole = schedules_then (tt {0}) c.merge_rest.result 0 1 one_more none_more [] [] old mid new (g.met.S.Store.is_consistent between.yard.store) c.flush_all.ensures.last c.flush_all.ensures.cuts
+    (answers_ok c.flush_all.result (tt {0}) (tt {0}) 0 one_more [] old mid c.in_ok-flush_all.was c.flush_all.ensures.schedules) (c.merge_rest.ensures.schedules (waiting_at between.arrays.items)) in
+    let out = err_from_is_err_and c.from_residual-in_err-merge_rest.result c.from_residual-in_err-merge_rest.ensures.1 in
+    handed_on c.merge_rest.result c.from_residual-in_err-merge_rest.result _ 1 one_more [] old new c.in_err-merge_rest.was (out.1 ∙ ap (λ e. Err e) out.2) whole
 
-pub returns-clause-fed : goal.returns-clause-fed
-returns-clause-fed g c = λ sound.
+pub returns-in_err-merge_rest-clause-advances : goal.returns-in_err-merge_rest-clause-advances
+returns-in_err-merge_rest-clause-advances g c =
     let tells = g.S.Store.told in
     let was = c.args.self.now in
     let between = c.flush_all.new.self in
-    let old : Moment = moment tells was.yard.store was.yard.parts was.arrays.items in
-    let mid : Moment = moment tells between.yard.store between.yard.parts between.arrays.items in
-    let next = c.merge.new.self in
-    let new : Moment = moment tells next.yard.store next.yard.parts next.arrays.items in
-    let flushed = c.in_ok-flush_all.ensures.fed (λ failed. let no : ⊥ = cc in absurd no) in
-    feeds_both 0 1 one_more none_more [] [] old mid new c.flush_all.ensures.stays flushed (c.merge.ensures.fed 1 (inr (omega arith)) sound)
+    let next = c.merge_rest.new.self in
+    let old : Moment = moment (tells was.yard.store) was.yard.parts.urls (waiting_at was.arrays.items) in
+    let mid : Moment = moment (tells between.yard.store) between.yard.parts.urls (waiting_at between.arrays.items) in
+    let new : Moment = moment (tells next.store) next.parts.urls (waiting_at between.arrays.items) in
+    let out = err_from_is_err_and c.from_residual-in_err-merge_rest.result c.from_residual-in_err-merge_rest.ensures.1 in
+    let is = out.1 ∙ ap (λ e. Err e) out.2 in
+    let buckets = was.yard.parts.urls.settings.buckets in
+    refused_at_end c.from_residual-in_err-merge_rest.result _ buckets old new is
+    (stops_last old new c.in_ok-flush_all.ensures.emptied (λ n le. none_past was.arrays.items n (omega (arith, was.arrays_are.count, le))))
+    (λ m named. never_full c.merge_rest.result c.from_residual-in_err-merge_rest.result _ 1 none_more (tells between.yard.store) (tells next.store) between.yard.parts.urls next.parts.urls m buckets
+    c.in_err-merge_rest.was is c.merge_rest.ensures.schedules named) (λ due some. absurd (c.requires.ready some due))
 
-pub returns-clause-stranded : goal.returns-clause-stranded
-returns-clause-stranded g c = λ failed.
+pub returns-clause-schedules : goal.returns-clause-schedules
+returns-clause-schedules g c =
     let tells = g.S.Store.told in
     let was = c.args.self.now in
     let between = c.flush_all.new.self in
-    let old : Moment = moment tells was.yard.store was.yard.parts was.arrays.items in
-    let mid : Moment = moment tells between.yard.store between.yard.parts between.arrays.items in
-    let next = c.merge.new.self in
-    let new : Moment = moment tells next.yard.store next.yard.parts next.arrays.items in
-    let flushed = c.in_ok-flush_all.ensures.fed (λ failed. let no : ⊥ = cc in absurd no) in
-    strands_after 0 1 one_more none_more [] [] old mid new c.flush_all.ensures.stays flushed (c.merge.ensures.stranded 1 (inr (omega arith)) failed)
+    let next = c.merge_rest.new.self in
+    let old : Moment = moment (tells was.yard.store) was.yard.parts.urls (waiting_at was.arrays.items) in
+    let mid : Moment = moment (tells between.yard.store) between.yard.parts.urls (waiting_at between.arrays.items) in
+    let new : Moment = moment (tells next.store) next.parts.urls (waiting_at between.arrays.items) in
+    let whole = schedules_then (tt {0}) c.merge_rest.result 0 1 one_more none_more [] [] old mid new (g.met.S.Store.is_consistent between.yard.store) c.flush_all.ensures.last c.flush_all.ensures.cuts
+    (answers_ok c.flush_all.result (tt {0}) (tt {0}) 0 one_more [] old mid c.in_ok-flush_all.was c.flush_all.ensures.schedules) (c.merge_rest.ensures.schedules (waiting_at between.arrays.items)) in
+    answers_ok c.merge_rest.result (tt {0}) _ 1 one_more [] old new c.in_ok-merge_rest.was whole
 
-pub returns-clause-stays : goal.returns-clause-stays
-returns-clause-stays g c =
+pub returns-clause-advances : goal.returns-clause-advances
+returns-clause-advances g c =
     let tells = g.S.Store.told in
     let was = c.args.self.now in
     let between = c.flush_all.new.self in
-    let old : Moment = moment tells was.yard.store was.yard.parts was.arrays.items in
-    let mid : Moment = moment tells between.yard.store between.yard.parts between.arrays.items in
-    let next = c.merge.new.self in
-    let new : Moment = moment tells next.yard.store next.yard.parts next.arrays.items in
-    stays_both old mid new (g.met.S.Store.is_consistent between.yard.store) c.flush_all.ensures.stays c.merge.ensures.stays
-
-pub returns-clause-whole : goal.returns-clause-whole
-returns-clause-whole g c = λ f at damaged.
-    let tells = g.S.Store.told in
-    let was = c.args.self.now in
-    let between = c.flush_all.new.self in
-    let old : Moment = moment tells was.yard.store was.yard.parts was.arrays.items in
-    let mid : Moment = moment tells between.yard.store between.yard.parts between.arrays.items in
-    let flushed = c.in_ok-flush_all.ensures.fed (λ failed. let no : ⊥ = cc in absurd no) in
-    none_before 0 one_more [] old mid c.flush_all.ensures.stays flushed (c.merge.ensures.whole f at damaged)
-
-pub returns-in_err-flush_all-clause-full : goal.returns-in_err-flush_all-clause-full
-returns-in_err-flush_all-clause-full g c = λ n full.
-    let out = err_from_is_err_and c.from_residual.result c.from_residual.ensures.1 in
-    let same : c.from_residual.result ≡ c.flush_all.result = out.1 ∙ ap (λ e. Err e) out.2 ∙ sym c.in_err-flush_all.was in
-    c.flush_all.ensures.full n (sym same ∙ full)
-
-pub returns-clause-moves : goal.returns-clause-moves
-returns-clause-moves g c = λ n.
-    let tells = g.S.Store.told in
-    let was = c.args.self.now in
-    let between = c.flush_all.new.self in
-    let old : Moment = moment tells was.yard.store was.yard.parts was.arrays.items in
-    let mid : Moment = moment tells between.yard.store between.yard.parts between.arrays.items in
-    let next = c.merge.new.self in
-    let new : Moment = moment tells next.yard.store next.yard.parts next.arrays.items in
-    moves_on old mid new n (c.flush_all.ensures.moves n) (ap (λ (v : _). waiting_at v.items n) c.merge.ensures.waiting) (c.merge.ensures.durable n)
+    let next = c.merge_rest.new.self in
+    let old : Moment = moment (tells was.yard.store) was.yard.parts.urls (waiting_at was.arrays.items) in
+    let new : Moment = moment (tells next.store) next.parts.urls (waiting_at between.arrays.items) in
+    all_done old new c.requires.ready c.in_ok-flush_all.ensures.emptied (search rules)

@@ -3,9 +3,9 @@ use Rattle.std.proofs.lemmas.List.{get_or_read}
 use Rattle.irl_offer.specs.Buckets.{bucket_of}
 use Rattle.irl_offer.specs.declared.settings.Settings.{Settings}
 use Rattle.irl_offer.specs.Tuple.{Tuple}
-use Rattle.irl_intake.specs.Feeding.{no_array}
-use Rattle.irl_intake.proofs.Chains.{fed_still}
-use Rattle.irl_intake.proofs.Counts.{push_keeps}
+use Rattle.irl_schedule.proofs.Chains.{fed_still}
+use Rattle.irl_intake.specs.Arrays.{no_array}
+use Rattle.irl_intake.proofs.Waits.{push_keeps}
 use Rattle.irl_intake.proofs.intake.Intake.push.Goals as goal
 
 pub returns-clause-keeps : goal.returns-clause-keeps

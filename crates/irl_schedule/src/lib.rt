@@ -1,0 +1,6 @@
+//! When arrays are flushed into a bay, and when its merges run.
+#![tactic(auto)]
+
+mod schedule;
+
+pub use schedule::{flush_some, make_room, merge_if_due, merge_rest};
