@@ -1,5 +1,5 @@
 -- What a call on an open store, and a piece that is printed, do to a run.
-use Rattle.std.proofs.Common.{◌≡◌, ◌≢◌, ◌∙◌, ◌⊎◌, inl, inr, ⊎_elim, ℕ, zero, suc, ◌+◌, ◌-◌, ◌<◌, ◌≤◌, List, [], ◌∷◌, ◌++◌, length, sum, replicate, take, drop, get_or, refl, sym, ap, subst, append_assoc, append-nil, length-take, length-drop, arith}
+use Rattle.std.proofs.Common.{◌≡◌, ◌≢◌, ◌∙◌, ◌⊎◌, inl, inr, ⊎_elim, ℕ, zero, suc, ◌+◌, ◌-◌, ◌<◌, ◌≤◌, List, [], ◌∷◌, ◌++◌, length, take, drop, get_or, refl, sym, ap, subst, append_assoc, append-nil, length-take, length-drop, arith}
 use Rattle.std.proofs.lemmas.List.{take-append-drop, drop-drop, drop_all, length-map}
 use Rattle.std.specs.Prelude.{Result, Ok, Err, IfErr, IsErrOf}
 use Rattle.std.specs.Result.{IsErrAnd}
@@ -14,48 +14,32 @@ use Rattle.irl_offer.specs.declared.settings.Settings.{Settings}
 use Rattle.irl_offer.specs.declared.receipt.Judged.{Judged}
 use Rattle.irl_base.specs.declared.fault.Fault.{Fault}
 use Rattle.irl_base.specs.declared.fault.Fault.TheVariants.{Failed as StoreFailed, Memory as StoreMemory, Full as StoreFull, Damaged as StoreDamaged}
-use Rattle.irl_model.specs.Book.{Book, gone, judged, judged_cut, lengths_of, part}
-use Rattle.irl_events.specs.State.{State}
+use Rattle.irl_model.specs.Book.{Book, gone, judged, judged_cut, lengths_of}
 use Rattle.irl_disk.specs.Images.{Told, IsConsistent}
 use Rattle.irl_bay.specs.Standing.{IsBookOf}
 use Rattle.irl_bay.specs.declared.bucket.Bucket.{Bucket}
-use Rattle.irl_bay.specs.Drum.{IsDrum, durable_at, durables, pending_at, SomePending}
+use Rattle.irl_layout.specs.Commits.{Commit}
+use Rattle.irl_bay.specs.Drum.{Drum, IsDrum, durable_at, durables, pending_at, SomePending}
 use Rattle.irl_bay.specs.Holding.{IsLong}
 use Rattle.irl_bay.specs.Spoilt.{IsSpoiltAt}
 use Rattle.irl_bay.specs.JudgedSpoilt.{IsJudgedSpoiltAt}
 use Rattle.irl_bay.proofs.Merged.{durable_is}
-use Rattle.irl_yard.specs.declared.parts.Parts.{Parts}
-use Rattle.irl_yard.specs.Holding.{HoldsState}
-use Rattle.irl_intake.specs.Schedule.{none_more, one_more}
-use Rattle.irl_intake.specs.Feeding.{AreArrays, Moment, Stays, Fed, Feeds, Strands, HeldNone, list_at, length_at, waiting_at}
-use Rattle.irl_intake.proofs.Chains.{stays_same, fed_still, keeps_same, feeds_more, feeds_none}
-use Rattle.irl_intake.proofs.Steps.{durable_held}
+use Rattle.irl_schedule.specs.Schedule.{none_more, one_more}
+use Rattle.irl_schedule.specs.Feeding.{Moment, Stays, Fed, Feeds, Strands, HeldNone, length_at}
+use Rattle.irl_schedule.specs.Scheduling.{Schedules}
+use Rattle.irl_schedule.proofs.Chains.{stays_same, fed_still, keeps_same, feeds_more, feeds_none}
+use Rattle.irl_schedule.proofs.Steps.{durable_held}
+use Rattle.irl_intake.specs.Arrays.{AreArrays, waiting_at}
 use Rattle.irl_io.specs.Written.{AppendsPrefix}
 use Rattle.irl_top.specs.Message.{ending_of, ending_of_store, IsAllPrinted, IsEndOfInput, IsUnopened}
-use Rattle.irl_top.specs.Printed.{judged_lines, judged_count}
-use Rattle.irl_top.specs.Session.{Place, unprinted, FewWait, Goes, Ends, GoesOn, EndsWith, HasReason}
+use Rattle.irl_top.specs.Printed.{before_last, judged_lines, judged_count}
+use Rattle.irl_top.specs.Session.{Place, HoldsAt, IsPrinted, ArePrinted, unprinted, FewWait, Goes, Ends, GoesOn, EndsWith, HasReason}
 use Rattle.irl_top.specs.Stream.{Stream}
 use Rattle.irl_top.specs.declared.line.LineKind.{LineKind}
 use Rattle.irl_top.specs.declared.ending.Ending.{Ending}
 use Rattle.irl_top.specs.declared.ending.Ending.TheVariants.{Done, LineRefused, Damaged, DiskFault, InputFault, OutputFault, NoMemory, Full}
-use Rattle.irl_top.proofs.Going.{goes_on_ends, IsPlain, closes_plain, ends_fed, ends_stranded, goes_fed, judged_later, lines-append, printed_later, unprinted_more}
-
--- ---- numbers
-sum-zeros : (n : ℕ) → sum (replicate n 0) ≡ 0
-sum-zeros zero = refl
-sum-zeros (suc n) = sum-zeros n
-
--- no judged offer is dropped
-pub gone_none : (settings : Settings) (book : Book) → IsBookOf settings book → gone book ≡ 0
-gone_none settings book is = ap sum (is.is_book.none is.dropped).1 ∙ sum-zeros book.buckets
-
--- what a bucket has is what its list has
-pub durable_length : (images : Told) (parts : Parts) (state : State) (b : ℕ) → HoldsState images.images parts state → durable_at parts.urls b ≡ length (list_at state.urls b)
-durable_length images parts state b holds = durable_held images.images parts.urls state b holds
-
--- how many are judged
-pub judged_number : (images : Told) (parts : Parts) (state : State) → HoldsState images.images parts state → parts.urls.last.judged ≡ judged_count state.urls
-judged_number images parts state holds = omega (arith, holds.urls_hold.numbers.commit.judged, gone_none parts.urls.settings state.urls holds.urls_hold.book_is)
+use Rattle.irl_top.proofs.Unprinted.{lines-append, before_same, judged_later, printed_later, unprinted_more, none_unprinted, text_before}
+use Rattle.irl_top.proofs.Going.{goes_on_ends, gone_none, judged_number, AddsFewCuts, IsPlain, ends_fed, ends_stranded, goes_fed}
 
 -- ---- endings
 -- what an intake's refusal ends a run with
@@ -148,23 +132,24 @@ store_done (StoreDamaged f at) is = cc
 -- ---- ends
 -- the offers that wait of a bucket don't fit
 abbrev pub IsOver : Place → Place → ℕ → Type 0
-IsOver old new b = (b < old.moment.parts.urls.settings.buckets) × (1 ≤ length (waiting_at new.moment.arrays b))
-    × (old.moment.parts.urls.settings.cap < durable_at new.moment.parts.urls b + length (waiting_at new.moment.arrays b))
+IsOver old new b = (b < old.moment.drum.settings.buckets) × (1 ≤ length (new.moment.waits b))
+    × (old.moment.drum.settings.cap < durable_at new.moment.drum b + length (new.moment.waits b))
 
 -- so they don't fit behind its list
-over_full : (old new : Place) (state : State) (b : ℕ) → HoldsState new.moment.store.images new.moment.parts state → IsOver old new b
-    → (b < old.moment.parts.urls.settings.buckets) × (1 ≤ length (waiting_at new.moment.arrays b))
-    × (old.moment.parts.urls.settings.cap < length_at state.urls b + length (waiting_at new.moment.arrays b))
-over_full old new state b holds over = (over.0, over.1, omega (arith, over.2, durable_length new.moment.store new.moment.parts state b holds))
+over_full : (old new : Place) (book : Book) (b : ℕ) → new.moment.drum.settings ≡ old.moment.drum.settings → HoldsAt new book → IsOver old new b
+    → (b < old.moment.drum.settings.buckets) × (1 ≤ length (new.moment.waits b)) × (old.moment.drum.settings.cap < length_at book b + length (new.moment.waits b))
+over_full old new book b same holds over =
+    let within : b < new.moment.drum.settings.buckets = subst (λ (s : Settings). b < s.buckets) (sym same) over.0 in
+    (over.0, over.1, omega (arith, over.2, durable_held new.moment.store.images new.moment.drum book b holds within))
 
 -- no array has more than its room, by the settings of before
-pub few_wait : (old : Moment) (parts : Parts) (arrays : List Waiting) → parts.urls.settings ≡ old.parts.urls.settings → AreArrays parts.urls.settings arrays → FewWait old.parts.urls.settings arrays
-few_wait old parts arrays same are = subst (λ (s : Settings). FewWait s arrays) same (λ b within. (are.each b within).few)
+pub few_wait : (old new : Drum) (arrays : List Waiting) → new.settings ≡ old.settings → AreArrays new.settings arrays → FewWait old.settings (λ b. waiting_at arrays b)
+few_wait old new arrays same are = subst (λ (s : Settings). FewWait s (λ b. waiting_at arrays b)) same (λ b within. (are.each b within).few)
 
 -- nothing waits and nothing is unjudged
 pub record IsFinished (new : Place) : Type 0 where
-  pub empty : (b : ℕ) → waiting_at new.moment.arrays b ≡ []
-  pub judged : SomePending new.moment.parts.urls → ⊥
+  pub empty : (b : ℕ) → new.moment.waits b ≡ []
+  pub judged : SomePending new.moment.drum → ⊥
 
 same_numbers : (xs ys : List ℕ) (n : ℕ) → length xs ≡ n → length ys ≡ n → ((b : ℕ) → b < n → get_or xs b 0 ≡ get_or ys b 0) → xs ≡ ys
 same_numbers [] [] n one two each = refl
@@ -181,55 +166,55 @@ no_more zero not = refl
 no_more (suc n) not = absurd (not (omega arith))
 
 -- so the last cut is at the lists' ends
-all_judged : (images : Told) (parts : Parts) (state : State) → IsDrum parts.urls → HoldsState images.images parts state → (SomePending parts.urls → ⊥) → judged_cut state.urls ≡ lengths_of state.urls
-all_judged images parts state law holds none =
-    let numbers = holds.urls_hold.numbers in
-    let same : parts.urls.last.cut ≡ durables parts.urls =
-    same_numbers parts.urls.last.cut (durables parts.urls) parts.urls.settings.buckets law.last.count (length-map parts.urls.buckets (λ (bucket : Bucket). bucket.durable) ∙ law.count) (λ b within.
-    let at = durable_is parts.urls b in
+all_judged : (place : Place) (book : Book) → IsDrum place.moment.drum → HoldsAt place book → (SomePending place.moment.drum → ⊥) → judged_cut book ≡ lengths_of book
+all_judged place book law holds none =
+    let drum = place.moment.drum in
+    let numbers = holds.numbers in
+    let same : drum.last.cut ≡ durables drum =
+    same_numbers drum.last.cut (durables drum) drum.settings.buckets law.last.count (length-map drum.buckets (λ (bucket : Bucket). bucket.durable) ∙ law.count) (λ b within.
+    let at = durable_is drum b in
     let judged = (law.buckets b within).judged in
-    let waits : pending_at parts.urls b ≡ 0 = no_more (pending_at parts.urls b) (λ some. none (b, within, some)) in
+    let waits : pending_at drum b ≡ 0 = no_more (pending_at drum b) (λ some. none (b, within, some)) in
     omega (arith, at, judged, waits)) in
     sym numbers.commit.cut ∙ same ∙ numbers.offers
 
 -- all that was judged is printed
-pub printed_all : (kind : LineKind) (images : Told) (parts : Parts) (state : State) (printed : ℕ) → HoldsState images.images parts state → parts.urls.last.judged ≤ printed
-    → unprinted kind printed state.urls ≡ []
-printed_all kind images parts state printed holds whole =
-    ap (judged_lines kind) (drop_all (printed - gone state.urls) (judged state.urls) (omega (arith, whole, judged_number images parts state holds)))
+pub printed_all : (kind : LineKind) (place : Place) (book : Book) → HoldsAt place book → IsPrinted place → unprinted kind place.printed book ≡ []
+printed_all kind place book holds whole =
+    ap (judged_lines kind) (drop_all (place.printed - gone book) (judged book) (omega (arith, whole, judged_number place book holds)))
 
 -- what a run adds to a part that goes on, when it ends
 pub record Last (old new : Place) (ending : Ending) : Type 0 where
-  pub printed : IsAllPrinted ending → new.moment.parts.urls.last.judged ≤ new.printed
+  pub printed : IsAllPrinted ending → IsPrinted new
   pub full : (b : ℕ) → ending ≡ Full b → IsOver old new b
   pub done : ending ≡ Done → IsFinished new
 
-pub ends_goes : (kind : LineKind) (e : ℕ) (u : ℕ → ℕ) (xs : List Tuple) (old new : Place) (ending : Ending) (x : State) → IsConsistent new.moment.store → IsDrum new.moment.parts.urls
-    → AreArrays new.moment.parts.urls.settings new.moment.arrays → Stays old.moment new.moment
+pub ends_goes : (kind : LineKind) (e : ℕ) (u : ℕ → ℕ) (xs : List Tuple) (old new : Place) (ending : Ending) (x : Book) → IsConsistent new.moment.store → IsDrum new.moment.drum
+    → FewWait old.moment.drum.settings new.moment.waits → Stays old.moment new.moment
     → Last old new ending → Goes kind e u xs old new x → Ends kind e u xs old new ending x
-ends_goes kind e u xs old new ending x law drum arrays still last goes =
-    let y = goes.fed.state in
-    ends_fed kind e u xs old new ending x law drum still (few_wait old.moment new.moment.parts new.moment.arrays still.settings arrays) goes.fed (record {
+ends_goes kind e u xs old new ending x law drum few still last goes =
+    let y = goes.fed.book in
+    ends_fed kind e u xs old new ending x law drum still few goes.fed (record {
       text = goes.text;
       written = goes.written;
-      prints = (unprinted kind new.printed y.urls, sym goes.prints);
-      prints_all = λ all. sym (append-nil goes.text) ∙ ap (λ (l : List ℕ). goes.text ++ l) (sym (printed_all kind new.moment.store new.moment.parts y new.printed goes.fed.holds (last.printed all)))
-          ∙ goes.prints;
-      full = λ b is. over_full old new y b goes.fed.holds (last.full b is);
-      done = λ is. let finished = last.done is in (finished.empty, all_judged new.moment.store new.moment.parts y drum goes.fed.holds finished.judged);
+      prints = (unprinted kind new.printed y, sym goes.prints);
+      printed_before = text_before kind y old.printed new.printed goes.text goes.fed.holds.book_is.is_book goes.later goes.are.0 goes.prints;
+      prints_all = λ all. sym (append-nil goes.text) ∙ ap (λ (l : List ℕ). goes.text ++ l) (sym (printed_all kind new y goes.fed.holds (last.printed all))) ∙ goes.prints;
+      full = λ b is. over_full old new y b still.settings goes.fed.holds (last.full b is);
+      done = λ is. let finished = last.done is in (finished.empty, all_judged new y drum goes.fed.holds finished.judged);
     })
 
-pub ends_on : (kind : LineKind) (e : ℕ) (u : ℕ → ℕ) (xs : List Tuple) (old new : Place) (ending : Ending) → IsConsistent new.moment.store → IsDrum new.moment.parts.urls
-    → AreArrays new.moment.parts.urls.settings new.moment.arrays → Stays old.moment new.moment
+pub ends_on : (kind : LineKind) (e : ℕ) (u : ℕ → ℕ) (xs : List Tuple) (old new : Place) (ending : Ending) → IsConsistent new.moment.store → IsDrum new.moment.drum
+    → FewWait old.moment.drum.settings new.moment.waits → Stays old.moment new.moment
     → Last old new ending → GoesOn kind e u xs old new → EndsWith kind e u xs old new ending
-ends_on kind e u xs old new ending law drum arrays still last goes = λ files told x holds few. ends_goes kind e u xs old new ending x law drum arrays still last (goes files told x holds few)
+ends_on kind e u xs old new ending law drum few still last goes = λ files told x holds are. ends_goes kind e u xs old new ending x law drum few still last (goes files told x holds are)
 
 -- ---- an intake's call
-pub goes_call : (kind : LineKind) (e : ℕ) (u : ℕ → ℕ) (xs : List Tuple) (old new : Place) → new.output.bytes ≡ old.output.bytes → new.printed ≡ old.printed → Feeds e u xs old.moment new.moment
-    → GoesOn kind e u xs old new
-goes_call kind e u xs old new output printed feeds = λ files told x holds few. goes_fed kind e u xs old new x holds few output printed (feeds files told x holds)
+pub goes_call : (kind : LineKind) (e : ℕ) (u : ℕ → ℕ) (xs : List Tuple) (old new : Place) → AddsFewCuts old new → new.output.bytes ≡ old.output.bytes → new.printed ≡ old.printed
+    → Feeds e u xs old.moment new.moment → GoesOn kind e u xs old new
+goes_call kind e u xs old new few output printed feeds = λ files told x holds are. goes_fed kind e u xs old new x holds are few output printed (feeds files told x holds)
 
-pub last_of_store : (old new : Place) (fault : Fault) → ((n : ℕ) → fault ≡ StoreFull n → IsOver old new n) → ((n : ℕ) → fault ≡ StoreFull n → new.moment.parts.urls.last.judged ≤ new.printed)
+pub last_of_store : (old new : Place) (fault : Fault) → ((n : ℕ) → fault ≡ StoreFull n → IsOver old new n) → ((n : ℕ) → fault ≡ StoreFull n → IsPrinted new)
     → Last old new (ending_of_store fault)
 last_of_store old new fault full whole = record {
   printed = λ is. ⊎_elim (λ input. absurd (store_input fault input)) (λ over. whole over.0 (store_full fault over.0 over.1)) is;
@@ -237,26 +222,32 @@ last_of_store old new fault full whole = record {
   done = λ is. absurd (store_done fault is);
 }
 
--- a call that is refused
-pub ends_call : (kind : LineKind) (e : ℕ) (u : ℕ → ℕ) (xs : List Tuple) (old new : Place) (fault : Fault) → IsConsistent new.moment.store → IsDrum new.moment.parts.urls
-    → AreArrays new.moment.parts.urls.settings new.moment.arrays → Stays old.moment new.moment
-    → new.output.bytes ≡ old.output.bytes → new.printed ≡ old.printed → ((fault ≡ StoreFailed → ⊥) → Feeds e u xs old.moment new.moment) → (fault ≡ StoreFailed → Strands e u xs old.moment new.moment)
-    → ((n : ℕ) → fault ≡ StoreFull n → IsOver old new n)
-    → ((n : ℕ) → fault ≡ StoreFull n → new.moment.parts.urls.last.judged ≤ new.printed) → EndsWith kind e u xs old new (ending_of_store fault)
-ends_call kind e u xs old new StoreFailed law drum arrays still output printed feeds strands full whole = λ files told x holds few.
-    ends_stranded kind e u xs old new x (few_wait old.moment new.moment.parts new.moment.arrays still.settings arrays) output (strands refl files told x holds)
-ends_call kind e u xs old new StoreMemory law drum arrays still output printed feeds strands full whole =
-    ends_on kind e u xs old new (ending_of_store StoreMemory) law drum arrays still (last_of_store old new StoreMemory full whole) (goes_call kind e u xs old new output printed (feeds (λ is. cc)))
-ends_call kind e u xs old new (StoreFull b) law drum arrays still output printed feeds strands full whole =
-    ends_on kind e u xs old new (ending_of_store (StoreFull b)) law drum arrays still (last_of_store old new (StoreFull b) full whole) (goes_call kind e u xs old new output printed (feeds (λ is. cc)))
-ends_call kind e u xs old new (StoreDamaged f at) law drum arrays still output printed feeds strands full whole =
-    ends_on kind e u xs old new (ending_of_store (StoreDamaged f at)) law drum arrays still (last_of_store old new (StoreDamaged f at) full whole)
-    (goes_call kind e u xs old new output printed (feeds (λ is. cc)))
+-- a call of the schedule that is refused
+pub ends_call : {A : Type 0} (kind : LineKind) (e : ℕ) (u : ℕ → ℕ) (xs : List Tuple) (old new : Place) (fault : Fault) → IsConsistent new.moment.store → IsDrum new.moment.drum
+    → FewWait old.moment.drum.settings new.moment.waits → IsPrinted old → new.output.bytes ≡ old.output.bytes → new.printed ≡ old.printed
+    → Schedules {A = A} (Err fault) e u xs old.moment new.moment → EndsWith kind e u xs old new (ending_of_store fault)
+ends_call {A} kind e u xs old new fault law drum few whole output printed does = by_fault fault does
+  where
+    judged_still : (f : Fault) → Schedules {A = A} (Err f) e u xs old.moment new.moment → IsPrinted new
+    judged_still f still = omega (arith, whole, printed, ap (λ (l : Commit). l.judged) still.judged_kept)
+
+    went : (f : Fault) → (f ≡ StoreFailed → ⊥) → Schedules {A = A} (Err f) e u xs old.moment new.moment → EndsWith kind e u xs old new (ending_of_store f)
+    went f not still =
+        ends_on kind e u xs old new (ending_of_store f) law drum few still.stays (last_of_store old new f (λ n is. still.full n (ap Err is)) (λ n is. judged_still f still))
+        (goes_call kind e u xs old new (inr (whole, still.one_cut)) output printed (still.fed (λ is. not (cc))))
+
+    by_fault : (f : Fault) → Schedules {A = A} (Err f) e u xs old.moment new.moment → EndsWith kind e u xs old new (ending_of_store f)
+    by_fault StoreFailed still = λ files told x holds are.
+        let strands = still.stranded refl files told x holds in
+        ends_stranded kind e u xs old new x holds whole few output strands.0 strands.2
+    by_fault StoreMemory still = went StoreMemory (λ is. cc) still
+    by_fault (StoreFull b) still = went (StoreFull b) (λ is. cc) still
+    by_fault (StoreDamaged f at) still = went (StoreDamaged f at) (λ is. cc) still
 
 -- why it is
 pub reason_call : (old new : Place) (fault : Fault) → Stays old.moment new.moment → HasCause (fault ≡ StoreFailed) old.moment.store.faults new.moment.store.faults → new.output ≡ old.output
-    → ((f at : ℕ) → fault ≡ StoreDamaged f at → ForSome new.moment.store.files (λ files. IsSpoiltAt new.moment.parts.urls files f at ⊎ IsJudgedSpoiltAt new.moment.parts.urls files f at))
-    → ((f at : ℕ) → fault ≡ StoreDamaged f at → ForSome new.moment.store.files (IsLong new.moment.parts.urls)) → ((f at : ℕ) → fault ≡ StoreDamaged f at → HeldNone old.moment)
+    → ((f at : ℕ) → fault ≡ StoreDamaged f at → ForSome new.moment.store.files (λ files. IsSpoiltAt new.moment.drum files f at ⊎ IsJudgedSpoiltAt new.moment.drum files f at))
+    → ((f at : ℕ) → fault ≡ StoreDamaged f at → ForSome new.moment.store.files (IsLong new.moment.drum)) → ((f at : ℕ) → fault ≡ StoreDamaged f at → HeldNone old.moment)
     → HasReason old new (ending_of_store fault)
 reason_call old new fault still cause output damaged long whole = record {
   stays = still;
@@ -265,7 +256,7 @@ reason_call old new fault still cause output damaged long whole = record {
   opened = store_unopened fault;
   damaged = λ f at is. damaged f at (store_damaged fault f at is);
   long = λ f at is. long f at (store_damaged fault f at is);
-  whole = λ f at is files told x holds few. whole f at (store_damaged fault f at is) files told x holds;
+  whole = λ f at is files told x holds are. whole f at (store_damaged fault f at is) files told x holds;
 }
 
 -- a call that isn't
@@ -291,9 +282,8 @@ reason_went old new still disk output = record {
 pub reason_same : (old : Place) → IsConsistent old.moment.store → HasReason old old Done
 reason_same old law = reason_went old old (stays_same old.moment old.moment law refl refl) (omega arith) (omega arith)
 
-pub goes_same : (kind : LineKind) (old : Place) → IsConsistent old.moment.store → IsDrum old.moment.parts.urls → GoesOn kind 0 none_more [] old old
-goes_same kind old law drum = λ files told x holds few.
-    goes_fed kind 0 none_more [] old old x holds few refl refl (fed_still [] old.moment old.moment x law drum refl refl (keeps_same old.moment.parts.urls.settings x old.moment.arrays) holds)
+pub goes_same : (kind : LineKind) (old : Place) → IsConsistent old.moment.store → IsDrum old.moment.drum → GoesOn kind 0 none_more [] old old
+goes_same kind old law drum = goes_call kind 0 none_more [] old old (inl refl) refl refl (feeds_none old.moment old.moment law drum refl refl refl)
 
 -- ---- a piece that is printed
 -- some judged offers from one on, and those behind them
@@ -326,53 +316,57 @@ piece_within settings book printed next most found is pieces next_is few =
       length-drop (printed - gone book) (judged book),
     )
 
--- what is found of the judged offers of each state that the store holds
+-- what is found of the judged offers of each book that the bay holds
 abbrev pub Finds : Place → ℕ → List Judged → Type 0
-Finds old most found = ForSome old.moment.store.files (λ _. (state : State) → HoldsState old.moment.store.images old.moment.parts state
-    → found ≡ take most (drop (old.printed - gone state.urls) (judged state.urls)))
+Finds old most found = ForSome old.moment.store.files (λ _. (book : Book) → HoldsAt old book → found ≡ take most (drop (old.printed - gone book) (judged book)))
 
-goes_piece : (kind : LineKind) (old new : Place) (most : ℕ) (found : List Judged) (x : State) → HoldsState old.moment.store.images old.moment.parts x → old.printed ≤ judged_count x.urls
-    → Fed 0 none_more [] old.moment new.moment x → found ≡ take most (drop (old.printed - gone x.urls) (judged x.urls))
+goes_piece : (kind : LineKind) (old new : Place) (most : ℕ) (found : List Judged) (x : Book) → HoldsAt old x → ArePrinted old.printed x → new.moment.drum.cuts ≡ old.moment.drum.cuts
+    → Fed 0 none_more [] old.moment new.moment x → found ≡ take most (drop (old.printed - gone x) (judged x))
     → new.printed ≡ old.printed + length found → Appends old.output.bytes new.output.bytes (judged_lines kind found) → Goes kind 0 none_more [] old new x
-goes_piece kind old new most found x holds few fed pieces next written =
-    let is = holds.urls_hold.book_is in
-    let within = piece_within old.moment.parts.urls.settings x.urls old.printed new.printed most found is pieces next few in
+goes_piece kind old new most found x holds are cuts fed pieces next written =
+    let is = holds.book_is in
+    let within = piece_within old.moment.drum.settings x old.printed new.printed most found is pieces next are.1 in
+    let before = before_same x fed.book is.is_book fed.holds.book_is.is_book fed.grows.front
+    (omega (arith, cuts, holds.numbers.cuts, fed.holds.numbers.cuts, is.dropped, fed.holds.book_is.dropped)) in
     record {
       fed = fed;
       later = omega (arith, next);
-      ahead = omega (arith, within, judged_later x.urls fed.state.urls is.is_book fed.grows.front.urls);
+      are = (omega (arith, before, are.0, next), omega (arith, within, judged_later x fed.book is.is_book fed.grows.front));
       text = judged_lines kind found;
       written = written;
-      prints = printed_later kind x.urls fed.state.urls old.printed new.printed (judged_lines kind found) is.is_book fed.grows.front.urls (omega (arith, next)) within
-          (piece_of kind old.moment.parts.urls.settings x.urls old.printed new.printed most found is pieces next);
+      prints = printed_later kind x fed.book old.printed new.printed (judged_lines kind found) is.is_book fed.grows.front (omega (arith, next)) within
+          (piece_of kind old.moment.drum.settings x old.printed new.printed most found is pieces next);
     }
 
-pub goes_on_piece : (kind : LineKind) (old new : Place) (most : ℕ) (found : List Judged) → Feeds 0 none_more [] old.moment new.moment → Finds old most found → new.printed ≡ old.printed + length found
-    → Appends old.output.bytes new.output.bytes (judged_lines kind found) → GoesOn kind 0 none_more [] old new
-goes_on_piece kind old new most found feeds finds next written = λ files told x holds few.
-    goes_piece kind old new most found x holds few (feeds files told x holds) (finds files told x holds) next written
+pub goes_on_piece : (kind : LineKind) (old new : Place) (most : ℕ) (found : List Judged) → new.moment.drum.cuts ≡ old.moment.drum.cuts → Feeds 0 none_more [] old.moment new.moment
+    → Finds old most found → new.printed ≡ old.printed + length found → Appends old.output.bytes new.output.bytes (judged_lines kind found) → GoesOn kind 0 none_more [] old new
+goes_on_piece kind old new most found cuts feeds finds next written = λ files told x holds are.
+    goes_piece kind old new most found x holds are cuts (feeds files told x holds) (finds files told x holds) next written
 
 -- a piece of which a prefix is printed
-pub ends_piece : (kind : LineKind) (old new : Place) (most : ℕ) (found : List Judged) (ending : Ending) → IsConsistent new.moment.store → IsDrum new.moment.parts.urls → Stays old.moment new.moment
-    → AreArrays new.moment.parts.urls.settings new.moment.arrays → IsPlain ending → Feeds 0 none_more [] old.moment new.moment → Finds old most found
+pub ends_piece : (kind : LineKind) (old new : Place) (most : ℕ) (found : List Judged) (ending : Ending) → IsConsistent new.moment.store → IsDrum new.moment.drum → Stays old.moment new.moment
+    → FewWait old.moment.drum.settings new.moment.waits → IsPlain ending → new.moment.drum.cuts ≡ old.moment.drum.cuts → Feeds 0 none_more [] old.moment new.moment → Finds old most found
     → AppendsPrefix old.output.bytes new.output.bytes (judged_lines kind found)
     → EndsWith kind 0 none_more [] old new ending
-ends_piece kind old new most found ending law drum still arrays plain feeds finds part = λ files told x holds few.
+ends_piece kind old new most found ending law drum still few plain cuts feeds finds part = λ files told x holds are.
     let fed = feeds files told x holds in
     let pieces = finds files told x holds in
-    let is = holds.urls_hold.book_is in
+    let is = holds.book_is in
     let text = take part.0 (judged_lines kind found) in
     let rest = drop part.0 (judged_lines kind found) in
-    let more = unprinted_more kind x.urls fed.state.urls is.is_book fed.grows.front.urls in
-    let behind = unprinted kind (old.printed + length found) x.urls in
-    let whole : unprinted kind old.printed fed.state.urls ≡ text ++ (rest ++ (behind ++ more.0)) =
-    more.1 old.printed few ∙ ap (λ (l : List ℕ). l ++ more.0) (sym (piece_of kind old.moment.parts.urls.settings x.urls old.printed (old.printed + length found) most found is pieces refl))
+    let more = unprinted_more kind x fed.book is.is_book fed.grows.front in
+    let behind = unprinted kind (old.printed + length found) x in
+    let whole : unprinted kind old.printed fed.book ≡ text ++ (rest ++ (behind ++ more.0)) =
+    more.1 old.printed are.1 ∙ ap (λ (l : List ℕ). l ++ more.0) (sym (piece_of kind old.moment.drum.settings x old.printed (old.printed + length found) most found is pieces refl))
     ∙ append_assoc (judged_lines kind found) behind more.0 ∙ ap (λ (l : List ℕ). l ++ (behind ++ more.0)) (sym (take-append-drop part.0 (judged_lines kind found)))
     ∙ append_assoc text rest (behind ++ more.0) in
-    ends_fed kind 0 none_more [] old new ending x law drum still (few_wait old.moment new.moment.parts new.moment.arrays still.settings arrays) fed (record {
+    let before = before_same x fed.book is.is_book fed.holds.book_is.is_book fed.grows.front
+    (omega (arith, cuts, holds.numbers.cuts, fed.holds.numbers.cuts, is.dropped, fed.holds.book_is.dropped)) in
+    ends_fed kind 0 none_more [] old new ending x law drum still few fed (record {
       text = text;
       written = part.1;
       prints = (rest ++ (behind ++ more.0), whole);
+      printed_before = none_unprinted kind (before_last fed.book) old.printed text (omega (arith, before, are.0));
       prints_all = λ all. absurd (plain.printed all);
       full = λ b e. absurd (plain.full b e);
       done = λ e. absurd (plain.done e);
@@ -452,16 +446,12 @@ pub err_is : {T E : Type 0} (r : Result T E) (e : E) → IsErrAnd r (λ y. y ≡
 err_is r e h = let out = err_from_is_err_and r h in out.1 ∙ ap Err out.2
 
 -- ---- the end of an input
--- what is printed last changes nothing
-pub last_finished : (old mid new : Place) → new.moment.parts.urls ≡ mid.moment.parts.urls → new.moment.arrays ≡ mid.moment.arrays → new.moment.parts.urls.last.judged ≤ new.printed
-    → ((b : ℕ) → waiting_at mid.moment.arrays b ≡ []) → (SomePending mid.moment.parts.urls → ⊥) → Last old new Done
-last_finished old mid new urls arrays whole empty judged = record {
+-- at Done nothing waits, all is judged, and all that is judged is printed
+pub last_finished : (old new : Place) → IsPrinted new → ((b : ℕ) → new.moment.waits b ≡ []) → (SomePending new.moment.drum → ⊥) → Last old new Done
+last_finished old new whole empty judged = record {
   printed = λ all. whole;
   full = λ b is. let no : ⊥ = cc in absurd no;
-  done = λ is. record {
-    empty = λ b. subst (λ (l : List Waiting). waiting_at l b ≡ []) (sym arrays) (empty b);
-    judged = λ some. judged (subst SomePending urls some);
-  };
+  done = λ is. record { empty = empty; judged = judged };
 }
 
 -- what holds of every answer of a call that reads nothing
@@ -477,15 +467,17 @@ pub no_input_of : (r : Result (Unit {0}) Ending) → IfErr r (λ ending. IsEndOf
 no_input_of (Ok x) kinds is = let no : ⊥ = cc in absurd no
 no_input_of (Err e) kinds is = kinds (inr (inr is))
 
+-- the same numbers for the whole of an input
+lifts_goes : (kind : LineKind) (old : Place) → IsConsistent old.moment.store → IsDrum old.moment.drum → GoesOn kind 1 one_more [] old old
+lifts_goes kind old law drum = goes_call kind 1 one_more [] old old (inl refl) refl refl (feeds_more 0 1 none_more one_more [] old.moment old.moment (omega arith) (λ b. omega arith)
+    (feeds_none old.moment old.moment law drum refl refl refl))
+
 -- the run ends where it stands
-pub stop_here : (kind : LineKind) (old : Place) (ending : Ending) → IsConsistent old.moment.store → IsDrum old.moment.parts.urls → AreArrays old.moment.parts.urls.settings old.moment.arrays
-    → (ending ≢ Done) → ((b : ℕ) → ending ≢ Full b) → (IsAllPrinted ending → old.moment.parts.urls.last.judged ≤ old.printed)
-    → EndsWith kind 1 one_more [] old old ending
-stop_here kind old ending law drum arrays not_done not_full whole =
-    ends_on kind 1 one_more [] old old ending law drum arrays (stays_same old.moment old.moment law refl refl)
-    (record { printed = whole; full = λ b is. absurd (not_full b is); done = λ is. absurd (not_done is) })
-    (goes_call kind 1 one_more [] old old refl refl (feeds_more 0 1 none_more one_more [] old.moment old.moment (omega arith) (λ b. omega arith)
-    (feeds_none old.moment old.moment law drum refl refl refl)))
+pub stop_here : (kind : LineKind) (old : Place) (ending : Ending) → IsConsistent old.moment.store → IsDrum old.moment.drum → FewWait old.moment.drum.settings old.moment.waits
+    → (ending ≢ Done) → ((b : ℕ) → ending ≢ Full b) → (IsAllPrinted ending → IsPrinted old) → EndsWith kind 1 one_more [] old old ending
+stop_here kind old ending law drum few not_done not_full whole =
+    ends_on kind 1 one_more [] old old ending law drum few (stays_same old.moment old.moment law refl refl)
+    (record { printed = whole; full = λ b is. absurd (not_full b is); done = λ is. absurd (not_done is) }) (lifts_goes kind old law drum)
 
 -- what a step of the input can end a run with
 abbrev pub IsOfInput : Ending → Type 0
@@ -550,20 +542,13 @@ reason_input old ending law (inr (inr line)) = subst (HasReason old old) (sym li
   whole = λ f at is. let no : ⊥ = cc in absurd no;
 })
 
--- the same numbers for the whole of an input
-lifts_goes : (kind : LineKind) (old : Place) → IsConsistent old.moment.store → IsDrum old.moment.parts.urls → GoesOn kind 1 one_more [] old old
-lifts_goes kind old law drum = goes_call kind 1 one_more [] old old refl refl (feeds_more 0 1 none_more one_more [] old.moment old.moment (omega arith) (λ b. omega arith)
-    (feeds_none old.moment old.moment law drum refl refl refl))
-
-pub ends_lifted : (kind : LineKind) (news : List Tuple) (old mid new : Place) (ending : Ending) → IsConsistent mid.moment.store → IsDrum mid.moment.parts.urls → Stays old.moment mid.moment
+pub ends_lifted : (kind : LineKind) (news : List Tuple) (old mid new : Place) (ending : Ending) → IsConsistent mid.moment.store → IsDrum mid.moment.drum → Stays old.moment mid.moment
     → GoesOn kind 0 none_more news old mid → EndsWith kind 0 none_more [] mid new ending → EndsWith kind 1 one_more (news ++ []) old new ending
 ends_lifted kind news old mid new ending law drum still goes ends =
     goes_on_ends kind 0 1 none_more one_more news [] old mid new ending still goes
     (goes_on_ends kind 1 0 one_more none_more [] [] mid mid new ending (stays_same mid.moment mid.moment law refl refl) (lifts_goes kind mid law drum) ends)
 
 -- nothing waits yet, and memory runs out
-pub stop_plain : (kind : LineKind) (old : Place) → IsConsistent old.moment.store → IsDrum old.moment.parts.urls → FewWait old.moment.parts.urls.settings old.moment.arrays
+pub stop_plain : (kind : LineKind) (old : Place) → IsConsistent old.moment.store → IsDrum old.moment.drum → FewWait old.moment.drum.settings old.moment.waits
     → EndsWith kind 1 one_more [] old old NoMemory
-stop_plain kind old law drum few_waiting = λ files told x holds few.
-    let fed = feeds_more 0 1 none_more one_more [] old.moment old.moment (omega arith) (λ b. omega arith) (feeds_none old.moment old.moment law drum refl refl refl) files told x holds in
-    ends_fed kind 1 one_more [] old old NoMemory x law drum (stays_same old.moment old.moment law refl refl) few_waiting fed (closes_plain kind old old NoMemory fed.state memory_plain refl)
+stop_plain kind old law drum few = stop_here kind old NoMemory law drum few (λ is. let no : ⊥ = cc in absurd no) (λ b is. let no : ⊥ = cc in absurd no) (λ all. absurd (memory_plain.printed all))

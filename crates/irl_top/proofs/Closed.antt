@@ -1,5 +1,5 @@
 -- A run over a store that was refused.
-use Rattle.std.proofs.Common.{◌≡◌, ◌≢◌, ◌∙◌, ◌⊎◌, inl, inr, ⊎_elim, ℕ, [], Option, None, Some, refl, sym, ap, subst, append-nil, arith}
+use Rattle.std.proofs.Common.{◌≡◌, ◌≢◌, ◌∙◌, ◌⊎◌, inl, inr, ⊎_elim, ℕ, ◌-◌, [], length, Option, None, Some, refl, sym, ap, subst, append-nil, arith}
 use Rattle.std.proofs.KnownBytes.{Appends-nil}
 use Rattle.std.specs.Option.{ForSome}
 use Rattle.std.specs.Io.KnownBytes.{Appends}
@@ -8,37 +8,40 @@ use Rattle.irl_offer.specs.Settings.{AreValid, settings_of}
 use Rattle.irl_offer.specs.declared.settings.Asked.{Asked}
 use Rattle.irl_offer.specs.declared.settings.Kind.TheVariants.{Crawl}
 use Rattle.irl_offer.specs.declared.settings.Settings.{Settings}
-use Rattle.irl_model.specs.Book.{part}
+use Rattle.irl_model.specs.Book.{IsPrefixOf, part}
 use Rattle.irl_events.specs.State.{State, IsFrontState, blank_state}
 use Rattle.irl_disk.specs.Disk.{Files, ChangesFile, TellsBy}
 use Rattle.irl_disk.specs.Images.{IsConsistent, Leaves, LeavesBy}
 use Rattle.irl_disk.proofs.Stretches.{widens, left_now}
 use Rattle.irl_bay.proofs.Blank.{blank_is_book}
 use Rattle.irl_journal.specs.Visiting.{IsOpened}
-use Rattle.irl_yard.specs.StoreFiles.{head_file}
-use Rattle.irl_yard.specs.Standing.{HasState, IsBlank}
+use Rattle.irl_head.specs.StoreFiles.{head_file}
+use Rattle.irl_head.specs.Opening.{IsBlank, DeniesState, IsUnwanted}
+use Rattle.irl_yard.specs.Standing.{HasState}
 use Rattle.irl_yard.specs.Holding.{HasOneOf}
 use Rattle.irl_yard.specs.Opening.{entered_state, new_state}
-use Rattle.irl_yard.specs.Entering.{Enters, HasGround, DeniesState, IsUnwanted}
-use Rattle.irl_yard.specs.declared.open_fault.OpenFault.{OpenFault}
-use Rattle.irl_yard.specs.declared.open_fault.OpenFault.TheVariants.{NotOurs as OpenNotOurs, Damaged as OpenDamaged, OtherSettings as OpenOtherSettings, BadSettings as OpenBadSettings, Failed as OpenFailed, Memory as OpenMemory}
+use Rattle.irl_yard.specs.Entering.{Enters, HasGround}
+use Rattle.irl_head.specs.declared.open_fault.OpenFault.{OpenFault}
+use Rattle.irl_head.specs.declared.open_fault.OpenFault.TheVariants.{NotOurs as OpenNotOurs, Damaged as OpenDamaged, OtherSettings as OpenOtherSettings, BadSettings as OpenBadSettings, Failed as OpenFailed, Memory as OpenMemory}
+use Rattle.irl_yard.proofs.ByKind.{new_rest}
+use Rattle.irl_yard.proofs.Holding.{made_state}
 use Rattle.irl_yard.proofs.Grounds.{entered_made}
 use Rattle.irl_yard.proofs.States.{state_same, entered_front}
 use Rattle.irl_yard.proofs.Entering.{enters_keeps, enters_records}
-use Rattle.irl_intake.specs.Feeding.{list_at}
-use Rattle.irl_intake.proofs.Chains.{grows_same, grows_more}
+use Rattle.irl_schedule.specs.Feeding.{list_at}
 use Rattle.irl_top.specs.declared.line.LineKind.{LineKind}
 use Rattle.irl_top.specs.Input.{offered}
 use Rattle.irl_top.specs.Message.{ending_of_open, IsAllPrinted, IsUnopened}
 use Rattle.irl_top.specs.Outside.{Lent}
-use Rattle.irl_top.specs.Printed.{added}
+use Rattle.irl_top.specs.Printed.{before_last, judged_count, added}
 use Rattle.irl_top.specs.Records.{AddsUnevenRecords}
 use Rattle.irl_top.specs.Run.{line_task, settings_in, Reaches, IsLegal, Extends, Ran, IsLate}
 use Rattle.irl_top.specs.Stream.{Stream}
 use Rattle.irl_top.specs.declared.ending.Ending.TheVariants.{Done, BadSettings, LineRefused, NotOurs, OtherSettings, DiskFault, InputFault, OutputFault, Full, Damaged}
 use Rattle.irl_top.proofs.Growing.{starts}
 use Rattle.irl_top.proofs.Ranges.{valid_or_not}
-use Rattle.irl_top.proofs.Opened.{enters_told, enters_stops, entered_uneven}
+use Rattle.irl_top.proofs.Opened.{enters_told, enters_stops, entered_uneven, reaches_entered}
+use Rattle.irl_top.proofs.Unprinted.{earlier_few, none_unprinted}
 
 -- ---- endings
 -- no store that is refused is judged, and nothing of an input is read
@@ -163,11 +166,9 @@ record Keeps (asked : Asked) (before after : Lent) (x most : State) : Type 0 whe
   pub stops : ((image : Files) → before.store.images image → HasState x image) → Leaves before.store after.store (λ image. (z : State) × HasState z image × Reaches asked x z × IsFrontState x z
       × IsFrontState z most)
   pub lists : (b : ℕ) → list_at most.urls b ≡ list_at x.urls b
+  pub count : judged_count most.urls ≡ judged_count x.urls
   pub legal : IsLegal most
   pub either : (state ≡ x) ⊎ (state ≡ most)
-
-reaches_entered : (asked : Asked) (x : State) → Reaches asked x (entered_state asked x)
-reaches_entered asked x = inr (grows_more (settings_in asked x) 0 1 (entered_state asked x) (entered_state asked x) (omega arith) (grows_same (settings_in asked x) (entered_state asked x)))
 
 told_after : (asked : Asked) (old new : Option Files) (files : Files) → TellsBy (Enters asked old) old new → old ≡ Some files → (after : Files) × (new ≡ Some after) × Enters asked old files after
 told_after asked None new files tells told = let no : ⊥ = cc in absurd no
@@ -180,17 +181,7 @@ same_told told f z is has = λ g is_g. let same : f ≡ g = cc in subst (HasStat
 -- a state that files stand for
 legal_has : (x : State) (files : Files) → HasState x files → IsLegal x
 legal_has x files (inl blank) = inl blank.1
-legal_has x files (inr (settings, made)) = inr (
-  settings,
-  record {
-    settings_are = made.settings_are;
-    valid = made.valid;
-    kind = made.kind;
-    book_is = made.urls.book_is;
-    pairs_are = made.pairs_are;
-    events_are = made.events_are;
-  },
-)
+legal_has x files (inr (settings, made)) = inr (settings, made_state settings x files made)
 
 -- that of a store that was just made
 legal_new : (settings : Settings) → AreValid settings → settings.kind ≢ Crawl → IsLegal (new_state settings)
@@ -199,10 +190,8 @@ legal_new settings valid kind = inr (
   record {
     settings_are = refl;
     valid = valid;
-    kind = kind;
     book_is = record { is_book = blank_is_book settings.buckets settings.rule valid.buckets; buckets = refl; rule = refl; dropped = refl };
-    pairs_are = refl;
-    events_are = refl;
+    rest = new_rest settings.kind settings.buckets kind;
   },
 )
 
@@ -243,6 +232,7 @@ keeps_either asked before after fault files x refused told has legal =
       fronts = (state_same x, entered_front asked x);
       stops = stopped;
       lists = (starts asked x files has).lists;
+      count = (starts asked x files has).count;
       legal = legal;
       either = inl refl;
     }
@@ -253,6 +243,7 @@ keeps_either asked before after fault files x refused told has legal =
       fronts = (entered_front asked x, state_same (entered_state asked x));
       stops = stopped;
       lists = (starts asked x files has).lists;
+      count = (starts asked x files has).count;
       legal = legal;
       either = inr refl;
     }
@@ -270,6 +261,7 @@ keeps_unmade asked before after fault files x refused told has blank bad =
       fronts = (state_same x, state_same x);
       stops = λ each. widens before.store after.store _ _ (refused.stops x each) (λ image either. (x, old_one image either, inl refl, state_same x, state_same x));
       lists = λ b. refl;
+      count = refl;
       legal = inl blank;
       either = inl refl;
     }
@@ -294,9 +286,19 @@ keeps_blank asked before after fault files x refused fine told blank same = reco
   stops = λ each. widens before.store after.store _ _ (refused.blank_stops fine (λ image left. blank_image x image same (each image left))) (λ image still.
       (x, inl (still, same), inl refl, state_same x, state_same x));
   lists = λ b. refl;
+  count = refl;
   legal = inl same;
   either = inl refl;
 }
+
+-- nothing is printed where no more was judged
+nothing_before : (kind : LineKind) (x most : State) → IsLegal most → judged_count most.urls ≡ judged_count x.urls → IsPrefixOf (added kind x.urls (before_last most.urls)) []
+nothing_before kind x most (inl blank) count =
+    let none : judged_count (before_last blank_state.urls) ≡ 0 = refl in
+    subst (λ (s : State). IsPrefixOf (added kind x.urls (before_last s.urls)) []) (sym blank)
+    (none_unprinted kind (before_last blank_state.urls) (judged_count x.urls) [] (omega (arith, none)))
+nothing_before kind x most (inr (settings, is)) count =
+    none_unprinted kind (before_last most.urls) (judged_count x.urls) [] (omega (arith, count, earlier_few (length most.urls.cuts - 1) most.urls is.book_is.is_book))
 
 extends_closed : (kind : LineKind) (asked : Asked) (before after : Lent) (fault : OpenFault) (files : Files) (x most : State) → IsConsistent before.store → IsConsistent after.store
     → IsRefused asked before after fault → before.store.files ≡ Some files → HasState x files → (k : Keeps asked before after x most)
@@ -330,6 +332,7 @@ extends_closed kind asked before after fault files x most law_before law_after r
       written = subst (λ (s : Stream). Appends before.output.bytes s.bytes []) (sym refused.output) (Appends-nil before.output.bytes);
       prints = (added kind x.urls x.urls, refl);
       prints_all = λ is. absurd (open_printed fault is);
+      printed_before = nothing_before kind x most k.legal k.count;
       records = λ old_files is_old new_files is_new.
           let new = told_after asked before.store.files after.store.files files refused.files told in
           let same_old : files ≡ old_files = cc in

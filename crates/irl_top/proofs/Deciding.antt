@@ -7,19 +7,21 @@ use Rattle.irl_offer.specs.Settings.{AreValid, settings_of}
 use Rattle.irl_offer.specs.declared.settings.Asked.{Asked}
 use Rattle.irl_offer.specs.declared.settings.Settings.{Settings}
 use Rattle.irl_offer.specs.Tuple.{Tuple}
-use Rattle.irl_model.specs.Book.{part}
-use Rattle.irl_events.specs.State.{State, AreFronts}
+use Rattle.irl_model.specs.Book.{IsFront, part}
+use Rattle.irl_model.proofs.FrontLaws.{front_same}
+use Rattle.irl_events.specs.State.{State}
 use Rattle.irl_disk.specs.Disk.{Files}
 use Rattle.irl_io.specs.Written.{AppendsPrefix}
 use Rattle.irl_words.specs.Words.{IsInRange}
 use Rattle.irl_words.specs.declared.command.Command.{Command}
 use Rattle.irl_words.specs.declared.command.Command.TheVariants.{Seen, Drum as DrumOf}
 use Rattle.irl_yard.specs.Standing.{HasState}
-use Rattle.irl_yard.specs.Opening.{Agrees, IsBadAsked, IsBadStore, IsKeptOtherwise, entered_state}
+use Rattle.irl_head.specs.Asking.{Agrees, IsBadAsked}
+use Rattle.irl_head.specs.Opening.{IsBadStore, IsKeptOtherwise}
+use Rattle.irl_yard.specs.Opening.{entered_state}
 use Rattle.irl_yard.proofs.Grounds.{blank_has, entered_made, made_has}
-use Rattle.irl_yard.proofs.HeadBytes.{valid_numbers}
-use Rattle.irl_intake.specs.Feeding.{list_at, length_at}
-use Rattle.irl_intake.proofs.Chains.{same_fronts}
+use Rattle.irl_head.proofs.HeadBytes.{valid_numbers}
+use Rattle.irl_schedule.specs.Feeding.{list_at, length_at}
 use Rattle.irl_top.specs.Message.{Says, status_of, refused_status}
 use Rattle.irl_top.specs.Outside.{Lent}
 use Rattle.irl_top.specs.Run.{Task, line_task, settings_in, Reaches, TakesIn, Ran, Completes, Filtered, Does}
@@ -67,25 +69,25 @@ not_other asked files x n kept wanted has agrees other =
     other.2.differ (sym (agree (n - 1) wanted kept other.2.asked_is other.2.kept_is))
 
 -- what is acknowledged over an opened store comes of the state that entering makes
-entered_to : (task : Task) (x kept : State) → Reaches task.asked x kept → kept.settings ≡ Some (settings_in task.asked x) → AreFronts (entered_state task.asked x) kept
+entered_to : (task : Task) (x kept : State) → Reaches task.asked x kept → kept.settings ≡ Some (settings_in task.asked x) → IsFront (entered_state task.asked x).urls kept.urls
 entered_to task x kept (inl same) made =
     let is : entered_state task.asked x ≡ kept = entered_made task.asked (settings_in task.asked x) x (sym (ap (λ (s : State). s.settings) same) ∙ made) ∙ sym same in
-    subst (λ (s : State). AreFronts s kept) (sym is) (same_fronts kept)
-entered_to task x kept (inr grows) made = grows.front
+    subst (λ (s : State). IsFront s.urls kept.urls) (sym is) (front_same kept.urls)
+entered_to task x kept (inr grows) made = grows.1.front
 
 -- a bucket that is full didn't fit with its part of the offers
-no_room : (task : Task) (x kept : State) (input : List ℕ) (b : ℕ) → b < (settings_in task.asked x).buckets → AreFronts (entered_state task.asked x) kept → Starts x (entered_state task.asked x)
+no_room : (task : Task) (x kept : State) (input : List ℕ) (b : ℕ) → b < (settings_in task.asked x).buckets → IsFront (entered_state task.asked x).urls kept.urls → Starts x (entered_state task.asked x)
     → TakesIn task x kept input (Full b)
     → (part (settings_in task.asked x).buckets b (task.offers input) ≡ []) ⊎ (length_at (entered_state task.asked x).urls b + length (part (settings_in task.asked x).buckets b (task.offers input))
     ≤ (settings_in task.asked x).cap) → ⊥
 no_room task x kept input b within front start takes fits =
     let settings = settings_in task.asked x in
     let y = entered_state task.asked x in
-    let list = front_list y kept b front in
+    let list = front_list y.urls kept.urls b front in
     let grown = ap (λ (l : List Tuple). length l) list.1 in
     let both = ap (λ (l : List Tuple). length l) (takes.keeps b within) in
     let was = ap (λ (l : List Tuple). length l) (start.lists b) in
-    let firsts = ap (λ (l : List ℕ). slice_index l b) front.urls.firsts in
+    let firsts = ap (λ (l : List ℕ). slice_index l b) front.firsts in
     let more = part_prefix settings.buckets b takes.news (task.offers input) takes.read in
     let all = ap (λ (l : List Tuple). length l) more.1 in
     let full = takes.full b refl in

@@ -7,3 +7,5 @@ pub mod InputLines
 pub mod Opened
 pub mod Ranges
 pub mod Sinks
+pub mod Stepping
+pub mod Unprinted

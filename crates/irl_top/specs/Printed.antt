@@ -4,7 +4,7 @@ use Rattle.std.specs.List.{flat_map}
 use Rattle.irl_offer.specs.declared.offer.Verdict.{Verdict}
 use Rattle.irl_offer.specs.declared.offer.Verdict.TheVariants.{Unique, Absent, Known}
 use Rattle.irl_offer.specs.declared.receipt.Judged.{Judged}
-use Rattle.irl_model.specs.Book.{Book, gone, judged}
+use Rattle.irl_model.specs.Book.{Book, gone, judged, with_cuts}
 use Rattle.irl_tuple.specs.Verdicts.{verdict_line}
 use Rattle.irl_top.specs.declared.line.LineKind.{LineKind}
 use Rattle.irl_top.specs.declared.line.LineKind.TheVariants.{Text as TextLine, Tuple as TupleLine}
@@ -28,6 +28,10 @@ judged_lines kind judged = flat_map (judged_line kind) judged
 -- how many offers were judged, from the beginning of time
 abbrev pub judged_count : Book → ℕ
 judged_count book = gone book + length (judged book)
+
+-- a book as it was before its last cut
+abbrev pub before_last : Book → Book
+before_last book = with_cuts (length book.cuts - 1) book
 
 -- the judged offers of the second book past those of the first
 abbrev pub judged_since : Book → Book → List Judged

@@ -2,8 +2,8 @@
 use Rattle.std.specs.Prelude.{ℕ, ◌+◌, ◌<◌, ◌≤◌, List}
 use Rattle.irl_disk.specs.Disk.{Files}
 use Rattle.irl_yard.specs.Holding.{HasLiveJournal}
-use Rattle.irl_yard.specs.StoreFiles.{urls_base}
-use Rattle.irl_intake.specs.Schedule.{uneven_records}
+use Rattle.irl_head.specs.StoreFiles.{urls_base}
+use Rattle.irl_schedule.specs.Schedule.{uneven_records}
 
 -- From one joint image to another each bucket's live journal has at most so many more records that have another number
 -- of offers than a whole array: the journal on the side that the last commit of the image's own manifest leaves live,

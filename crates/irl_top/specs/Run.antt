@@ -13,16 +13,18 @@ use Rattle.irl_events.specs.State.{State, IsFrontState, blank_state}
 use Rattle.irl_disk.specs.Disk.{Files, ChangesFile, TellsOnly, TellsBy, ChangesOnly}
 use Rattle.irl_disk.specs.Images.{Follows, Leaves, LeavesBy}
 use Rattle.irl_journal.specs.Visiting.{IsOpened}
-use Rattle.irl_bay.specs.BayFiles.{IsFileOf}
+use Rattle.irl_layout.specs.BayFiles.{IsFileOf}
 use Rattle.irl_bay.specs.Drum.{Drum, IsDrum}
 use Rattle.irl_bay.specs.Holding.{IsLong}
 use Rattle.irl_bay.specs.Spoilt.{IsSpoiltAt}
 use Rattle.irl_bay.specs.JudgedSpoilt.{IsJudgedSpoiltAt}
-use Rattle.irl_yard.specs.StoreFiles.{head_file, urls_base}
-use Rattle.irl_yard.specs.Standing.{HasState}
+use Rattle.irl_head.specs.StoreFiles.{head_file, urls_base}
+use Rattle.irl_yard.specs.Standing.{HasState, IsStateOf, with_urls}
 use Rattle.irl_yard.specs.Entering.{Enters}
-use Rattle.irl_yard.specs.Opening.{Agrees, HasSettings, entered_state, IsNotOursAt, IsKeptOtherwise, IsBadAsked, IsBadStore, IsStoreDamagedAt}
-use Rattle.irl_intake.specs.Feeding.{IsStateOf, Grows, list_at, length_at}
+use Rattle.irl_head.specs.Asking.{Agrees, IsBadAsked}
+use Rattle.irl_head.specs.Opening.{HasSettings, IsNotOursAt, IsKeptOtherwise, IsBadStore}
+use Rattle.irl_yard.specs.Opening.{entered_state, IsStoreDamagedAt}
+use Rattle.irl_schedule.specs.Feeding.{Grows, list_at, length_at}
 use Rattle.irl_words.specs.Words.{command_of}
 use Rattle.irl_words.specs.declared.command.Command.{Command}
 use Rattle.irl_words.specs.declared.command.Command.TheVariants.{Seen, Drum as DrumOf}
@@ -33,7 +35,7 @@ use Rattle.irl_top.specs.declared.ending.Ending.TheVariants.{Done, BadSettings, 
 use Rattle.irl_top.specs.Input.{refused, offered}
 use Rattle.irl_top.specs.Message.{Says, message, refusal, status_of, refused_status, IsAllPrinted, IsUnopened}
 use Rattle.irl_top.specs.Outside.{Lent, Outside, IsUntouched}
-use Rattle.irl_top.specs.Printed.{added}
+use Rattle.irl_top.specs.Printed.{before_last, added}
 use Rattle.irl_top.specs.Records.{AddsUnevenRecords}
 
 -- ---- what a command over lines does
@@ -55,11 +57,12 @@ line_task kind asked = record { asked = asked; refuses = refused kind; offers = 
 abbrev pub settings_in : Asked → State → Settings
 settings_in asked state = unwrap_or state.settings (settings_of asked)
 
--- A state that a run over this one may leave: it itself, or one that comes of it once it is opened. One that wasn't
--- made is made as was asked; each list that has grown is within the cap, and at most one cut was made before a bucket
--- had enough new offers.
+-- A state that a run over this one may leave: it itself, or one that comes of it once it is opened, which differs from
+-- that in its URLs alone. One that wasn't made is made as was asked; each list that has grown is within the cap, and at
+-- most one cut was made before a bucket had enough new offers.
 abbrev pub Reaches : Asked → State → State → Type 0
-Reaches asked x y = (y ≡ x) ⊎ Grows (settings_in asked x) 1 (entered_state asked x) y
+Reaches asked x y = (y ≡ x) ⊎ ((y ≡ with_urls y.urls (entered_state asked x))
+    × Grows (settings_in asked x) 1 (entered_state asked x).urls y.urls)
 
 -- the lists of a state are those of another, and behind each a prefix of its part of some offers
 abbrev pub AddsSome : Asked → State → State → List Tuple → Type 0
@@ -133,6 +136,9 @@ pub record Extends (task : Task) (before after : Lent) (ending : Ending) (x : St
   pub written : Appends before.output.bytes after.output.bytes text
   pub prints : IsPrefixOf text (task.prints x.urls kept.urls)
   pub prints_all : IsAllPrinted ending → text ≡ task.prints x.urls kept.urls
+  -- and whatever the ending all that each of the three states has judged before its last cut: output is written after
+  -- each merge
+  pub printed_before : IsPrefixOf (task.prints x.urls (before_last most.urls)) text
   -- each record but one of a bucket is a whole array
   pub records : ForSome before.store.files (λ old.
       ForSome after.store.files (AddsUnevenRecords 1 (settings_in task.asked x).buckets (settings_in task.asked x).array

@@ -2,9 +2,9 @@ ghost use Rattle.std.specs.Prelude.{◌≡◌};
 ghost use Rattle.irl_top.specs.Message.{ending_of_open, ending_of_store};
 ghost use Rattle.irl_top.specs.declared.ending.Ending.TheVariants.{NoMemory as NoMemoryEnding, OutputFault as OutputEnding};
 
+use irl_head::OpenFault;
 use irl_io::Failed;
 use irl_offer::Fault;
-use irl_yard::OpenFault;
 use std::alloc::AllocError;
 
 /// How a run of a command ends.

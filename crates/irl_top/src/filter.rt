@@ -4,13 +4,13 @@ ghost use Rattle.irl_base.specs.Faults.{HasCause};
 ghost use Rattle.irl_offer.specs.Tuple.{Tuple};
 ghost use Rattle.irl_model.specs.Book.{IsPrefixOf};
 ghost use Rattle.irl_yard.specs.Holding.{IsSound};
-ghost use Rattle.irl_intake.specs.Schedule.{one_more};
+ghost use Rattle.irl_schedule.specs.Schedule.{one_more};
 ghost use Rattle.irl_top.specs.Message.{ending_of};
 ghost use Rattle.irl_top.specs.Input.{offered};
 ghost use Rattle.irl_offer.specs.declared.settings.Kind.TheVariants.{Crawl};
 ghost use Rattle.irl_top.specs.Outside.{lent};
 ghost use Rattle.irl_top.specs.Run.{Ran, line_task};
-ghost use Rattle.irl_top.specs.Session.{place, EndsWith, HasReason, HasRead};
+ghost use Rattle.irl_top.specs.Session.{place_of, EndsWith, HasReason, HasRead};
 
 use crate::Ending;
 use crate::line::LineKind;
@@ -61,14 +61,12 @@ fn take_in<I: Source, O: Sink, S: Store>(
 ) -> Result<(), Ending>
     requires sound { IsSound intake.old.yard.parts }
     requires whole { intake.old.yard.parts.urls.last.judged ≤ printed.old }
-    ensures ends { let at = place S.told O.written O.faults in (news : List Tuple)
+    ensures ends { let at = place_of O.written O.faults in (news : List Tuple)
         × HasRead kind news (I.left input.old) (I.left input.new) (ending_of result)
-        × EndsWith kind 1 one_more news (at intake.old.yard.store intake.old.yard.parts intake.old.arrays.items
-        output.old printed.old)
-        (at intake.new.yard.store intake.new.yard.parts intake.new.arrays.items output.new printed.new) (ending_of result) }
-    ensures reason { let at = place S.told O.written O.faults in
-        HasReason (at intake.old.yard.store intake.old.yard.parts intake.old.arrays.items output.old printed.old)
-        (at intake.new.yard.store intake.new.yard.parts intake.new.arrays.items output.new printed.new) (ending_of result) }
+        × EndsWith kind 1 one_more news
+        (at intake.old output.old printed.old) (at intake.new output.new printed.new) (ending_of result) }
+    ensures reason { let at = place_of O.written O.faults in HasReason
+        (at intake.old output.old printed.old) (at intake.new output.new printed.new) (ending_of result) }
     ensures cause { HasCause (ending_of result ≡ Ending.InputFault) (I.faults input.old) (I.faults input.new) }
 {
     let _is_sound = intake.is_sound();

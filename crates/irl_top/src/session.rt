@@ -1,12 +1,14 @@
-ghost use Rattle.std.specs.Prelude.{◌≡◌, ◌≤◌, ◌⊎◌, ⊤, List, [], ◌∷◌, IfErr, OnOk, OnErr, IsErrOf};
+ghost use Rattle.std.specs.Prelude.{◌≡◌, ◌≤◌, ◌<◌, ◌⊎◌, [], ◌∷◌, Ok, IfErr, IfSome, OnOk, OnErr, IsErrOf};
 ghost use Rattle.std.specs.Io.KnownBytes.{Appends};
 ghost use Rattle.irl_base.specs.Faults.{HasCause};
 ghost use Rattle.irl_io.specs.Written.{AppendsPrefix};
 ghost use Rattle.irl_yard.specs.Holding.{IsSound};
-ghost use Rattle.irl_intake.specs.Schedule.{none_more, one_more};
+ghost use Rattle.irl_schedule.specs.Schedule.{none_more, one_more};
+ghost use Rattle.irl_intake.specs.Advancing.{moment_of, IsReady, early_at, uneven_at};
+ghost use Rattle.irl_intake.specs.declared.next.Next.TheVariants.{Ready as ReadyNext};
 ghost use Rattle.irl_top.specs.Message.{ending_of, IsEndOfInput};
 ghost use Rattle.irl_top.specs.Printed.{judged_lines};
-ghost use Rattle.irl_top.specs.Session.{place, GoesOn, EndsWith, HasReason};
+ghost use Rattle.irl_top.specs.Session.{place_of, Steps, EndsWith, HasReason};
 ghost use Rattle.irl_top.specs.declared.ending.Ending.TheVariants.{NoMemory as NoMemoryEnding, OutputFault as OutputEnding};
 
 use crate::Ending;
@@ -14,7 +16,7 @@ use crate::line::LineKind;
 use crate::printing::judged_text;
 use irl_bay::JudgedPart;
 use irl_disk::Store;
-use irl_intake::Intake;
+use irl_intake::{Intake, Next};
 use irl_io::Sink;
 use irl_offer::{Offer, bucket_of};
 use std::alloc::Global;
@@ -32,28 +34,13 @@ pub fn take_offer<O: Sink, S: Store>(
     offer: Offer,
 ) -> Result<(), Ending>
     requires sound { IsSound intake.old.yard.parts }
-    ensures goes { OnOk result (let at = place S.told O.written O.faults in
-        GoesOn kind 0 none_more (offer ∷ []) (at intake.old.yard.store intake.old.yard.parts intake.old.arrays.items output.old printed.old)
-        (at intake.new.yard.store intake.new.yard.parts intake.new.arrays.items output.new printed.new)) }
-    ensures whole { OnOk result (intake.new.yard.parts.urls.last.judged ≤ printed.new) }
+    requires whole { intake.old.yard.parts.urls.last.judged ≤ printed.old }
+    ensures steps { let at = place_of O.written O.faults in Steps result kind 0 none_more (offer ∷ [])
+        (at intake.old output.old printed.old) (at intake.new output.new printed.new) }
     ensures sound { OnOk result (IsSound intake.new.yard.parts) }
-    ensures ends { IfErr result (λ ending. let at = place S.told O.written O.faults in
-        EndsWith kind 0 none_more [] (at intake.old.yard.store intake.old.yard.parts intake.old.arrays.items output.old printed.old)
-        (at intake.new.yard.store intake.new.yard.parts intake.new.arrays.items output.new printed.new) ending) }
-    ensures kinds { IfErr result (λ ending. IsEndOfInput ending → ⊥) }
-    ensures reason { let at = place S.told O.written O.faults in
-        HasReason (at intake.old.yard.store intake.old.yard.parts intake.old.arrays.items output.old printed.old)
-        (at intake.new.yard.store intake.new.yard.parts intake.new.arrays.items output.new printed.new) (ending_of result) }
 {
     let b = bucket_of(offer.key, intake.settings().buckets);
-    let merged = intake.merge_before_room(b);
-    let _is_sound = intake.is_sound();
-    merged?;
-    print_new(alloc, kind, intake, printed, output)?;
-    let made = intake.make_room(b);
-    let _is_sound = intake.is_sound();
-    made?;
-    print_new(alloc, kind, intake, printed, output)?;
+    advance_and_print(alloc, kind, intake, printed, output, Some(b))?;
     intake.push(offer);
     Ok(())
 }
@@ -67,23 +54,44 @@ pub fn end_input<O: Sink, S: Store>(
     output: &mut O,
 ) -> Result<(), Ending>
     requires sound { IsSound intake.old.yard.parts }
-    ensures ends { let at = place S.told O.written O.faults in
-        EndsWith kind 1 one_more [] (at intake.old.yard.store intake.old.yard.parts intake.old.arrays.items output.old printed.old)
-        (at intake.new.yard.store intake.new.yard.parts intake.new.arrays.items output.new printed.new) (ending_of result) }
+    requires whole { intake.old.yard.parts.urls.last.judged ≤ printed.old }
+    ensures ends { let at = place_of O.written O.faults in EndsWith kind 1 one_more []
+        (at intake.old output.old printed.old) (at intake.new output.new printed.new) (ending_of result) }
     ensures kinds { IfErr result (λ ending. IsEndOfInput ending → ⊥) }
-    ensures reason { let at = place S.told O.written O.faults in
-        HasReason (at intake.old.yard.store intake.old.yard.parts intake.old.arrays.items output.old printed.old)
-        (at intake.new.yard.store intake.new.yard.parts intake.new.arrays.items output.new printed.new) (ending_of result) }
+    ensures reason { let at = place_of O.written O.faults in HasReason
+        (at intake.old output.old printed.old) (at intake.new output.new printed.new) (ending_of result) }
 {
-    let merged = intake.merge_before_end();
+    let ended = advance_and_print(alloc, kind, intake, printed, output, None);
     let _is_sound = intake.is_sound();
-    merged?;
-    print_new(alloc, kind, intake, printed, output)?;
-    let finished = intake.finish();
+    ended
+}
+
+// Advances the intake for an offer of a bucket, or to the end of an input, and prints after each merge what it judged.
+fn advance_and_print<O: Sink, S: Store>(
+    alloc: Global,
+    kind: LineKind,
+    intake: &mut Intake<S>,
+    printed: &mut u64,
+    output: &mut O,
+    bucket: Option<u32>,
+) -> Result<(), Ending>
+    requires sound { IsSound intake.old.yard.parts }
+    requires whole { intake.old.yard.parts.urls.last.judged ≤ printed.old }
+    requires bucket { IfSome bucket (λ b. b < intake.old.yard.parts.urls.settings.buckets) }
+    ensures steps { let at = place_of O.written O.faults in
+        Steps result kind (early_at bucket (Ok Next.Ready)) (uneven_at bucket (Ok Next.Ready)) []
+        (at intake.old output.old printed.old) (at intake.new output.new printed.new) }
+    ensures sound { OnOk result (IsSound intake.new.yard.parts) }
+    ensures ready { OnOk result (IsReady bucket (moment_of intake.new)) }
+{
     let _is_sound = intake.is_sound();
-    finished?;
-    print_new(alloc, kind, intake, printed, output)?;
-    Ok(())
+    'steps: loop {
+        let next = intake.advance(bucket)?;
+        print_new(alloc, kind, intake, printed, output)?;
+        if let Next::Ready = next {
+            return Ok(());
+        }
+    }
 }
 
 // Prints the judged offers behind the printed ones.
@@ -95,20 +103,11 @@ fn print_new<O: Sink, S: Store>(
     output: &mut O,
 ) -> Result<(), Ending>
     requires sound { IsSound intake.old.yard.parts }
-    ensures goes { OnOk result (let at = place S.told O.written O.faults in
-        GoesOn kind 0 none_more [] (at intake.old.yard.store intake.old.yard.parts intake.old.arrays.items output.old printed.old)
-        (at intake.new.yard.store intake.new.yard.parts intake.new.arrays.items output.new printed.new)) }
-    ensures whole { OnOk result (intake.new.yard.parts.urls.last.judged ≤ printed.new) }
+    ensures steps { let at = place_of O.written O.faults in Steps result kind 0 none_more []
+        (at intake.old output.old printed.old) (at intake.new output.new printed.new) }
     ensures sound { OnOk result (IsSound intake.new.yard.parts) }
-    ensures urls { intake.new.yard.parts.urls ≡ intake.old.yard.parts.urls }
+    ensures drum { intake.new.yard.parts.urls ≡ intake.old.yard.parts.urls }
     ensures arrays { intake.new.arrays ≡ intake.old.arrays }
-    ensures ends { IfErr result (λ ending. let at = place S.told O.written O.faults in
-        EndsWith kind 0 none_more [] (at intake.old.yard.store intake.old.yard.parts intake.old.arrays.items output.old printed.old)
-        (at intake.new.yard.store intake.new.yard.parts intake.new.arrays.items output.new printed.new) ending) }
-    ensures kinds { IfErr result (λ ending. IsEndOfInput ending → ⊥) }
-    ensures reason { let at = place S.told O.written O.faults in
-        HasReason (at intake.old.yard.store intake.old.yard.parts intake.old.arrays.items output.old printed.old)
-        (at intake.new.yard.store intake.new.yard.parts intake.new.arrays.items output.new printed.new) (ending_of result) }
 {
     let _is_sound = intake.is_sound();
     while *printed < intake.judged_len() {

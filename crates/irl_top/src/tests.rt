@@ -1,4 +1,5 @@
 mod sides;
+mod spoilt;
 
 use crate::run;
 use irl_disk::{MemStore, Part, Store};

@@ -5,7 +5,7 @@ use Rattle.std.proofs.lemmas.Option.{get_or_from_slice_get, slice_get_within}
 use Rattle.irl_offer.specs.declared.receipt.Judged.{Judged}
 use Rattle.irl_bay.specs.JudgedParts.{as_judged}
 use Rattle.irl_top.specs.Printed.{judged_line, judged_lines}
-use Rattle.irl_top.proofs.Going.{lines-append}
+use Rattle.irl_top.proofs.Unprinted.{lines-append}
 use Rattle.irl_top.proofs.printing.judged_text.Goals as goal
 
 pub loop-i-preserved : goal.loop-i-preserved

@@ -1,6 +1,6 @@
 use Rattle.std.proofs.Common.{ℕ, List, Bor, sym, subst, arith}
 use Rattle.std.specs.Io.KnownBytes.{Appends}
-use Rattle.irl_bay.proofs.Numbers.{flat-more}
+use Rattle.irl_layout.proofs.Numbers.{flat-more}
 use Rattle.irl_top.proofs.Sinks.{appends_both, pieces_part, on_err_always}
 use Rattle.irl_top.proofs.telling.say.Goals as goal
 
