@@ -1,5 +1,6 @@
 -- What a run's writer has written.
-use Rattle.std.proofs.Common.{◌≡◌, ℕ, List, [], ◌∷◌, ◌++◌, map, Option, None, Some, refl, sym, subst, arith}
+use Rattle.std.proofs.Common.{◌≡◌, ◌≤◌, ℕ, List, [], ◌∷◌, ◌++◌, length, map, take, Option, None, Some, Result, Ok, Err, OnErr, refl, sym, subst, arith}
+use Rattle.std.proofs.lemmas.List.{append-nil}
 use Rattle.byteorder.specs.Endian.{little_bytes}
 use Rattle.irl_offer.specs.declared.receipt.Pair.{Pair}
 use Rattle.irl_model.specs.Pairs.{pair_of}
@@ -31,3 +32,14 @@ pub went_on : (f g : ℕ) (failed : Type 0) (old mid new : Told) → IsConsisten
     → OnlyChanges (ChangesFile g (KeepsFront 0)) failed mid new → OnlyChanges (ChangesFile f (KeepsFront 0)) failed old new
 went_on f g failed old mid new law same so_far call =
     changes_then _ ⊥ failed old mid new law (keeps_files f 0) so_far (subst (λ (h : ℕ). OnlyChanges (ChangesFile h (KeepsFront 0)) failed mid new) same call)
+
+-- a refusal that leaves what was put leaves none of more
+pub none_more : {E : Type 0} (result : Result Unit E) (more : List Pair) (old new : RunWriter) (before after : Option Files)
+    → OnErr result ((pairs : List Pair) → HasWritten before pairs old → HasWritten after pairs new)
+    → OnErr result ((pairs : List Pair) → HasWritten before pairs old → (n : ℕ) × (n ≤ length more) × HasWritten after (pairs ++ take n more) new)
+none_more (Ok x) more old new before after kept = tt
+none_more (Err e) more old new before after kept = λ pairs had. (
+  0,
+  omega arith,
+  subst (λ (l : List Pair). HasWritten after l new) (sym (append-nil pairs)) (kept pairs had),
+)

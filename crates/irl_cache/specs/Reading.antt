@@ -1,5 +1,5 @@
 -- A sorted run that is read in blocks.
-use Rattle.std.specs.Prelude.{◌≡◌, ◌≢◌, ℕ, ◌+◌, ◌-◌, ◌*◌, ◌≤◌, List, [], ◌++◌, map, length, Option, None, Some, Result, OnOk, OnErr, IsErrOf}
+use Rattle.std.specs.Prelude.{◌≡◌, ◌≢◌, ℕ, ◌+◌, ◌-◌, ◌*◌, ◌<◌, ◌≤◌, List, [], ◌++◌, map, length, Option, None, Some, Result, OnOk, OnErr, IsErrOf}
 use Rattle.std.specs.Option.{ForSome}
 use Rattle.irl_base.specs.declared.fault.Fault.{Fault}
 use Rattle.irl_base.specs.declared.fault.Fault.TheVariants.{Damaged, Failed, Full, Memory}
@@ -43,26 +43,6 @@ pub record HasRead (told : Option Files) (pairs : List Pair) (reader : Reader) :
   pub last : reader.last ≡ last_from None (pairs ++ reader.ahead)
   pub bytes : ForSome told (λ files. BeginsWith (files reader.file) (pairs_bytes (map pair_of (pairs ++ reader.ahead))))
 
--- more was read ahead, or nothing changed
-pub record IsFilled (old new : Reader) : Type 0 where
-  pub file : new.file ≡ old.file
-  pub entries : new.entries ≡ old.entries
-  pub most : new.most ≡ old.most
-  pub given : new.given ≡ old.given
-  pub ahead : read_of old ≤ read_of new
-
--- a reader that gave no block last
-abbrev pub without_block : Reader → Reader
-without_block reader = record {
-  file = reader.file;
-  entries = reader.entries;
-  most = reader.most;
-  given = reader.given;
-  block = [];
-  ahead = reader.ahead;
-  last = reader.last;
-}
-
 -- exactly n bytes of this file were read, and none of another: as `Takes`, but without its bound, since no read gives
 -- no bound
 abbrev pub TakesExactly : ℕ → ℕ → Option (ℕ → ℕ) → Option (ℕ → ℕ) → Type 0
@@ -73,7 +53,7 @@ TakesExactly f n (Some old) new = (counts : ℕ → ℕ) × (new ≡ Some counts
 -- A call that reads a run on, by its answer.
 pub record ReadsOn {A : Type 0} (result : Result A Fault) (old new : Reader) (before after : Told) : Type 0 where
   -- a refusal gives no block, and leaves what was given
-  pub err : OnErr result (new ≡ without_block old)
+  pub err : OnErr result (new ≡ record old { block = [] })
   pub long : ForSome after.files (ReachesRead new)
   pub damaged : (f at : ℕ) → IsErrOf result (Damaged f at) → (pairs : List Pair) → HasRead before.files pairs old
       → ForSome before.files (λ files. (f ≡ old.file) × IsSpoiltRun old.entries (files f) at)
@@ -82,3 +62,11 @@ pub record ReadsOn {A : Type 0} (result : Result A Fault) (old new : Reader) (be
   -- no byte but those of the entries that were read
   pub taken : OnOk result (TakesExactly old.file (16 * (read_of new - read_of old)) before.taken after.taken)
   pub reads : OnlyReads (λ f. f ≡ old.file) (IsErrOf result Failed) before after
+
+-- A call that reads on where no entry is ahead, by its answer.
+pub record Fills {A : Type 0} (result : Result A Fault) (old new : Reader) (before after : Told) : Type 0 where
+  pub more : OnOk result (new.given < new.entries → 1 ≤ length new.ahead)
+  pub same : OnOk result (new ≡ record old { block = new.block; ahead = new.ahead; last = new.last })
+  pub ahead : OnOk result (read_of old ≤ read_of new)
+  pub read : OnOk result ((pairs : List Pair) → HasRead before.files pairs old → HasRead after.files pairs new)
+  pub reads_on : ReadsOn result old new before after

@@ -2,11 +2,10 @@ ghost use Rattle.std.specs.Prelude.{◌≡◌, ◌+◌, ◌-◌, ◌≤◌, ◌<
 ghost use Rattle.std.specs.Prelude.{length as len, IfOk, OnOk, OnErr, IsErr};
 ghost use Rattle.std.specs.Option.{ForSome};
 ghost use Rattle.irl_offer.specs.declared.receipt.Pair.{Pair};
-ghost use Rattle.irl_base.specs.Faults.{HasCause};
-ghost use Rattle.irl_disk.specs.Disk.{Files};
-ghost use Rattle.irl_disk.specs.Images.{LeavesSame};
+ghost use Rattle.irl_disk.specs.Disk.{Files, Reads};
+ghost use Rattle.irl_disk.specs.Effects.{OnlyReads};
 ghost use Rattle.irl_disk.specs.Taken.{Takes};
-ghost use Rattle.irl_cache.specs.Reading.{HasRead, IsFilled, ReachesRead, ReadsOn, read_of};
+ghost use Rattle.irl_cache.specs.Reading.{Fills, HasRead, ReachesRead, ReadsOn, read_of};
 
 use crate::decode::{ENTRY, read_pairs};
 use irl_disk::{Failed, Store};
@@ -126,11 +125,7 @@ impl CacheReader {
     // Reads the next piece where all of the last one was given, and there is more.
     fn fill<S: Store>(&mut self, store: &mut S) -> Result<(), Fault>
         requires { ForSome (S.told store.old).files (ReachesRead self.old) }
-        ensures more { OnOk result (self.new.given < self.new.entries → 1 ≤ len self.new.ahead) }
-        ensures read { OnOk result ((pairs : List Pair) → HasRead (S.told store.old).files pairs self.old →
-            HasRead (S.told store.new).files pairs self.new) }
-        ensures ok { OnOk result (IsFilled self.old self.new) }
-        ensures reads_on { ReadsOn result self.old self.new (S.told store.old) (S.told store.new) }
+        ensures { Fills result self.old self.new (S.told store.old) (S.told store.new) }
     {
         if self.end < self.pairs.len() || self.given == self.entries {
             return Ok(());
@@ -143,11 +138,7 @@ impl CacheReader {
         requires none { self.old.ahead ≡ [] }
         requires left { self.old.given < self.old.entries }
         requires long { ForSome (S.told store.old).files (ReachesRead self.old) }
-        ensures more { OnOk result (1 ≤ len self.new.ahead) }
-        ensures read { OnOk result ((pairs : List Pair) → HasRead (S.told store.old).files pairs self.old →
-            HasRead (S.told store.new).files pairs self.new) }
-        ensures ok { OnOk result (IsFilled self.old self.new) }
-        ensures reads_on { ReadsOn result self.old self.new (S.told store.old) (S.told store.new) }
+        ensures { Fills result self.old self.new (S.told store.old) (S.told store.new) }
     {
         self.pairs.clear();
         self.start = 0;
@@ -183,17 +174,11 @@ fn read_front<S: Store>(
     requires file { f < 10000 }
     requires room { wanted ≤ len bytes.old }
     requires place { ForSome (S.told store.old).files (λ files. at ≤ len (files f)) }
-    ensures size { len bytes.new ≡ len bytes.old }
     ensures within { IfOk result (λ n. (n ≤ wanted) × (at + n < 2 ^ 64)) }
-    ensures count { IfOk result (λ n. ForSome (S.told store.old).files (λ files.
-        n ≡ min wanted (len (files f) - at))) }
     ensures bytes { IfOk result (λ n. ForSome (S.told store.old).files (λ files.
-        take n bytes.new ≡ take n (drop at (files f)))) }
-    ensures same { (S.told store.new).files ≡ (S.told store.old).files }
-    ensures stops { LeavesSame (S.told store.old) (S.told store.new) }
+        Reads at wanted n bytes.new (files f))) }
     ensures taken { IfOk result (λ n. Takes f n (S.told store.old).taken (S.told store.new).taken) }
-    ensures taken_err { OnErr result ((S.told store.new).taken ≡ (S.told store.old).taken) }
-    ensures cause { HasCause (IsErr result) (S.told store.old).faults (S.told store.new).faults }
+    ensures reads { OnlyReads (λ g. g ≡ f) (IsErr result) (S.told store.old) (S.told store.new) }
 {
     store.read(f, at, &mut bytes[..wanted])
 }

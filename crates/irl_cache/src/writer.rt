@@ -9,7 +9,7 @@ ghost use Rattle.irl_disk.specs.Effects.{OnlyChanges};
 ghost use Rattle.irl_journal.specs.Blob.{KeepsFront, IsCommitted};
 ghost use Rattle.irl_journal.specs.Growing.{ReachesPlace, end_of};
 ghost use Rattle.irl_cache.specs.SortedRun.{pairs_bytes, IsAbove, RisesFrom};
-ghost use Rattle.irl_cache.specs.Writing.{HasWritten};
+ghost use Rattle.irl_cache.specs.Writing.{HasWritten, PutsPairs};
 
 use crate::decode::{ENTRY, pair_bytes};
 use irl_disk::{Failed, Store};
@@ -57,18 +57,10 @@ impl CacheWriter {
     pub fn put<S: Store>(&mut self, store: &mut S, pair: Pair) -> Result<(), Failed>
         requires long { ForSome (S.told store.old).files (ReachesPlace self.old.out) }
         requires above { IsAbove self.old.last pair.key }
-        ensures written { OnOk result ((pairs : List Pair) → HasWritten (S.told store.old).files pairs self.old →
-            HasWritten (S.told store.new).files (pairs ++ pair ∷ []) self.new) }
+        ensures puts { PutsPairs result (pair ∷ []) self.old self.new (S.told store.old) (S.told store.new) }
         ensures written_before { OnErr result ((pairs : List Pair) → HasWritten (S.told store.old).files pairs self.old
-            →
-            HasWritten (S.told store.new).files pairs self.new) }
-        ensures end { OnOk result (end_of self.new.out ≡ end_of self.old.out + 16) }
+            → HasWritten (S.told store.new).files pairs self.new) }
         ensures last { OnOk result (self.new.last ≡ Option.Some pair.key) }
-        ensures file { self.new.out.file ≡ self.old.out.file }
-        ensures long { ForSome (S.told store.new).files (ReachesPlace self.new.out) }
-        // No other file changes.
-        ensures changes { OnlyChanges (ChangesFile self.old.out.file (KeepsFront 0)) (IsErr result)
-            (S.told store.old) (S.told store.new) }
     {
         self.out.put(store, &pair_bytes(pair))?;
         self.last = Some(pair.key);
@@ -80,17 +72,7 @@ impl CacheWriter {
     pub fn put_all<S: Store>(&mut self, store: &mut S, pairs: &[Pair]) -> Result<(), Failed>
         requires long { ForSome (S.told store.old).files (ReachesPlace self.old.out) }
         requires rising { RisesFrom self.old.last pairs.now }
-        ensures written { OnOk result ((before : List Pair) → HasWritten (S.told store.old).files before self.old →
-            HasWritten (S.told store.new).files (before ++ pairs.now) self.new) }
-        ensures written_some { OnErr result ((before : List Pair) →
-            HasWritten (S.told store.old).files before self.old → (n : ℕ) × (n ≤ len pairs.now)
-            × HasWritten (S.told store.new).files (before ++ take n pairs.now) self.new) }
-        ensures end { OnOk result (end_of self.new.out ≡ end_of self.old.out + 16 * len pairs.now) }
-        ensures file { self.new.out.file ≡ self.old.out.file }
-        ensures long { ForSome (S.told store.new).files (ReachesPlace self.new.out) }
-        // No other file changes.
-        ensures changes { OnlyChanges (ChangesFile self.old.out.file (KeepsFront 0)) (IsErr result)
-            (S.told store.old) (S.told store.new) }
+        ensures { PutsPairs result pairs.now self.old self.new (S.told store.old) (S.told store.new) }
     {
         for pair in pairs {
             self.put(store, *pair)?;
@@ -102,16 +84,15 @@ impl CacheWriter {
     /// number.
     pub fn finish<S: Store>(self, store: &mut S) -> Result<u64, Failed>
         requires { ForSome (S.told store.old).files (ReachesPlace self.out) }
-        ensures committed { IfOk result (λ entries. (pairs : List Pair) →
-            HasWritten (S.told store.old).files pairs self →
-            IsCommitted (S.told store.new).images (record { file = self.out.file; length = 16 * entries })
+        ensures committed { IfOk result (λ n. (pairs : List Pair) → HasWritten (S.told store.old).files pairs self →
+            IsCommitted (S.told store.new).images (record { file = self.out.file; length = 16 * n })
             (pairs_bytes (map pair_of pairs))) }
-        ensures count { IfOk result (λ entries. (pairs : List Pair) →
-            HasWritten (S.told store.old).files pairs self → entries ≡ len pairs) }
-        ensures end { IfOk result (λ entries. 16 * entries ≡ end_of self.out) }
-        ensures bound { IfOk result (λ entries. 16 * entries < 2 ^ 64) }
-        ensures long { IfOk result (λ entries. ForSome (S.told store.new).files (λ files.
-            16 * entries ≤ len (files self.out.file))) }
+        ensures count { IfOk result (λ n. (pairs : List Pair) → HasWritten (S.told store.old).files pairs self →
+            n ≡ len pairs) }
+        ensures end { IfOk result (λ n. 16 * n ≡ end_of self.out) }
+        ensures bound { IfOk result (λ n. 16 * n < 2 ^ 64) }
+        ensures long { IfOk result (λ n. ForSome (S.told store.new).files (λ files.
+            16 * n ≤ len (files self.out.file))) }
         // No other file changes.
         ensures changes { OnlyChanges (ChangesFile self.out.file (KeepsFront 0)) (IsErr result)
             (S.told store.old) (S.told store.new) }

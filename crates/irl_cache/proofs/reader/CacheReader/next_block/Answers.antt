@@ -1,10 +1,10 @@
 -- A block is the first of what is ahead.
-use Rattle.std.proofs.Common.{◌≡◌, ◌∙◌, ⊎_elim, inl, inr, ◌+◌, ◌-◌, ◌≤◌, ◌++◌, List, ℕ, min, length, take, drop, vec_len, refl, ap, subst, arith, rules, length-drop}
+use Rattle.std.proofs.Common.{◌≡◌, ◌∙◌, ⊎_elim, inl, inr, ◌+◌, ◌-◌, ◌*◌, ◌≤◌, ◌++◌, List, ℕ, min, length, take, drop, vec_len, refl, ap, subst, arith, rules, length-drop}
 use Rattle.std.proofs.lemmas.List.{drop-drop}
 use Rattle.std.proofs.lemmas.Result.{err_from_is_err_and}
 use Rattle.irl_base.specs.declared.fault.Fault.TheVariants.{Damaged}
 use Rattle.irl_offer.specs.declared.receipt.Pair.{Pair}
-use Rattle.irl_cache.specs.Reading.{HasRead}
+use Rattle.irl_cache.specs.Reading.{HasRead, TakesExactly, read_of}
 use Rattle.irl_cache.proofs.Blocks.{block_given, rest_of}
 use Rattle.irl_cache.proofs.reader.CacheReader.next_block.Goals as goal
 
@@ -73,3 +73,24 @@ returns-clause-read g c = λ pairs had.
           s.last;
     })) (drop-drop k s.end s.pairs.items)
     (block_given told pairs _ k within filled))
+
+-- as many entries were read as after the filling
+pub returns-clause-reads_on : goal.returns-clause-reads_on
+returns-clause-reads_on g c =
+    let s = c.self.inside in
+    let k = c.min-count.result in
+    let items = s.pairs.items in
+    let tells = g.S.Store.told in
+    let within : k ≤ length (drop s.end items) = omega (arith, c.min-count.ensures, c.len.ensures, s.pairs.ok.0, length-drop s.end items) in
+    let size : s.given + length (drop s.end items) ≡ s.given + k + length (drop (s.end + k) items) = omega (arith, within, length-drop s.end items, length-drop (s.end + k) items) in
+    let filled = rw (← c.self.view_is) at c.fill.ensures.reads_on.long in
+    let taken = rw (← c.self.view_is) at c.in_ok-fill.ensures.reads_on.taken in
+    record {
+      err = search rules;
+      long = λ files told. omega (arith, filled files told, size);
+      damaged = search rules;
+      memory = search rules;
+      full = search rules;
+      taken = subst (λ (n : ℕ). TakesExactly c.args.self.now.file (16 * (n - read_of c.args.self.now)) (tells c.args.store.now).taken (tells c.fill.new.store).taken) size taken;
+      reads = search rules;
+    }

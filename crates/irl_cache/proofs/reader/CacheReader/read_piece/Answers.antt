@@ -31,17 +31,23 @@ invariant_of-self g c =
       inr (0, omega (arith, c.clear.ensures.len)),
     )
 
-pub returns-in_err-count-clause-reads_on : goal.returns-in_err-count-clause-reads_on
-returns-in_err-count-clause-reads_on g c = record {
-  err = search rules;
-  long = λ files told.
-      let long = long_of _ _ (g.S.Store.told c.args.store.now).files c.self.view_is c.requires.long files (sym c.read_front.ensures.same ∙ told) in
-      omega (arith, long, ap (λ (l : List Pair). length l) c.clear.ensures.items);
-  damaged = search rules;
-  memory = search rules;
-  full = search rules;
-  taken = search rules;
-  reads = search rules;
+pub returns-in_err-count : goal.returns-in_err-count
+returns-in_err-count g c = record {
+  more = search rules;
+  same = search rules;
+  ahead = search rules;
+  read = search rules;
+  reads_on = record {
+    err = search rules;
+    long = λ files told.
+        let long = long_of _ _ (g.S.Store.told c.args.store.now).files c.self.view_is c.requires.long files (sym c.read_front.ensures.reads.same ∙ told) in
+        omega (arith, long, ap (λ (l : List Pair). length l) c.clear.ensures.items);
+    damaged = search rules;
+    memory = search rules;
+    full = search rules;
+    taken = search rules;
+    reads = search rules;
+  };
 }
 
 pub invariant_of-self-then-count-wanted : goal.invariant_of-self-then-count-wanted
@@ -58,17 +64,23 @@ invariant_of-self-then-count-wanted g c =
       inr (0, omega (arith, c.clear.ensures.len)),
     )
 
-pub returns-then-count-wanted-clause-reads_on : goal.returns-then-count-wanted-clause-reads_on
-returns-then-count-wanted-clause-reads_on g c = record {
-  err = search rules;
-  long = λ files told.
-      let long = long_of _ _ (g.S.Store.told c.args.store.now).files c.self.view_is c.requires.long files (sym c.read_front.ensures.same ∙ told) in
-      omega (arith, long, ap (λ (l : List Pair). length l) c.clear.ensures.items);
-  damaged = search rules;
-  memory = search rules;
-  full = search rules;
-  taken = search rules;
-  reads = search rules;
+pub returns-then-count-wanted : goal.returns-then-count-wanted
+returns-then-count-wanted g c = record {
+  more = search rules;
+  same = search rules;
+  ahead = search rules;
+  read = search rules;
+  reads_on = record {
+    err = search rules;
+    long = λ files told.
+        let long = long_of _ _ (g.S.Store.told c.args.store.now).files c.self.view_is c.requires.long files (sym c.read_front.ensures.reads.same ∙ told) in
+        omega (arith, long, ap (λ (l : List Pair). length l) c.clear.ensures.items);
+    damaged = search rules;
+    memory = search rules;
+    full = search rules;
+    taken = search rules;
+    reads = search rules;
+  };
 }
 
 pub slice_bounds-read_pairs-end : goal.slice_bounds-read_pairs-end
@@ -110,88 +122,94 @@ invariant_of-self-in-Err g c =
       inr (0, omega (arith, c.clear-in-Err.ensures.len)),
     )
 
-pub returns-in-Ok-clause-more : goal.returns-in-Ok-clause-more
-returns-in-Ok-clause-more g c =
-    let inv = c.self.invariant in
-    let m = c.min.result in
-    let left = rw (← c.self.view_is) at c.requires.left in
-    let part : length (take (16 * m) c.deref.result.now) ≡ 16 * m = length-take-le (16 * m) c.deref.result.now (omega (arith, c.min.ensures, c.len.ensures, c.deref.ensures.len)) in
-    let piece : c.len.result / 16 ≡ c.self.inside.most * (inv.6.0 + 1) = omega (arith, c.len.ensures, inv.6.1) in
-    let is : m ≡ min (c.self.inside.most * (inv.6.0 + 1)) (c.self.inside.entries - c.self.inside.given) = c.min.ensures ∙ ap (λ (k : ℕ). min k (c.self.inside.entries - c.self.inside.given)) piece in
-    let some = one_at_least c.self.inside.given c.self.inside.entries c.self.inside.most inv.6.0 m left inv.1 is in
-    omega (arith, some, c.in-Ok.ensures.count, part, c.read_pairs.new.pairs.ok.0)
-
-pub returns-in-Ok-clause-read : goal.returns-in-Ok-clause-read
-returns-in-Ok-clause-read g c = rw (← c.self.view_is) (λ pairs had.
-    let r = c.self.inside in
-    let m = c.min.result in
-    let items = c.read_pairs.new.pairs.items in
-    let none = rw (← c.self.view_is) at c.requires.none in
-    let part : length (take (16 * m) c.deref.result.now) ≡ 16 * m = length-take-le (16 * m) c.deref.result.now (omega (arith, c.min.ensures, c.len.ensures, c.deref.ensures.len)) in
-    let n : length items ≡ m = omega (arith, c.in-Ok.ensures.count, part, c.read_pairs.new.pairs.ok.0) in
-    let shown = c.deref.ensures.value ∙ with_items_is r.bytes c.read_front.new.bytes (c.read_front.ensures.size ∙ c.deref_mut.ensures.len) in
-    let whole : c.in_ok-count.count ≡ 16 * m = omega (arith, c.in_ok-count.ensures.within.0, c.if-count-wanted.false) in
-    piece_read _ _ pairs items _ c.in-Ok.last c.read_front.ensures.same none had c.in-Ok.ensures.rising c.in-Ok.ensures.last c.in-Ok.ensures.words
-    (omega (arith, n, c.min.ensures, c.self.invariant.4))
-    (λ files told.
-    c.in-Ok.ensures.bytes
-    ∙ take_all _ _ (omega (arith, part, n, c.read_pairs.new.pairs.ok.0))
-    ∙ ap (λ (l : List ℕ). take (16 * m) l) shown
-    ∙ ap (λ (k : ℕ). take k c.read_front.new.bytes) (sym whole)
-    ∙ c.in_ok-count.ensures.bytes files told
-    ∙ ap (λ (k : ℕ). take k (drop (16 * r.given) (files r.file))) (let same : c.in_ok-count.count ≡ 16 * length items = omega (arith, whole, n) in same)))
-
-pub returns-in-Ok-clause-reads_on : goal.returns-in-Ok-clause-reads_on
-returns-in-Ok-clause-reads_on g c = record {
-  err = search rules;
-  long = search rules;
-  damaged = search rules;
-  memory = search rules;
-  full = search rules;
-  taken = rw (← c.self.view_is) (
+pub returns-in-Ok : goal.returns-in-Ok
+returns-in-Ok g c = record {
+  more =
+      let inv = c.self.invariant in
       let m = c.min.result in
-      let items = c.read_pairs.new.pairs.items in
+      let left = rw (← c.self.view_is) at c.requires.left in
       let part : length (take (16 * m) c.deref.result.now) ≡ 16 * m = length-take-le (16 * m) c.deref.result.now (omega (arith, c.min.ensures, c.len.ensures, c.deref.ensures.len)) in
-      let none = rw (← c.self.view_is) at c.requires.none in
-      let before = drop c.self.inside.end c.self.inside.pairs.items in
-      let whole : c.in_ok-count.count ≡ 16 * (c.self.inside.given + length items - (c.self.inside.given + length before)) =
-      omega (arith, c.in_ok-count.ensures.within.0, c.if-count-wanted.false, c.in-Ok.ensures.count, part, c.read_pairs.new.pairs.ok.0, ap (λ (l : List Pair). length l) none) in
-      subst (λ (k : ℕ). TakesExactly c.self.inside.file k (g.S.Store.told c.args.store.now).taken (g.S.Store.told c.read_front.new.store).taken) whole
-      (takes_exactly c.self.inside.file c.in_ok-count.count _ _ c.in_ok-count.ensures.taken));
-  reads = search rules;
-}
-
-pub returns-in-Err-clause-reads_on : goal.returns-in-Err-clause-reads_on
-returns-in-Err-clause-reads_on g c = record {
-  err = search rules;
-  long = search rules;
-  damaged = λ f at e pairs had_self files told.
+      let piece : c.len.result / 16 ≡ c.self.inside.most * (inv.6.0 + 1) = omega (arith, c.len.ensures, inv.6.1) in
+      let is : m ≡ min (c.self.inside.most * (inv.6.0 + 1)) (c.self.inside.entries - c.self.inside.given) = c.min.ensures ∙ ap (λ (k : ℕ). min k (c.self.inside.entries - c.self.inside.given)) piece in
+      let some = one_at_least c.self.inside.given c.self.inside.entries c.self.inside.most inv.6.0 m left inv.1 is in
+      omega (arith, some, c.in-Ok.ensures.count, part, c.read_pairs.new.pairs.ok.0);
+  same = search rules;
+  ahead = search rules;
+  read = rw (← c.self.view_is) (λ pairs had.
       let r = c.self.inside in
       let m = c.min.result in
-      let named : f ≡ r.file = cc in
-      let place : at ≡ 16 * r.given + c.in-Err.place = cc in
+      let items = c.read_pairs.new.pairs.items in
       let none = rw (← c.self.view_is) at c.requires.none in
-      let had = rw (← c.self.view_is) at had_self in
       let part : length (take (16 * m) c.deref.result.now) ≡ 16 * m = length-take-le (16 * m) c.deref.result.now (omega (arith, c.min.ensures, c.len.ensures, c.deref.ensures.len)) in
-      let shown = c.deref.ensures.value ∙ with_items_is r.bytes c.read_front.new.bytes (c.read_front.ensures.size ∙ c.deref_mut.ensures.len) in
+      let n : length items ≡ m = omega (arith, c.in-Ok.ensures.count, part, c.read_pairs.new.pairs.ok.0) in
+      let shown = c.deref.ensures.value ∙ with_items_is r.bytes c.read_front.new.bytes (c.read_front.auto.bytes ∙ c.deref_mut.ensures.len) in
       let whole : c.in_ok-count.count ≡ 16 * m = omega (arith, c.in_ok-count.ensures.within.0, c.if-count-wanted.false) in
-      let is : take (16 * m) c.deref.result.now ≡ take (16 * m) (drop (16 * r.given) (files r.file)) =
-      ap (λ (l : List ℕ). take (16 * m) l) shown
+      piece_read _ _ pairs items _ c.in-Ok.last c.read_front.ensures.reads.same none had c.in-Ok.ensures.rising c.in-Ok.ensures.last c.in-Ok.ensures.words
+      (omega (arith, n, c.min.ensures, c.self.invariant.4))
+      (λ files told.
+      c.in-Ok.ensures.bytes
+      ∙ take_all _ _ (omega (arith, part, n, c.read_pairs.new.pairs.ok.0))
+      ∙ ap (λ (l : List ℕ). take (16 * m) l) shown
       ∙ ap (λ (k : ℕ). take k c.read_front.new.bytes) (sym whole)
-      ∙ c.in_ok-count.ensures.bytes files told
-      ∙ ap (λ (k : ℕ). take k (drop (16 * r.given) (files r.file))) whole in
-      let last = had.last ∙ ap (λ (l : List Pair). last_from None l) (ap (λ (l : List Pair). pairs ++ l) none ∙ append-nil pairs) in
-      let falls = falls_in r.entries m c.in-Err.place (files r.file) (take (16 * m) c.deref.result.now) pairs r.given r.last had.count (omega (arith, c.min.ensures, c.self.invariant.4))
-      (read_words _ pairs _ had) (read_bytes _ pairs _ had files told) last is part c.in-Err.ensures.falls in
-      let file : r.file ≡ c.args.self.now.file = ap (λ (v : Reader). v.file) c.self.view_is in
-      let entries : r.entries ≡ c.args.self.now.entries = ap (λ (v : Reader). v.entries) c.self.view_is in (
-        named ∙ file,
-        inr (subst (λ (k : ℕ). FallsAt c.args.self.now.entries (files f) k) (sym place)
-            (subst (λ (k : ℕ). FallsAt c.args.self.now.entries (files k) (16 * r.given + c.in-Err.place)) (sym named)
-            (subst (λ (k : ℕ). FallsAt k (files r.file) (16 * r.given + c.in-Err.place)) entries falls))),
-      );
-  memory = search rules;
-  full = search rules;
-  taken = search rules;
-  reads = search rules;
+      ∙ (c.in_ok-count.ensures.bytes files told).bytes
+      ∙ ap (λ (k : ℕ). take k (drop (16 * r.given) (files r.file))) (let same : c.in_ok-count.count ≡ 16 * length items = omega (arith, whole, n) in same)));
+  reads_on = record {
+    err = search rules;
+    long = search rules;
+    damaged = search rules;
+    memory = search rules;
+    full = search rules;
+    taken = rw (← c.self.view_is) (
+        let m = c.min.result in
+        let items = c.read_pairs.new.pairs.items in
+        let part : length (take (16 * m) c.deref.result.now) ≡ 16 * m = length-take-le (16 * m) c.deref.result.now (omega (arith, c.min.ensures, c.len.ensures, c.deref.ensures.len)) in
+        let none = rw (← c.self.view_is) at c.requires.none in
+        let before = drop c.self.inside.end c.self.inside.pairs.items in
+        let whole : c.in_ok-count.count ≡ 16 * (c.self.inside.given + length items - (c.self.inside.given + length before)) =
+        omega (arith, c.in_ok-count.ensures.within.0, c.if-count-wanted.false, c.in-Ok.ensures.count, part, c.read_pairs.new.pairs.ok.0, ap (λ (l : List Pair). length l) none) in
+        subst (λ (k : ℕ). TakesExactly c.self.inside.file k (g.S.Store.told c.args.store.now).taken (g.S.Store.told c.read_front.new.store).taken) whole
+        (takes_exactly c.self.inside.file c.in_ok-count.count _ _ c.in_ok-count.ensures.taken));
+    reads = search rules;
+  };
+}
+
+pub returns-in-Err : goal.returns-in-Err
+returns-in-Err g c = record {
+  more = search rules;
+  same = search rules;
+  ahead = search rules;
+  read = search rules;
+  reads_on = record {
+    err = search rules;
+    long = search rules;
+    damaged = λ f at e pairs had_self files told.
+        let r = c.self.inside in
+        let m = c.min.result in
+        let named : f ≡ r.file = cc in
+        let place : at ≡ 16 * r.given + c.in-Err.place = cc in
+        let none = rw (← c.self.view_is) at c.requires.none in
+        let had = rw (← c.self.view_is) at had_self in
+        let part : length (take (16 * m) c.deref.result.now) ≡ 16 * m = length-take-le (16 * m) c.deref.result.now (omega (arith, c.min.ensures, c.len.ensures, c.deref.ensures.len)) in
+        let shown = c.deref.ensures.value ∙ with_items_is r.bytes c.read_front.new.bytes (c.read_front.auto.bytes ∙ c.deref_mut.ensures.len) in
+        let whole : c.in_ok-count.count ≡ 16 * m = omega (arith, c.in_ok-count.ensures.within.0, c.if-count-wanted.false) in
+        let is : take (16 * m) c.deref.result.now ≡ take (16 * m) (drop (16 * r.given) (files r.file)) =
+        ap (λ (l : List ℕ). take (16 * m) l) shown
+        ∙ ap (λ (k : ℕ). take k c.read_front.new.bytes) (sym whole)
+        ∙ (c.in_ok-count.ensures.bytes files told).bytes
+        ∙ ap (λ (k : ℕ). take k (drop (16 * r.given) (files r.file))) whole in
+        let last = had.last ∙ ap (λ (l : List Pair). last_from None l) (ap (λ (l : List Pair). pairs ++ l) none ∙ append-nil pairs) in
+        let falls = falls_in r.entries m c.in-Err.place (files r.file) (take (16 * m) c.deref.result.now) pairs r.given r.last had.count (omega (arith, c.min.ensures, c.self.invariant.4))
+        (read_words _ pairs _ had) (read_bytes _ pairs _ had files told) last is part c.in-Err.ensures.falls in
+        let file : r.file ≡ c.args.self.now.file = ap (λ (v : Reader). v.file) c.self.view_is in
+        let entries : r.entries ≡ c.args.self.now.entries = ap (λ (v : Reader). v.entries) c.self.view_is in (
+          named ∙ file,
+          inr (subst (λ (k : ℕ). FallsAt c.args.self.now.entries (files f) k) (sym place)
+              (subst (λ (k : ℕ). FallsAt c.args.self.now.entries (files k) (16 * r.given + c.in-Err.place)) (sym named)
+              (subst (λ (k : ℕ). FallsAt k (files r.file) (16 * r.given + c.in-Err.place)) entries falls))),
+        );
+    memory = search rules;
+    full = search rules;
+    taken = search rules;
+    reads = search rules;
+  };
 }

@@ -30,25 +30,26 @@ pub put-requires-clause-above : goal.put-requires-clause-above
 put-requires-clause-above g c = (rw (drop-cons c.args.pairs.now c.loop-pair.pair-index none c.loop-pair-test.true) at c.loop-pair.invariant.rise).0
 
 -- a put that failed
-pub returns-in_err-put-clause-written_some : goal.returns-in_err-put-clause-written_some
-returns-in_err-put-clause-written_some g c =
-    let i = c.loop-pair.pair-index in
-    on_err c.from_residual.result (λ before had. (
-      i,
-      omega (arith, c.loop-pair.auto.pair-index-end),
-      c.in_err-put.ensures.written_before (before ++ take i c.args.pairs.now)
-          (c.loop-pair.invariant.written before had),
-    ))
-
-pub returns-in_err-put-clause-file : goal.returns-in_err-put-clause-file
-returns-in_err-put-clause-file g c = c.put.ensures.file ∙ c.loop-pair.invariant.file
-
-pub returns-in_err-put-clause-changes : goal.returns-in_err-put-clause-changes
-returns-in_err-put-clause-changes g c =
-    let tells = g.S.Store.told in
-    changes_for _ _ _ (tells c.args.store.now) (tells c.put.new.store) (λ failed. refl)
-    (went_on c.args.self.now.out.file c.loop-pair.self.out.file _ (tells c.args.store.now) (tells c.loop-pair.store) (tells c.put.new.store) (g.met.S.Store.is_consistent c.loop-pair.store)
-    c.loop-pair.invariant.file c.loop-pair.invariant.went c.in_err-put.ensures.changes)
+pub returns-in_err-put : goal.returns-in_err-put
+returns-in_err-put g c = record {
+  written = search rules;
+  written_some =
+      let i = c.loop-pair.pair-index in
+      on_err c.from_residual.result (λ before had. (
+        i,
+        omega (arith, c.loop-pair.auto.pair-index-end),
+        c.in_err-put.ensures.written_before (before ++ take i c.args.pairs.now)
+            (c.loop-pair.invariant.written before had),
+      ));
+  end = search rules;
+  file = c.put.ensures.puts.file ∙ c.loop-pair.invariant.file;
+  long = search rules;
+  changes =
+      let tells = g.S.Store.told in
+      changes_for _ _ _ (tells c.args.store.now) (tells c.put.new.store) (λ failed. refl)
+      (went_on c.args.self.now.out.file c.loop-pair.self.out.file _ (tells c.args.store.now) (tells c.loop-pair.store) (tells c.put.new.store) (g.met.S.Store.is_consistent c.loop-pair.store)
+      c.loop-pair.invariant.file c.loop-pair.invariant.went c.in_err-put.ensures.puts.changes);
+}
 
 pub loop-pair-preserved : goal.loop-pair-preserved
 loop-pair-preserved g c =
@@ -62,31 +63,26 @@ loop-pair-preserved g c =
       written = λ before had.
           subst (λ (l : List Pair). HasWritten (tells c.put.new.store).files l c.put.new.self)
           (append_assoc before (take i pairs) (pair ∷ []) ∙ ap (λ (l : List Pair). before ++ l) (sym (take_more pairs i none c.loop-pair-test.true)))
-          (c.in_ok-put.ensures.written (before ++ take i pairs) (c.loop-pair.invariant.written before had));
-      end = omega (arith, c.loop-pair.invariant.end, c.in_ok-put.ensures.end);
-      file = c.put.ensures.file ∙ c.loop-pair.invariant.file;
-      long = c.put.ensures.long;
+          (c.in_ok-put.ensures.puts.written (before ++ take i pairs) (c.loop-pair.invariant.written before had));
+      end = omega (arith, c.loop-pair.invariant.end, c.in_ok-put.ensures.puts.end);
+      file = c.put.ensures.puts.file ∙ c.loop-pair.invariant.file;
+      long = c.put.ensures.puts.long;
       rise = subst (λ (last : Option ℕ). RisesFrom last (drop (i + 1) pairs)) (sym c.in_ok-put.ensures.last) (subst (λ (n : ℕ). RisesFrom (Some pair.key) (drop n pairs)) next rest.1);
       went = changes_for _ _ ⊥ (tells c.args.store.now) (tells c.put.new.store) (λ none. absurd none)
           (went_on c.args.self.now.out.file c.loop-pair.self.out.file _ (tells c.args.store.now) (tells c.loop-pair.store) (tells c.put.new.store) (g.met.S.Store.is_consistent c.loop-pair.store)
-          c.loop-pair.invariant.file c.loop-pair.invariant.went c.put.ensures.changes);
+          c.loop-pair.invariant.file c.loop-pair.invariant.went c.put.ensures.puts.changes);
     }
 
-pub returns-clause-written : goal.returns-clause-written
-returns-clause-written g c = λ before had.
-    let all : take c.loop-pair.pair-index c.args.pairs.now ≡ c.args.pairs.now = take_all _ _ c.loop-pair-test.false in
-    subst (λ (pairs : List Pair). HasWritten (g.S.Store.told c.loop-pair.store).files (before ++ pairs) c.loop-pair.self) all (c.loop-pair.invariant.written before had)
-
-pub returns-clause-end : goal.returns-clause-end
-returns-clause-end g c = omega (arith, c.loop-pair.invariant.end, c.loop-pair-test.false, c.loop-pair.auto.pair-index-end)
-
-pub returns-clause-file : goal.returns-clause-file
-returns-clause-file g c = c.loop-pair.invariant.file
-
-pub returns-clause-long : goal.returns-clause-long
-returns-clause-long g c = c.loop-pair.invariant.long
-
-pub returns-clause-changes : goal.returns-clause-changes
-returns-clause-changes g c =
-    let went = c.loop-pair.invariant.went in
-    record { told = went.told; stops = went.stops; taken = went.taken; cause = search rules }
+pub returns : goal.returns
+returns g c = record {
+  written = λ before had.
+      let all : take c.loop-pair.pair-index c.args.pairs.now ≡ c.args.pairs.now = take_all _ _ c.loop-pair-test.false in
+      subst (λ (pairs : List Pair). HasWritten (g.S.Store.told c.loop-pair.store).files (before ++ pairs) c.loop-pair.self) all (c.loop-pair.invariant.written before had);
+  written_some = search rules;
+  end = omega (arith, c.loop-pair.invariant.end, c.loop-pair-test.false, c.loop-pair.auto.pair-index-end);
+  file = c.loop-pair.invariant.file;
+  long = c.loop-pair.invariant.long;
+  changes =
+      let went = c.loop-pair.invariant.went in
+      record { told = went.told; stops = went.stops; taken = went.taken; cause = search rules };
+}
