@@ -8,6 +8,7 @@ use Rattle.irl_events.specs.Events.{Event as SeenEvent, Happened, Progress, afte
 use Rattle.irl_events.specs.Legal.{AreLegal, AreLegalAfter, broken, settles, one_rose, none_fell, are_distinct}
 use Rattle.irl_events.specs.declared.event.Event.{Event}
 use Rattle.irl_events.specs.declared.event.Event.TheVariants.{Settle}
+use Rattle.irl_fate.specs.declared.fate.Fate.{Fate}
 use Rattle.irl_fate.specs.declared.fates.Fates.TheInside.{Inside}
 use Rattle.irl_fate.specs.Kept.{shown, IsKept, fate_in, is_front}
 use Rattle.irl_events.specs.Seen.{seen}
@@ -34,17 +35,19 @@ lawful_more x e places none queues buckets events from legal =
 
 -- the fifth rule by the fields
 pub settles_by : (a : Inside) (x : Progress) (event : Event) (fronts : List ℕ) (done : List (ℕ × Outcome)) → IsKept a → shown a ≡ x → event ≡ Settle fronts done
-    → (r differ : Bool) (old told : List ℕ) (outcomes : List (ℕ × Outcome)) → old ≡ a.fronts.items → told ≡ fronts → outcomes ≡ done → differ ≡ are_distinct (numbers_done done)
-    → r ≡ ((nat_lt 0 (length outcomes) || one_rose old told) && list_all (λ d. is_front (fate_in a.fates.entries d.0)) outcomes && differ && none_fell old told) → r ≡ settles x (seen event)
-settles_by a x event fronts done k view is r differ old told outcomes e1 e2 e3 e4 e5 =
+    → (r differ : Bool) (entries : List (ℕ × Fate)) (old told : List ℕ) (outcomes : List (ℕ × Outcome)) → entries ≡ a.fates.items
+    → old ≡ a.fronts.items → told ≡ fronts → outcomes ≡ done → differ ≡ are_distinct (numbers_done done)
+    → r ≡ ((nat_lt 0 (length outcomes) || one_rose old told) && list_all (λ d. is_front (fate_in entries d.0)) outcomes && differ && none_fell old told) → r ≡ settles x (seen event)
+settles_by a x event fronts done k view is r differ entries old told outcomes e0 e1 e2 e3 e4 e5 =
     let front : Bool = list_all (λ d. has_number (shown a).front d.0) done in
     e5
-    ∙ ap (λ (t : List ℕ). (nat_lt 0 (length outcomes) || one_rose t told) && list_all (λ d. is_front (fate_in a.fates.entries d.0)) outcomes && differ && none_fell t told) e1
-    ∙ ap (λ (t : List ℕ). (nat_lt 0 (length outcomes) || one_rose a.fronts.items t) && list_all (λ d. is_front (fate_in a.fates.entries d.0)) outcomes && differ && none_fell a.fronts.items t) e2
-    ∙ ap (λ (t : List (ℕ × Outcome)). (nat_lt 0 (length t) || one_rose a.fronts.items fronts) && list_all (λ d. is_front (fate_in a.fates.entries d.0)) t && differ && none_fell a.fronts.items fronts)
+    ∙ ap (λ (t : List (ℕ × Fate)). (nat_lt 0 (length outcomes) || one_rose old told) && list_all (λ d. is_front (fate_in t d.0)) outcomes && differ && none_fell old told) e0
+    ∙ ap (λ (t : List ℕ). (nat_lt 0 (length outcomes) || one_rose t told) && list_all (λ d. is_front (fate_in a.fates.items d.0)) outcomes && differ && none_fell t told) e1
+    ∙ ap (λ (t : List ℕ). (nat_lt 0 (length outcomes) || one_rose a.fronts.items t) && list_all (λ d. is_front (fate_in a.fates.items d.0)) outcomes && differ && none_fell a.fronts.items t) e2
+    ∙ ap (λ (t : List (ℕ × Outcome)). (nat_lt 0 (length t) || one_rose a.fronts.items fronts) && list_all (λ d. is_front (fate_in a.fates.items d.0)) t && differ && none_fell a.fronts.items fronts)
     e3
     ∙ ap (λ b. (nat_lt 0 (length done) || one_rose a.fronts.items fronts) && b && differ && none_fell a.fronts.items fronts)
-    (all_same (λ (d : ℕ × Outcome). is_front (fate_in a.fates.entries d.0)) (λ (d : ℕ × Outcome). has_number (shown a).front d.0) done (λ d. sym (in_front k.agree d.0)))
+    (all_same (λ (d : ℕ × Outcome). is_front (fate_in a.fates.items d.0)) (λ (d : ℕ × Outcome). has_number (shown a).front d.0) done (λ d. sym (in_front k.agree d.0)))
     ∙ ap (λ b. (nat_lt 0 (length done) || one_rose a.fronts.items fronts) && front && b && none_fell a.fronts.items fronts) e4
     ∙ ap (λ (e : Event). settles (shown a) (seen e)) (sym is)
     ∙ ap (λ (y : Progress). settles y (seen event)) view

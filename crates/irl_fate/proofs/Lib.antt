@@ -2,8 +2,11 @@ pub mod Agreeing
 pub mod Applying
 pub mod Counting
 pub mod Crawls
+pub mod Entering
+pub mod Entries
 pub mod Fresh
 pub mod Marking
+pub mod Ordering
 pub mod Reading
 pub mod Rows
 pub mod RuleLemmas
@@ -11,4 +14,5 @@ pub mod Settling
 pub mod Standing
 pub mod Steps
 pub mod Sums
+pub mod Totals
 pub mod Waiting

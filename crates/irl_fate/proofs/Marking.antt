@@ -1,12 +1,9 @@
 -- The fates of numbers after one more change.
 use Rattle.std.proofs.Common.{◌≡◌, ◌∙◌, ℕ, ◌+◌, ◌<◌, zero, suc, List, [], ◌∷◌, ◌++◌, map, length, get_or, take, sym, ap, arith, refl, Bool, true, false, cond, not, inl, inr, subst}
-use Rattle.std.specs.Prelude.{◌||◌, nat_eq, Option, None, Some, unwrap_or, IsSome}
+use Rattle.std.specs.Prelude.{◌||◌, nat_eq}
 use Rattle.std.specs.List.{list_all}
-use Rattle.std.specs.Ordering.{nat_cmp}
-use Rattle.std.specs.BTreeMap.{is_at}
-use Rattle.std.specs.Map.{lookup}
-use Rattle.std.proofs.lemmas.Bool.{cases_Bool, and_parts, or_parts, or_from, cases_eq, ne_eqb, eqb-true, eqb-false, not-true}
-use Rattle.std.proofs.lemmas.List.{take_more, get_or_default}
+use Rattle.std.proofs.lemmas.Bool.{cases_Bool, and_parts, or_parts, or_from, ne_eqb, eqb-true, eqb-false, not-true}
+use Rattle.std.proofs.lemmas.List.{take_more}
 use Rattle.std.proofs.lemmas.List.Folds.{list_any_more}
 use Rattle.irl_offer.specs.declared.outcome.Outcome.{Outcome}
 use Rattle.irl_offer.specs.declared.place.Place.{Place}
@@ -16,14 +13,7 @@ use Rattle.irl_fate.specs.declared.fate.Fate.{Fate}
 use Rattle.irl_fate.specs.declared.fate.Fate.TheVariants.{Fresh, Queue, Last, Done}
 use Rattle.irl_fate.specs.Fates.{done_by}
 use Rattle.irl_fate.specs.Kept.{fate_in, is_front, HasEntry, placed_by, fate_of_slot}
-
-some_of : (o : Option Fate) → (unwrap_or o Fresh ≡ Fresh → ⊥) → IsSome o
-some_of None h = absurd (h refl)
-some_of (Some f) h = refl
-
--- a number that isn't fresh has an entry
-pub entry_of : (entries : List (ℕ × Fate)) (n : ℕ) → (fate_in entries n ≡ Fresh → ⊥) → HasEntry entries n
-entry_of entries n h = some_of (lookup (is_at (nat_cmp n)) entries) h
+use Rattle.irl_fate.proofs.Entries.{entry_of}
 
 pub last_fresh : Last ≡ Fresh → ⊥
 last_fresh e = cc
@@ -118,13 +108,3 @@ pub each_at : {X : Type 0} (p : X → Bool) (xs : List X) (i : ℕ) (d : X) → 
 each_at p [] i d h lt = absurd (omega arith)
 each_at p (x ∷ xs) zero d h lt = (and_parts (p x) (list_all p xs) h).0
 each_at p (x ∷ xs) (suc i) d h lt = each_at p xs i d (and_parts (p x) (list_all p xs) h).1 (omega arith)
-
--- the numbers of places have entries, one more after another
-pub entries_more : (old new : List (ℕ × Fate)) (places : List Place) (i : ℕ) (e : Place) → ((k : ℕ) (d : Place) → k < i → HasEntry old (get_or places k d).number)
-    → ((q : ℕ) → HasEntry old q → HasEntry new q) → i < length places → HasEntry new (get_or places i e).number → (k : ℕ) (d : Place) → k < i + 1 → HasEntry new (get_or places k d).number
-entries_more old new places i e before kept lt now k d below = elim (cases_eq k i) [
-  | inl here ↦
-      subst (λ (n : ℕ). HasEntry new (get_or places n d).number) (sym here)
-      (subst (λ (p : Place). HasEntry new p.number) (get_or_default places i e d lt) now)
-  | inr other ↦ kept _ (before k d (omega arith))
-]

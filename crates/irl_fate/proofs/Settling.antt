@@ -154,6 +154,14 @@ settle_fresh f outcomes n all fresh = elim (cases_Bool (has_number (numbers_done
   | inr e ↦ done_absent outcomes n (f n) e ∙ fresh
 ]
 
+-- and one that wasn't in the front still isn't
+pub settle_passed : (f : ℕ → Fate) (outcomes : List (ℕ × Outcome)) (n : ℕ) → list_all (λ d. is_front (f d.0)) outcomes ≡ true → is_front (f n) ≡ false
+    → is_front (done_by outcomes n (f n)) ≡ false
+settle_passed f outcomes n all out = elim (cases_Bool (has_number (numbers_done outcomes) n)) [
+  | inl e ↦ absurd (false≢true (sym out ∙ was_front f outcomes n all e))
+  | inr e ↦ ap is_front (done_absent outcomes n (f n) e) ∙ out
+]
+
 -- each number is in the front by the lists where it is by its fate
 pub all_same : {X : Type 0} (p q : X → Bool) (xs : List X) → ((x : X) → p x ≡ q x) → list_all p xs ≡ list_all q xs
 all_same p q [] h = refl

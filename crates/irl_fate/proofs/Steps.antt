@@ -18,7 +18,7 @@ use Rattle.irl_fate.proofs.Counting.{filter_all, filter_same}
 use Rattle.irl_fate.proofs.Agreeing.{in_front, in_list, same_fates, cleared, take_out, turned, turn_front}
 use Rattle.irl_fate.proofs.Reading.{Clear, clear_read, front_places, put_places, placed_none, placed_same, read_absent, read_whole, delivered_before, delivered_after}
 
-one_most : (b : Bool) → one_if b ≤ 1
+pub one_most : (b : Bool) → one_if b ≤ 1
 one_most true = omega arith
 one_most false = omega arith
 
@@ -148,7 +148,7 @@ last_only (Done o) fits h = absurd (false≢true h)
 pub at_last : (f : ℕ → Fate) (front : List ℕ) (lists : List (List ℕ)) (done : List (ℕ × Outcome)) (n : ℕ) → Agree f front lists done → has_number (list_at lists 64) n ≡ true → f n ≡ Last
 at_last f front lists done n a there = last_only (f n) (a.fits n) (sym (in_list a 64 n) ∙ there)
 
-has_at : (xs : List ℕ) (i : ℕ) → i < length xs → has_number xs (get_or xs i 0) ≡ true
+pub has_at : (xs : List ℕ) (i : ℕ) → i < length xs → has_number xs (get_or xs i 0) ≡ true
 has_at xs i lt = list_any_at (λ m. nat_eq m (get_or xs i 0)) xs i 0 lt (eq-eqb (get_or xs i 0) (get_or xs i 0) refl)
 
 pub all_last : (f : ℕ → Fate) (front : List ℕ) (lists : List (List ℕ)) (done : List (ℕ × Outcome)) → Agree f front lists done → (i : ℕ) → i < length (list_at lists 64)

@@ -30,7 +30,7 @@ one_more t n ns = by_test (t n)
     by_test true = omega arith
     by_test false = omega arith
 
-fate_more : (test : Fate → Bool) (x : Progress) (n : ℕ) (ns : List ℕ) → count_fate test x (n ∷ ns) ≡ one_if (test (fate_of x n)) + count_fate test x ns
+pub fate_more : (test : Fate → Bool) (x : Progress) (n : ℕ) (ns : List ℕ) → count_fate test x (n ∷ ns) ≡ one_if (test (fate_of x n)) + count_fate test x ns
 fate_more test x n ns = one_more (λ m. test (fate_of x m)) n ns
 
 kinds : (v : Fate) → one_if (is_fresh v) + one_if (is_queued v) + one_if (is_last v) + one_if (is_front v) + one_if (is_done v) ≡ 1
@@ -40,7 +40,7 @@ kinds Last = refl
 kinds Front = refl
 kinds (Done outcome) = refl
 
-all_kinds : (x : Progress) (ns : List ℕ) → count_fate is_fresh x ns + count_fate is_queued x ns + count_fate is_last x ns + count_fate is_front x ns + count_fate is_done x ns ≡ length ns
+pub all_kinds : (x : Progress) (ns : List ℕ) → count_fate is_fresh x ns + count_fate is_queued x ns + count_fate is_last x ns + count_fate is_front x ns + count_fate is_done x ns ≡ length ns
 all_kinds x [] = refl
 all_kinds x (n ∷ ns) =
     omega (arith, kinds (fate_of x n), all_kinds x ns, fate_more is_fresh x n ns, fate_more is_queued x n ns, fate_more is_last x n ns, fate_more is_front x n ns, fate_more is_done x n ns)
@@ -108,12 +108,12 @@ distinct_of (x ∷ xs) once =
     ap (λ (b : Bool). not b && are_distinct xs) none
     ∙ distinct_of xs (λ n. let whole : one_if (nat_eq x n) + count n xs ≤ 1 = once n in omega arith)
 
-one_most : (b : Bool) → one_if b ≤ 1
+pub one_most : (b : Bool) → one_if b ≤ 1
 one_most true = omega arith
 one_most false = omega arith
 
 -- a list that has the numbers of which a test holds, each once, is as long as those of them among numbers that differ
-list_long : (p : ℕ → Bool) (xs numbers : List ℕ) → ((n : ℕ) → count n xs ≡ one_if (p n)) → are_distinct numbers ≡ true → ((n : ℕ) → p n ≡ true → has_number numbers n ≡ true)
+pub list_long : (p : ℕ → Bool) (xs numbers : List ℕ) → ((n : ℕ) → count n xs ≡ one_if (p n)) → are_distinct numbers ≡ true → ((n : ℕ) → p n ≡ true → has_number numbers n ≡ true)
     → length (filter p numbers) ≡ length xs
 list_long p xs numbers counts apart among =
     let kept : List ℕ = filter p numbers in
@@ -132,7 +132,7 @@ list_long p xs numbers counts apart among =
     omega arith
 
 -- ---- the front, and what is done
-waits_kind : (test : Fate → Bool) (k : ℕ) (lists : List (List ℕ)) (n : ℕ) (other : Fate) → ((i : ℕ) → test (Queue i) ≡ false) → test Last ≡ false → test other ≡ false
+pub waits_kind : (test : Fate → Bool) (k : ℕ) (lists : List (List ℕ)) (n : ℕ) (other : Fate) → ((i : ℕ) → test (Queue i) ≡ false) → test Last ≡ false → test other ≡ false
     → test (waits_from k lists n other) ≡ false
 waits_kind test k [] n other queues last h = h
 waits_kind test k (list ∷ lists) n other queues last h = by_test (has_number list n) (nat_eq k 64) (waits_kind test (k + 1) lists n other queues last h)
@@ -150,14 +150,14 @@ done_not_front (d ∷ outcomes) n = by_test (nat_eq d.0 n) (done_not_front outco
     by_test true rest = refl
     by_test false rest = rest
 
-front_has : (x : Progress) (n : ℕ) → is_front (fate_of x n) ≡ has_number x.front n
+pub front_has : (x : Progress) (n : ℕ) → is_front (fate_of x n) ≡ has_number x.front n
 front_has x n = by_test (has_number x.front n) (waits_kind is_front 0 x.waiting.lists n (done_by x.done n Fresh) (λ i. refl) refl (done_not_front x.done n))
   where
     by_test : (b : Bool) → is_front (waits_from 0 x.waiting.lists n (done_by x.done n Fresh)) ≡ false → is_front (cond b Front (waits_from 0 x.waiting.lists n (done_by x.done n Fresh))) ≡ b
     by_test true rest = refl
     by_test false rest = rest
 
-done_has : (x : Progress) (n : ℕ) → stands x n ≤ 1 → is_done (fate_of x n) ≡ has_number (numbers_done x.done) n
+pub done_has : (x : Progress) (n : ℕ) → stands x n ≤ 1 → is_done (fate_of x n) ≡ has_number (numbers_done x.done) n
 done_has x n most = elim (cases_Bool (has_number (numbers_done x.done) n)) [
   | inl there ↦
       ap is_done (done_only x n most (present_count (numbers_done x.done) n there) ∙ (came_of x.done n Fresh there).fate) ∙ sym there
@@ -172,7 +172,7 @@ done_has x n most = elim (cases_Bool (has_number (numbers_done x.done) n)) [
     by_test false rest = rest
 
 -- a number that stands once at most stands in a list as often as the list has it
-count_has : (xs : List ℕ) (n : ℕ) → count n xs ≤ 1 → count n xs ≡ one_if (has_number xs n)
+pub count_has : (xs : List ℕ) (n : ℕ) → count n xs ≤ 1 → count n xs ≡ one_if (has_number xs n)
 count_has xs n most = elim (cases_Bool (has_number xs n)) [
   | inl there ↦
       let one : one_if (has_number xs n) ≡ 1 = one_true (has_number xs n) there in

@@ -1,23 +1,28 @@
 -- What the fields of `Fates` show, and what they keep.
-use Rattle.std.specs.Prelude.{◌≡◌, ℕ, ◌+◌, ◌≤◌, ◌<◌, nat_eq, Bool, true, false, List, [], ◌∷◌, map, length, unwrap_or, vec_len, Option, None, Some, IsSome, if◌then◌else◌}
+use Rattle.std.specs.Prelude.{◌≡◌, ℕ, ◌+◌, ◌≤◌, ◌<◌, nat_eq, Bool, true, false, List, [], ◌∷◌, map, length, slice_index_or, vec_len, vec_capacity, Option, None, Some, if◌then◌else◌}
 use Rattle.std.specs.List.{filter}
-use Rattle.std.specs.Ordering.{nat_cmp}
-use Rattle.std.specs.BTreeMap.{is_at}
 use Rattle.std.specs.Map.{lookup}
 use Rattle.irl_offer.specs.declared.outcome.Outcome.{Outcome}
 use Rattle.irl_offer.specs.declared.place.Place.{Place}
 use Rattle.irl_base.specs.Lists.{items_of, list_at}
 use Rattle.irl_offer.specs.declared.place.Slot.{Slot}
 use Rattle.irl_offer.specs.declared.place.Slot.TheVariants.{Front as InFront, Queue as InQueue, Last as InLast}
-use Rattle.irl_events.specs.Events.{Progress}
+use Rattle.irl_events.specs.Events.{Progress, has_number}
+use Rattle.irl_events.specs.Legal.{are_rising}
 use Rattle.irl_fate.specs.declared.fate.Fate.{Fate}
 use Rattle.irl_fate.specs.declared.fate.Fate.TheVariants.{Fresh, Queue, Last, Front, Done}
 use Rattle.irl_fate.specs.declared.fates.Fates.TheInside.{Inside}
 pub use Rattle.irl_fate.specs.Standing.{count, one_if}
+use Rattle.irl_fate.specs.Standing.{read_count}
 
--- the fate that the entries have for a number
+-- the fate that the entries have for a number: one without an entry is fresh
 abbrev pub fate_in : List (ℕ × Fate) → ℕ → Fate
-fate_in entries n = unwrap_or (lookup (is_at (nat_cmp n)) entries) Fresh
+fate_in [] n = Fresh
+fate_in (e ∷ entries) n = if nat_eq e.0 n then e.1 else fate_in entries n
+
+-- the numbers that have entries
+abbrev pub numbers_in : List (ℕ × Fate) → List ℕ
+numbers_in entries = map (λ e. e.0) entries
 
 abbrev pub is_front : Fate → Bool
 is_front Fresh = false
@@ -80,30 +85,49 @@ shown a = record {
   pairs = a.pairs;
   read = a.read;
   fronts = a.fronts.items;
-  front = front_left a.fates.entries a.front.items;
+  front = front_left a.fates.items a.front.items;
   waiting = record { lists = items_of a.lists.items; queues = a.queues; passes = a.passes };
   done = a.done.items;
 }
 
 pub record IsKept (a : Inside) : Type 0 where
-  pub agree : Agree (fate_in a.fates.entries) (front_left a.fates.entries a.front.items) (items_of a.lists.items)
+  pub agree : Agree (fate_in a.fates.items) (front_left a.fates.items a.front.items) (items_of a.lists.items)
       a.done.items
   -- a number that isn't below the last pass's is fresh
-  pub fresh : (n : ℕ) → a.read ≤ n → fate_in a.fates.entries n ≡ Fresh
+  pub fresh : (n : ℕ) → a.read ≤ n → fate_in a.fates.items n ≡ Fresh
   pub sent : a.read ≤ a.sent
   -- the queues that the round has read are empty
   pub spent : (k : ℕ) → k < a.passes → list_at (items_of a.lists.items) k ≡ []
   -- and so are those that are not in use
   pub unused : (k : ℕ) → a.queues ≤ k → k < 64 → list_at (items_of a.lists.items) k ≡ []
-  pub left : a.left ≡ length (front_left a.fates.entries a.front.items)
+  pub left : a.left ≡ length (front_left a.fates.items a.front.items)
   pub len : vec_len a.lists ≡ 65
   pub most : a.queues ≤ 64
   pub round : a.passes < a.queues
+  -- the entries rise by number, and are as many as the numbers that were read
+  pub rising : are_rising 0 a.read (numbers_in a.fates.items) ≡ true
+  pub entries : vec_len a.fates ≡ read_count (shown a)
+  -- the last pass's front in rising order, and how many of it are not in the front any more, in front of all that is
+  pub order : (n : ℕ) → count n a.order.items ≡ count n a.front.items
+  pub order_rises : are_rising 0 a.read a.order.items ≡ true
+  pub next : a.next ≤ vec_len a.order
+  pub passed : (i : ℕ) → i < a.next → is_front (fate_in a.fates.items (slice_index_or a.order.items i 0)) ≡ false
+  -- what is left of the front has its room among what is done
+  pub room : vec_len a.done + a.left ≤ vec_capacity a.done
 
 -- ---- on the way
 -- a number has an entry
 abbrev pub HasEntry : List (ℕ × Fate) → ℕ → Type 0
-HasEntry entries n = IsSome (lookup (is_at (nat_cmp n)) entries)
+HasEntry entries n = has_number (numbers_in entries) n ≡ true
+
+-- numbers rise
+abbrev pub AreSorted : List ℕ → Type 0
+AreSorted ns = (i j : ℕ) → i < j → j < length ns → slice_index_or ns i 0 < slice_index_or ns j 0
+
+-- the entry at a place is that of a number
+pub record IsAt (entries : List (ℕ × Fate)) (n i : ℕ) : Type 0 where
+  pub within : i < length entries
+  pub number : slice_index_or (numbers_in entries) i 0 ≡ n
 
 abbrev pub fate_of_slot : Slot → Fate
 fate_of_slot InFront = Front

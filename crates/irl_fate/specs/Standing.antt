@@ -23,6 +23,15 @@ count_all n (list ∷ lists) = count n list + count_all n lists
 abbrev pub stands : Progress → ℕ → ℕ
 stands x n = count n x.front + count_all n x.waiting.lists + count n (map (λ d. d.0) x.done)
 
+-- how many numbers wait in lists
+abbrev pub total : List (List ℕ) → ℕ
+total [] = 0
+total (list ∷ lists) = length list + total lists
+
+-- how many numbers stand anywhere: each that was read does, once
+abbrev pub read_count : Progress → ℕ
+read_count x = length x.front + total x.waiting.lists + length x.done
+
 -- whether a number with this fate stands anywhere
 abbrev pub is_placed : Fate → Bool
 is_placed Fresh = false

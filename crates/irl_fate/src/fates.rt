@@ -3,23 +3,28 @@ ghost use Rattle.irl_offer.specs.Buckets.{IsBucketCount};
 ghost use Rattle.irl_events.specs.Events.{Happened, before_all, after_event, progress, Pass as SeenPass, Settle as SeenSettle};
 ghost use Rattle.irl_events.specs.Legal.{AreLegal, broken, begins_once, pairs_rise, passes_on, is_noted, settles};
 ghost use Rattle.irl_base.specs.Lists.{list_at};
-ghost use Rattle.irl_events.specs.Queues.{round_ended};
+ghost use Rattle.irl_events.specs.Queues.{last_of, round_ended};
 ghost use Rattle.irl_fate.specs.Fates.{fate_of};
+ghost use Rattle.irl_fate.specs.Fronts.{AreFirst};
 ghost use Rattle.irl_fate.specs.Passing.{read_by, ended};
+ghost use Rattle.irl_fate.specs.Plans.{IsPlanOf, after_plan, IsReading};
 ghost use Rattle.irl_events.specs.Seen.{seen, HasFronts};
-ghost use Rattle.irl_fate.specs.Standing.{one_if, is_placed, stands};
+ghost use Rattle.irl_fate.specs.Standing.{one_if, is_placed, read_count, stands};
 ghost use Rattle.irl_fate.specs.declared.fate.Fate.TheVariants.{Fresh as FreshFate, Queue as QueueFate};
 ghost use Rattle.irl_fate.specs.declared.fate.FateFault.TheVariants.{Illegal as IllegalFault};
 
-use crate::lists::{LAST, LISTS, deliver};
-use crate::numbers::{begin_round, enter, fate_at, front_of, place_all, settle_all};
+use crate::lists::{LAST, LISTS, delivered_copy, fresh_of};
+use crate::numbers::{begin_round, front_of, place_all, settle_all};
+use crate::order::{first_from, first_left, sorted};
+use crate::plan::{Act, Reading};
+use crate::room::{extend, grow, room};
 use crate::rules::{are_within, differ, has_lengths, reads_queue, settles_front};
-use crate::{Fate, FateFault};
+use crate::table::{enter, fate_at};
+use crate::{Fate, FateFault, Plan};
 use irl_base::lists::{empty_lists, replace_at, take_out};
-use irl_events::{Event, Numbers, Settled};
+use irl_events::Event;
 use irl_offer::{Outcome, Place};
 use std::alloc::{AllocError, Global};
-use std::collections::BTreeMap;
 use std::marker::Model;
 
 /// The fate of each URL of a crawl, by its events so far. Contracts see it as the `Progress` that these events make.
@@ -32,15 +37,19 @@ pub struct Fates {
     pairs: u64,
     read: u64,
     fronts: Vec<u64>,
-    // The fate of each number that was read. One that isn't here is fresh, and one that is may be.
-    fates: BTreeMap<u64, Fate>,
+    // The fate of each number that was read, by number. One that isn't here is fresh.
+    fates: Vec<(u64, Fate)>,
     // What the last pass put into the front, in the order of reading, and how many of these are not done yet.
     front: Vec<u64>,
     left: usize,
+    // The same in rising order, and how many of it are done, before the first that isn't.
+    order: Vec<u64>,
+    next: usize,
     // The queues, from 1, of which there may be 64, and the last list behind them.
     lists: Vec<Vec<u64>>,
     queues: u32,
     passes: u32,
+    // What is done, with room for what is left of the front.
     done: Vec<(u64, Outcome)>,
 }
 
@@ -74,9 +83,11 @@ impl Fates {
             pairs: 0,
             read: 0,
             fronts,
-            fates: BTreeMap::new(alloc),
+            fates: Vec::new(alloc),
             front: Vec::new(alloc),
             left: 0,
+            order: Vec::new(alloc),
+            next: 0,
             lists,
             queues,
             passes: 0,
@@ -101,11 +112,51 @@ impl Fates {
             AreLegal queues buckets (events ++ (seen event.now, places.now) ∷ [])) }
         ensures fronts { length self.new.fronts ≡ length self.old.fronts }
     {
+        let plan = self.plan(event, places)?;
+        self.commit(plan);
+        Ok(())
+    }
+
+    /// Plans one more event, with the places that it gives: its rules are kept, and all the memory that it takes is in the plan.
+    /// It is refused as by `apply`.
+    pub fn plan(&self, event: &Event, places: &[Place]) -> Result<Plan, FateFault>
+        requires { HasFronts (length self.now.fronts) event.now }
+        ensures plan { IfOk result (λ plan. IsPlanOf self.now plan) }
+        ensures after { IfOk result (λ plan.
+            after_plan self.now plan ≡ after_event self.now (seen event.now) places.now) }
+        ensures legal { OnOk result (broken self.now (seen event.now) places.now ≡ None) }
+        ensures illegal { (n : ℕ) → result ≡ Err (IllegalFault n) →
+            broken self.now (seen event.now) places.now ≡ Some n }
+    {
         if let Some(rule) = self.broken(event, places)? {
             return Err(FateFault::Illegal(rule));
         }
-        self.carry_out(event, places)?;
-        Ok(())
+        Ok(self.planned(event, places)?)
+    }
+
+    /// Does what was planned. It takes no memory, and can't fail.
+    pub fn commit(&mut self, plan: Plan)
+        requires { IsPlanOf self.old plan }
+        ensures { self.new ≡ after_plan self.old plan }
+    {
+        match plan.act {
+            Act::Begin => self.begun = true,
+            Act::Pairs {
+                cuts,
+                judged,
+                pairs,
+            } => {
+                self.begun = true;
+                self.cuts = cuts;
+                self.sent = judged;
+                self.pairs = pairs;
+            }
+            Act::Pass(reading) => {
+                self.read_places(reading);
+                self.end_pass();
+            }
+            Act::Settle { fronts, done } => self.settle(fronts, done),
+        }
     }
 
     /// The least rule that an event with its places breaks, if it breaks one: whether `apply` would take it. It changes
@@ -139,6 +190,15 @@ impl Fates {
         fate_at(&self.fates, number)
     }
 
+    /// The first so many numbers of the front, in rising order: all of them where there are fewer. What is done isn't gone over
+    /// again where it lies before all that is left.
+    pub fn first_of_front(&self, alloc: Global, most: u32) -> Result<Vec<u64>, AllocError>
+        ensures { IfOk result (λ numbers. AreFirst self.now.front most numbers.items) }
+    {
+        let first = first_from(alloc, &self.fates, &self.order, self.next, most as usize)?;
+        Ok(first)
+    }
+
     /// A law: each number that was read stands in one list, once, and no other stands anywhere; one that waits in a queue
     /// waits in one that is in use and that this round has not read yet, and all other queues are empty; and what else the
     /// events that were applied keep. It does nothing.
@@ -155,6 +215,34 @@ impl Fates {
         ensures most { self.now.waiting.queues ≤ 64 }
     {
         let _ = &self.begun;
+    }
+
+    /// How many numbers were read: each stands in one list. It takes no memory.
+    pub fn read_len(&self) -> usize
+        ensures { result ≡ read_count self.now }
+    {
+        self.fates.len()
+    }
+
+    /// How many numbers are in the front. It takes no memory.
+    pub fn front_len(&self) -> usize
+        ensures { result ≡ length self.now.front }
+    {
+        self.left
+    }
+
+    /// How many numbers are in the last list. It takes no memory.
+    pub fn last_len(&self) -> usize
+        ensures { result ≡ length (last_of self.now.waiting) }
+    {
+        self.lists[LAST].len()
+    }
+
+    /// How many numbers are done. It takes no memory.
+    pub fn done_len(&self) -> usize
+        ensures { result ≡ length self.now.done }
+    {
+        self.done.len()
     }
 
     fn keeps_begin(&self, event: &Event) -> bool
@@ -217,54 +305,84 @@ impl Fates {
         }
     }
 
-    // Carries out an event that breaks no rule. After want of memory all is as before.
-    fn carry_out(&mut self, event: &Event, places: &[Place]) -> Result<(), AllocError>
-        requires fronts { HasFronts (length self.old.fronts) event.now }
-        requires legal { broken self.old (seen event.now) places.now ≡ None }
-        ensures ok { OnOk result (self.new ≡ after_event self.old (seen event.now) places.now) }
-        ensures err { OnErr result (self.new ≡ self.old) }
+    // The plan of an event that breaks no rule.
+    fn planned(&self, event: &Event, places: &[Place]) -> Result<Plan, AllocError>
+        requires fronts { HasFronts (length self.now.fronts) event.now }
+        requires legal { broken self.now (seen event.now) places.now ≡ None }
+        ensures plan { IfOk result (λ plan. IsPlanOf self.now plan) }
+        ensures after { IfOk result (λ plan.
+            after_plan self.now plan ≡ after_event self.now (seen event.now) places.now) }
     {
-        match event {
-            Event::Begin(_) | Event::Robots(_) => {
-                self.begun = true;
-                Ok(())
-            }
+        let act = match event {
+            Event::Begin(_) | Event::Robots(_) => Act::Begin,
             Event::Pairs {
                 cuts,
                 judged,
                 pairs,
-            } => {
-                self.begun = true;
-                self.cuts = *cuts;
-                self.sent = *judged;
-                self.pairs = *pairs;
-                Ok(())
-            }
-            Event::Pass { judged } => {
-                self.read_places(*judged, places)?;
-                self.end_pass();
-                Ok(())
-            }
-            Event::Settle { fronts, done } => self.settle(fronts, done),
-        }
+            } => Act::Pairs {
+                cuts: *cuts,
+                judged: *judged,
+                pairs: *pairs,
+            },
+            Event::Pass { judged } => Act::Pass(self.reading(*judged, places)?),
+            Event::Settle { fronts, done } => Act::Settle {
+                fronts: fronts.items().to_vec(self.alloc)?,
+                done: done.items().to_vec(self.alloc)?,
+            },
+        };
+        Ok(Plan { act })
+    }
+
+    // What a pass is to do.
+    fn reading(&self, judged: u64, places: &[Place]) -> Result<Reading, AllocError>
+        requires { passes_on self.now (SeenPass judged) places.now ≡ true }
+        ensures reading { IfOk result (IsReading self.now) }
+        ensures judged { IfOk result (λ reading. reading.judged ≡ judged) }
+        ensures places { IfOk result (λ reading. reading.places.items ≡ places.now) }
+    {
+        let alloc = self.alloc;
+        let at = self.passes as usize;
+        let front = front_of(alloc, places)?;
+        let fresh = fresh_of(&self.lists, at, places).len();
+        Ok(Reading {
+            judged,
+            places: places.to_vec(alloc)?,
+            lists: delivered_copy(alloc, &self.lists, at, places)?,
+            fates: room(alloc, self.fates.len(), fresh)?,
+            done: room(alloc, self.done.len(), front.len())?,
+            order: sorted(alloc, &front)?,
+            front,
+        })
     }
 
     // Reads the next queue and the fresh numbers below one, and puts them into their places.
-    fn read_places(&mut self, judged: u64, places: &[Place]) -> Result<(), AllocError>
-        requires { passes_on self.old (SeenPass judged) places.now ≡ true }
-        ensures ok { OnOk result (self.new ≡ read_by self.old judged places.now) }
-        ensures spent { OnOk result (list_at self.new.waiting.lists self.new.waiting.passes ≡ []) }
-        ensures err { OnErr result (self.new ≡ self.old) }
+    fn read_places(&mut self, reading: Reading)
+        requires { IsReading self.old reading }
+        ensures read { self.new ≡ read_by self.old reading.judged reading.places.items }
+        ensures spent { list_at self.new.waiting.lists self.new.waiting.passes ≡ [] }
     {
-        let front = front_of(self.alloc, places)?;
-        enter(&mut self.fates, places)?;
-        deliver(self.alloc, &mut self.lists, self.passes as usize, places)?;
-        place_all(&mut self.fates, places);
-        self.left = front.len();
+        let Reading {
+            judged,
+            places,
+            front,
+            order,
+            lists,
+            fates,
+            done,
+        } = reading;
+        let left = front.len();
+        let fresh = fresh_of(&self.lists, self.passes as usize, &places);
+        grow(&mut self.fates, fates, fresh.len());
+        grow(&mut self.done, done, left);
+        enter(&mut self.fates, fresh);
+        place_all(&mut self.fates, &places);
+        self.left = left;
         self.front = front;
+        self.order = order;
+        self.next = 0;
+        self.lists = lists;
         self.begun = true;
         self.read = judged;
-        Ok(())
     }
 
     // A pass more, and the end of the round where it was the last one.
@@ -285,18 +403,16 @@ impl Fates {
     }
 
     // Puts numbers of the front among those that are done.
-    fn settle(&mut self, fronts: &Numbers, done: &Settled) -> Result<(), AllocError>
-        requires { settles self.old (SeenSettle fronts.now done.now) ≡ true }
-        ensures ok { OnOk result (self.new ≡ after_event self.old (SeenSettle fronts.now done.now) []) }
-        ensures err { OnErr result (self.new ≡ self.old) }
+    fn settle(&mut self, fronts: Vec<u64>, done: Vec<(u64, Outcome)>)
+        requires { settles self.old (SeenSettle fronts.items done.items) ≡ true }
+        ensures { self.new ≡ after_event self.old (SeenSettle fronts.items done.items) [] }
     {
-        let fronts = fronts.items().to_vec(self.alloc)?;
-        self.done.extend_from_slice(done.items())?;
-        settle_all(&mut self.fates, done.items());
-        self.left -= done.items().len();
+        settle_all(&mut self.fates, &done);
+        self.left -= done.len();
+        extend(&mut self.done, &done);
+        self.next = first_left(&self.fates, &self.order, self.next);
         self.fronts = fronts;
         self.begun = true;
-        Ok(())
     }
 }
 

@@ -7,7 +7,11 @@ mod fates;
 mod laws;
 mod lists;
 mod numbers;
+mod order;
+mod plan;
+mod room;
 mod rules;
+mod table;
 
 pub use counts::Counts;
 pub use fate::{Fate, FateFault};
@@ -16,6 +20,7 @@ pub use irl_events::{Event, Numbers, Places, Settled};
 pub use laws::{
     counts_add_up, queues_wait_for_their_pass, what_is_done_stays_done, what_was_read_stands_once,
 };
+pub use plan::Plan;
 
 #[cfg(test)]
 mod tests;

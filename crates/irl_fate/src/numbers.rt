@@ -1,60 +1,16 @@
-ghost use Rattle.std.specs.Prelude.{◌≡◌, ◌<◌, ℕ, List, map, length, nat_eq, slice_index_or, if◌then◌else◌, IfOk, OnOk, true};
+ghost use Rattle.std.specs.Prelude.{◌≡◌, ◌<◌, ℕ, List, map, length, nat_eq, slice_index_or, if◌then◌else◌, IfOk, true};
 ghost use Rattle.std.specs.List.{list_all, filter};
 ghost use Rattle.irl_offer.specs.declared.place.Place.{Place as PlaceValue};
 ghost use Rattle.irl_events.specs.Events.{has_number, is_in_front, numbers_of};
 ghost use Rattle.irl_events.specs.Legal.{are_distinct};
 ghost use Rattle.irl_fate.specs.Fates.{done_by};
-ghost use Rattle.irl_fate.specs.Kept.{fate_in, is_front, HasEntry, placed_by, fate_of_slot};
+ghost use Rattle.irl_fate.specs.Kept.{fate_in, numbers_in, is_front, AreSorted, HasEntry, placed_by, fate_of_slot};
 ghost use Rattle.irl_fate.specs.declared.fate.Fate.TheVariants.{Queue as QueueFate, Last as LastFate};
 
 use crate::Fate;
+use crate::table::relabel;
 use irl_offer::{Outcome, Place, Slot};
 use std::alloc::{AllocError, Global};
-use std::collections::BTreeMap;
-
-/// The fate of a number: one without an entry is fresh. It takes no memory.
-pub fn fate_at(fates: &BTreeMap<u64, Fate>, number: u64) -> Fate
-    ensures { result ≡ fate_in fates.now.entries number }
-{
-    fates.get(&number).copied().unwrap_or(Fate::Fresh)
-}
-
-// Gives a number that has an entry another fate. It takes no memory.
-fn relabel(fates: &mut BTreeMap<u64, Fate>, number: u64, fate: Fate)
-    requires { HasEntry fates.old.entries number }
-    ensures fate { (q : ℕ) → fate_in fates.new.entries q
-        ≡ (if nat_eq number q then fate else fate_in fates.old.entries q) }
-    ensures entries { (q : ℕ) → HasEntry fates.old.entries q → HasEntry fates.new.entries q }
-{
-    if let Some(old) = fates.get_mut(&number) {
-        *old = fate;
-    }
-}
-
-// Makes an entry for a number that has none, which is fresh as before.
-fn enter_one(fates: &mut BTreeMap<u64, Fate>, number: u64) -> Result<(), AllocError>
-    ensures fates { (q : ℕ) → fate_in fates.new.entries q ≡ fate_in fates.old.entries q }
-    ensures ok { OnOk result (HasEntry fates.new.entries number) }
-    ensures entries { (q : ℕ) → HasEntry fates.old.entries q → HasEntry fates.new.entries q }
-{
-    if fates.contains_key(&number) {
-        return Ok(());
-    }
-    fates.insert(number, Fate::Fresh)?;
-    Ok(())
-}
-
-/// Makes an entry for each number of places that has none, which is fresh as before.
-pub fn enter(fates: &mut BTreeMap<u64, Fate>, places: &[Place]) -> Result<(), AllocError>
-    ensures fates { (q : ℕ) → fate_in fates.new.entries q ≡ fate_in fates.old.entries q }
-    ensures ok { OnOk result ((i : ℕ) (d : PlaceValue) → i < length places.now →
-        HasEntry fates.new.entries (slice_index_or places.now i d).number) }
-{
-    for place in places {
-        enter_one(fates, place.number)?;
-    }
-    Ok(())
-}
 
 // The fate that a slot gives.
 fn slot_fate(slot: Slot) -> Fate
@@ -68,35 +24,41 @@ fn slot_fate(slot: Slot) -> Fate
 }
 
 /// Gives numbers that have entries the fates of their places.
-pub fn place_all(fates: &mut BTreeMap<u64, Fate>, places: &[Place])
-    requires { (i : ℕ) (d : PlaceValue) → i < length places.now →
-        HasEntry fates.old.entries (slice_index_or places.now i d).number }
-    ensures { (q : ℕ) → fate_in fates.new.entries q ≡ placed_by places.now q (fate_in fates.old.entries q) }
+pub fn place_all(entries: &mut [(u64, Fate)], places: &[Place])
+    requires sorted { AreSorted (numbers_in entries.old) }
+    requires entries { (i : ℕ) (d : PlaceValue) → i < length places.now →
+        HasEntry entries.old (slice_index_or places.now i d).number }
+    ensures fates { (q : ℕ) → fate_in entries.new q ≡ placed_by places.now q (fate_in entries.old q) }
+    ensures numbers { numbers_in entries.new ≡ numbers_in entries.old }
 {
     for place in places {
-        relabel(fates, place.number, slot_fate(place.slot));
+        relabel(entries, place.number, slot_fate(place.slot));
     }
 }
 
 /// Puts numbers of the last list into queue 1.
-pub fn begin_round(fates: &mut BTreeMap<u64, Fate>, last: &[u64])
-    requires { (i : ℕ) → i < length last.now → fate_in fates.old.entries (slice_index_or last.now i 0) ≡ LastFate }
-    ensures { (q : ℕ) → fate_in fates.new.entries q
-        ≡ (if has_number last.now q then QueueFate 1 else fate_in fates.old.entries q) }
+pub fn begin_round(entries: &mut [(u64, Fate)], last: &[u64])
+    requires sorted { AreSorted (numbers_in entries.old) }
+    requires last { (i : ℕ) → i < length last.now → fate_in entries.old (slice_index_or last.now i 0) ≡ LastFate }
+    ensures fates { (q : ℕ) → fate_in entries.new q
+        ≡ (if has_number last.now q then QueueFate 1 else fate_in entries.old q) }
+    ensures numbers { numbers_in entries.new ≡ numbers_in entries.old }
 {
     for number in last {
-        relabel(fates, *number, Fate::Queue(1));
+        relabel(entries, *number, Fate::Queue(1));
     }
 }
 
 /// Gives numbers of the front what came of them.
-pub fn settle_all(fates: &mut BTreeMap<u64, Fate>, done: &[(u64, Outcome)])
-    requires front { list_all (λ d. is_front (fate_in fates.old.entries d.0)) done.now ≡ true }
+pub fn settle_all(entries: &mut [(u64, Fate)], done: &[(u64, Outcome)])
+    requires sorted { AreSorted (numbers_in entries.old) }
+    requires front { list_all (λ d. is_front (fate_in entries.old d.0)) done.now ≡ true }
     requires distinct { are_distinct (map (λ d. d.0) done.now) ≡ true }
-    ensures { (q : ℕ) → fate_in fates.new.entries q ≡ done_by done.now q (fate_in fates.old.entries q) }
+    ensures fates { (q : ℕ) → fate_in entries.new q ≡ done_by done.now q (fate_in entries.old q) }
+    ensures numbers { numbers_in entries.new ≡ numbers_in entries.old }
 {
     for (number, outcome) in done {
-        relabel(fates, *number, Fate::Done(*outcome));
+        relabel(entries, *number, Fate::Done(*outcome));
     }
 }
 

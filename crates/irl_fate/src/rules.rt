@@ -2,10 +2,10 @@ ghost use Rattle.std.specs.Prelude.{◌≡◌, ◌&&◌, ◌||◌, nat_lt, lengt
 ghost use Rattle.std.specs.List.{list_all};
 ghost use Rattle.irl_events.specs.Events.{numbers_of, Robots as SeenRobots};
 ghost use Rattle.irl_events.specs.Legal.{are_rising, are_read, is_slot_within, is_noted, none_fell, one_rose, are_distinct};
-ghost use Rattle.irl_fate.specs.Kept.{fate_in, is_front};
+ghost use Rattle.irl_fate.specs.Kept.{fate_in, numbers_in, is_front, AreSorted};
 
 use crate::Fate;
-use crate::numbers::fate_at;
+use crate::table::is_in_front;
 use irl_offer::{MAX_ROBOTS, MAX_TEXT, Note, NoteState, Outcome, Place, Slot};
 use std::alloc::{AllocError, Global};
 use std::collections::BTreeMap;
@@ -96,11 +96,16 @@ fn rise(old: &[u64], new: &[u64]) -> bool
 }
 
 // Whether each number is in the front.
-fn are_front(fates: &BTreeMap<u64, Fate>, done: &[(u64, Outcome)]) -> bool
-    ensures { result ≡ list_all (λ d. is_front (fate_in fates.now.entries d.0)) done.now }
+fn are_front(entries: &[(u64, Fate)], done: &[(u64, Outcome)]) -> bool
+    requires { AreSorted (numbers_in entries.now) }
+    ensures { result ≡ list_all (λ d. is_front (fate_in entries.now d.0)) done.now }
 {
-    done.iter()
-        .all(|one| matches!(fate_at(fates, one.0), Fate::Front))
+    for (number, _) in done {
+        if !is_in_front(entries, *number) {
+            return false;
+        }
+    }
+    true
 }
 
 /// Whether no number stands twice.
@@ -119,21 +124,22 @@ pub fn differ(alloc: Global, done: &[(u64, Outcome)]) -> Result<bool, AllocError
 /// Whether there is an outcome or a front that rose, each number is in the front, and no front fell; and whether something else
 /// holds too.
 pub fn settles_front(
-    fates: &BTreeMap<u64, Fate>,
+    entries: &[(u64, Fate)],
     old: &[u64],
     fronts: &[u64],
     done: &[(u64, Outcome)],
     differ: bool,
 ) -> bool
-    requires { length fronts.now ≡ length old.now }
+    requires sorted { AreSorted (numbers_in entries.now) }
+    requires fronts { length fronts.now ≡ length old.now }
     ensures { result ≡ ((nat_lt 0 (length done.now) || one_rose old.now fronts.now)
-        && list_all (λ d. is_front (fate_in fates.now.entries d.0)) done.now && differ && none_fell old.now
+        && list_all (λ d. is_front (fate_in entries.now d.0)) done.now && differ && none_fell old.now
         fronts.now) }
 {
     if done.is_empty() && !rise(old, fronts) {
         return false;
     }
-    if !are_front(fates, done) || !differ {
+    if !are_front(entries, done) || !differ {
         return false;
     }
     stay(old, fronts)

@@ -309,7 +309,8 @@ const ROWS: [Row; 30] = [
     },
 ];
 
-// Whether an event of the table is told to break the rule that it says, and is taken or refused by that.
+// Whether an event of the table is told to break the rule that it says, and is planned, taken or refused by that. A plan is
+// dropped first, and then the event is applied.
 fn is_as_said(alloc: Global, fates: &mut Fates, row: &Row) -> Result<bool, AllocError>
     requires { length fates.old.fronts ≡ 1 }
     ensures { length fates.new.fronts ≡ 1 }
@@ -317,12 +318,28 @@ fn is_as_said(alloc: Global, fates: &mut Fates, row: &Row) -> Result<bool, Alloc
     let event = event(alloc, &row.step)?;
     let places = places(alloc, row.places)?;
     let told = fates.broken(&event, places.items())?.unwrap_or(0) == row.rule;
+    let planned = match fates.plan(&event, places.items()) {
+        Ok(_) => row.rule == 0,
+        Err(fault) => fault == FateFault::Illegal(row.rule),
+    };
     let taken = match fates.apply(&event, places.items()) {
         Ok(()) => row.rule == 0,
-        Err(FateFault::Illegal(rule)) => rule == row.rule,
-        Err(FateFault::Memory) => false,
+        Err(fault) => fault == FateFault::Illegal(row.rule),
     };
-    Ok(told && taken)
+    Ok(told && planned && taken)
+}
+
+// Plans an event of the table, and does it.
+fn carry_out(alloc: Global, fates: &mut Fates, row: &Row) -> Result<(), AllocError>
+    requires { length fates.old.fronts ≡ 1 }
+    ensures { length fates.new.fronts ≡ 1 }
+{
+    let event = event(alloc, &row.step)?;
+    let places = places(alloc, row.places)?;
+    if let Ok(plan) = fates.plan(&event, places.items()) {
+        fates.commit(plan);
+    }
+    Ok(())
 }
 
 // Whether the numbers from 0 on have these fates.
@@ -335,13 +352,110 @@ fn have(fates: &Fates, all: &[Fate]) -> bool {
     true
 }
 
+// Applies an event.
+fn take(fates: &mut Fates, event: &Event, places: &[Place]) -> bool
+    requires { HasFronts (length fates.old.fronts) event.now }
+    ensures { length fates.new.fronts ≡ length fates.old.fronts }
+{
+    fates.apply(event, places).is_ok()
+}
+
+// Where a number waits in a large crawl: one in three is in the front.
+fn slot_of(number: u64) -> Slot {
+    match number % 3 {
+        0 => Slot::Front,
+        1 => Slot::Queue(2),
+        _ => Slot::Last,
+    }
+}
+
+fn fate_of(number: u64, outcome: Option<Outcome>) -> Fate {
+    match slot_of(number) {
+        Slot::Front => outcome.map_or(Fate::Front, Fate::Done),
+        Slot::Queue(queue) => Fate::Queue(queue),
+        Slot::Last => Fate::Last,
+    }
+}
+
+// A pass that reads the numbers below another.
+fn read_many(alloc: Global, fates: &mut Fates, count: u64) -> Result<bool, AllocError>
+    requires { length fates.old.fronts ≡ 1 }
+    ensures { length fates.new.fronts ≡ 1 }
+{
+    let mut places = Places::new(alloc);
+    for number in 0..count {
+        places.push(Place {
+            number,
+            slot: slot_of(number),
+        })?;
+    }
+    Ok(take(fates, &Event::Pass { judged: count }, places.items()))
+}
+
+// Outcomes of the numbers of the front from one on and below another.
+fn settle_many(alloc: Global, fates: &mut Fates, from: u64, to: u64) -> Result<bool, AllocError>
+    requires { length fates.old.fronts ≡ 1 }
+    ensures { length fates.new.fronts ≡ 1 }
+{
+    let mut done = Settled::new(alloc);
+    for number in from..to {
+        if slot_of(number) == Slot::Front {
+            done.push((number, Outcome::Page))?;
+        }
+    }
+    let mut fronts = Numbers::new(alloc);
+    fronts.push(to)?;
+    Ok(take(fates, &Event::Settle { fronts, done }, &[]))
+}
+
+// Whether the numbers below one are done or wait, and those from it on and below another wait.
+fn are_done(fates: &Fates, done: u64, count: u64) -> bool {
+    for number in 0..count {
+        let outcome = if number < done {
+            Some(Outcome::Page)
+        } else {
+            None
+        };
+        if fates.fate(number) != fate_of(number, outcome) {
+            return false;
+        }
+    }
+    fates.fate(count) == Fate::Fresh
+}
+
 #[test]
 fn events_are_applied_or_refused_by_their_rule(rt: HostRuntime) -> Result<(), Fail> {
     let alloc = rt.alloc();
     let mut fates = Fates::new(alloc, 2, 1)?;
+    let mut others = Fates::new(alloc, 2, 1)?;
     for (i, row) in ROWS.iter().enumerate() {
         assert!(rt; is_as_said(alloc, &mut fates, row)?, "row {i}");
         assert!(rt; have(&fates, row.fates), "fates after row {i}");
+        carry_out(alloc, &mut others, row)?;
+        assert!(rt; have(&others, row.fates), "fates by a plan after row {i}");
     }
+    Ok(())
+}
+
+#[test]
+fn ten_thousand_numbers_are_read_and_settled(rt: HostRuntime) -> Result<(), Fail> {
+    let alloc = rt.alloc();
+    let mut fates = Fates::new(alloc, 2, 1)?;
+    for step in &[Step::Begin, Step::Pairs(1, 10_000, 3)] {
+        let event = event(alloc, step)?;
+        assert!(rt; take(&mut fates, &event, &[]));
+    }
+    assert!(rt; read_many(alloc, &mut fates, 10_000)?);
+    assert!(rt; are_done(&fates, 0, 10_000));
+    assert_eq!(rt;
+        fates.first_of_front(alloc, 3)?.as_slice(),
+        [0, 3, 6].as_slice()
+    );
+    assert!(rt; settle_many(alloc, &mut fates, 0, 9_995)?);
+    assert!(rt; are_done(&fates, 9_995, 10_000));
+    assert_eq!(rt;
+        fates.first_of_front(alloc, 3)?.as_slice(),
+        [9_996, 9_999].as_slice()
+    );
     Ok(())
 }

@@ -1,0 +1,3 @@
+pub mod FateCounts
+pub mod Passing
+pub mod Tallies

@@ -1,0 +1,3 @@
+pub mod Frontier
+pub mod Plans
+pub mod Tallies
