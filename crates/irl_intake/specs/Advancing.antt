@@ -2,9 +2,11 @@
 use Rattle.std.specs.Prelude.{◌≡◌, ◌≢◌, ◌↔◌, ℕ, zero, suc, ◌+◌, ◌<◌, ◌≤◌, [], length, Option, None, Some, IfSome, Result, Ok, Err, IfOk, OnOk, OnErr, IsErrOf}
 use Rattle.irl_base.specs.declared.fault.Fault.{Fault}
 use Rattle.irl_base.specs.declared.fault.Fault.TheVariants.{Full}
+use Rattle.irl_model.specs.Book.{Book}
 use Rattle.irl_disk.specs.declared.store.Store.{Ghosts}
 use Rattle.irl_bay.specs.Drum.{Drum, pending_at}
-use Rattle.irl_schedule.specs.Feeding.{Moment, moment}
+use Rattle.irl_bay.specs.Holding.{Holds}
+use Rattle.irl_schedule.specs.Feeding.{Moment, moment, Stays, Feeds}
 use Rattle.irl_schedule.specs.Schedule.{IsDue, none_more, one_more}
 use Rattle.irl_schedule.specs.Scheduling.{Schedules}
 use Rattle.irl_intake.specs.Arrays.{waiting_at}
@@ -16,6 +18,13 @@ use Rattle.irl_intake.specs.declared.next.Next.TheVariants.{Merged, Ready}
 abbrev pub moment_of : {S : Type 0} {tells : Ghosts S} → Intake S tells → Moment
 moment_of {S} {tells} intake = moment (tells.told intake.yard.store) intake.yard.parts.urls
     (waiting_at intake.arrays.items)
+
+-- the store was only read: the bay and its book stay
+pub record IsStill (old new : Moment) : Type 0 where
+  pub kept : new.drum ≡ old.drum
+  pub holds : (book : Book) → Holds old.store.images old.drum book → Holds new.store.images new.drum book
+  pub fed : Feeds 0 none_more [] old new
+  pub stays : Stays old new
 
 -- how many offers are unjudged in all
 abbrev pub pending_below : Drum → ℕ → ℕ

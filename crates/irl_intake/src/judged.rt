@@ -1,13 +1,10 @@
-ghost use Rattle.std.specs.Prelude.{◌≡◌, ◌<◌, ◌-◌, ℕ, [], min, take, drop, length, IfOk, IsErrOf};
+ghost use Rattle.std.specs.Prelude.{◌≡◌, ◌<◌, ◌-◌, min, take, drop, length, IfOk, IsErrOf};
 ghost use Rattle.irl_base.specs.declared.fault.Fault.TheVariants.{Failed as FailedFault};
 ghost use Rattle.irl_model.specs.Book.{Book, gone, judged as judged_of};
 ghost use Rattle.irl_bay.specs.Drum.{HasNumbers};
-ghost use Rattle.irl_bay.specs.Holding.{Holds};
 ghost use Rattle.irl_bay.specs.Merges.{ReadsJudged};
-ghost use Rattle.irl_schedule.specs.Feeding.{Stays, Feeds};
-ghost use Rattle.irl_schedule.specs.Schedule.{none_more};
 ghost use Rattle.irl_yard.specs.Holding.{IsSound, StaysSound};
-ghost use Rattle.irl_intake.specs.Advancing.{moment_of};
+ghost use Rattle.irl_intake.specs.Advancing.{moment_of, IsStill};
 
 use crate::intake::Intake;
 use irl_bay::JudgedPart;
@@ -32,13 +29,8 @@ impl<S: Store> Intake<S> {
         // They are those of the book, which stays.
         ensures reads { ReadsJudged result (λ found book. found ≡ take most (drop (i - gone book) (judged_of book)))
             self.old.yard.parts.urls (S.told self.old.yard.store) (S.told self.new.yard.store) }
-        ensures holds { (book : Book) →
-            Holds (S.told self.old.yard.store).images self.old.yard.parts.urls book →
-            Holds (S.told self.new.yard.store).images self.new.yard.parts.urls book }
-        ensures kept { self.new.yard.parts.urls ≡ self.old.yard.parts.urls }
+        ensures still { IsStill (moment_of self.old) (moment_of self.new) }
         ensures waiting { self.new.arrays ≡ self.old.arrays }
-        ensures fed { Feeds 0 none_more [] (moment_of self.old) (moment_of self.new) }
-        ensures stays { Stays (moment_of self.old) (moment_of self.new) }
         ensures goes_on { StaysSound (IsErrOf result Fault.Failed) self.new.yard.parts }
     {
         let _is_sound = self.yard.is_sound();

@@ -164,6 +164,16 @@ stays_same old new consistent store urls = record {
   bound = λ b within. subst (λ (d : Drum). pending_at d b ≤ max (old.drum.settings.trigger + old.drum.settings.array - 1) (pending_at old.drum b)) (sym urls) (omega arith);
 }
 
+-- or where the store was only read
+pub stays_read : (old new : Moment) → new.drum ≡ old.drum → new.store.files ≡ old.store.files → LeavesSame old.store new.store → Stays old new
+stays_read old new urls files same = record {
+  settings = ap (λ (d : Drum). d.settings) urls;
+  base = ap (λ (d : Drum). d.base) urls;
+  others = tells_same _ _ _ files;
+  others_stop = leaves_same _ old.store new.store same;
+  bound = λ b within. subst (λ (d : Drum). pending_at d b ≤ max (old.drum.settings.trigger + old.drum.settings.array - 1) (pending_at old.drum b)) (sym urls) (omega arith);
+}
+
 -- ---- a book that is fed
 unfoldable pub fed_both : (e d : ℕ) (u v : ℕ → ℕ) (xs ys : List Tuple) (old mid new : Moment) (x : Book) → Stays old mid → (first : Fed e u xs old mid x) → Fed d v ys mid new first.book
     → Fed (e + d) (λ b. u b + v b) (xs ++ ys) old new x

@@ -1,5 +1,5 @@
 -- What one merge of a bay does for what waits in front of it.
-use Rattle.std.proofs.Common.{◌≡◌, ◌≢◌, ◌∙◌, ◌⊎◌, inl, inr, ⊎_elim, ℕ, zero, suc, ◌+◌, ◌<◌, ◌≤◌, Bool, true, false, cond, ◌||◌, List, [], ◌∷◌, ◌++◌, length, length-append, nat_le, slice_index, Option, None, Some, refl, sym, ap, subst, append-nil, arith}
+use Rattle.std.proofs.Common.{◌≡◌, ◌≢◌, ◌∙◌, ◌⊎◌, inl, inr, ⊎_elim, ℕ, zero, suc, ◌+◌, ◌<◌, ◌≤◌, Bool, true, false, cond, ◌||◌, List, [], ◌∷◌, ◌++◌, length, nat_le, slice_index, Option, None, Some, refl, sym, ap, subst, append-nil, arith}
 use Rattle.std.proofs.Math.Bool.{or-true}
 use Rattle.std.proofs.lemmas.Bool.Decides.{nat_tests}
 use Rattle.std.specs.Option.{ForSome}
@@ -23,7 +23,7 @@ use Rattle.irl_bay.specs.Standing.{IsBookOf, Stands}
 use Rattle.irl_bay.proofs.MergeFrames.{batch_stays, holds_written, tail_moved}
 use Rattle.irl_bay.proofs.Standing.{holds_stands}
 use Rattle.irl_schedule.specs.Schedule.{IsDue, has_enough, early_cuts, uneven_records, AddsUneven, HasJournal, HaveRecords, LeavesUneven, none_more}
-use Rattle.irl_schedule.specs.Feeding.{Waits, handed_in, list_at, length_at, FewUnjudged, Grows, Keeps, HasBetween, Moment, Fed, Stranded}
+use Rattle.irl_schedule.specs.Feeding.{Waits, handed_in, list_at, length_at, FewUnjudged, Grows, Keeps, CutsOnce, HasBetween, Moment, Fed, Stranded}
 use Rattle.irl_schedule.proofs.Chains.{few_same, grows_same, grows_more}
 use Rattle.irl_schedule.proofs.Counts.{durable_index, length-durables}
 use Rattle.irl_schedule.proofs.Steps.{HasOneOf, Uncut, no_first, durable_held, choose, leaves_all, told_these, told_none, told_one}
@@ -219,8 +219,8 @@ unmerged_fed early old new x law merge stops holds after kept =
 -- ---- where the store failed
 merge_strand : (early : ℕ) (old new : Moment) (x s : Book) → IsConsistent new.store → IsDrum old.drum → Merging old new → IsDue old.drum ⊎ (1 ≤ early)
     → Holds old.store.images old.drum x → ForSome new.store.files (Stands old.drum.base old.drum.settings s)
-    → Grows old.drum.settings early x s → IsFront s (merged x) → Uncut early none_more [] old new x
-merge_strand early old new x s consistent law merge why holds told grows front =
+    → Grows old.drum.settings early x s → IsFront s (merged x) → CutsOnce x s → Uncut early none_more [] old new x
+merge_strand early old new x s consistent law merge why holds told grows front cuts =
     let stranded : Stranded early none_more [] old new x = record {
       book = s;
       most = merged x;
@@ -239,7 +239,7 @@ merge_strand early old new x s consistent law merge why holds told grows front =
       stops = merge_between old new x merge holds;
       records_stop = λ was have. merge_records_stop old new x was merge holds have;
     } in
-    (stranded, refl, omega (arith, length-append x.cuts (lengths_of x ∷ [])))
+    (stranded, refl, cuts, inr refl)
 
 pub merge_stranded : (early : ℕ) (old new : Moment) (x : Book) → IsConsistent new.store → IsDrum old.drum → Merging old new → IsDue old.drum ⊎ (1 ≤ early)
     → Holds old.store.images old.drum x
@@ -247,10 +247,10 @@ pub merge_stranded : (early : ℕ) (old new : Moment) (x : Book) → IsConsisten
 merge_stranded early old new x consistent law merge why holds = by_told new.store.files refl
   where
     before : ForSome new.store.files (Stands old.drum.base old.drum.settings x) → Uncut early none_more [] old new x
-    before told = merge_strand early old new x x consistent law merge why holds told (grows_any early old.drum.settings x) (merged_front x)
+    before told = merge_strand early old new x x consistent law merge why holds told (grows_any early old.drum.settings x) (merged_front x) (inl refl)
 
     after : ForSome new.store.files (Stands old.drum.base old.drum.settings (merged x)) → Uncut early none_more [] old new x
-    after told = merge_strand early old new x (merged x) consistent law merge why holds told (cut_grows early old.store.images old.drum x law holds why) (front_same (merged x))
+    after told = merge_strand early old new x (merged x) consistent law merge why holds told (cut_grows early old.store.images old.drum x law holds why) (front_same (merged x)) (inr refl)
 
     by_told : (told : Option Files) → new.store.files ≡ told → Uncut early none_more [] old new x
     by_told None is = before (told_none new.store.files _ is)

@@ -1,5 +1,5 @@
 -- What an answer of the store gives.
-use Rattle.std.proofs.Common.{◌≡◌, ℕ, ◌<◌, ◌≤◌, Result, Ok, Err, OnOk, OnErr, IsErrOf, refl, ap, arith}
+use Rattle.std.proofs.Common.{◌≡◌, ℕ, ◌<◌, ◌≤◌, Result, Ok, Err, IfOk, OnOk, OnErr, IsErrOf, refl, ap, subst, arith}
 use Rattle.irl_base.specs.declared.fault.Fault.{Fault}
 use Rattle.irl_base.specs.declared.fault.Fault.TheVariants.{Failed, Memory, Full, Damaged}
 
@@ -12,9 +12,20 @@ pub err_gives : {T B : Type 0} (result : Result T Fault) (fault : Fault) → OnE
 err_gives (Ok value) fault err is = let no : ⊥ = cc in absurd no
 err_gives (Err other) fault err is = err
 
+pub ok_gives : {T B : Type 0} (result : Result T Fault) (value : T) → OnOk result B → result ≡ Ok value → B
+ok_gives (Ok other) value ok is = ok
+ok_gives (Err fault) value ok is = let no : ⊥ = cc in absurd no
+
+pub if_gives : {T : Type 0} (result : Result T Fault) (value : T) (P : T → Type 0) → IfOk result P → result ≡ Ok value → P value
+if_gives {T = T} result value P ok is = subst (λ (r : Result T Fault). IfOk r P) is ok
+
 pub err_weaker : {T A B : Type 0} (result : Result T Fault) → OnErr result A → (A → B) → OnErr result B
 err_weaker (Ok value) err gives = tt
 err_weaker (Err other) err gives = gives err
+
+pub ok_weaker : {T A B : Type 0} (result : Result T Fault) → OnOk result A → (A → B) → OnOk result B
+ok_weaker (Ok value) ok gives = gives ok
+ok_weaker (Err other) ok gives = tt
 
 -- of several facts about one that is Ok, another
 pub ok_three : {T A B C P : Type 0} (result : Result T Fault) → OnOk result A → OnOk result B → OnOk result C → (A → B → C → P) → OnOk result P

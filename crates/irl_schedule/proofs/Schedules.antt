@@ -1,5 +1,5 @@
 -- What a call of a bay is for what waits in front of it, and what two calls are one after the other.
-use Rattle.std.proofs.Common.{◌≡◌, ◌∙◌, ◌⊎◌, inl, inr, ⊎_elim, ℕ, ◌+◌, ◌-◌, ◌<◌, ◌≤◌, max, List, [], ◌∷◌, ◌++◌, length, lt_of_not-le, Result, Ok, Err, OnOk, OnErr, IsErrOf, refl, sym, ap, subst, arith}
+use Rattle.std.proofs.Common.{◌≡◌, ◌∙◌, ◌⊎◌, inl, inr, ⊎_elim, ℕ, ◌+◌, ◌-◌, ◌<◌, ◌≤◌, max, List, [], ◌∷◌, ◌++◌, length, length-append, lt_of_not-le, Result, Ok, Err, OnOk, OnErr, IsErrOf, refl, sym, ap, subst, arith}
 use Rattle.std.proofs.lemmas.Bool.Decides.{eqb_tells}
 use Rattle.std.proofs.lemmas.List.Elements.{recursion_from_All}
 use Rattle.std.specs.Option.{ForSome}
@@ -9,7 +9,7 @@ use Rattle.irl_base.specs.declared.fault.Fault.{Fault}
 use Rattle.irl_base.specs.declared.fault.Fault.TheVariants.{Failed, Full, Damaged}
 use Rattle.irl_offer.specs.declared.settings.Settings.{Settings}
 use Rattle.irl_offer.specs.Tuple.{Tuple}
-use Rattle.irl_model.specs.Book.{Book, flushed}
+use Rattle.irl_model.specs.Book.{Book, flushed, lengths_of}
 use Rattle.irl_disk.specs.Disk.{ChangesOnly}
 use Rattle.irl_disk.specs.Images.{Told, IsConsistent}
 use Rattle.irl_disk.proofs.Stretches.{widens_by}
@@ -25,7 +25,7 @@ use Rattle.irl_bay.proofs.Apart.{bucket_files, merge_files}
 use Rattle.irl_bay.proofs.DrumFiles.{live_low}
 use Rattle.irl_bay.proofs.Staying.{only_wider}
 use Rattle.irl_schedule.specs.Schedule.{IsDue, none_more, uneven_flush}
-use Rattle.irl_schedule.specs.Feeding.{Waits, with_waiting, IsArrayOf, OnlyFlushes, Keeps, Moment, moment, Moves, Stays, Fed, Feeds, Strands}
+use Rattle.irl_schedule.specs.Feeding.{Waits, with_waiting, IsArrayOf, OnlyFlushes, CutsOnce, AddsCut, Keeps, Moment, moment, Moves, Stays, Fed, Feeds, Strands}
 use Rattle.irl_schedule.specs.Scheduling.{Schedules}
 use Rattle.irl_schedule.proofs.Chains.{keeps_same, feeds_both, feeds_more, feeds_none, stays_both, stays_same, stranded_after, stranded_more, none_before, tells_on, tells_wider}
 use Rattle.irl_schedule.proofs.Counts.{flush_even, waiting_here, waiting_elsewhere, flushed_durable_here, flushed_durable_elsewhere, flushed_pending_here, flushed_pending_elsewhere, kept_durable, kept_pending, merged_durable, merged_pending, moves_none, moves_both}
@@ -167,8 +167,8 @@ module _ {S : Type 0} (told : S → Told) (lawful : (s : S) → IsConsistent (to
     fed = flush_feeds;
     stranded = flush_strands;
     moves = flush_moves;
-    one_cut = omega (arith, flush_counts.cuts);
-    judged_kept = err_weaker result refused.counts (λ counts. counts.last);
+    cut = inl (flush_counts.cuts, flush_counts.last);
+    judged_kept = err_weaker result refused.counts (λ counts. (counts.cuts, counts.last));
     full = flush_full;
     damaged = λ f at is. absurd (refused.damaged f at is);
     whole = λ f at is. absurd (refused.damaged f at is);
@@ -220,8 +220,8 @@ module _ (result : Result ℕ Fault) (old new : Drum) (before after : Told) (wai
     fed = merge_feeds;
     stranded = λ failed files is x holds. merge_stranded early merge_from merge_to x lawful law merge_is why holds;
     moves = λ b. moves_none merge_from merge_to b refl (by_answer result merges.counts refused.counts (λ counts. merged_durable old new b counts) (λ counts. kept_durable old new b counts));
-    one_cut = by_answer result merges.counts refused.counts (λ counts. omega (arith, counts.cuts)) (λ counts. omega (arith, counts.cuts));
-    judged_kept = err_weaker result refused.counts (λ counts. counts.last);
+    cut = by_answer result merges.counts refused.counts (λ counts. inr (counts.cuts, λ b. merged_pending b old new counts)) (λ counts. inl (counts.cuts, counts.last));
+    judged_kept = err_weaker result refused.counts (λ counts. (counts.cuts, counts.last));
     full = λ n is. absurd (refused.full n is);
     damaged = λ f at is.
         let kept = refused.damaged f at is in
@@ -239,7 +239,7 @@ schedules_none a now consistent law = record {
   fed = λ sound. feeds_none now now consistent law refl refl refl;
   stranded = λ is. let no : ⊥ = cc in absurd no;
   moves = λ b. moves_none now now b refl refl;
-  one_cut = omega arith;
+  cut = inl (refl, refl);
   judged_kept = tt;
   full = λ n is. let no : ⊥ = cc in absurd no;
   damaged = λ f at is. let no : ⊥ = cc in absurd no;
@@ -254,9 +254,9 @@ unfolding stranded_more
 schedules_more result e d u v xs old new le more one = record {
   stays = one.stays;
   fed = λ sound. feeds_more e d u v xs old new le more (one.fed sound);
-  stranded = λ failed files told x holds. let has = one.stranded failed files told x holds in (stranded_more e d u v xs old new x le more has.0, has.1, has.2);
+  stranded = λ failed files told x holds. let has = one.stranded failed files told x holds in (stranded_more e d u v xs old new x le more has.0, has.1, has.2, has.3);
   moves = one.moves;
-  one_cut = one.one_cut;
+  cut = one.cut;
   judged_kept = one.judged_kept;
   full = one.full;
   damaged = one.damaged;
@@ -271,7 +271,7 @@ schedules_ok a b e u xs old new one = record {
   fed = λ sound. one.fed (λ is. let no : ⊥ = cc in absurd no);
   stranded = λ is. let no : ⊥ = cc in absurd no;
   moves = one.moves;
-  one_cut = one.one_cut;
+  cut = one.cut;
   judged_kept = tt;
   full = λ n is. let no : ⊥ = cc in absurd no;
   damaged = λ f at is. let no : ⊥ = cc in absurd no;
@@ -286,7 +286,7 @@ schedules_err {A = A} {B = B} fault e u xs old new one = record {
   fed = λ sound. one.fed (λ is. sound (same_refusal {T = A} {U = B} fault Failed is));
   stranded = λ is. one.stranded (same_refusal {T = B} {U = A} fault Failed is);
   moves = one.moves;
-  one_cut = one.one_cut;
+  cut = one.cut;
   judged_kept = one.judged_kept;
   full = λ n is. one.full n (same_refusal {T = B} {U = A} fault (Full n) is);
   damaged = λ f at is. one.damaged f at (same_refusal {T = B} {U = A} fault (Damaged f at) is);
@@ -323,6 +323,23 @@ uncut e u xs old mid x cuts holds one =
     ) in
     one.grows.cuts_are ∙ longer x.cuts one.grows.cuts count
 
+cuts_from : (y x z : Book) → y.cuts ≡ x.cuts → CutsOnce y z → CutsOnce x z
+cuts_from y x z same (inl none) = inl (none ∙ same)
+cuts_from y x z same (inr one) = inr (one ∙ ap (λ (l : List (List ℕ)). l ++ lengths_of z ∷ []) same)
+
+cut_after : (old mid new : Drum) → mid.cuts ≡ old.cuts → mid.last ≡ old.last → AddsCut mid new → AddsCut old new
+cut_after old mid new cuts last (inl none) = inl (none.0 ∙ cuts, none.1 ∙ last)
+cut_after old mid new cuts last (inr one) = inr (one.0 ∙ ap (λ (n : ℕ). n + 1) cuts, one.1)
+
+-- one cut is added at most
+pub cut_few : (old new : Drum) → AddsCut old new → new.cuts ≤ old.cuts + 1
+cut_few old new (inl none) = omega (arith, none.0)
+cut_few old new (inr one) = omega (arith, one.0)
+
+pub cuts_few : (x y : Book) → CutsOnce x y → length y.cuts ≤ length x.cuts + 1
+cuts_few x y (inl none) = omega (arith, ap (λ (l : List (List ℕ)). length l) none)
+cuts_few x y (inr one) = omega (arith, ap (λ (l : List (List ℕ)). length l) one, length-append x.cuts (lengths_of y ∷ []))
+
 -- a call that adds no cut, and then another
 pub schedules_then : {A B : Type 0} (a : A) (result : Result B Fault) (e d : ℕ) (u v : ℕ → ℕ) (xs ys : List Tuple) (old mid new : Moment) → IsConsistent mid.store
     → mid.drum.last ≡ old.drum.last → mid.drum.cuts ≡ old.drum.cuts → Schedules {A = A} (Ok a) e u xs old mid → Schedules result d v ys mid new
@@ -338,10 +355,10 @@ schedules_then a result e d u v xs ys old mid new consistent last cuts first sec
           let after = tells_on _ old.store.files mid.store.files files first.stays.others told in
           let has = second.stranded failed after.0 after.1 one.book one.holds in
           let same = uncut e u xs old mid x cuts holds one in
-          (stranded_after e d u v xs ys old mid new x first.stays one has.0, has.1 ∙ same, omega (arith, has.2, ap (λ (l : List (List ℕ)). length l) same));
+          (stranded_after e d u v xs ys old mid new x first.stays one has.0, has.1 ∙ same, cuts_from one.book x has.0.book same has.2, cuts_from one.book x has.0.most same has.3);
       moves = λ b. moves_both old mid new b (first.moves b) (second.moves b);
-      one_cut = omega (arith, cuts, second.one_cut);
-      judged_kept = err_weaker result second.judged_kept (λ kept. kept ∙ last);
+      cut = cut_after old.drum mid.drum new.drum cuts last second.cut;
+      judged_kept = err_weaker result second.judged_kept (λ kept. (kept.0 ∙ cuts, kept.1 ∙ last));
       full = λ n is.
           let why = second.full n is in
           let settings = first.stays.settings in (

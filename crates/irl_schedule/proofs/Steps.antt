@@ -25,7 +25,7 @@ use Rattle.irl_bay.specs.Flushing.{MayFlush, FlushMayLeave}
 use Rattle.irl_bay.specs.Holding.{Holds, Becomes}
 use Rattle.irl_bay.specs.Standing.{IsBookOf, Stands}
 use Rattle.irl_schedule.specs.Schedule.{entry_len, uneven_records, one_more_at, uneven_flush, HasJournal, HaveRecords, AddsUneven, LeavesUneven}
-use Rattle.irl_schedule.specs.Feeding.{list_at, length_at, unjudged_at, handed_in, FewUnjudged, Grows, Keeps, TakesWaiting, HasBetween, Moment, Fed, Stranded}
+use Rattle.irl_schedule.specs.Feeding.{list_at, length_at, unjudged_at, handed_in, FewUnjudged, Grows, Keeps, TakesWaiting, CutsOnce, HasBetween, Moment, Fed, Stranded}
 use Rattle.irl_schedule.proofs.Chains.{few_same, grows_same}
 use Rattle.irl_schedule.proofs.Counts.{durable_index}
 use Rattle.irl_schedule.proofs.Journals.{buckets_apart, gains_stay, leaves_pair, manifest_apart, records_stay}
@@ -349,14 +349,14 @@ pub told_one : (base : ℕ) (settings : Settings) (x y : Book) (old new : Told) 
     → HasOneOf base settings x y files
 told_one base settings x y old new files law stops told = left_now old new (HasOneOf base settings x y) law stops files (law.told files told)
 
--- what is kept has no cut more, and the greatest one at most
+-- what is kept has no cut more, and the others one at most, by which all is judged
 abbrev pub Uncut : ℕ → (ℕ → ℕ) → List Tuple → Moment → Moment → Book → Type 0
-Uncut early uneven news old new x = (stranded : Stranded early uneven news old new x) × (stranded.kept.cuts ≡ x.cuts) × (length stranded.most.cuts ≤ length x.cuts + 1)
+Uncut early uneven news old new x = (stranded : Stranded early uneven news old new x) × (stranded.kept.cuts ≡ x.cuts) × CutsOnce x stranded.book × CutsOnce x stranded.most
 
 flush_strand : (b : ℕ) (items : List Tuple) (old new : Moment) (x s : Book) → IsConsistent new.store → Keeps old.drum.settings x old.waits x new.waits [] → Flushing b items old new
-    → Holds old.store.images old.drum x → ForSome new.store.files (Stands old.drum.base old.drum.settings s) → Grows old.drum.settings 0 x s → IsFront s (flushed b items x)
+    → Holds old.store.images old.drum x → ForSome new.store.files (Stands old.drum.base old.drum.settings s) → Grows old.drum.settings 0 x s → IsFront s (flushed b items x) → s.cuts ≡ x.cuts
     → Uncut 0 (uneven_flush old.drum.settings.array b items) [] old new x
-flush_strand b items old new x s consistent keeps flush holds told grows front =
+flush_strand b items old new x s consistent keeps flush holds told grows front cuts =
     let stranded : Stranded 0 (uneven_flush old.drum.settings.array b items) [] old new x = record {
       book = s;
       most = flushed b items x;
@@ -375,7 +375,7 @@ flush_strand b items old new x s consistent keeps flush holds told grows front =
       stops = flush_between b items old new x flush holds;
       records_stop = λ was have. flush_records_stop b items old new x was flush holds have;
     } in
-    (stranded, refl, omega arith)
+    (stranded, refl, inl cuts, inl refl)
 
 -- what is told of one set of files
 pub told_these : (told : Option Files) (files : Files) (P : Files → Type 0) → told ≡ Some files → P files → ForSome told P
@@ -390,10 +390,10 @@ pub flush_stranded : (b : ℕ) (items : List Tuple) (old new : Moment) (x : Book
 flush_stranded b items old new x consistent keeps flush holds = by_told new.store.files refl
   where
     before : ForSome new.store.files (Stands old.drum.base old.drum.settings x) → Uncut 0 (uneven_flush old.drum.settings.array b items) [] old new x
-    before told = flush_strand b items old new x x consistent keeps flush holds told (grows_same old.drum.settings x) (flush_front b items x)
+    before told = flush_strand b items old new x x consistent keeps flush holds told (grows_same old.drum.settings x) (flush_front b items x) refl
 
     after : ForSome new.store.files (Stands old.drum.base old.drum.settings (flushed b items x)) → Uncut 0 (uneven_flush old.drum.settings.array b items) [] old new x
-    after told = flush_strand b items old new x (flushed b items x) consistent keeps flush holds told (flush_grows b items old new x flush holds) (front_same (flushed b items x))
+    after told = flush_strand b items old new x (flushed b items x) consistent keeps flush holds told (flush_grows b items old new x flush holds) (front_same (flushed b items x)) refl
 
     by_told : (told : Option Files) → new.store.files ≡ told → Uncut 0 (uneven_flush old.drum.settings.array b items) [] old new x
     by_told None is = before (told_none new.store.files _ is)

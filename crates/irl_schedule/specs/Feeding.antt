@@ -1,12 +1,12 @@
 -- Offers on their way into a bay: those that wait in front of it, and what the book is that the bay holds.
-use Rattle.std.specs.Prelude.{◌≡◌, ◌≢◌, ◌⊎◌, ℕ, ◌+◌, ◌-◌, ◌<◌, ◌≤◌, nat_eq, if◌then◌else◌, max, List, [], ◌++◌, length, slice_index, slice_index_or}
+use Rattle.std.specs.Prelude.{◌≡◌, ◌≢◌, ◌⊎◌, ℕ, ◌+◌, ◌-◌, ◌<◌, ◌≤◌, nat_eq, if◌then◌else◌, max, List, [], ◌∷◌, ◌++◌, length, slice_index, slice_index_or}
 use Rattle.std.specs.List.{All}
 use Rattle.std.specs.Option.{ForSome}
 use Rattle.irl_array.specs.Waiting.{Waiting}
 use Rattle.irl_offer.specs.Buckets.{bucket_of}
 use Rattle.irl_offer.specs.declared.settings.Settings.{Settings}
 use Rattle.irl_offer.specs.Tuple.{Tuple}
-use Rattle.irl_model.specs.Book.{Book, judged_cut, part, IsFront, IsPrefixOf}
+use Rattle.irl_model.specs.Book.{Book, judged_cut, lengths_of, part, IsFront, IsPrefixOf}
 use Rattle.irl_disk.specs.Disk.{Files, TellsOnly, ChangesOnly}
 use Rattle.irl_disk.specs.Images.{Told, Leaves, LeavesBy}
 use Rattle.irl_layout.specs.BayFiles.{IsFileOf}
@@ -63,6 +63,10 @@ pub record Grows (settings : Settings) (early : ℕ) (x y : Book) : Type 0 where
   pub early_are : early_cuts settings.trigger (judged_cut x) cuts ≤ early
   pub waits : FewUnjudged settings x y
 
+-- a book with the cuts of another, or with one more, by which all that it has is judged
+abbrev pub CutsOnce : Book → Book → Type 0
+CutsOnce x y = (y.cuts ≡ x.cuts) ⊎ (y.cuts ≡ x.cuts ++ lengths_of y ∷ [])
+
 -- no offer is lost: each bucket has those that it had, in its list or waiting, and these behind them
 abbrev pub Keeps : Settings → Book → Waits → Book → Waits → List Tuple → Type 0
 Keeps settings x was y now news = (b : ℕ) → b < settings.buckets
@@ -92,6 +96,11 @@ moment store drum waits = record { store = store; drum = drum; waits = waits }
 abbrev pub Moves : Moment → Moment → ℕ → Type 0
 Moves old new b = ((new.waits b ≡ old.waits b) × (durable_at new.drum b ≡ durable_at old.drum b))
     ⊎ ((new.waits b ≡ []) × (durable_at new.drum b ≡ durable_at old.drum b + length (old.waits b)))
+
+-- a merge adds one cut, by which all is judged; without one the last commit stays
+abbrev pub AddsCut : Drum → Drum → Type 0
+AddsCut old new = ((new.cuts ≡ old.cuts) × (new.last ≡ old.last))
+    ⊎ ((new.cuts ≡ old.cuts + 1) × ((b : ℕ) → pending_at new b ≡ 0))
 
 -- Whatever is answered, and whatever the files stand for.
 pub record Stays (old new : Moment) : Type 0 where
@@ -151,7 +160,7 @@ pub record Stranded (early : ℕ) (uneven : ℕ → ℕ) (news : List Tuple) (ol
       → Leaves old.store new.store (LeavesUneven uneven old.drum was)
 
 -- The same of each book that the bay held, where its store tells. At a failure what is kept of it has no cut more, and
--- the greatest that a stop left one at most.
+-- the one that is told and the greatest that a stop left have one at most, by which all that they have is judged.
 abbrev pub Feeds : ℕ → (ℕ → ℕ) → List Tuple → Moment → Moment → Type 0
 Feeds early uneven news old new = ForSome old.store.files (λ _. (x : Book)
     → Holds old.store.images old.drum x → Fed early uneven news old new x)
@@ -159,7 +168,7 @@ Feeds early uneven news old new = ForSome old.store.files (λ _. (x : Book)
 abbrev pub Strands : ℕ → (ℕ → ℕ) → List Tuple → Moment → Moment → Type 0
 Strands early uneven news old new = ForSome old.store.files (λ _. (x : Book)
     → Holds old.store.images old.drum x → (stranded : Stranded early uneven news old new x)
-    × (stranded.kept.cuts ≡ x.cuts) × (length stranded.most.cuts ≤ length x.cuts + 1))
+    × (stranded.kept.cuts ≡ x.cuts) × CutsOnce x stranded.book × CutsOnce x stranded.most)
 
 -- the bay held no book
 abbrev pub HeldNone : Moment → Type 0

@@ -1,3 +1,4 @@
+pub mod Calls
 pub mod Feeding
 pub mod Schedule
 pub mod Scheduling

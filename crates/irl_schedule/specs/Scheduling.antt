@@ -8,7 +8,7 @@ use Rattle.irl_base.specs.declared.fault.Fault.TheVariants.{Damaged, Failed, Ful
 use Rattle.irl_offer.specs.Tuple.{Tuple}
 use Rattle.irl_bay.specs.Drum.{durable_at}
 use Rattle.irl_bay.specs.Spoilt.{IsSpoiltAt}
-use Rattle.irl_schedule.specs.Feeding.{Moment, Moves, Stays, Feeds, Strands, HeldNone}
+use Rattle.irl_schedule.specs.Feeding.{Moment, Moves, Stays, AddsCut, Feeds, Strands, HeldNone}
 
 -- Of the cuts that are added at most `early` come before a bucket had enough offers, and of the records of a bucket's
 -- live journal at most so many are uneven; these offers are handed in.
@@ -21,9 +21,9 @@ pub record Schedules {A : Type 0} (result : Result A Fault) (early : ℕ) (uneve
   pub stranded : IsErrOf result Failed → Strands early uneven news old new
   -- whatever is answered, a bucket's offers wait as they did, or its count of durable ones has risen by theirs
   pub moves : (b : ℕ) → Moves old new b
-  -- it adds one cut at most, and a refused call has judged nothing
-  pub one_cut : new.drum.cuts ≤ old.drum.cuts + 1
-  pub judged_kept : OnErr result (new.drum.last ≡ old.drum.last)
+  -- it adds one cut at most, by which all is judged, and a refused call has judged nothing
+  pub cut : AddsCut old.drum new.drum
+  pub judged_kept : OnErr result ((new.drum.cuts ≡ old.drum.cuts) × (new.drum.last ≡ old.drum.last))
   -- the offers that wait of this bucket don't fit
   pub full : (n : ℕ) → IsErrOf result (Full n) → (n < old.drum.settings.buckets) × (1 ≤ length (new.waits n))
       × (old.drum.settings.cap < durable_at new.drum n + length (new.waits n))

@@ -1,9 +1,10 @@
-ghost use Rattle.std.specs.Prelude.{◌≡◌, ◌≤◌, ◌<◌, ◌↔◌, ℕ, [], true, false, length, OnOk, OnErr, IfOk, IsOk, IsErrOf};
+ghost use Rattle.std.specs.Prelude.{◌≡◌, ◌↔◌, [], true, IsErrOf};
 ghost use Rattle.std.specs.Option.{ForSome};
 ghost use Rattle.irl_base.specs.declared.fault.Fault.TheVariants.{Failed as FailedFault};
-ghost use Rattle.irl_bay.specs.Drum.{SomePending, pending_at};
+ghost use Rattle.irl_bay.specs.Drum.{SomePending};
 ghost use Rattle.irl_bay.specs.Holding.{IsLong, GoesOn};
-ghost use Rattle.irl_schedule.specs.Feeding.{Waits, moment, with_waiting, IsArrayOf, OnlyFlushes};
+ghost use Rattle.irl_schedule.specs.Calls.{MergesIfDue, MergesRest, MergeKeeps, MayMakeRoom, MakesRoom, MayFlushSome, FlushesSome};
+ghost use Rattle.irl_schedule.specs.Feeding.{Waits, moment, with_waiting};
 ghost use Rattle.irl_schedule.specs.Schedule.{IsDue, none_more, one_more_at};
 ghost use Rattle.irl_schedule.specs.Scheduling.{Schedules};
 
@@ -19,10 +20,8 @@ pub fn merge_if_due<S: Store>(bay: &mut Bay, store: &mut S) -> Result<bool, Faul
     requires long { ForSome (S.told store.old).files (λ files. IsLong bay.old files) }
     ensures schedules { (waits : Waits) → Schedules result 0 none_more []
         (moment (S.told store.old) bay.old waits) (moment (S.told store.new) bay.new waits) }
-    ensures ran { IfOk result (λ ran. (ran ≡ true) ↔ IsDue bay.old) }
-    ensures judged { IfOk result (λ ran. ran ≡ true → (b : ℕ) → pending_at bay.new b ≡ 0) }
-    ensures idle { IfOk result (λ ran. ran ≡ false → (bay.new ≡ bay.old) × (store.new ≡ store.old)) }
-    ensures ready { OnOk result (IsDue bay.new → ⊥) }
+    ensures merges { MergesIfDue result bay.old bay.new store.old store.new }
+    ensures kept { MergeKeeps result bay.old bay.new (S.told store.old) (S.told store.new) }
     ensures goes_on { GoesOn (IsErrOf result Fault.Failed) bay.new (S.told store.new) }
 {
     let _is_sound = bay.is_sound();
@@ -35,8 +34,8 @@ pub fn merge_if_due<S: Store>(bay: &mut Bay, store: &mut S) -> Result<bool, Faul
     }
 }
 
-/// Makes room in a bucket's array, where no merge is due: where it is full it is flushed, and a merge runs that is due
-/// then.
+/// Makes room in a bucket's array: where it is full it is flushed, and a merge runs that is due then. Where it is full
+/// no merge may be due before.
 pub fn make_room<S: Store>(
     bay: &mut Bay,
     store: &mut S,
@@ -45,18 +44,11 @@ pub fn make_room<S: Store>(
 ) -> Result<(), Fault>
     requires sound { bay.old.is_sound ≡ true }
     requires long { ForSome (S.told store.old).files (λ files. IsLong bay.old files) }
-    requires bucket { b < bay.old.settings.buckets }
-    requires array { IsArrayOf bay.old.settings b array.old }
-    requires ready { IsDue bay.old → ⊥ }
+    requires room { MayMakeRoom b array.old bay.old }
     ensures schedules { (others : Waits) → Schedules result 0 none_more []
         (moment (S.told store.old) bay.old (with_waiting others b array.old.items))
         (moment (S.told store.new) bay.new (with_waiting others b array.new.items)) }
-    ensures array { IsArrayOf bay.old.settings b array.new }
-    ensures room { OnOk result (length array.new.items < bay.old.settings.array) }
-    // With room in the array nothing changes.
-    ensures idle { length array.old.items < bay.old.settings.array →
-        IsOk result × (bay.new ≡ bay.old) × (store.new ≡ store.old) × (array.new ≡ array.old) }
-    ensures ready { OnOk result (IsDue bay.new → ⊥) }
+    ensures makes { MakesRoom result b array.old array.new bay.old bay.new store.old store.new }
     ensures goes_on { GoesOn (IsErrOf result Fault.Failed) bay.new (S.told store.new) }
 {
     let _is_sound = bay.is_sound();
@@ -81,16 +73,11 @@ pub fn flush_some<S: Store>(
 ) -> Result<(), Fault>
     requires sound { bay.old.is_sound ≡ true }
     requires long { ForSome (S.told store.old).files (λ files. IsLong bay.old files) }
-    requires bucket { b < bay.old.settings.buckets }
-    requires array { IsArrayOf bay.old.settings b array.old }
-    requires ready { 1 ≤ length array.old.items → pending_at bay.old b < bay.old.settings.trigger }
+    requires some { MayFlushSome b array.old bay.old }
     ensures schedules { (others : Waits) → Schedules result 0 (one_more_at b) []
         (moment (S.told store.old) bay.old (with_waiting others b array.old.items))
         (moment (S.told store.new) bay.new (with_waiting others b array.new.items)) }
-    ensures array { IsArrayOf bay.old.settings b array.new }
-    ensures emptied { OnOk result (array.new.items ≡ []) }
-    ensures kept { OnErr result (array.new ≡ array.old) }
-    ensures counts { OnlyFlushes b bay.old bay.new }
+    ensures flushes { FlushesSome result b array.old array.new bay.old bay.new store.old store.new }
     ensures goes_on { GoesOn (IsErrOf result Fault.Failed) bay.new (S.told store.new) }
 {
     let _is_sound = bay.is_sound();
@@ -106,8 +93,8 @@ pub fn merge_rest<S: Store>(bay: &mut Bay, store: &mut S) -> Result<(), Fault>
     requires long { ForSome (S.told store.old).files (λ files. IsLong bay.old files) }
     ensures schedules { (waits : Waits) → Schedules result 1 none_more []
         (moment (S.told store.old) bay.old waits) (moment (S.told store.new) bay.new waits) }
-    ensures judged { OnOk result ((b : ℕ) → b < bay.old.settings.buckets → pending_at bay.new b ≡ 0) }
-    ensures idle { (SomePending bay.old → ⊥) → IsOk result × (bay.new ≡ bay.old) × (store.new ≡ store.old) }
+    ensures merges { MergesRest result bay.old bay.new store.old store.new }
+    ensures kept { MergeKeeps result bay.old bay.new (S.told store.old) (S.told store.new) }
     ensures goes_on { GoesOn (IsErrOf result Fault.Failed) bay.new (S.told store.new) }
 {
     let _is_sound = bay.is_sound();

@@ -28,6 +28,7 @@ use Rattle.irl_schedule.specs.Schedule.{none_more, one_more}
 use Rattle.irl_schedule.specs.Feeding.{Moment, Stays, Fed, Feeds, Strands, HeldNone, length_at}
 use Rattle.irl_schedule.specs.Scheduling.{Schedules}
 use Rattle.irl_schedule.proofs.Chains.{stays_same, fed_still, keeps_same, feeds_more, feeds_none}
+use Rattle.irl_schedule.proofs.Schedules.{cut_few, cuts_few}
 use Rattle.irl_schedule.proofs.Steps.{durable_held}
 use Rattle.irl_intake.specs.Arrays.{AreArrays, waiting_at}
 use Rattle.irl_io.specs.Written.{AppendsPrefix}
@@ -229,17 +230,17 @@ pub ends_call : {A : Type 0} (kind : LineKind) (e : ℕ) (u : ℕ → ℕ) (xs :
 ends_call {A} kind e u xs old new fault law drum few whole output printed does = by_fault fault does
   where
     judged_still : (f : Fault) → Schedules {A = A} (Err f) e u xs old.moment new.moment → IsPrinted new
-    judged_still f still = omega (arith, whole, printed, ap (λ (l : Commit). l.judged) still.judged_kept)
+    judged_still f still = omega (arith, whole, printed, ap (λ (l : Commit). l.judged) still.judged_kept.1)
 
     went : (f : Fault) → (f ≡ StoreFailed → ⊥) → Schedules {A = A} (Err f) e u xs old.moment new.moment → EndsWith kind e u xs old new (ending_of_store f)
     went f not still =
         ends_on kind e u xs old new (ending_of_store f) law drum few still.stays (last_of_store old new f (λ n is. still.full n (ap Err is)) (λ n is. judged_still f still))
-        (goes_call kind e u xs old new (inr (whole, still.one_cut)) output printed (still.fed (λ is. not (cc))))
+        (goes_call kind e u xs old new (inr (whole, cut_few old.moment.drum new.moment.drum still.cut)) output printed (still.fed (λ is. not (cc))))
 
     by_fault : (f : Fault) → Schedules {A = A} (Err f) e u xs old.moment new.moment → EndsWith kind e u xs old new (ending_of_store f)
     by_fault StoreFailed still = λ files told x holds are.
         let strands = still.stranded refl files told x holds in
-        ends_stranded kind e u xs old new x holds whole few output strands.0 strands.2
+        ends_stranded kind e u xs old new x holds whole few output strands.0 (cuts_few x strands.0.most strands.3)
     by_fault StoreMemory still = went StoreMemory (λ is. cc) still
     by_fault (StoreFull b) still = went (StoreFull b) (λ is. cc) still
     by_fault (StoreDamaged f at) still = went (StoreDamaged f at) (λ is. cc) still

@@ -8,7 +8,7 @@ use Rattle.irl_offer.specs.Settings.{AreValid, settings_of}
 use Rattle.irl_offer.specs.declared.settings.Asked.{Asked}
 use Rattle.irl_offer.specs.declared.settings.Kind.TheVariants.{Crawl}
 use Rattle.irl_offer.specs.declared.settings.Settings.{Settings}
-use Rattle.irl_model.specs.Book.{IsPrefixOf, part}
+use Rattle.irl_model.specs.Book.{IsPrefixOf, blank_book, part}
 use Rattle.irl_events.specs.State.{State, IsFrontState, blank_state}
 use Rattle.irl_disk.specs.Disk.{Files, ChangesFile, TellsBy}
 use Rattle.irl_disk.specs.Images.{IsConsistent, Leaves, LeavesBy}
@@ -191,7 +191,7 @@ legal_new settings valid kind = inr (
     settings_are = refl;
     valid = valid;
     book_is = record { is_book = blank_is_book settings.buckets settings.rule valid.buckets; buckets = refl; rule = refl; dropped = refl };
-    rest = new_rest settings.kind settings.buckets kind;
+    rest = new_rest settings.kind settings (blank_book settings.buckets settings.rule) kind;
   },
 )
 

@@ -9,11 +9,10 @@ use Rattle.irl_offer.specs.declared.settings.Asked.{Asked}
 use Rattle.irl_offer.specs.declared.settings.Kind.{Kind}
 use Rattle.irl_offer.specs.declared.settings.Kind.TheVariants.{Lines, Tuples, Crawl}
 use Rattle.irl_offer.specs.declared.settings.Settings.{Settings}
-use Rattle.irl_model.specs.Book.{Book, IsFront, IsPrefixOf, part}
-use Rattle.irl_model.proofs.FrontLaws.{prefix_same, front_same}
+use Rattle.irl_model.specs.Book.{Book, IsPrefixOf, part}
 use Rattle.irl_events.specs.State.{State, IsFrontState}
 use Rattle.irl_disk.specs.Disk.{Files, TellsOnly, TellsBy, ChangesOnly}
-use Rattle.irl_disk.specs.Images.{Told, IsConsistent, Follows, Leaves, LeavesBy}
+use Rattle.irl_disk.specs.Images.{Told, IsConsistent, Leaves, LeavesBy}
 use Rattle.irl_disk.proofs.Stretches.{widens, joins, left_now}
 use Rattle.irl_layout.specs.BayFiles.{file_of, IsFileOf, IsPartOf}
 use Rattle.irl_layout.specs.declared.files.BayFile.TheVariants.{Manifest, Cache, Judged, Texts, Journal, Aux}
@@ -21,13 +20,13 @@ use Rattle.irl_layout.specs.declared.files.BayFile.{BayFile}
 use Rattle.irl_layout.specs.Commits.{HasLiveRecords}
 use Rattle.irl_bay.specs.Drum.{IsDrum}
 use Rattle.irl_bay.specs.Holding.{Holds}
-use Rattle.irl_bay.specs.Standing.{Stands, IsBookOf}
 use Rattle.irl_bay.specs.Making.{IsJournalOf}
 use Rattle.irl_bay.proofs.BatchWrites.{tells_wide, tells_only}
 use Rattle.irl_bay.proofs.Staying.{tells_both, leaves_both, only_wider}
 use Rattle.irl_head.specs.StoreFiles.{urls_base}
-use Rattle.irl_yard.specs.Standing.{HasState, IsStateOf, with_urls}
+use Rattle.irl_yard.specs.Standing.{HasState, with_urls}
 use Rattle.irl_yard.specs.Holding.{HoldsUrls, HasOneOf, HasLiveJournal}
+use Rattle.irl_yard.specs.Lifting.{HasStateBetween}
 use Rattle.irl_head.specs.Asking.{Agrees}
 use Rattle.irl_head.specs.Opening.{HasSettings, IsNotOursAt}
 use Rattle.irl_yard.specs.Opening.{IsStoreDamagedAt, entered_state}
@@ -35,10 +34,11 @@ use Rattle.irl_yard.specs.Entering.{Enters, IsStoreJournal, IsToldJournal}
 use Rattle.irl_head.proofs.SettingNumbers.{count_small}
 use Rattle.irl_yard.proofs.States.{state_both, entered_front}
 use Rattle.irl_yard.proofs.Entering.{enters_records}
-use Rattle.irl_yard.proofs.Holding.{has_state, held_beside, held_state, rest_kept}
-use Rattle.irl_yard.proofs.Journals.{leaves_pair, one_journal, records_stand}
+use Rattle.irl_yard.proofs.ByKind.{agrees_plain, plain_follows}
+use Rattle.irl_yard.proofs.Journals.{one_journal, records_stand}
+use Rattle.irl_yard.proofs.Lifting.{fronts_lifted, lifts_books}
 use Rattle.irl_schedule.specs.Schedule.{one_more, HasJournal, HaveRecords, LeavesUneven, uneven_records}
-use Rattle.irl_schedule.specs.Feeding.{Grows, HasBetween, list_at, length_at, handed_in}
+use Rattle.irl_schedule.specs.Feeding.{Grows, list_at, length_at, handed_in}
 use Rattle.irl_schedule.proofs.Chains.{grows_same, grows_more}
 use Rattle.irl_schedule.proofs.Journals.{left_records}
 use Rattle.irl_schedule.proofs.Steps.{choose}
@@ -104,31 +104,6 @@ held_records place x holds =
     let bucket = holds.buckets b (subst (λ (n : ℕ). b < n) (sym holds.book_is.buckets) within) in
     (_, bucket.journal))
 
--- ---- states
--- The rest of a state stays in a run, since no file changes but the bay's: a joint image of the run whose bay has a book
--- stands for the state with that.
-has_later : (old : Place) (x : State) (book : Book) (image : Files) → IsDrum old.moment.drum → HoldsUrls old.moment.store.images old.moment.drum x
-    → Follows (ChangesOnly (IsFileOf old.moment.drum.base old.moment.drum.settings.buckets)) old.moment.store.images image
-    → Stands old.moment.drum.base old.moment.drum.settings book image → HasState (with_urls book x) image
-has_later old x book image law holds from stands =
-    let urls = old.moment.drum in
-    has_state old.moment.store.images urls x book image law holds
-    (rest_kept (IsFileOf urls.base urls.settings.buckets) urls x from.0 image law holds.base (λ f is. is) from.2 (held_beside old.moment.store.images urls x from.0 holds from.1)) stands
-
--- and so does whatever has a fact of it
-stops_later : (old new : Place) (P : Files → Type 0) → LeavesBy (ChangesOnly (IsFileOf old.moment.drum.base old.moment.drum.settings.buckets)) old.moment.store new.moment.store
-    → Leaves old.moment.store new.moment.store P
-    → Leaves old.moment.store new.moment.store (λ image. Follows (ChangesOnly (IsFileOf old.moment.drum.base old.moment.drum.settings.buckets)) old.moment.store.images image × P image)
-stops_later old new P others stops = leaves_pair old.moment.store new.moment.store _ P others stops
-
-fronts_later : (x : State) (one other : Book) → IsFront one other → IsFrontState (with_urls one x) (with_urls other x)
-fronts_later x one other front = inr (record { settings = refl; urls = front; pairs = front_same x.pairs; events = prefix_same x.events })
-
--- a book of the bay makes a state of it
-state_later : (old : Place) (x : State) (book : Book) → IsDrum old.moment.drum → HoldsUrls old.moment.store.images old.moment.drum x → IsBookOf old.moment.drum.settings book
-    → IsStateOf old.moment.drum.settings (with_urls book x)
-state_later old x book law holds is = held_state old.moment.store.images old.moment.drum x book law holds is
-
 -- ---- what entering says of a store that was opened
 pub record IsEntered (asked : Asked) (before : Lent) (old : Place) : Type 0 where
   pub kind : asked.kind ≢ Crawl
@@ -181,17 +156,14 @@ reaches_later : (asked : Asked) (x : State) (settings : Settings) (book : Book) 
     → Reaches asked x (with_urls book (entered_state asked x))
 reaches_later asked x settings book same grows = inr (refl, subst (λ (s : Settings). Grows s 1 (entered_state asked x).urls book) same grows)
 
-reached : (asked : Asked) (old : Place) (x : State) (most : Book) (image : Files) → IsDrum old.moment.drum → HoldsUrls old.moment.store.images old.moment.drum (entered_state asked x)
-    → old.moment.drum.settings ≡ settings_in asked x → Grows old.moment.drum.settings 1 (entered_state asked x).urls most
-    → Follows (ChangesOnly (IsFileOf old.moment.drum.base old.moment.drum.settings.buckets)) old.moment.store.images image
-    → HasBetween old.moment.drum.base old.moment.drum.settings (entered_state asked x).urls most image → HasReached asked x (with_urls most (entered_state asked x)) image
-reached asked old x most image law holds same grows from between =
-    let y = entered_state asked x in
-    let settings = old.moment.drum.settings in (
+reached : (asked : Asked) (settings : Settings) (x : State) (most : Book) (image : Files) → settings ≡ settings_in asked x → Grows settings 1 (entered_state asked x).urls most
+    → HasStateBetween settings (entered_state asked x) (entered_state asked x).urls most image → HasReached asked x (with_urls most (entered_state asked x)) image
+reached asked settings x most image same grows between =
+    let y = entered_state asked x in (
       with_urls between.0 y,
-      has_later old y between.0 image law holds from between.1,
+      between.1,
       reaches_later asked x settings between.0 same (grows_between settings 1 y.urls between.0 most between.2 between.3 between.4 grows),
-      fronts_later y between.0 most between.3,
+      fronts_lifted y between.0 most between.3,
     )
 
 pub reached_entering : (asked : Asked) (x most : State) (image : Files) → IsFrontState (entered_state asked x) most → HasOneOf x (entered_state asked x) image → HasReached asked x most image
@@ -241,29 +213,29 @@ extends_opened kind asked before old new input news ending files x law_before la
     let was = records.0 in
     let have = records.1 in
     let leaves = e.strands.records_stop was have in
-    let others = reason.stays.others_stop in
-    let stops = stops_later old new _ others e.strands.stops in
+    let lifts = lifts_books y old.moment new.moment law_new entered.drum holds reason.stays in
+    let follows = λ (book : Book). plain_follows was_settings.kind y.urls book (agrees_plain asked was_settings entered.agrees entered.kind) in
+    let stops = lifts.stops y.urls e.strands.most (follows y.urls) (follows e.strands.most) e.strands.stops in
     let stopped : ((image : Files) → before.store.images image → HasState x image) → Leaves before.store new.moment.store (HasReached asked x (with_urls e.strands.most y)) = λ each.
     joins before.store old.moment.store new.moment.store (HasReached asked x (with_urls e.strands.most y))
     (widens before.store old.moment.store _ _ (entered.stops x each) (λ image one.
-    reached_entering asked x (with_urls e.strands.most y) image (fronts_later y y.urls e.strands.most e.strands.may_grow.front) one))
-    (widens old.moment.store new.moment.store _ _ stops (λ image left. reached asked old x e.strands.most image entered.drum holds same e.strands.may_grow left.0 left.1)) in
+    reached_entering asked x (with_urls e.strands.most y) image (lifts.fronts y.urls e.strands.most e.strands.may_grow.front) one))
+    (widens old.moment.store new.moment.store _ _ stops (λ image left. reached asked was_settings x e.strands.most image same e.strands.may_grow left)) in
     let printed : old.printed ≡ judged_count x.urls = entered.printed ∙ judged_number old y.urls holds.urls_hold ∙ start.count in
     record {
       kept = with_urls e.kept y;
       state = with_urls e.strands.book y;
       most = with_urls e.strands.most y;
-      told = λ after is.
-          has_later old y e.strands.book after entered.drum holds (left_now old.moment.store new.moment.store _ law_new others after (law_new.told after is)) (e.strands.told after is);
+      told = lifts.told e.strands.book (follows e.strands.book) e.strands.told;
       reaches = (
         reaches_later asked x was_settings e.kept same e.grows,
         reaches_later asked x was_settings e.strands.book same e.strands.grows,
         reaches_later asked x was_settings e.strands.most same e.strands.may_grow,
       );
-      fronts = (fronts_later y e.kept e.strands.book e.front, fronts_later y e.strands.book e.strands.most e.strands.front);
+      fronts = (lifts.fronts e.kept e.strands.book e.front, lifts.fronts e.strands.book e.strands.most e.strands.front);
       legal = (
-        inr (was_settings, state_later old y e.kept entered.drum holds e.legal),
-        inr (was_settings, state_later old y e.strands.most entered.drum holds e.strands.legal),
+        inr (was_settings, lifts.legal e.kept (follows e.kept) e.legal),
+        inr (was_settings, lifts.legal e.strands.most (follows e.strands.most) e.strands.legal),
       );
       settled = λ fine.
           let is = e.settled fine in
@@ -301,14 +273,10 @@ extends_opened kind asked before old new input news ending files x law_before la
             uneven_from asked before old files image x y.urls was law_old entered told has holds.urls_hold have left,
           ))));
       stops_any = joins before.store old.moment.store new.moment.store _ (widens before.store old.moment.store _ _ entered.steps (λ image from. inl from))
-          (widens old.moment.store new.moment.store _ _ stops (λ image left. inr (reached asked old x e.strands.most image entered.drum holds same e.strands.may_grow left.0 left.1)));
+          (widens old.moment.store new.moment.store _ _ stops (λ image left. inr (reached asked was_settings x e.strands.most image same e.strands.may_grow left)));
       now = λ why image left.
-          let between = e.now image left in (
-            with_urls between.0 y,
-            has_later old y between.0 image entered.drum holds (left_now old.moment.store new.moment.store _ law_new others image left) between.1,
-            fronts_later y e.kept between.0 between.2,
-            fronts_later y between.0 e.strands.most between.3,
-          );
+          let between = lifts.now e.kept e.strands.most image (follows e.kept) (follows e.strands.most) left (e.now image left) in
+          (with_urls between.0 y, between.1, lifts.fronts e.kept between.0 between.2, lifts.fronts between.0 e.strands.most between.3);
     }
 
 pub ran_opened : (kind : LineKind) (asked : Asked) (before : Lent) (old new : Place) (input : Stream) (news : List Tuple) (ending : Ending) → IsConsistent before.store → IsConsistent old.moment.store

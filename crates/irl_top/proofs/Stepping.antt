@@ -13,9 +13,10 @@ use Rattle.irl_bay.specs.Holding.{IsLong}
 use Rattle.irl_bay.specs.Merges.{ReadsJudged}
 use Rattle.irl_bay.specs.JudgedSpoilt.{IsJudgedSpoiltAt}
 use Rattle.irl_schedule.specs.Schedule.{none_more, one_more}
-use Rattle.irl_schedule.specs.Feeding.{Moment, Waits, Stays, Feeds}
+use Rattle.irl_schedule.specs.Feeding.{Moment, Waits, Stays, AddsCut, Feeds}
 use Rattle.irl_schedule.specs.Scheduling.{Schedules}
 use Rattle.irl_schedule.proofs.Chains.{feeds_more}
+use Rattle.irl_schedule.proofs.Schedules.{cut_few}
 use Rattle.irl_intake.specs.Advancing.{IsReady, early_at, uneven_at}
 use Rattle.irl_intake.specs.declared.next.Next.{Next}
 use Rattle.irl_intake.specs.declared.next.Next.TheVariants.{Merged, Ready}
@@ -95,10 +96,11 @@ advance_refused kind None before old new fault law_old law drum few long output 
 
 -- so far, and then the intake went on and printed nothing
 went_on : (kind : LineKind) (e : ℕ) (u : ℕ → ℕ) (before old new : Place) → IsConsistent old.moment.store → Went kind [] before old → Stays old.moment new.moment
-    → new.moment.drum.cuts ≤ old.moment.drum.cuts + 1 → old.moment.store.faults ≤ new.moment.store.faults → new.output ≡ old.output → new.printed ≡ old.printed
+    → AddsCut old.moment.drum new.moment.drum → old.moment.store.faults ≤ new.moment.store.faults → new.output ≡ old.output → new.printed ≡ old.printed
     → Feeds e u [] old.moment new.moment → GoesOn kind (0 + e) (λ b. none_more b + u b) [] before new × HasReason before new Done
-went_on kind e u before old new law went still one faults output printed feeds = (
-  goes_on_both kind 0 e none_more u [] [] before old new went.reason.stays went.goes (goes_call kind e u [] old new (inr (went.whole, one)) (ap (λ s. s.bytes) output) printed feeds),
+went_on kind e u before old new law went still cut faults output printed feeds = (
+  goes_on_both kind 0 e none_more u [] [] before old new went.reason.stays went.goes
+    (goes_call kind e u [] old new (inr (went.whole, cut_few old.moment.drum new.moment.drum cut)) (ap (λ s. s.bytes) output) printed feeds),
   reason_then kind 0 none_more [] before old new Done Done law went.goes went.reason (reason_went old new still faults (omega (arith, ap (λ s. s.faults) output))),
 )
 
@@ -108,11 +110,11 @@ pub print_refused : (kind : LineKind) (bucket : Option ℕ) (next : Next) (befor
     → Schedules (Ok next) (early_at bucket (Ok next)) (uneven_at bucket (Ok next)) [] old.moment mid.moment → Steps (Err ending) kind 0 none_more [] mid new
     → Steps (Err ending) kind (early_at bucket (Ok Ready)) (uneven_at bucket (Ok Ready)) [] before new
 print_refused kind (Some b) next before old mid new ending law_old law output printed went does print =
-    let on = went_on kind 0 none_more before old mid law_old went does.stays does.one_cut does.cause.later output printed (does.fed (λ is. cc)) in
+    let on = went_on kind 0 none_more before old mid law_old went does.stays does.cut does.cause.later output printed (does.fed (λ is. cc)) in
     steps_err kind 0 none_more [] before new ending (goes_on_ends kind 0 0 none_more none_more [] [] before mid new ending on.1.stays on.0 print.ends) print.kinds
     (reason_then kind 0 none_more [] before mid new Done ending law on.0 on.1 print.reason)
 print_refused kind None next before old mid new ending law_old law output printed went does print =
-    let on = went_on kind 1 one_more before old mid law_old went does.stays does.one_cut does.cause.later output printed (feeds_ready None next old.moment mid.moment (does.fed (λ is. cc))) in
+    let on = went_on kind 1 one_more before old mid law_old went does.stays does.cut does.cause.later output printed (feeds_ready None next old.moment mid.moment (does.fed (λ is. cc))) in
     steps_err kind 1 one_more [] before new ending (goes_on_ends kind 1 0 one_more none_more [] [] before mid new ending on.1.stays on.0 print.ends) print.kinds
     (reason_then kind 1 one_more [] before mid new Done ending law on.0 on.1 print.reason)
 
@@ -125,7 +127,7 @@ pub print_merged : (kind : LineKind) (bucket : Option ℕ) (done : Unit {0}) (be
     → mid.printed ≡ old.printed → Went kind [] before old → Schedules (Ok Merged) (early_at bucket (Ok Merged)) (uneven_at bucket (Ok Merged)) [] old.moment mid.moment
     → Steps (Ok done) kind 0 none_more [] mid new → Went kind [] before new
 print_merged kind bucket done before old mid new law_old law output printed went does print =
-    let on = went_on kind 0 none_more before old mid law_old went does.stays does.one_cut does.cause.later output printed (feeds_merged bucket old.moment mid.moment (does.fed (λ is. cc))) in
+    let on = went_on kind 0 none_more before old mid law_old went does.stays does.cut does.cause.later output printed (feeds_merged bucket old.moment mid.moment (does.fed (λ is. cc))) in
     record {
       goes = goes_on_both kind 0 0 none_more none_more [] [] before mid new on.1.stays on.0 print.goes;
       whole = print.whole;
@@ -137,11 +139,11 @@ pub print_ready : (kind : LineKind) (bucket : Option ℕ) (done : Unit {0}) (bef
     → mid.printed ≡ old.printed → Went kind [] before old → Schedules (Ok Ready) (early_at bucket (Ok Ready)) (uneven_at bucket (Ok Ready)) [] old.moment mid.moment
     → Steps (Ok done) kind 0 none_more [] mid new → Steps (Ok done) kind (early_at bucket (Ok Ready)) (uneven_at bucket (Ok Ready)) [] before new
 print_ready kind (Some b) done before old mid new law_old law output printed went does print =
-    let on = went_on kind 0 none_more before old mid law_old went does.stays does.one_cut does.cause.later output printed (does.fed (λ is. cc)) in
+    let on = went_on kind 0 none_more before old mid law_old went does.stays does.cut does.cause.later output printed (does.fed (λ is. cc)) in
     steps_ok kind 0 none_more [] before new done (goes_on_both kind 0 0 none_more none_more [] [] before mid new on.1.stays on.0 print.goes) print.whole
     (reason_then kind 0 none_more [] before mid new Done Done law on.0 on.1 print.reason)
 print_ready kind None done before old mid new law_old law output printed went does print =
-    let on = went_on kind 1 one_more before old mid law_old went does.stays does.one_cut does.cause.later output printed (does.fed (λ is. cc)) in
+    let on = went_on kind 1 one_more before old mid law_old went does.stays does.cut does.cause.later output printed (does.fed (λ is. cc)) in
     steps_ok kind 1 one_more [] before new done (goes_on_both kind 1 0 one_more none_more [] [] before mid new on.1.stays on.0 print.goes) print.whole
     (reason_then kind 1 one_more [] before mid new Done Done law on.0 on.1 print.reason)
 

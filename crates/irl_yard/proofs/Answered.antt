@@ -1,5 +1,5 @@
 -- What is answered of entering a store, out of what its calls do.
-use Rattle.std.proofs.Common.{◌≡◌, ◌≢◌, ◌∙◌, inl, ℕ, ◌≤◌, List, Option, Some, refl, subst, sym}
+use Rattle.std.proofs.Common.{◌≡◌, ◌≢◌, ◌∙◌, inl, ℕ, Option, Some, refl, subst, sym}
 use Rattle.std.specs.Option.{ForSome}
 use Rattle.irl_base.specs.Faults.{HasCause}
 use Rattle.irl_offer.specs.Settings.{AreValid, settings_of}
@@ -9,7 +9,7 @@ use Rattle.irl_offer.specs.declared.settings.Kind.TheVariants.{Crawl}
 use Rattle.irl_events.specs.State.{State}
 use Rattle.irl_disk.specs.Disk.{Files, ChangesFile, TellsBy}
 use Rattle.irl_disk.specs.Effects.{OnlyChanges, OnlyReads, ReadsAndChanges}
-use Rattle.irl_disk.specs.Images.{Told, IsConsistent, Leaves, LeavesBy, LeavesSame}
+use Rattle.irl_disk.specs.Images.{Told, IsConsistent, LeavesBy, LeavesSame}
 use Rattle.irl_disk.specs.Taken.{TakesAmong}
 use Rattle.irl_disk.proofs.Effects.{cause_for, cause_then, reads_for, reads_none, told_none, told_wider}
 use Rattle.irl_disk.proofs.Frames.{takes_both, takes_none}
@@ -32,7 +32,7 @@ use Rattle.irl_yard.specs.Opening.{entered_state}
 use Rattle.irl_yard.specs.Entering.{Enters, EntersStore, HasGround, IsToldJournal, OpeningRefused}
 use Rattle.irl_yard.proofs.Entering.{adopted_opens, adopted_takes, bay_blank, bay_told, blank_stops, blank_told, entered_then, head_alone, head_takes, looked_blank, looks_blank, looks_twice, made_steps, made_told, opened_blank, opened_told, opens_none, same_blank, same_enters, stops_keep, told_keeps, told_same, written_steps, written_told}
 use Rattle.irl_yard.proofs.Grounds.{ground_denies}
-use Rattle.irl_yard.proofs.Rest.{few}
+use Rattle.irl_yard.proofs.RestFiles.{few}
 
 -- ---- the store
 -- what is done enters it, so a stop leaves its state or the new store's

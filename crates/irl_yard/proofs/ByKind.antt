@@ -1,92 +1,112 @@
 -- What goes by the kind of a store.
 use Rattle.std.proofs.Common.{◌≡◌, ◌≢◌, ◌∙◌, ℕ, ◌≤◌, List, [], length, refl, sym, subst}
+use Rattle.irl_offer.specs.Tuple.{Tuple}
 use Rattle.irl_offer.specs.declared.offer.Rule.TheVariants.{Keep}
+use Rattle.irl_offer.specs.declared.settings.Asked.{Asked}
 use Rattle.irl_offer.specs.declared.settings.Kind.{Kind}
 use Rattle.irl_offer.specs.declared.settings.Kind.TheVariants.{Lines, Tuples, Crawl}
-use Rattle.irl_model.specs.Book.{Book, blank_book}
+use Rattle.irl_offer.specs.declared.settings.Settings.{Settings}
+use Rattle.irl_model.specs.Book.{Book, IsBook, IsFront, blank_book, flushed, merged}
+use Rattle.irl_model.proofs.FrontLaws.{front_both}
 use Rattle.irl_events.specs.Events.{Happened}
 use Rattle.irl_disk.specs.Disk.{Files}
 use Rattle.irl_layout.specs.BayFiles.{IsFileOf}
+use Rattle.irl_bay.proofs.Apart.{stands_apart}
 use Rattle.irl_head.specs.StoreFiles.{crawl_file, pairs_base}
+use Rattle.irl_head.specs.Asking.{Agrees}
+use Rattle.irl_head.specs.Head.{kind_number}
+use Rattle.irl_log.specs.Log.{HasEvents}
+use Rattle.irl_yard.specs.Crawling.{AreCrawlFiles, AreTaken, MayFollow, events_of, pair_settings}
 use Rattle.irl_yard.specs.Standing.{ArePlainFiles, HasRest, IsRest}
-use Rattle.irl_yard.specs.Holding.{HoldsRest}
+use Rattle.irl_yard.proofs.Crawling.{crawl_flushed, crawl_longer, crawl_merged, one_crawl, taken_fronts}
 
--- what is short of the files beside the head and the bay of URLs stays so
-abbrev pub StaysShort : ℕ → Files → Files → Type 0
-StaysShort buckets old new = (length (old crawl_file) ≤ 1 → length (new crawl_file) ≤ 1)
-    × ((f : ℕ) → IsFileOf pairs_base buckets f → length (old f) ≤ 1 → length (new f) ≤ 1)
+-- the files beside the head and the bay of URLs are as they were
+abbrev pub IsSameBeside : ℕ → Files → Files → Type 0
+IsSameBeside buckets old new = (new crawl_file ≡ old crawl_file) × ((f : ℕ) → IsFileOf pairs_base buckets f → new f ≡ old f)
 
-plain_stays : (buckets : ℕ) (old new : Files) → StaysShort buckets old new → ArePlainFiles buckets old → ArePlainFiles buckets new
-plain_stays buckets old new stays are = record { crawl = stays.0 are.crawl; pairs = λ f is. stays.1 f is (are.pairs f is) }
+plain_stays : (buckets : ℕ) (old new : Files) → IsSameBeside buckets old new → ArePlainFiles buckets old → ArePlainFiles buckets new
+plain_stays buckets old new same are = record {
+  crawl = subst (λ (file : List ℕ). length file ≤ 1) (sym same.0) are.crawl;
+  pairs = λ f is. subst (λ (file : List ℕ). length file ≤ 1) (sym (same.1 f is)) (are.pairs f is);
+}
+
+crawl_stays : (settings : Settings) (pairs : Book) (events : List Happened) (old new : Files) → IsSameBeside settings.buckets old new → AreCrawlFiles settings pairs events old
+    → AreCrawlFiles settings pairs events new
+crawl_stays settings pairs events old new same are = record {
+  pairs_stand = stands_apart pairs_base (pair_settings settings) pairs old new same.1 are.pairs_stand;
+  log = subst (λ (file : List ℕ). HasEvents settings.buckets file (events_of events)) (sym same.0) are.log;
+}
+
+-- ---- what is asked
+one_kind : (x y : Kind) → kind_number x ≡ kind_number y → x ≡ y
+one_kind Lines Lines same = refl
+one_kind Lines Tuples same = cc
+one_kind Lines Crawl same = cc
+one_kind Tuples Lines same = cc
+one_kind Tuples Tuples same = refl
+one_kind Tuples Crawl same = cc
+one_kind Crawl Lines same = cc
+one_kind Crawl Tuples same = cc
+one_kind Crawl Crawl same = refl
+
+-- settings that agree with what is asked are of its kind
+pub agrees_plain : (asked : Asked) (settings : Settings) → Agrees asked settings → asked.kind ≢ Crawl → settings.kind ≢ Crawl
+agrees_plain asked settings agrees plain is = plain (one_kind asked.kind settings.kind (agrees 0 (kind_number asked.kind) (kind_number settings.kind) refl refl) ∙ is)
 
 -- ---- a new store's
-pub new_rest : (kind : Kind) (buckets : ℕ) → kind ≢ Crawl → IsRest kind buckets (blank_book buckets Keep) []
-new_rest Lines buckets plain = record { pairs_are = refl; events_are = refl }
-new_rest Tuples buckets plain = record { pairs_are = refl; events_are = refl }
-new_rest Crawl buckets plain = absurd (plain refl)
+pub new_rest : (kind : Kind) (settings : Settings) (urls : Book) → kind ≢ Crawl → IsRest kind settings urls (blank_book settings.buckets Keep) []
+new_rest Lines settings urls plain = record { pairs_are = refl; events_are = refl }
+new_rest Tuples settings urls plain = record { pairs_are = refl; events_are = refl }
+new_rest Crawl settings urls plain = absurd (plain refl)
 
-pub new_has : (kind : Kind) (buckets : ℕ) (files : Files) → kind ≢ Crawl → ArePlainFiles buckets files → HasRest kind buckets (blank_book buckets Keep) [] files
-new_has Lines buckets files plain are = record { state = record { pairs_are = refl; events_are = refl }; files_are = are }
-new_has Tuples buckets files plain are = record { state = record { pairs_are = refl; events_are = refl }; files_are = are }
-new_has Crawl buckets files plain are = absurd (plain refl)
-
-pub new_holds : (images : Files → Type 0) (kind : Kind) (buckets : ℕ) → kind ≢ Crawl → ((image : Files) → images image → ArePlainFiles buckets image)
-    → HoldsRest images kind buckets (blank_book buckets Keep) []
-new_holds images Lines buckets plain are = record { state = record { pairs_are = refl; events_are = refl }; images_are = are }
-new_holds images Tuples buckets plain are = record { state = record { pairs_are = refl; events_are = refl }; images_are = are }
-new_holds images Crawl buckets plain are = absurd (plain refl)
+pub new_has : (kind : Kind) (settings : Settings) (files : Files) → kind ≢ Crawl → ArePlainFiles settings.buckets files → HasRest kind settings (blank_book settings.buckets Keep) [] files
+new_has Lines settings files plain are = are
+new_has Tuples settings files plain are = are
+new_has Crawl settings files plain are = absurd (plain refl)
 
 -- ---- the rest of one state
-module _ (buckets : ℕ) (pairs : Book) (events : List Happened) where
-  pub rest_of_files : (kind : Kind) (files : Files) → HasRest kind buckets pairs events files → IsRest kind buckets pairs events
-  rest_of_files Lines files rest = rest.state
-  rest_of_files Tuples files rest = rest.state
-  rest_of_files Crawl files rest = rest
+module _ (settings : Settings) (pairs : Book) (events : List Happened) where
+  -- its files have it where they stay
+  pub rest_stays : (kind : Kind) (old new : Files) → IsSameBeside settings.buckets old new → HasRest kind settings pairs events old → HasRest kind settings pairs events new
+  rest_stays Lines old new same rest = plain_stays settings.buckets old new same rest
+  rest_stays Tuples old new same rest = plain_stays settings.buckets old new same rest
+  rest_stays Crawl old new same rest = crawl_stays settings pairs events old new same rest
 
-  pub rest_of_held : (images : Files → Type 0) (kind : Kind) → HoldsRest images kind buckets pairs events → IsRest kind buckets pairs events
-  rest_of_held images Lines rest = rest.state
-  rest_of_held images Tuples rest = rest.state
-  rest_of_held images Crawl rest = rest
+  -- a book of URLs that may follow keeps it legal
+  pub rest_follows : (kind : Kind) (urls more : Book) → IsBook urls → MayFollow kind urls more → IsRest kind settings urls pairs events → IsRest kind settings more pairs events
+  rest_follows Lines urls more is follows rest = rest
+  rest_follows Tuples urls more is follows rest = rest
+  rest_follows Crawl urls more is follows rest = crawl_longer settings urls more pairs events is follows.0 follows.1 rest
 
-  -- a stop leaves it
-  pub held_rest : (images : Files → Type 0) (kind : Kind) (image : Files) → HoldsRest images kind buckets pairs events → images image → HasRest kind buckets pairs events image
-  held_rest images Lines image rest left = record { state = rest.state; files_are = rest.images_are image left }
-  held_rest images Tuples image rest left = record { state = rest.state; files_are = rest.images_are image left }
-  held_rest images Crawl image rest left = rest
+  -- a flush of offers that are taken
+  pub rest_flushed : (kind : Kind) (b : ℕ) (news : List Tuple) (urls : Book) → IsBook urls → AreTaken kind news → IsRest kind settings urls pairs events
+      → IsRest kind settings (flushed b news urls) pairs events
+  rest_flushed Lines b news urls is taken rest = rest
+  rest_flushed Tuples b news urls is taken rest = rest
+  rest_flushed Crawl b news urls is taken rest = crawl_flushed settings b news urls pairs events is taken rest
 
-  -- it stays where its files do
-  pub rest_stays : (kind : Kind) (old new : Files) → StaysShort buckets old new → HasRest kind buckets pairs events old → HasRest kind buckets pairs events new
-  rest_stays Lines old new stays rest = record { state = rest.state; files_are = plain_stays buckets old new stays rest.files_are }
-  rest_stays Tuples old new stays rest = record { state = rest.state; files_are = plain_stays buckets old new stays rest.files_are }
-  rest_stays Crawl old new stays rest = rest
+  -- and a merge
+  pub rest_merged : (kind : Kind) (urls : Book) → IsBook urls → IsRest kind settings urls pairs events → IsRest kind settings (merged urls) pairs events
+  rest_merged Lines urls is rest = rest
+  rest_merged Tuples urls is rest = rest
+  rest_merged Crawl urls is rest = crawl_merged settings urls pairs events is rest
 
-  pub held_stays : (before after : Files → Type 0) (kind : Kind) → ((image : Files) → after image → (old : Files) × before old × StaysShort buckets old image)
-      → HoldsRest before kind buckets pairs events → HoldsRest after kind buckets pairs events
-  held_stays before after Lines from rest = record {
-    state = rest.state;
-    images_are = λ image left. let was = from image left in plain_stays buckets was.0 image was.2 (rest.images_are was.0 was.1);
-  }
-  held_stays before after Tuples from rest = record {
-    state = rest.state;
-    images_are = λ image left. let was = from image left in plain_stays buckets was.0 image was.2 (rest.images_are was.0 was.1);
-  }
-  held_stays before after Crawl from rest = rest
+-- any book may follow in a store of lines or of tuples
+pub plain_follows : (kind : Kind) (urls more : Book) → kind ≢ Crawl → MayFollow kind urls more
+plain_follows Lines urls more plain = tt
+plain_follows Tuples urls more plain = tt
+plain_follows Crawl urls more plain = absurd (plain refl)
 
-  -- what is told of it is held, where a stop leaves its files as they are told
-  pub told_holds : (images : Files → Type 0) (kind : Kind) (files : Files) → ((image : Files) → images image → StaysShort buckets files image) → HasRest kind buckets pairs events files
-      → HoldsRest images kind buckets pairs events
-  told_holds images Lines files stays rest = record { state = rest.state; images_are = λ image left. plain_stays buckets files image (stays image left) rest.files_are }
-  told_holds images Tuples files stays rest = record { state = rest.state; images_are = λ image left. plain_stays buckets files image (stays image left) rest.files_are }
-  told_holds images Crawl files stays rest = rest
+-- and one between two that may
+pub follows_between : (kind : Kind) (urls x z y : Book) → MayFollow kind urls x → MayFollow kind urls y → IsFront x z → IsFront z y → MayFollow kind urls z
+follows_between Lines urls x z y one other below above = tt
+follows_between Tuples urls x z y one other below above = tt
+follows_between Crawl urls x z y one other below above = (front_both urls x z one.0 below, taken_fronts z.lists y.lists above.lists other.1)
 
-  -- only a store of lines or of tuples has one
-  pub plain_kind : (kind : Kind) → IsRest kind buckets pairs events → kind ≢ Crawl
-  plain_kind Lines rest = λ is. cc
-  plain_kind Tuples rest = λ is. cc
-  plain_kind Crawl rest = absurd rest
-
--- settings have one
-pub one_rest : (kind : Kind) (buckets : ℕ) (pairs others : Book) (events more : List Happened) → IsRest kind buckets pairs events → IsRest kind buckets others more → (pairs ≡ others) × (events ≡ more)
-one_rest Lines buckets pairs others events more x y = (x.pairs_are ∙ sym y.pairs_are, x.events_are ∙ sym y.events_are)
-one_rest Tuples buckets pairs others events more x y = (x.pairs_are ∙ sym y.pairs_are, x.events_are ∙ sym y.events_are)
-one_rest Crawl buckets pairs others events more x y = absurd x
+-- files have one
+pub one_rest : (kind : Kind) (settings : Settings) (urls pairs others : Book) (events more : List Happened) (files : Files)
+    → IsRest kind settings urls pairs events → HasRest kind settings pairs events files → IsRest kind settings urls others more → HasRest kind settings others more files
+    → (pairs ≡ others) × (events ≡ more)
+one_rest Lines settings urls pairs others events more files x has y also = (x.pairs_are ∙ sym y.pairs_are, x.events_are ∙ sym y.events_are)
+one_rest Tuples settings urls pairs others events more files x has y also = (x.pairs_are ∙ sym y.pairs_are, x.events_are ∙ sym y.events_are)
+one_rest Crawl settings urls pairs others events more files x has y also = one_crawl settings urls pairs others events more files x has y also

@@ -7,6 +7,7 @@ use Rattle.irl_offer.specs.declared.settings.Asked.{Asked}
 use Rattle.irl_offer.specs.declared.settings.Settings.{Settings}
 use Rattle.irl_offer.specs.declared.settings.Kind.{Kind}
 use Rattle.irl_offer.specs.declared.settings.Kind.TheVariants.{Lines, Tuples, Crawl}
+use Rattle.irl_model.specs.Book.{blank_book}
 use Rattle.irl_events.specs.State.{State, blank_state}
 use Rattle.irl_disk.specs.Disk.{Files, Changes, ChangesFile, TellsBy}
 use Rattle.irl_disk.specs.Images.{Told, IsConsistent, Follows, Leaves, LeavesBy, LeavesSame}
@@ -37,8 +38,8 @@ use Rattle.irl_yard.specs.Entering.{IsRestFile, IsKindJournal, IsStoreJournal, I
 use Rattle.irl_head.proofs.Beginning.{same_then, file_stays}
 use Rattle.irl_head.proofs.Grounds.{none_or_one, one_head}
 use Rattle.irl_yard.proofs.Grounds.{blank_has, made_head}
-use Rattle.irl_yard.proofs.ByKind.{new_has, rest_stays}
-use Rattle.irl_yard.proofs.Rest.{few, pairs_rest, one_side, head_no_side, head_no_journal, rest_no_head, rest_no_urls}
+use Rattle.irl_yard.proofs.ByKind.{new_has, new_rest, rest_stays}
+use Rattle.irl_yard.proofs.RestFiles.{few, one_side, head_no_side, head_no_journal, rest_no_head, rest_no_urls, same_as_told}
 use Rattle.irl_yard.proofs.Making.{urls_other, pairs_other, head_no_urls}
 
 -- ---- the journals of a store
@@ -294,7 +295,9 @@ opens_made told settings state old new opens each made = record {
     journals = λ f is payloads. opened_stands (old f) (new f) payloads (each f (journal_wider settings.buckets f small is));
     others = λ f is out. opens.others f (λ told_is. apart f is out (told_journal told f told_is));
   }) made.urls;
-  rest = rest_stays settings.buckets state.pairs state.events settings.kind old new (stays crawl_file (inl refl), λ f is. stays f (pairs_rest settings.buckets f is)) made.rest;
+  legal = made.legal;
+  rest = rest_stays settings state.pairs state.events settings.kind old new
+      (same_as_told settings.buckets old new (λ f rest. opens.others f (rest_no_journal told settings.buckets f small rest))) made.rest;
 }
   where
     small : settings.buckets ≤ 64
@@ -303,9 +306,6 @@ opens_made told settings state old new opens each made = record {
     apart : (f : ℕ) → IsFileOf urls_base settings.buckets f → (IsJournalOf urls_base settings.buckets f → ⊥) → (f ≡ head_file) ⊎ IsJournalOf urls_base 64 f → ⊥
     apart f is out (inl e) = head_no_urls urls_base settings.buckets f refl small is e
     apart f is out (inr journal) = ⊎_elim out (λ none. none is) (journal_or_none settings.buckets f journal)
-
-    stays : (f : ℕ) → IsRestFile settings.buckets f → length (old f) ≤ 1 → length (new f) ≤ 1
-    stays f rest short = subst (λ (file : List ℕ). length file ≤ 1) (sym (opens.others f (rest_no_journal told settings.buckets f small rest))) short
 
 -- opening keeps it
 pub opens_keeps : (told : Option Files) (files : Files) (state : State) (old new : Files) → told ≡ Some files → HasState state files → OpensStore told old new → HasState state old → HasState state new
@@ -337,7 +337,8 @@ makes_state settings old new valid kind makes blank =
         valid = valid;
         head = inr has;
         urls = unmade_stands urls_base settings new valid (λ f is. others f (urls_other settings.buckets f small is));
-        rest = new_has settings.kind settings.buckets new kind (record {
+        legal = new_rest settings.kind settings (blank_book settings.buckets settings.rule) kind;
+        rest = new_has settings.kind settings new kind (record {
           crawl = others crawl_file (omega arith, omega arith);
           pairs = λ f is. others f (pairs_other settings.buckets f small is);
         });

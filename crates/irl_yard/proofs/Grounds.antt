@@ -14,7 +14,6 @@ use Rattle.irl_journal.specs.Format.{StandsFor, IsBrokenAt}
 use Rattle.irl_journal.proofs.Lists.{whole_list}
 use Rattle.irl_disk.specs.Images.{Told}
 use Rattle.irl_bay.specs.Damage.{IsDamagedAt}
-use Rattle.irl_bay.specs.Drum.{Drum}
 use Rattle.irl_bay.proofs.Whole.{stands_whole}
 use Rattle.irl_head.specs.declared.open_fault.OpenFault.{OpenFault}
 use Rattle.irl_head.specs.declared.open_fault.OpenFault.TheVariants.{NotOurs, Damaged, OtherSettings, BadSettings, Failed, Memory}
@@ -24,7 +23,8 @@ use Rattle.irl_head.specs.Opening.{IsBlank, HasHead, IsBadStore, IsKeptOtherwise
 use Rattle.irl_yard.specs.Standing.{IsMade, HasState}
 use Rattle.irl_head.specs.Asking.{Agrees, IsOther}
 use Rattle.irl_yard.specs.Opening.{IsStoreDamagedAt, entered_state, new_state}
-use Rattle.irl_yard.specs.Holding.{HoldsUrls}
+use Rattle.irl_yard.specs.Holding.{HoldsState}
+use Rattle.irl_yard.specs.declared.parts.Parts.{Parts}
 use Rattle.irl_yard.specs.Entering.{HasGround, fault_of_bay}
 use Rattle.irl_head.proofs.Grounds.{none_or_one, one_head, blank_ours, head_ours, ours_unbroken, agrees_or_other}
 
@@ -53,9 +53,9 @@ pub entered_made : (asked : Asked) (settings : Settings) (state : State) → sta
 entered_made asked settings state is = entered_as asked settings state.settings state.urls state.pairs state.events is
 
 -- and one that wasn't made is a new one
-pub entered_new : (asked : Asked) (state : State) (files : Files) (urls : Drum) (new : Told) → IsBlank files → HasState state files → HoldsUrls new.images urls (new_state (settings_of asked))
-    → HoldsUrls new.images urls (entered_state asked state)
-entered_new asked state files urls new blank has holds = subst (λ (s : State). HoldsUrls new.images urls (entered_state asked s)) (sym (blank_has state files blank.head has).1) holds
+pub entered_new : (asked : Asked) (state : State) (files : Files) (parts : Parts) (new : Told) → IsBlank files → HasState state files
+    → HoldsState new.images parts (new_state (settings_of asked)) → HoldsState new.images parts (entered_state asked state)
+entered_new asked state files parts new blank has holds = subst (λ (s : State). HoldsState new.images parts (entered_state asked s)) (sym (blank_has state files blank.head has).1) holds
 
 -- ---- what is damaged
 pub blank_undamaged : (asked : Asked) (files : Files) (f at : ℕ) → IsBlank files → IsStoreDamagedAt asked files f at → ⊥

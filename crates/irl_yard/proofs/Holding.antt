@@ -1,5 +1,5 @@
 -- A store that holds a state: each joint image has it, and calls that change the bay's files alone leave the rest.
-use Rattle.std.proofs.Common.{◌≡◌, ◌∙◌, inl, inr, ⊎_elim, ℕ, ◌<◌, ◌≤◌, List, [], ◌∷◌, length, Some, Result, Ok, Err, OnOk, sym, ap, subst, arith}
+use Rattle.std.proofs.Common.{◌≡◌, ◌∙◌, inl, inr, ⊎_elim, ℕ, ◌<◌, ◌≤◌, List, [], ◌∷◌, Some, Result, Ok, Err, OnOk, sym, ap, subst, arith}
 use Rattle.irl_offer.specs.declared.settings.Settings.{Settings}
 use Rattle.irl_offer.specs.Buckets.{IsBucketCount}
 use Rattle.irl_model.specs.Book.{Book}
@@ -17,9 +17,9 @@ use Rattle.irl_bay.proofs.Standing.{holds_stands}
 use Rattle.irl_bay.proofs.Apart.{files_within, files_of_both}
 use Rattle.irl_head.specs.StoreFiles.{head_file, crawl_file, urls_base, pairs_base}
 use Rattle.irl_head.specs.Head.{head_bytes}
-use Rattle.irl_yard.specs.Standing.{HasRest, HasState, IsMade, IsStateOf, with_urls}
-use Rattle.irl_yard.specs.Holding.{HoldsRest, HoldsUrls, HasOneOf}
-use Rattle.irl_yard.proofs.ByKind.{StaysShort, held_rest, held_stays, rest_of_files, rest_of_held, rest_stays}
+use Rattle.irl_yard.specs.Standing.{HasRest, HasState, IsMade, IsRest, IsStateOf, with_urls}
+use Rattle.irl_yard.specs.Holding.{HoldsUrls, HasOneOf}
+use Rattle.irl_yard.proofs.ByKind.{IsSameBeside, rest_stays}
 
 -- these files are those of the bay of URLs
 abbrev pub AreOfUrls : Drum → (ℕ → Type 0) → Type 0
@@ -32,23 +32,20 @@ few_buckets buckets valid = grind arith
 -- what stands beside the bay of URLs in it
 pub record IsBeside (urls : Drum) (state : State) (image : Files) : Type 0 where
   pub head : HasRecords (image head_file) (head_bytes urls.settings ∷ [])
-  pub rest : HasRest urls.settings.kind urls.settings.buckets state.pairs state.events image
+  pub rest : HasRest urls.settings.kind urls.settings state.pairs state.events image
 
 pub held_beside : (images : Files → Type 0) (urls : Drum) (state : State) (image : Files) → HoldsUrls images urls state → images image → IsBeside urls state image
 held_beside images urls state image holds left = record {
   head = holds.head image left;
-  rest = held_rest urls.settings.buckets state.pairs state.events images urls.settings.kind image holds.rest left;
+  rest = holds.rest image left;
 }
 
 -- the head and the rest stay where only files of the bay of URLs change
 beside_same : (among : ℕ → Type 0) (urls : Drum) (old new : Files) → IsDrum urls → urls.base ≡ urls_base → AreOfUrls urls among → ChangesOnly among old new
-    → (new head_file ≡ old head_file) × StaysShort urls.settings.buckets old new
+    → (new head_file ≡ old head_file) × IsSameBeside urls.settings.buckets old new
 beside_same among urls old new law base are changes = (
   changes head_file (λ is. low head_file (omega arith) (are head_file is)),
-  (
-    subst (λ (file : List ℕ). length file ≤ 1) (sym (changes crawl_file (λ is. low crawl_file (omega arith) (are crawl_file is)))),
-    λ f is. subst (λ (file : List ℕ). length file ≤ 1) (sym (changes f (λ was. apart f (are f was) is))),
-  ),
+  (changes crawl_file (λ is. low crawl_file (omega arith) (are crawl_file is)), λ f is. changes f (λ was. apart f (are f was) is)),
 )
   where
     few : urls.settings.buckets ≤ 64
@@ -66,19 +63,20 @@ rest_kept among urls state old new law base are changes beside =
     let same = beside_same among urls old new law base are changes in
     record {
       head = subst (λ (file : List ℕ). HasRecords file (head_bytes urls.settings ∷ [])) (sym same.0) beside.head;
-      rest = rest_stays urls.settings.buckets state.pairs state.events urls.settings.kind old new same.1 beside.rest;
+      rest = rest_stays urls.settings state.pairs state.events urls.settings.kind old new same.1 beside.rest;
     }
 
 -- files that stand for a book of URLs, beside the rest
-pub has_state : (images : Files → Type 0) (urls : Drum) (state : State) (book : Book) (image : Files) → IsDrum urls → HoldsUrls images urls state → IsBeside urls state image
-    → Stands urls.base urls.settings book image → HasState (with_urls book state) image
-has_state images urls state book image law holds beside stands = inr (
+pub has_state : (images : Files → Type 0) (urls : Drum) (state : State) (book : Book) (image : Files) → IsDrum urls → HoldsUrls images urls state
+    → IsRest urls.settings.kind urls.settings book state.pairs state.events → IsBeside urls state image → Stands urls.base urls.settings book image → HasState (with_urls book state) image
+has_state images urls state book image law holds legal beside stands = inr (
   urls.settings,
   record {
     settings_are = holds.settings;
     valid = law.settings;
     head = inr beside.head;
     urls = subst (λ (base : ℕ). Stands base urls.settings book image) holds.base stands;
+    legal = legal;
     rest = beside.rest;
   },
 )
@@ -86,16 +84,16 @@ has_state images urls state book image law holds beside stands = inr (
 -- what a stop now may leave has the state that is held
 pub held_has : (images : Files → Type 0) (urls : Drum) (state : State) (image : Files) → IsDrum urls → HoldsUrls images urls state → images image → HasState state image
 held_has images urls state image law holds left =
-    has_state images urls state state.urls image law holds (held_beside images urls state image holds left) (holds_stands images urls state.urls image law holds.urls_hold left)
+    has_state images urls state state.urls image law holds holds.legal (held_beside images urls state image holds left) (holds_stands images urls state.urls image law holds.urls_hold left)
 
 -- ---- states
-pub held_state : (images : Files → Type 0) (urls : Drum) (state : State) (book : Book) → IsDrum urls → HoldsUrls images urls state → IsBookOf urls.settings book
-    → IsStateOf urls.settings (with_urls book state)
-held_state images urls state book law holds is = record {
+pub held_state : (images : Files → Type 0) (urls : Drum) (state : State) (book : Book) → IsDrum urls → HoldsUrls images urls state
+    → IsRest urls.settings.kind urls.settings book state.pairs state.events → IsBookOf urls.settings book → IsStateOf urls.settings (with_urls book state)
+held_state images urls state book law holds legal is = record {
   settings_are = holds.settings;
   valid = law.settings;
   book_is = is;
-  rest = rest_of_held urls.settings.buckets state.pairs state.events images urls.settings.kind holds.rest;
+  rest = legal;
 }
 
 pub made_state : (settings : Settings) (state : State) (files : Files) → IsMade settings state files → IsStateOf settings state
@@ -103,14 +101,15 @@ made_state settings state files made = record {
   settings_are = made.settings_are;
   valid = made.valid;
   book_is = made.urls.book_is;
-  rest = rest_of_files settings.buckets state.pairs state.events settings.kind files made.rest;
+  rest = made.legal;
 }
 
 -- ---- a call on the bay of URLs
 -- at its end the store holds the state with the book that the bay then holds
 pub holds_after : (among : ℕ → Type 0) (old new : Told) (was now : Drum) (state : State) (book : Book) → IsDrum was → IsConsistent new → AreOfUrls was among → LeavesBy (ChangesOnly among) old new
-    → now.base ≡ was.base → now.settings ≡ was.settings → HoldsUrls old.images was state → Holds new.images now book → HoldsUrls new.images now (with_urls book state)
-holds_after among old new was now state book law consistent are stops base settings holds after = record {
+    → now.base ≡ was.base → now.settings ≡ was.settings → HoldsUrls old.images was state → IsRest was.settings.kind was.settings book state.pairs state.events → Holds new.images now book
+    → HoldsUrls new.images now (with_urls book state)
+holds_after among old new was now state book law consistent are stops base settings holds legal after = record {
   settings = holds.settings ∙ ap (λ (s : Settings). Some s) (sym settings);
   base = base ∙ holds.base;
   head = λ image left.
@@ -119,20 +118,22 @@ holds_after among old new was now state book law consistent are stops base setti
       subst (λ (s : Settings). HasRecords (image head_file) (head_bytes s ∷ [])) (sym settings)
       (subst (λ (file : List ℕ). HasRecords file (head_bytes was.settings ∷ [])) (sym same.0) (holds.head from.0 from.1));
   urls_hold = after;
-  rest = subst (λ (s : Settings). HoldsRest new.images s.kind s.buckets state.pairs state.events) (sym settings)
-      (held_stays was.settings.buckets state.pairs state.events old.images new.images was.settings.kind (λ image left.
+  legal = subst (λ (s : Settings). IsRest s.kind s book state.pairs state.events) (sym settings) legal;
+  rest = λ image left.
       let from = left_now old new _ consistent stops image left in
-      (from.0, from.1, (beside_same among was from.0 image law holds.base are from.2).1)) holds.rest);
+      subst (λ (s : Settings). HasRest s.kind s state.pairs state.events image) (sym settings)
+      (rest_stays was.settings state.pairs state.events was.settings.kind from.0 image (beside_same among was from.0 image law holds.base are from.2).1 (holds.rest from.0 from.1));
 }
 
 -- and a stop in it leaves the state, with the book before it or the one that it makes
 pub stops_one_of : (among : ℕ → Type 0) (old new : Told) (urls : Drum) (state : State) (book : Book) → IsDrum urls → AreOfUrls urls among → HoldsUrls old.images urls state
-    → LeavesBy (Becomes among urls.base urls.settings state.urls book) old new → Leaves old new (HasOneOf state (with_urls book state))
-stops_one_of among old new urls state book law are holds stops =
+    → IsRest urls.settings.kind urls.settings book state.pairs state.events → LeavesBy (Becomes among urls.base urls.settings state.urls book) old new
+    → Leaves old new (HasOneOf state (with_urls book state))
+stops_one_of among old new urls state book law are holds legal stops =
     widens old new (Follows (Becomes among urls.base urls.settings state.urls book) old.images) _ stops (λ image from.
     let rest = rest_kept among urls state from.0 image law holds.base are from.2.others (held_beside old.images urls state from.0 holds from.1) in
-    ⊎_elim (λ was. inl (has_state old.images urls state state.urls image law holds rest was))
-    (λ has. inr (has_state old.images urls state book image law holds rest has))
+    ⊎_elim (λ was. inl (has_state old.images urls state state.urls image law holds holds.legal rest was))
+    (λ has. inr (has_state old.images urls state book image law holds legal rest has))
     from.2.stands)
 
 -- ---- a call that changes nothing
@@ -145,8 +146,8 @@ holds_same old new urls state law consistent same holds =
       base = holds.base;
       head = λ image left. holds.head image (was image left);
       urls_hold = holds_fewer old.images new.images urls state.urls law was holds.urls_hold;
-      rest = held_stays urls.settings.buckets state.pairs state.events old.images new.images urls.settings.kind (λ image left.
-          (image, was image left, ((λ short. short), λ f is short. short))) holds.rest;
+      legal = holds.legal;
+      rest = λ image left. holds.rest image (was image left);
     }
 
 -- and each stop in it leaves the state

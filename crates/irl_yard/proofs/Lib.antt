@@ -1,9 +1,12 @@
 pub mod Answered
+pub mod Beside
 pub mod ByKind
+pub mod Crawling
 pub mod Entering
 pub mod Grounds
 pub mod Holding
 pub mod Journals
+pub mod Lifting
 pub mod Making
-pub mod Rest
+pub mod RestFiles
 pub mod States

@@ -11,7 +11,7 @@ use Rattle.irl_head.specs.declared.open_fault.OpenFault.{OpenFault}
 use Rattle.irl_head.specs.declared.open_fault.OpenFault.TheVariants.{Failed, Memory}
 use Rattle.irl_head.specs.StoreFiles.{head_file, crawl_file, urls_base, pairs_base, IsOtherFile}
 use Rattle.irl_head.specs.Opening.{IsBlank}
-use Rattle.irl_yard.proofs.Rest.{head_no_side}
+use Rattle.irl_yard.proofs.RestFiles.{head_no_side}
 
 -- the files of both bays are files behind the head
 pub urls_other : (buckets f : ℕ) → buckets ≤ 64 → IsFileOf urls_base buckets f → IsOtherFile f

@@ -18,7 +18,7 @@ use Rattle.irl_yard.specs.Opening.{entered_state}
 use Rattle.irl_head.specs.Opening.{IsBlank}
 use Rattle.irl_yard.specs.Standing.{IsMade, IsRest, HasState}
 use Rattle.irl_head.proofs.HeadBytes.{one_settings}
-use Rattle.irl_yard.proofs.ByKind.{one_rest, rest_of_files}
+use Rattle.irl_yard.proofs.ByKind.{one_rest}
 
 -- ---- one state
 -- two lists of one payload
@@ -41,8 +41,9 @@ made_alike s t x y files for_x for_y =
     let bytes : head_bytes s ≡ head_bytes t = one_payload _ _ (one_list (files head_file) _ _ for_x.head for_y.head) in
     let same : s ≡ t = one_settings s t for_x.valid for_y.valid bytes in
     let urls : x.urls ≡ y.urls = one_book urls_base s x.urls y.urls files for_x.urls (subst (λ (c : Settings). Stands urls_base c y.urls files) (sym same) for_y.urls) in
-    let rest = one_rest s.kind s.buckets x.pairs y.pairs x.events y.events (rest_of_files s.buckets x.pairs x.events s.kind files for_x.rest)
-    (subst (λ (c : Settings). IsRest c.kind c.buckets y.pairs y.events) (sym same) (rest_of_files t.buckets y.pairs y.events t.kind files for_y.rest)) in
+    let other : IsMade s y files = subst (λ (c : Settings). IsMade c y files) (sym same) for_y in
+    let rest = one_rest s.kind s x.urls x.pairs y.pairs x.events y.events files for_x.legal for_x.rest
+    (subst (λ (book : Book). IsRest s.kind s book y.pairs y.events) (sym urls) other.legal) other.rest in
     same_parts x.settings x.urls x.pairs x.events y (for_x.settings_are ∙ ap (λ (c : Settings). Some c) same ∙ sym for_y.settings_are) urls rest.0 rest.1
 
 pub one_state : (x y : State) (files : Files) → HasState x files → HasState y files → x ≡ y

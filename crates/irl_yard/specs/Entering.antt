@@ -25,7 +25,7 @@ use Rattle.irl_head.specs.Opening.{IsBlank, IsNotOursAt, IsKeptOtherwise, IsBadS
 use Rattle.irl_head.specs.Asking.{Agrees, IsBadAsked}
 use Rattle.irl_head.specs.Writing.{GainsFirst}
 use Rattle.irl_yard.specs.declared.parts.Parts.{Parts}
-use Rattle.irl_yard.specs.Holding.{IsSound, HoldsState, HasOneOf}
+use Rattle.irl_yard.specs.Holding.{IsOpenRest, IsSound, HoldsState, HasOneOf}
 use Rattle.irl_yard.specs.Opening.{IsStoreDamagedAt, entered_state}
 use Rattle.irl_yard.specs.Standing.{HasState}
 
@@ -109,6 +109,7 @@ pub record OpensYard (asked : Asked) (parts : Parts) (told : Option Files) (afte
   pub drum : IsDrum parts.urls
   pub base : parts.urls.base ≡ urls_base
   pub long : ForSome after.files (λ files. IsLong parts.urls files)
+  pub rest : IsOpenRest parts.urls parts.rest after.files
   -- it has the settings that were kept, or those of a new store, which are as was asked
   pub settings : ForSome told (λ files. HasSettings asked files parts.urls.settings)
   pub agrees : Agrees asked parts.urls.settings

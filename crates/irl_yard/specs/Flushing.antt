@@ -1,13 +1,21 @@
 -- What a flush leaves of an open store, over states: the bay's own records stand beside this one.
-use Rattle.std.specs.Prelude.{◌≢◌, ◌⊎◌, ℕ, ◌<◌, List, [], ◌∷◌, ◌++◌, Result, OnOk}
+use Rattle.std.specs.Prelude.{◌≢◌, ◌⊎◌, ℕ, ◌<◌, List, [], ◌∷◌, ◌++◌, Result, OnOk, IsErrOf}
 use Rattle.irl_base.specs.declared.fault.Fault.{Fault}
+use Rattle.irl_base.specs.declared.fault.Fault.TheVariants.{Failed}
 use Rattle.irl_offer.specs.Tuple.{Tuple}
 use Rattle.irl_events.specs.State.{State}
 use Rattle.irl_disk.specs.Images.{Told, Leaves}
 use Rattle.irl_layout.specs.Commits.{HasLiveRecords}
 use Rattle.irl_layout.specs.Runs.{run_bytes}
+use Rattle.irl_bay.specs.Drum.{Drum}
+use Rattle.irl_bay.specs.Flushing.{FlushMayLeave}
 use Rattle.irl_yard.specs.declared.parts.Parts.{Parts}
 use Rattle.irl_yard.specs.Holding.{IsSound, HoldsState, HasOneOf, HasJournal, with_offers}
+
+-- what a stop at any moment of a flush leaves of the bay, over a store that tells so
+abbrev pub FlushLeaves : {S : Type 0} → (S → Told) → Result Unit Fault → ℕ → List Tuple → Drum → S → S → Type 0
+FlushLeaves told result b news urls before after = FlushMayLeave (IsErrOf result Failed) b news urls (told before)
+    (told after)
 
 -- A flush of a bucket of the URLs, over states.
 pub record FlushesState (result : Result Unit Fault) (b : ℕ) (news : List Tuple) (was now : Parts)

@@ -1,6 +1,9 @@
+pub mod Crawling
 pub mod Entering
 pub mod Flushing
 pub mod Holding
+pub mod Lifting
 pub mod Merges
+pub mod Moments
 pub mod Opening
 pub mod Standing

@@ -3,14 +3,20 @@
 use Rattle.std.specs.Prelude.{◌≡◌, ◌⊎◌, ℕ, ◌<◌, List, [], Result, IfOk, OnOk, OnErr, IsErrOf}
 use Rattle.std.specs.Option.{ForSome}
 use Rattle.irl_base.specs.declared.fault.Fault.{Fault}
-use Rattle.irl_base.specs.declared.fault.Fault.TheVariants.{Damaged, Memory}
+use Rattle.irl_base.specs.declared.fault.Fault.TheVariants.{Damaged, Failed, Memory}
 use Rattle.irl_model.specs.Book.{Book}
 use Rattle.irl_events.specs.State.{State}
 use Rattle.irl_disk.specs.Images.{Told, Leaves}
 use Rattle.irl_layout.specs.Commits.{HasLiveRecords}
+use Rattle.irl_bay.specs.Drum.{Drum}
+use Rattle.irl_bay.specs.Merges.{MergeMayLeave}
 use Rattle.irl_yard.specs.declared.parts.Parts.{Parts}
 use Rattle.irl_yard.specs.Standing.{HasState}
 use Rattle.irl_yard.specs.Holding.{IsSound, HoldsState, HasOneOf, HasJournal, with_cut}
+
+-- what a stop at any moment of a merge leaves of the bay, over a store that tells so
+abbrev pub MergeLeaves : {S : Type 0} → (S → Told) → Result ℕ Fault → Drum → S → S → Type 0
+MergeLeaves told result urls before after = MergeMayLeave (IsErrOf result Failed) urls (told before) (told after)
 
 -- A merge of the URLs, over states.
 pub record MergesState (result : Result ℕ Fault) (was now : Parts) (before after : Told) : Type 0 where

@@ -1,5 +1,4 @@
--- The files of a store stand for a state. What a store has beside its settings and its URLs goes by its kind; it is
--- written for stores of lines and of tuples.
+-- The files of a store stand for a state. What a store has beside its settings and its URLs goes by its kind.
 use Rattle.std.specs.Prelude.{◌≡◌, ◌⊎◌, ℕ, ◌≤◌, List, [], ◌∷◌, length, Some}
 use Rattle.irl_offer.specs.Settings.{AreValid}
 use Rattle.irl_offer.specs.declared.offer.Rule.TheVariants.{Keep}
@@ -16,6 +15,7 @@ use Rattle.irl_bay.specs.Standing.{Stands, IsBookOf}
 use Rattle.irl_head.specs.StoreFiles.{head_file, crawl_file, urls_base, pairs_base}
 use Rattle.irl_head.specs.Head.{head_bytes}
 use Rattle.irl_head.specs.Opening.{IsBlank}
+use Rattle.irl_yard.specs.Crawling.{AreCrawlFiles, IsCrawlState}
 
 -- ---- by the kind of store
 -- a store of lines or of tuples has no other book, and no event,
@@ -28,21 +28,17 @@ pub record ArePlainFiles (buckets : ℕ) (files : Files) : Type 0 where
   pub crawl : length (files crawl_file) ≤ 1
   pub pairs : IsUnmade pairs_base buckets files
 
-pub record IsPlain (buckets : ℕ) (pairs : Book) (events : List Happened) (files : Files) : Type 0 where
-  pub state : IsPlainState buckets pairs events
-  pub files_are : ArePlainFiles buckets files
+-- a state with these books and events is legal
+abbrev pub IsRest : Kind → Settings → Book → Book → List Happened → Type 0
+IsRest Lines settings urls pairs events = IsPlainState settings.buckets pairs events
+IsRest Tuples settings urls pairs events = IsPlainState settings.buckets pairs events
+IsRest Crawl settings urls pairs events = IsCrawlState settings urls pairs events
 
--- the rest of a state, beside its settings and its book of URLs
-abbrev pub IsRest : Kind → ℕ → Book → List Happened → Type 0
-IsRest Lines buckets pairs events = IsPlainState buckets pairs events
-IsRest Tuples buckets pairs events = IsPlainState buckets pairs events
-IsRest Crawl buckets pairs events = ⊥
-
--- and files that stand for it
-abbrev pub HasRest : Kind → ℕ → Book → List Happened → Files → Type 0
-HasRest Lines buckets pairs events files = IsPlain buckets pairs events files
-HasRest Tuples buckets pairs events files = IsPlain buckets pairs events files
-HasRest Crawl buckets pairs events files = ⊥
+-- and the files beside the head and the bay of URLs have its rest
+abbrev pub HasRest : Kind → Settings → Book → List Happened → Files → Type 0
+HasRest Lines settings pairs events files = ArePlainFiles settings.buckets files
+HasRest Tuples settings pairs events files = ArePlainFiles settings.buckets files
+HasRest Crawl settings pairs events files = AreCrawlFiles settings pairs events files
 
 -- ---- a store
 -- one with these settings
@@ -53,8 +49,10 @@ pub record IsMade (settings : Settings) (state : State) (files : Files) : Type 0
   pub head : StandsFor (files head_file) (head_bytes settings ∷ [])
   -- the bay of URLs has its book
   pub urls : Stands urls_base settings state.urls files
-  -- and the other files have the rest
-  pub rest : HasRest settings.kind settings.buckets state.pairs state.events files
+  -- the state is legal,
+  pub legal : IsRest settings.kind settings state.urls state.pairs state.events
+  -- and the other files have the rest of it
+  pub rest : HasRest settings.kind settings state.pairs state.events files
 
 -- the files stand for a state
 abbrev pub HasState : State → Files → Type 0
@@ -70,4 +68,4 @@ pub record IsStateOf (settings : Settings) (state : State) : Type 0 where
   pub settings_are : state.settings ≡ Some settings
   pub valid : AreValid settings
   pub book_is : IsBookOf settings state.urls
-  pub rest : IsRest settings.kind settings.buckets state.pairs state.events
+  pub rest : IsRest settings.kind settings state.urls state.pairs state.events

@@ -20,7 +20,7 @@ ghost use Rattle.irl_yard.specs.Opening.{IsStoreDamagedAt, entered_state};
 ghost use Rattle.irl_yard.specs.Entering.{AreSynced, AreSyncedWithin, Enters, fault_of_bay};
 ghost use Rattle.irl_yard.specs.Entering.{OpensYard, OpeningRefused, EntersStore};
 
-use crate::parts::Parts;
+use crate::parts::{Parts, Rest};
 use crate::yard::Yard;
 use irl_bay::Bay;
 use irl_disk::{Failed, Store};
@@ -85,6 +85,7 @@ fn adopt<S: Store>(
     match Bay::adopt(alloc, store, URLS_BASE, settings) {
         Ok(urls) => Ok(Parts {
             urls,
+            rest: Rest::Plain,
             has_failed: false,
         }),
         Err(fault) => Err(bay_fault(fault)),
@@ -128,6 +129,7 @@ fn make<S: Store>(alloc: Global, store: &mut S, asked: &Asked) -> Result<Parts, 
     write_head(alloc, store, &mut frame)?;
     Ok(Parts {
         urls,
+        rest: Rest::Plain,
         has_failed: false,
     })
 }

@@ -9,11 +9,15 @@ ghost use Rattle.irl_layout.specs.Commits.{live_offers, live_side};
 ghost use Rattle.irl_bay.specs.Drum.{Drum, IsDrum};
 ghost use Rattle.irl_bay.specs.Merging.{IsMergeFile};
 ghost use Rattle.irl_layout.specs.Runs.{AreRuns, run_bytes};
-ghost use Rattle.irl_yard.specs.Holding.{HoldsState, HasJournal, with_offers, with_cut};
+ghost use Rattle.irl_schedule.specs.Feeding.{Waits, Stays};
+ghost use Rattle.irl_yard.specs.Holding.{HoldsOpen, HoldsState, HasJournal, with_offers, with_cut};
+ghost use Rattle.irl_yard.specs.Lifting.{LiftsBooks};
+ghost use Rattle.irl_yard.specs.Moments.{moment_at};
 ghost use Rattle.irl_yard.specs.Opening.{entered_state};
 ghost use Rattle.irl_yard.specs.Standing.{HasState};
 
 use crate::parts::Parts;
+use crate::yard::Yard;
 use irl_disk::Store;
 
 /// The files of a store stand for at most one state.
@@ -45,6 +49,21 @@ pub fn states_grow()
     ensures entered { (asked : Asked) (state : State) → IsFrontState state (entered_state asked state) }
     ensures judged { (x y : State) (files : Files) → HasState x files → IsFrontState x y →
         IsPrefixOf (judged x.urls) (judged y.urls) }
+{}
+
+/// What calls over the bay of URLs make of the state that an open store holds, where only files of the bay change: a
+/// book stands for the state with it.
+pub fn books_make_states<S: Store>(before: &Yard<S>, after: &Yard<S>)
+    ensures lifts { (waits later : Waits) (state : State) → IsDrum before.now.parts.urls →
+        HoldsState (S.told before.now.store).images before.now.parts state →
+        Stays (moment_at before.now waits) (moment_at after.now later) →
+        LiftsBooks state (moment_at before.now waits) (moment_at after.now later) }
+    // What is open beside the bay stays open with the rest of the state.
+    ensures open_rest { (waits later : Waits) (state : State) → IsDrum before.now.parts.urls →
+        HoldsState (S.told before.now.store).images before.now.parts state →
+        Stays (moment_at before.now waits) (moment_at after.now later) →
+        after.now.parts.rest ≡ before.now.parts.rest → HoldsOpen (S.told after.now.store).images
+        after.now.parts.urls.settings after.now.parts.rest state.pairs state.events }
 {}
 
 /// A bucket's files on a side are no other's, and none on the other side. A merge changes none of the live ones.

@@ -8,6 +8,9 @@ mod scheduling;
 mod yard;
 
 pub use enter::{no_two_grounds, what_entering_keeps};
-pub use laws::{a_buckets_files_are_its_own, one_state, states_grow, what_is_held_has_its_state};
-pub use parts::Parts;
+pub use laws::{
+    a_buckets_files_are_its_own, books_make_states, one_state, states_grow,
+    what_is_held_has_its_state,
+};
+pub use parts::{CrawlParts, Parts, Rest};
 pub use yard::Yard;

@@ -1,10 +1,11 @@
-ghost use Rattle.std.specs.Prelude.{◌≡◌, ◌≤◌, ◌<◌, ◌↔◌, ℕ, [], true, false, length, OnOk, OnErr, IfOk, IsOk, IsErrOf};
+ghost use Rattle.std.specs.Prelude.{◌≡◌, [], IsErrOf};
 ghost use Rattle.irl_base.specs.declared.fault.Fault.TheVariants.{Failed as FailedFault};
-ghost use Rattle.irl_bay.specs.Drum.{SomePending, pending_at};
-ghost use Rattle.irl_schedule.specs.Feeding.{Waits, moment, with_waiting, IsArrayOf, OnlyFlushes};
-ghost use Rattle.irl_schedule.specs.Schedule.{IsDue, none_more, one_more_at};
+ghost use Rattle.irl_schedule.specs.Calls.{MergesIfDue, MergesRest, MergeKeeps, MayMakeRoom, MakesRoom, MayFlushSome, FlushesSome};
+ghost use Rattle.irl_schedule.specs.Feeding.{Waits, with_waiting};
+ghost use Rattle.irl_schedule.specs.Schedule.{none_more, one_more_at};
 ghost use Rattle.irl_schedule.specs.Scheduling.{Schedules};
 ghost use Rattle.irl_yard.specs.Holding.{IsSound, StaysSound};
+ghost use Rattle.irl_yard.specs.Moments.{moment_at};
 
 use crate::yard::Yard;
 use irl_array::Array;
@@ -18,55 +19,47 @@ impl<S: Store> Yard<S> {
     pub fn merge_if_due(&mut self) -> Result<bool, Fault>
         requires sound { IsSound self.old.parts }
         ensures schedules { (waits : Waits) → Schedules result 0 none_more []
-            (moment (S.told self.old.store) self.old.parts.urls waits)
-            (moment (S.told self.new.store) self.new.parts.urls waits) }
-        ensures ran { IfOk result (λ ran. (ran ≡ true) ↔ IsDue self.old.parts.urls) }
-        ensures judged { IfOk result (λ ran. ran ≡ true → (b : ℕ) → pending_at self.new.parts.urls b ≡ 0) }
-        ensures idle { IfOk result (λ ran. ran ≡ false →
-            (self.new.parts.urls ≡ self.old.parts.urls) × (self.new.store ≡ self.old.store)) }
-        ensures ready { OnOk result (IsDue self.new.parts.urls → ⊥) }
+            (moment_at self.old waits) (moment_at self.new waits) }
+        ensures merges { MergesIfDue result self.old.parts.urls self.new.parts.urls self.old.store self.new.store }
+        ensures kept { MergeKeeps result self.old.parts.urls self.new.parts.urls
+            (S.told self.old.store) (S.told self.new.store) }
+        ensures rest { self.new.parts.rest ≡ self.old.parts.rest }
         ensures goes_on { StaysSound (IsErrOf result Fault.Failed) self.new.parts }
     {
+        let _is_sound = self.parts.urls.is_sound();
         irl_schedule::merge_if_due(&mut self.parts.urls, &mut self.store)
     }
 
-    /// Makes room in a bucket's array, where no merge is due: where it is full it is flushed, and a merge runs that is
-    /// due then.
+    /// Makes room in a bucket's array: where it is full it is flushed, and a merge runs that is due then. Where it is
+    /// full no merge may be due before.
     pub fn make_room(&mut self, b: u32, array: &mut Array) -> Result<(), Fault>
         requires sound { IsSound self.old.parts }
-        requires bucket { b < self.old.parts.urls.settings.buckets }
-        requires array { IsArrayOf self.old.parts.urls.settings b array.old }
-        requires ready { IsDue self.old.parts.urls → ⊥ }
+        requires room { MayMakeRoom b array.old self.old.parts.urls }
         ensures schedules { (others : Waits) → Schedules result 0 none_more []
-            (moment (S.told self.old.store) self.old.parts.urls (with_waiting others b array.old.items))
-            (moment (S.told self.new.store) self.new.parts.urls (with_waiting others b array.new.items)) }
-        ensures array { IsArrayOf self.old.parts.urls.settings b array.new }
-        ensures room { OnOk result (length array.new.items < self.old.parts.urls.settings.array) }
-        ensures idle { length array.old.items < self.old.parts.urls.settings.array →
-            IsOk result × (self.new.parts.urls ≡ self.old.parts.urls) × (self.new.store ≡ self.old.store)
-            × (array.new ≡ array.old) }
-        ensures ready { OnOk result (IsDue self.new.parts.urls → ⊥) }
+            (moment_at self.old (with_waiting others b array.old.items))
+            (moment_at self.new (with_waiting others b array.new.items)) }
+        ensures makes { MakesRoom result b array.old array.new self.old.parts.urls self.new.parts.urls
+            self.old.store self.new.store }
+        ensures rest { self.new.parts.rest ≡ self.old.parts.rest }
         ensures goes_on { StaysSound (IsErrOf result Fault.Failed) self.new.parts }
     {
+        let _is_sound = self.parts.urls.is_sound();
         irl_schedule::make_room(&mut self.parts.urls, &mut self.store, b, array)
     }
 
     /// Flushes a bucket's array, whole or not, where an offer waits in it.
     pub fn flush_some(&mut self, b: u32, array: &mut Array) -> Result<(), Fault>
         requires sound { IsSound self.old.parts }
-        requires bucket { b < self.old.parts.urls.settings.buckets }
-        requires array { IsArrayOf self.old.parts.urls.settings b array.old }
-        requires ready { 1 ≤ length array.old.items →
-            pending_at self.old.parts.urls b < self.old.parts.urls.settings.trigger }
+        requires some { MayFlushSome b array.old self.old.parts.urls }
         ensures schedules { (others : Waits) → Schedules result 0 (one_more_at b) []
-            (moment (S.told self.old.store) self.old.parts.urls (with_waiting others b array.old.items))
-            (moment (S.told self.new.store) self.new.parts.urls (with_waiting others b array.new.items)) }
-        ensures array { IsArrayOf self.old.parts.urls.settings b array.new }
-        ensures emptied { OnOk result (array.new.items ≡ []) }
-        ensures kept { OnErr result (array.new ≡ array.old) }
-        ensures counts { OnlyFlushes b self.old.parts.urls self.new.parts.urls }
+            (moment_at self.old (with_waiting others b array.old.items))
+            (moment_at self.new (with_waiting others b array.new.items)) }
+        ensures flushes { FlushesSome result b array.old array.new self.old.parts.urls self.new.parts.urls
+            self.old.store self.new.store }
+        ensures rest { self.new.parts.rest ≡ self.old.parts.rest }
         ensures goes_on { StaysSound (IsErrOf result Fault.Failed) self.new.parts }
     {
+        let _is_sound = self.parts.urls.is_sound();
         irl_schedule::flush_some(&mut self.parts.urls, &mut self.store, b, array)
     }
 
@@ -74,14 +67,14 @@ impl<S: Store> Yard<S> {
     pub fn merge_rest(&mut self) -> Result<(), Fault>
         requires sound { IsSound self.old.parts }
         ensures schedules { (waits : Waits) → Schedules result 1 none_more []
-            (moment (S.told self.old.store) self.old.parts.urls waits)
-            (moment (S.told self.new.store) self.new.parts.urls waits) }
-        ensures judged { OnOk result ((b : ℕ) → b < self.old.parts.urls.settings.buckets →
-            pending_at self.new.parts.urls b ≡ 0) }
-        ensures idle { (SomePending self.old.parts.urls → ⊥) →
-            IsOk result × (self.new.parts.urls ≡ self.old.parts.urls) × (self.new.store ≡ self.old.store) }
+            (moment_at self.old waits) (moment_at self.new waits) }
+        ensures merges { MergesRest result self.old.parts.urls self.new.parts.urls self.old.store self.new.store }
+        ensures kept { MergeKeeps result self.old.parts.urls self.new.parts.urls
+            (S.told self.old.store) (S.told self.new.store) }
+        ensures rest { self.new.parts.rest ≡ self.old.parts.rest }
         ensures goes_on { StaysSound (IsErrOf result Fault.Failed) self.new.parts }
     {
+        let _is_sound = self.parts.urls.is_sound();
         irl_schedule::merge_rest(&mut self.parts.urls, &mut self.store)
     }
 }

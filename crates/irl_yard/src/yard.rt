@@ -1,16 +1,18 @@
 ghost use Rattle.std.specs.Prelude.{◌≡◌, ◌↔◌, ◌<◌, ◌+◌, ◌-◌, true, min, drop, take, length};
+ghost use Rattle.std.proofs.Props.{props};
 ghost use Rattle.std.specs.Prelude.{slice_get, slice_index, Some, IfOk, IsErrOf};
 ghost use Rattle.irl_offer.specs.Settings.{AreValid};
 ghost use Rattle.irl_base.specs.declared.fault.Fault.TheVariants.{Failed as FailedFault, Memory as MemoryFault, Full as FullFault, Damaged as DamagedFault};
 ghost use Rattle.irl_model.specs.Book.{Book, gone, judged as judged_of, judged_cut, lengths_of};
 ghost use Rattle.irl_disk.specs.Disk.{Files};
 ghost use Rattle.irl_bay.specs.Drum.{IsDrum, HasNumbers, durable_at, pending_at, SomePending};
-ghost use Rattle.irl_bay.specs.Flushing.{MayFlush, Flushes, FlushRefused, FlushMayLeave};
+ghost use Rattle.irl_bay.specs.Flushing.{MayFlush, Flushes, FlushRefused};
 ghost use Rattle.irl_bay.specs.Holding.{IsLong};
-ghost use Rattle.irl_bay.specs.Merges.{Merges, MergeRefused, MergeMayLeave, ReadsJudged};
-ghost use Rattle.irl_yard.specs.Flushing.{FlushesState};
-ghost use Rattle.irl_yard.specs.Holding.{IsSound, StaysSound};
-ghost use Rattle.irl_yard.specs.Merges.{MergesState, ReadsState};
+ghost use Rattle.irl_bay.specs.Merges.{Merges, MergeRefused, ReadsJudged};
+ghost use Rattle.irl_yard.specs.Crawling.{AreTaken};
+ghost use Rattle.irl_yard.specs.Flushing.{FlushesState, FlushLeaves};
+ghost use Rattle.irl_yard.specs.Holding.{IsOpenRest, IsSound, StaysSound};
+ghost use Rattle.irl_yard.specs.Merges.{MergesState, MergeLeaves, ReadsState};
 
 use crate::parts::Parts;
 use irl_array::Array;
@@ -26,6 +28,7 @@ pub struct Yard<S: Store> {
     pub(crate) parts: Parts,
     ghost long: { parts.urls.is_sound ≡ true → (files : Files) → (S.told store).files ≡ Some files
         → IsLong parts.urls files },
+    ghost rest_is: { IsOpenRest parts.urls parts.rest (S.told store).files } by { Prim.hlevel props },
 }
 
 impl<S: Store> Yard<S> {
@@ -35,7 +38,7 @@ impl<S: Store> Yard<S> {
         // What holds of every open store, for who sees none of its fields.
         ensures drum { IsDrum self.now.parts.urls }
     {
-        self.parts.urls.is_sound() && !self.parts.has_failed
+        self.parts.urls.is_sound() && !self.parts.has_failed && self.parts.rest.is_sound()
     }
 
     /// The settings that it was made with.
@@ -86,12 +89,13 @@ impl<S: Store> Yard<S> {
     pub fn flush(&mut self, b: u32, array: &mut Array) -> Result<(), Fault>
         requires sound { IsSound self.old.parts }
         requires offers { MayFlush b array.old.items self.old.parts.urls }
+        requires taken { AreTaken self.old.parts.urls.settings.kind array.old.items }
         ensures flushes { Flushes result b array.old array.new self.old.parts.urls self.new.parts.urls
             (S.told self.old.store) (S.told self.new.store) }
         ensures refused { FlushRefused result b array.old array.new self.old.parts.urls self.new.parts.urls
             self.old.store self.new.store }
-        ensures leaves { FlushMayLeave (IsErrOf result Fault.Failed) b array.old.items self.old.parts.urls
-            (S.told self.old.store) (S.told self.new.store) }
+        ensures leaves { FlushLeaves S.told result b array.old.items self.old.parts.urls self.old.store self.new.store }
+        ensures rest { self.new.parts.rest ≡ self.old.parts.rest }
         ensures states { FlushesState result b array.old.items self.old.parts self.new.parts
             (S.told self.old.store) (S.told self.new.store) }
         ensures goes_on { StaysSound (IsErrOf result Fault.Failed) self.new.parts }
@@ -108,8 +112,8 @@ impl<S: Store> Yard<S> {
             (S.told self.old.store) (S.told self.new.store) }
         ensures refused { MergeRefused result self.old.parts.urls self.new.parts.urls
             (S.told self.old.store) (S.told self.new.store) }
-        ensures leaves { MergeMayLeave (IsErrOf result Fault.Failed) self.old.parts.urls
-            (S.told self.old.store) (S.told self.new.store) }
+        ensures leaves { MergeLeaves S.told result self.old.parts.urls self.old.store self.new.store }
+        ensures rest { self.new.parts.rest ≡ self.old.parts.rest }
         ensures states { MergesState result self.old.parts self.new.parts
             (S.told self.old.store) (S.told self.new.store) }
         ensures goes_on { StaysSound (IsErrOf result Fault.Failed) self.new.parts }

@@ -4,6 +4,7 @@ ghost use Rattle.irl_offer.specs.Buckets.{bucket_of as bucket_of_key, IsBucketCo
 ghost use Rattle.irl_offer.specs.declared.settings.Kind.TheVariants.{Crawl};
 ghost use Rattle.irl_bay.specs.Flushing.{MayFlush};
 ghost use Rattle.irl_bay.specs.Drum.{pending_at, SomePending};
+ghost use Rattle.irl_yard.specs.Crawling.{AreTaken};
 ghost use Rattle.irl_yard.specs.Holding.{IsSound};
 
 mod damage;
@@ -87,9 +88,11 @@ fn are_of(offers: &[Offer], buckets: u32, b: u32) -> bool
 fn can_flush(yard: &Yard<MemStore>, b: u32, array: &Array) -> bool
     ensures sound { IsTrue result → IsSound yard.now.parts }
     ensures offers { IsTrue result → MayFlush b array.now.items yard.now.parts.urls }
+    ensures taken { IsTrue result → AreTaken yard.now.parts.urls.settings.kind array.now.items }
 {
     let settings = yard.settings();
     yard.is_sound()
+        && matches!(settings.kind, Kind::Lines | Kind::Tuples)
         && b < settings.buckets
         && array.len() >= 1
         && array.len() <= settings.array

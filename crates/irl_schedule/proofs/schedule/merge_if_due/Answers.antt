@@ -1,6 +1,7 @@
-use Rattle.std.proofs.Common.{inl, true, false, [], rules}
+use Rattle.std.proofs.Common.{inl, ℕ, true, false, [], refl, rules, arith}
 use Rattle.irl_schedule.specs.Feeding.{moment}
 use Rattle.irl_schedule.specs.Schedule.{IsDue, none_more}
+use Rattle.irl_schedule.proofs.Counts.{merged_pending}
 use Rattle.irl_schedule.proofs.Schedules.{answers_err, answers_ok, merge_schedules, schedules_none, some_due}
 use Rattle.irl_schedule.proofs.schedule.merge_if_due.Goals as goal
 
@@ -27,3 +28,15 @@ returns-in-Err-clause-schedules g c = λ waits.
     answers_err c.merge.result c.in-Err.fault 0 none_more [] _ _ c.in-Err.is
     (merge_schedules c.merge.result c.args.bay.now c.merge.new.self (told c.args.store.now) (told c.merge.new.store) waits 0 (g.met.S.Store.is_consistent c.merge.new.store) law
     (some_due c.args.bay.now law due) merge.merges merge.refused merge.leaves (inl due))
+
+pub returns-in-Ok-clause-merges : goal.returns-in-Ok-clause-merges
+returns-in-Ok-clause-merges g c =
+    let due : IsDue c.args.bay.now = search rules in
+    let counts = c.in-Ok.ensures.merges.counts in
+    let none = λ (b : ℕ). merged_pending b c.args.bay.now c.merge.new.self counts in
+    record {
+      ran = (λ is. due, λ is. refl);
+      judged = λ is b. none b;
+      idle = λ not. absurd (not due);
+      ready = λ again. omega (arith, again.2, none again.0, c.merge.ensures.goes_on.drum.settings.sizes.trigger);
+    }

@@ -58,7 +58,7 @@ returns-in-Err-new g c =
     let law = g.met.S.Store.is_consistent c.in-Ok.yard.store in
     let entered : IsEntered asked before here = record {
       kind = c.requires.lines;
-      holds = h.opened.holds;
+      holds = λ files told x has. (h.opened.holds files told x has).urls;
       drum = h.opened.drum;
       base = h.opened.base;
       settings = h.opened.settings;
@@ -94,7 +94,7 @@ returns g c =
     let input : Stream = record { bytes = left c.take_in-taken.new.input; faults = g.I.Source.faults c.take_in-taken.new.input } in
     let first : IsEntered asked before (at g c.in-Ok.yard.store c.in-Ok.yard.parts.urls (waiting_at intake.arrays.items) c.args.output.now c.judged_len-printed.result) = record {
       kind = c.requires.lines;
-      holds = h.opened.holds;
+      holds = λ files told x has. (h.opened.holds files told x has).urls;
       drum = h.opened.drum;
       base = h.opened.base;
       settings = h.opened.settings;

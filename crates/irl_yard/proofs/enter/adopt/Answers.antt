@@ -1,7 +1,7 @@
-use Rattle.std.proofs.Common.{◌≡◌, ◌∙◌, inl, ℕ, sym, ap, subst, refl, Option, Some, IfSome, Err, List, [], ◌∷◌}
+use Rattle.std.proofs.Common.{◌≢◌, ◌∙◌, inl, ℕ, sym, ap, subst, refl, Option, Some, IfSome, Err, List, [], ◌∷◌}
 use Rattle.irl_offer.specs.declared.settings.Settings.{Settings}
+use Rattle.irl_offer.specs.declared.settings.Kind.TheVariants.{Crawl}
 use Rattle.irl_base.specs.declared.fault.Fault.{Fault}
-use Rattle.irl_disk.specs.Disk.{Files}
 use Rattle.irl_disk.proofs.Effects.{cause_for}
 use Rattle.irl_disk.proofs.Stretches.{left_now}
 use Rattle.irl_journal.specs.Format.{HasRecords}
@@ -10,16 +10,17 @@ use Rattle.irl_head.specs.StoreFiles.{head_file, urls_base}
 use Rattle.irl_head.specs.Head.{head_bytes}
 use Rattle.irl_head.specs.Asking.{Agrees, IsOther}
 use Rattle.irl_head.specs.Opening.{HasHead, IsUnwanted}
-use Rattle.irl_head.specs.declared.open_fault.OpenFault.{OpenFault}
 use Rattle.irl_head.specs.declared.open_fault.OpenFault.TheVariants.{Failed}
 use Rattle.irl_head.proofs.Grounds.{settings_ours}
-use Rattle.irl_yard.specs.Holding.{HoldsRest, HoldsUrls}
+use Rattle.irl_yard.specs.Standing.{HasRest, IsRest}
+use Rattle.irl_yard.specs.Holding.{HoldsState}
 use Rattle.irl_yard.specs.Entering.{HasGround, OpeningRefused}
 use Rattle.irl_yard.proofs.Answered.{enters_none, enters_still, enters_adopted, refused_none, refused_still, refused_head, still}
 use Rattle.irl_yard.proofs.Grounds.{made_has, entered_made, bay_failed, bay_ground, bay_wanted, head_undamaged, kept_ground}
 use Rattle.irl_yard.proofs.Making.{if_err, open_fault_of, was_err}
-use Rattle.irl_yard.proofs.ByKind.{told_holds}
-use Rattle.irl_yard.proofs.Rest.{few, short_as_told, rest_no_journal, head_no_journal}
+use Rattle.irl_yard.proofs.Beside.{plain_rest}
+use Rattle.irl_yard.proofs.ByKind.{agrees_plain, rest_stays}
+use Rattle.irl_yard.proofs.RestFiles.{few, same_as_told, rest_no_journal, head_no_journal}
 use Rattle.irl_yard.proofs.enter.adopt.Goals as goal
 
 -- ---- something else was asked
@@ -65,24 +66,30 @@ returns-in-Ok-clause-opened g c =
     record {
       holds = λ files told state has.
           let made = made_has settings state files (head files told) has in
-          subst (HoldsUrls (tells c.adopt.new.store).images c.in-Ok.urls) (sym (entered_made asked settings state made.settings_are)) (record {
-            settings = made.settings_are ∙ ap (λ (s : Settings). Some s) (sym same);
-            base = adopts.base;
-            head = λ image left.
-                let from = left_now (tells c.sync_rest.new.store) (tells c.adopt.new.store) _ (g.met.S.Store.is_consistent c.adopt.new.store) c.adopt.ensures.leaves.changes.stops image left in
-                let was = left_now (tells c.args.store.now) (tells c.sync_rest.new.store) _ (g.met.S.Store.is_consistent c.sync_rest.new.store) c.sync_rest.ensures.stops from.0 from.1 in
-                let opened = adopted_wider urls_base settings.buckets from.0 image from.2 in
-                subst (λ (s : Settings). HasRecords (image head_file) (head_bytes s ∷ [])) (sym same)
-                (subst (λ (file : List ℕ). HasRecords file (head_bytes settings ∷ [])) (sym (opened.others head_file (head_no_journal settings.buckets small))) (c.requires.kept from.0 was));
-            urls_hold = adopts.holds files (c.sync_rest.ensures.same ∙ told) state.urls made.urls;
-            rest = subst (λ (s : Settings). HoldsRest (tells c.adopt.new.store).images s.kind s.buckets state.pairs state.events) (sym same)
-                (told_holds settings.buckets state.pairs state.events (tells c.adopt.new.store).images settings.kind files (λ image left.
-                let from = left_now (tells c.sync_rest.new.store) (tells c.adopt.new.store) _ (g.met.S.Store.is_consistent c.adopt.new.store) c.adopt.ensures.leaves.changes.stops image left in
-                let opened = adopted_wider urls_base settings.buckets from.0 image from.2 in
-                short_as_told settings.buckets files image
-                (λ f is. opened.others f (rest_no_journal settings.buckets f small is) ∙ c.in_ok-sync_rest.ensures.synced files told from.0 from.1 f is)) made.rest);
+          let new = tells c.adopt.new.store in
+          subst (HoldsState new.images _) (sym (entered_made asked settings state made.settings_are)) (record {
+            urls = record {
+              settings = made.settings_are ∙ ap (λ (s : Settings). Some s) (sym same);
+              base = adopts.base;
+              head = λ image left.
+                  let from = left_now (tells c.sync_rest.new.store) new _ (g.met.S.Store.is_consistent c.adopt.new.store) c.adopt.ensures.leaves.changes.stops image left in
+                  let was = left_now (tells c.args.store.now) (tells c.sync_rest.new.store) _ (g.met.S.Store.is_consistent c.sync_rest.new.store) c.sync_rest.ensures.stops from.0 from.1 in
+                  let opened = adopted_wider urls_base settings.buckets from.0 image from.2 in
+                  subst (λ (s : Settings). HasRecords (image head_file) (head_bytes s ∷ [])) (sym same)
+                  (subst (λ (file : List ℕ). HasRecords file (head_bytes settings ∷ [])) (sym (opened.others head_file (head_no_journal settings.buckets small))) (c.requires.kept from.0 was));
+              urls_hold = adopts.holds files (c.sync_rest.ensures.same ∙ told) state.urls made.urls;
+              legal = subst (λ (s : Settings). IsRest s.kind s state.urls state.pairs state.events) (sym same) made.legal;
+              rest = λ image left.
+                  let from = left_now (tells c.sync_rest.new.store) new _ (g.met.S.Store.is_consistent c.adopt.new.store) c.adopt.ensures.leaves.changes.stops image left in
+                  let opened = adopted_wider urls_base settings.buckets from.0 image from.2 in
+                  subst (λ (s : Settings). HasRest s.kind s state.pairs state.events image) (sym same)
+                  (rest_stays settings state.pairs state.events settings.kind files image (same_as_told settings.buckets files image
+                  (λ f is. opened.others f (rest_no_journal settings.buckets f small is) ∙ c.in_ok-sync_rest.ensures.synced files told from.0 from.1 f is)) made.rest);
+            };
+            open_rest = subst (λ (s : Settings). s.kind ≢ Crawl) (sym same) (agrees_plain asked settings (c.first_other.ensures.none c.in_default.is) c.requires.kind);
           });
-      sound = (adopts.sound, refl);
+      sound = (adopts.sound, refl, tt);
+      rest = λ crawl is. plain_rest crawl is;
       drum = adopts.drum;
       base = adopts.base;
       long = adopts.long;

@@ -1,11 +1,12 @@
-use Rattle.std.proofs.Common.{◌≡◌, ◌≢◌, ◌∙◌, ◌≤◌, inl, inr, Some, IfSome, Err, IsErrOf, Option, ℕ, List, [], ◌∷◌, refl, sym, ap, subst, arith}
+use Rattle.std.proofs.Common.{◌≡◌, ◌≢◌, ◌∙◌, ◌≤◌, length, inl, inr, Some, IfSome, Err, IsErrOf, Option, ℕ, List, [], ◌∷◌, refl, sym, ap, subst, arith}
 use Rattle.irl_base.specs.declared.fault.Fault.{Fault}
 use Rattle.irl_offer.specs.Settings.{settings_of}
 use Rattle.irl_offer.specs.declared.settings.Settings.{Settings}
+use Rattle.irl_offer.specs.declared.settings.Kind.TheVariants.{Crawl}
 use Rattle.irl_offer.specs.declared.offer.Rule.TheVariants.{Keep}
 use Rattle.irl_model.specs.Book.{blank_book}
 use Rattle.irl_disk.specs.Disk.{Files, ChangesFile}
-use Rattle.irl_disk.specs.Effects.{OnlyReads, ReadsAndChanges}
+use Rattle.irl_disk.specs.Effects.{ReadsAndChanges}
 use Rattle.irl_disk.specs.Images.{LeavesSame}
 use Rattle.irl_disk.proofs.Effects.{reads_for, reads_then}
 use Rattle.irl_disk.proofs.Stretches.{left_now}
@@ -18,16 +19,15 @@ use Rattle.irl_head.specs.StoreFiles.{head_file, crawl_file}
 use Rattle.irl_head.specs.Asking.{Agrees, IsBadAsked}
 use Rattle.irl_head.specs.Opening.{IsUnwanted, KeepsHead}
 use Rattle.irl_head.specs.Writing.{GainsFirst}
-use Rattle.irl_head.specs.declared.open_fault.OpenFault.{OpenFault}
 use Rattle.irl_head.specs.declared.open_fault.OpenFault.TheVariants.{Failed, Memory}
 use Rattle.irl_head.proofs.Asking.{new_agrees}
 use Rattle.irl_head.proofs.Grounds.{settings_ours}
-use Rattle.irl_yard.specs.Standing.{ArePlainFiles}
-use Rattle.irl_yard.specs.Holding.{HoldsRest}
+use Rattle.irl_yard.specs.Standing.{ArePlainFiles, HasRest, IsRest}
 use Rattle.irl_yard.specs.Entering.{HasGround, OpeningRefused}
 use Rattle.irl_yard.proofs.Answered.{enters_made, enters_still, enters_written, refused_made, refused_still, refused_written, still}
-use Rattle.irl_yard.proofs.ByKind.{new_holds}
-use Rattle.irl_yard.proofs.Rest.{few, short_as_told, one_side, rest_no_head, rest_no_journal}
+use Rattle.irl_yard.proofs.Beside.{plain_rest}
+use Rattle.irl_yard.proofs.ByKind.{new_has, new_rest}
+use Rattle.irl_yard.proofs.RestFiles.{few, same_as_told, one_side, rest_no_head, rest_no_journal}
 use Rattle.irl_yard.proofs.Making.{blank_both, crawl_other, head_no_urls, if_err, no_record_yet, of_err, only_memory, open_fault_of, pairs_other, same_err, told_on, was_err}
 use Rattle.irl_yard.proofs.Grounds.{bay_failed, bay_wanted, blank_undamaged, entered_new, found_ground, not_unwanted, unmade_ground}
 use Rattle.irl_yard.proofs.enter.make.Goals as goal
@@ -308,30 +308,37 @@ returns-clause-opened g c =
     -- the bay holds its book behind the head's write
     let held = holds_beside (λ f. f ≡ head_file) made new urls (blank_book settings.buckets settings.rule) bay.drum (law c.write_head.new.store) only
     (λ f is e. head_no_urls urls.base urls.settings.buckets f bay.base apart is e) bay.holds in
+    let plain : urls.settings.kind ≢ Crawl = subst (λ (s : Settings). s.kind ≢ Crawl) (sym both) c.requires.kind in
     record {
       holds = λ files is state stands.
-          entered_new asked state files urls new (blank files is) stands (record {
-            settings = ap (λ (s : Settings). Some s) (sym both);
-            base = bay.base;
-            head = subst (λ (s : Settings). KeepsHead new.images s) (sym same)
-                (λ image left. subst (λ (bytes : List ℕ). HasRecords (image head_file) (bytes ∷ [])) c.in_ok-frame.ensures (c.in_ok-write_head.ensures.kept image left));
-            urls_hold = subst (λ (s : Settings). Holds new.images urls (blank_book s.buckets s.rule)) is_new held;
-            rest = subst (λ (s : Settings). HoldsRest new.images s.kind s.buckets (blank_book (settings_of asked).buckets Keep) []) (sym both)
-                (new_holds new.images (settings_of asked).kind (settings_of asked).buckets c.requires.kind (λ image left.
-                let from = left_now made new _ (law c.write_head.new.store) c.write_head.ensures.changes.stops image left in
-                let was = left_now rest made _ (law c.make.new.store) c.make.ensures.changes.stops from.0 from.1 in
-                let told = (law c.sync_rest.new.store).tells was.0 was.1 in
-                let short = none told.0 (sym reads.same ∙ told.1) in
-                let stays = short_as_told settings.buckets told.0 image
-                (λ f is. from.2.others f (rest_no_head settings.buckets f is) ∙ was.2.others f (λ journal.
-                rest_no_journal settings.buckets f small is (one_side 0 settings.buckets f (omega arith) journal))
-                ∙ c.in_ok-sync_rest.ensures.synced told.0 (sym c.sync_rest.ensures.same ∙ told.1) was.0 was.1 f is) in
-                subst (λ (s : Settings). ArePlainFiles s.buckets image) is_new (record {
-                  crawl = stays.0 (short crawl_file crawl_other);
-                  pairs = λ f is. stays.1 f is (short f (pairs_other settings.buckets f small is));
-                })));
+          entered_new asked state files _ new (blank files is) stands (record {
+            urls = record {
+              settings = ap (λ (s : Settings). Some s) (sym both);
+              base = bay.base;
+              head = subst (λ (s : Settings). KeepsHead new.images s) (sym same)
+                  (λ image left. subst (λ (bytes : List ℕ). HasRecords (image head_file) (bytes ∷ [])) c.in_ok-frame.ensures (c.in_ok-write_head.ensures.kept image left));
+              urls_hold = subst (λ (s : Settings). Holds new.images urls (blank_book s.buckets s.rule)) is_new held;
+              legal = subst (λ (s : Settings). IsRest s.kind s (blank_book (settings_of asked).buckets (settings_of asked).rule) (blank_book (settings_of asked).buckets Keep) []) (sym both)
+                  (new_rest (settings_of asked).kind (settings_of asked) _ c.requires.kind);
+              rest = λ image left.
+                  let from = left_now made new _ (law c.write_head.new.store) c.write_head.ensures.changes.stops image left in
+                  let was = left_now rest made _ (law c.make.new.store) c.make.ensures.changes.stops from.0 from.1 in
+                  let told = (law c.sync_rest.new.store).tells was.0 was.1 in
+                  let short = none told.0 (sym reads.same ∙ told.1) in
+                  let stays = same_as_told settings.buckets told.0 image
+                  (λ f is. from.2.others f (rest_no_head settings.buckets f is) ∙ was.2.others f (λ journal.
+                  rest_no_journal settings.buckets f small is (one_side 0 settings.buckets f (omega arith) journal))
+                  ∙ c.in_ok-sync_rest.ensures.synced told.0 (sym c.sync_rest.ensures.same ∙ told.1) was.0 was.1 f is) in
+                  subst (λ (s : Settings). HasRest s.kind s (blank_book (settings_of asked).buckets Keep) [] image) (sym both)
+                  (new_has (settings_of asked).kind (settings_of asked) image c.requires.kind (subst (λ (s : Settings). ArePlainFiles s.buckets image) is_new (record {
+                    crawl = subst (λ (file : List ℕ). length file ≤ 1) (sym stays.0) (short crawl_file crawl_other);
+                    pairs = λ f is. subst (λ (file : List ℕ). length file ≤ 1) (sym (stays.1 f is)) (short f (pairs_other settings.buckets f small is));
+                  })));
+            };
+            open_rest = plain;
           });
-      sound = (bay.sound, refl);
+      sound = (bay.sound, refl, tt);
+      rest = λ crawl is. plain_rest crawl is;
       drum = bay.drum;
       base = bay.base;
       long = λ files told. holds_long new urls (blank_book settings.buckets settings.rule) files (law c.write_head.new.store) held told;

@@ -1,9 +1,6 @@
-use Rattle.std.proofs.Common.{◌≡◌, Option, Some, IfSome, IfOk, sym, subst, [], ◌∷◌}
-use Rattle.std.specs.Option.{ForSome}
-use Rattle.irl_offer.specs.declared.settings.Settings.{Settings}
+use Rattle.std.proofs.Common.{Option, IfOk, subst}
 use Rattle.irl_disk.specs.Disk.{Files}
-use Rattle.irl_head.specs.declared.open_fault.OpenFault.{OpenFault}
-use Rattle.irl_yard.specs.Entering.{HasGround, OpensYard, OpeningRefused}
+use Rattle.irl_yard.specs.Entering.{OpensYard, OpeningRefused}
 use Rattle.irl_yard.proofs.Answered.{enters_behind, enters_looked, refused_behind, refused_looked}
 use Rattle.irl_yard.proofs.Grounds.{found_ground}
 use Rattle.irl_yard.proofs.Making.{if_err, if_err_then, same_err}

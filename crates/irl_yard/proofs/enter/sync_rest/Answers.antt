@@ -1,7 +1,7 @@
 use Rattle.std.proofs.Common.{◌∙◌}
 use Rattle.irl_disk.proofs.Stretches.{left_now}
 use Rattle.irl_yard.proofs.Making.{on_ok_then}
-use Rattle.irl_yard.proofs.Rest.{rest_synced}
+use Rattle.irl_yard.proofs.RestFiles.{rest_synced}
 use Rattle.irl_yard.proofs.enter.sync_rest.Goals as goal
 
 -- what the first calls synced stays so

@@ -1,4 +1,5 @@
-use Rattle.irl_yard.proofs.Journals.{buckets_apart, sides_apart, merge_apart}
+use Rattle.irl_schedule.proofs.Journals.{buckets_apart}
+use Rattle.irl_yard.proofs.Journals.{sides_apart, merge_apart}
 use Rattle.irl_yard.proofs.laws.a_buckets_files_are_its_own.Goals as goal
 
 pub returns-clause-bucket : goal.returns-clause-bucket

@@ -61,9 +61,12 @@ returns-then-branch-clause-advances g c =
     let waits = waiting_at was.arrays.items in
     let old : Moment = moment (tells was.yard.store) was.yard.parts.urls waits in
     let mid : Moment = moment (tells next.store) next.parts.urls waits in
+    let merges = c.in_ok-merge_if_due.ensures.merges in
+    let ran = merges.ran in
+    let judged = merges.judged in
     let due : IsDue was.yard.parts.urls = search rules in
     let some : SomeWaiting was.yard.parts.urls.settings.buckets was.arrays.items = search rules in
-    merged_at_end old mid c.is_sound-is_sound.ensures.drum due some (search rules) (search rules) (λ n. refl)
+    merged_at_end old mid c.is_sound-is_sound.ensures.drum due some (search rules) merges.ready (λ n. refl)
     (answers_ok c.merge_if_due.result _ Merged 0 none_more [] old mid c.in_ok-merge_if_due.was (c.merge_if_due.ensures.schedules waits))
 
 pub returns-clause-advances : goal.returns-clause-advances
@@ -74,8 +77,11 @@ returns-clause-advances g c =
     let waits = waiting_at was.arrays.items in
     let old : Moment = moment (tells was.yard.store) was.yard.parts.urls waits in
     let mid : Moment = moment (tells next.store) next.parts.urls waits in
-    let idle : (next.parts.urls ≡ was.yard.parts.urls) × (next.store ≡ was.yard.store) = search rules in
-    let same : mid ≡ old = same_moment tells was.yard.store next.store was.yard.parts.urls next.parts.urls waits idle.0 idle.1 in
+    let merges = c.in_ok-merge_if_due.ensures.merges in
+    let ran = merges.ran in
+    let none : IsDue was.yard.parts.urls → ⊥ = search rules in
+    let idle = merges.idle none in
+    let same : mid ≡ old = same_moment tells was.yard.store next.store was.yard.parts.urls next.parts.urls waits idle.1 idle.2 in
     let last = c.finish-2.new.self in
     let new : Moment = moment (tells last.yard.store) last.yard.parts.urls (waiting_at last.arrays.items) in
     subst (λ (m : Moment). Advances c.finish-2.result None m new) same c.finish-2.ensures.advances
@@ -88,8 +94,11 @@ returns-clause-schedules g c =
     let waits = waiting_at was.arrays.items in
     let old : Moment = moment (tells was.yard.store) was.yard.parts.urls waits in
     let mid : Moment = moment (tells next.store) next.parts.urls waits in
-    let idle : (next.parts.urls ≡ was.yard.parts.urls) × (next.store ≡ was.yard.store) = search rules in
-    let same : mid ≡ old = same_moment tells was.yard.store next.store was.yard.parts.urls next.parts.urls waits idle.0 idle.1 in
+    let merges = c.in_ok-merge_if_due.ensures.merges in
+    let ran = merges.ran in
+    let none : IsDue was.yard.parts.urls → ⊥ = search rules in
+    let idle = merges.idle none in
+    let same : mid ≡ old = same_moment tells was.yard.store next.store was.yard.parts.urls next.parts.urls waits idle.1 idle.2 in
     let last = c.finish-2.new.self in
     let new : Moment = moment (tells last.yard.store) last.yard.parts.urls (waiting_at last.arrays.items) in
     subst (λ (m : Moment). Schedules c.finish-2.result (early_at None c.finish-2.result) (uneven_at None c.finish-2.result) [] m new) same

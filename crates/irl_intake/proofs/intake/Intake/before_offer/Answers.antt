@@ -3,7 +3,7 @@ use Rattle.std.proofs.lemmas.List.{get_or_read}
 use Rattle.std.proofs.lemmas.Result.{err_from_is_err_and}
 use Rattle.irl_offer.specs.declared.settings.Settings.{Settings}
 use Rattle.irl_array.specs.Waiting.{Waiting}
-use Rattle.irl_schedule.specs.Feeding.{Moment, moment, with_waiting}
+use Rattle.irl_schedule.specs.Feeding.{IsArrayOf, Moment, moment, with_waiting}
 use Rattle.irl_schedule.specs.Schedule.{IsDue, none_more}
 use Rattle.irl_schedule.specs.Scheduling.{Schedules}
 use Rattle.irl_schedule.proofs.Counts.{waiting_elsewhere}
@@ -40,7 +40,21 @@ invariant_of-self-2 g c =
     record {
       arrays_are = arrays_set next.parts.urls.settings c.make_room.new.self.parts.urls.settings arrays c.args.b c.make_room.new.array (c.make_room.ensures.schedules (λ n. [])).stays.settings within
           are
-          c.make_room.ensures.array;
+          c.make_room.ensures.makes.array;
+    }
+
+pub make_room-requires-clause-room : goal.make_room-requires-clause-room
+make_room-requires-clause-room g c =
+    let was = c.args.self.now in
+    let b = c.args.b in
+    let arrays = was.arrays.items in
+    let within : b < length arrays = omega (arith, was.arrays_are.count, c.requires.bucket) in
+    let is : c.index_mut.result.now ≡ array_at arrays b = get_or_read arrays b c.index_mut.result.now within c.index_mut.ensures.value no_array in
+    let settings = (c.merge_if_due.ensures.schedules (λ n. [])).stays.settings in
+    record {
+      bucket = subst (λ (s : Settings). b < s.buckets) (sym settings) c.requires.bucket;
+      array_is = subst (λ (s : Settings). IsArrayOf s b c.index_mut.result.now) (sym settings) (subst (IsArrayOf was.yard.parts.urls.settings b) (sym is) (was.arrays_are.each b c.requires.bucket));
+      ready = λ full. c.in_ok-merge_if_due.ensures.merges.ready;
     }
 
 pub returns-in_err-merge_if_due-clause-schedules : goal.returns-in_err-merge_if_due-clause-schedules
@@ -89,9 +103,12 @@ returns-then-branch-clause-advances g c =
     let waits = waiting_at was.arrays.items in
     let old : Moment = moment (tells was.yard.store) was.yard.parts.urls waits in
     let mid : Moment = moment (tells next.store) next.parts.urls waits in
+    let merges = c.in_ok-merge_if_due.ensures.merges in
+    let ran = merges.ran in
+    let judged = merges.judged in
     let due : IsDue was.yard.parts.urls = search rules in
     let full : was.yard.parts.urls.settings.array ≤ length (waiting_at was.arrays.items c.args.b) = search rules in
-    merged_first c.args.b old mid c.is_sound-is_sound.ensures.drum due full (search rules) (search rules) (λ n. refl)
+    merged_first c.args.b old mid c.is_sound-is_sound.ensures.drum due full (search rules) merges.ready (λ n. refl)
     (answers_ok c.merge_if_due.result _ Merged 0 none_more [] old mid c.in_ok-merge_if_due.was (c.merge_if_due.ensures.schedules waits))
 
 pub returns-in_err-make_room-clause-schedules : goal.returns-in_err-make_room-clause-schedules
@@ -102,8 +119,11 @@ returns-in_err-make_room-clause-schedules g c =
     let waits = waiting_at was.arrays.items in
     let old : Moment = moment (tells was.yard.store) was.yard.parts.urls waits in
     let mid : Moment = moment (tells next.store) next.parts.urls waits in
-    let idle : (next.parts.urls ≡ was.yard.parts.urls) × (next.store ≡ was.yard.store) = search rules in
-    let same : mid ≡ old = same_moment tells was.yard.store next.store was.yard.parts.urls next.parts.urls waits idle.0 idle.1 in
+    let merges = c.in_ok-merge_if_due.ensures.merges in
+    let ran = merges.ran in
+    let none : IsDue was.yard.parts.urls → ⊥ = search rules in
+    let idle = merges.idle none in
+    let same : mid ≡ old = same_moment tells was.yard.store next.store was.yard.parts.urls next.parts.urls waits idle.1 idle.2 in
     let b = c.args.b in
     let arrays = was.arrays.items in
     let array = c.index_mut.result.now in
@@ -136,6 +156,7 @@ returns-in_err-make_room-clause-advances g c =
     let new : Moment = moment (tells last.store) last.parts.urls (waiting_at (set arrays b made)) in
     let out = err_from_is_err_and c.from_residual-in_err-make_room.result c.from_residual-in_err-make_room.ensures.1 in
     let is = out.1 ∙ ap (λ e. Err e) out.2 in
+    let ran = c.in_ok-merge_if_due.ensures.merges.ran in
     refused_first b c.from_residual-in_err-make_room.result _ old new is
     (λ m named. full_names b c.make_room.result 0 none_more [] (moment (tells next.store) next.parts.urls (with_waiting (λ k. []) b array.items))
     (moment (tells last.store) last.parts.urls (with_waiting (λ k. []) b made.items)) (λ n other. waiting_elsewhere (λ k. []) b n made.items other) (c.make_room.ensures.schedules (λ n. [])) m
@@ -157,8 +178,11 @@ returns-clause-schedules g c =
     let waits = waiting_at was.arrays.items in
     let old : Moment = moment (tells was.yard.store) was.yard.parts.urls waits in
     let mid : Moment = moment (tells next.store) next.parts.urls waits in
-    let idle : (next.parts.urls ≡ was.yard.parts.urls) × (next.store ≡ was.yard.store) = search rules in
-    let same : mid ≡ old = same_moment tells was.yard.store next.store was.yard.parts.urls next.parts.urls waits idle.0 idle.1 in
+    let merges = c.in_ok-merge_if_due.ensures.merges in
+    let ran = merges.ran in
+    let none : IsDue was.yard.parts.urls → ⊥ = search rules in
+    let idle = merges.idle none in
+    let same : mid ≡ old = same_moment tells was.yard.store next.store was.yard.parts.urls next.parts.urls waits idle.1 idle.2 in
     let b = c.args.b in
     let arrays = was.arrays.items in
     let array = c.index_mut.result.now in
@@ -181,4 +205,8 @@ returns-clause-advances g c =
     let made = c.make_room.new.array in
     let last = c.make_room.new.self in
     let new : Moment = moment (tells last.store) last.parts.urls (waiting_at (set arrays b made)) in
-    made_room b old new (search rules) (search rules) (search rules) (λ n other. ap (λ (a : Waiting). a.items) (array_elsewhere arrays b n made other))
+    let ran = c.in_ok-merge_if_due.ensures.merges.ran in
+    let none : IsDue was.yard.parts.urls → ⊥ = search rules in
+    let makes = c.in_ok-make_room.ensures.makes in
+    let settings = (c.merge_if_due.ensures.schedules (λ n. [])).stays.settings in
+    made_room b old new none (search rules) (search rules) (λ n other. ap (λ (a : Waiting). a.items) (array_elsewhere arrays b n made other))

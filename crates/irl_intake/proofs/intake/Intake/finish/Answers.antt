@@ -1,4 +1,4 @@
-use Rattle.std.proofs.Common.{◌∙◌, [], Err, sym, ap, rules, subst, arith}
+use Rattle.std.proofs.Common.{◌∙◌, ◌<◌, [], Err, sym, ap, rules, subst, arith}
 use Rattle.std.proofs.lemmas.Result.{err_from_is_err_and}
 use Rattle.irl_offer.specs.declared.settings.Settings.{Settings}
 use Rattle.irl_schedule.specs.Feeding.{Moment, moment}
@@ -82,4 +82,6 @@ returns-clause-advances g c =
     let next = c.merge_rest.new.self in
     let old : Moment = moment (tells was.yard.store) was.yard.parts.urls (waiting_at was.arrays.items) in
     let new : Moment = moment (tells next.store) next.parts.urls (waiting_at between.arrays.items) in
-    all_done old new c.requires.ready c.in_ok-flush_all.ensures.emptied (search rules)
+    let judged = c.in_ok-merge_rest.ensures.merges.judged in
+    let settings = (c.merge_rest.ensures.schedules (λ n. [])).stays.settings in
+    all_done old new c.requires.ready c.in_ok-flush_all.ensures.emptied (λ b within. judged b (subst (λ (s : Settings). b < s.buckets) settings within))

@@ -31,7 +31,7 @@ invariant_of-self-in-loop-b g c =
     ) in
     record {
       arrays_are = arrays_set between.yard.parts.urls.settings c.flush_some.new.self.parts.urls.settings between.arrays.items c.loop-b.b c.flush_some.new.array
-          (c.flush_some.ensures.schedules (λ n. [])).stays.settings within between.arrays_are c.flush_some.ensures.array;
+          (c.flush_some.ensures.schedules (λ n. [])).stays.settings within between.arrays_are c.flush_some.ensures.flushes.array;
     }
 
 pub returns-in_err-flush_some-clause-schedules : goal.returns-in_err-flush_some-clause-schedules
@@ -87,7 +87,7 @@ returns-in_err-flush_some-clause-ordered g c =
     let one = in_arrays c.flush_some.result 0 (one_more_at b) arrays b array flushed (tells between.yard.store) (tells next.store) between.yard.parts.urls next.parts.urls within is
     c.flush_some.ensures.schedules in
     let out = err_from_is_err_and c.from_residual.result c.from_residual.ensures.1 in
-    let kept : flushed ≡ array = err_gives c.flush_some.result _ c.flush_some.ensures.kept c.in_err-flush_some.was in
+    let kept : flushed ≡ array = err_gives c.flush_some.result _ c.flush_some.ensures.flushes.kept c.in_err-flush_some.was in
     let same : set arrays b flushed ≡ arrays = set_same arrays b array flushed is kept in
     let inside : b < was.yard.parts.urls.settings.buckets = omega (arith, within, between.arrays_are.count, ap (λ (s : Settings). s.buckets) far.schedules.stays.settings) in
     refused_stop c.flush_some.result c.from_residual.result _ b old new c.in_err-flush_some.was (out.1 ∙ ap (λ e. Err e) out.2)
@@ -119,8 +119,8 @@ loop-b-preserved g c =
     let new : Moment = moment (tells next.store) next.parts.urls (waiting_at (set arrays b flushed)) in
     let one = in_arrays c.flush_some.result 0 (one_more_at b) arrays b array flushed (tells between.yard.store) (tells next.store) between.yard.parts.urls next.parts.urls within is
     c.flush_some.ensures.schedules in (
-      goes_on b c.flush_some.result tt old mid new c.in_ok-flush_some.was (g.met.S.Store.is_consistent between.yard.store) far one c.flush_some.ensures.counts
-          (ap (λ (a : Waiting). a.items) (array_here arrays b flushed within) ∙ c.in_ok-flush_some.ensures.emptied)
+      goes_on b c.flush_some.result tt old mid new c.in_ok-flush_some.was (g.met.S.Store.is_consistent between.yard.store) far one c.flush_some.ensures.flushes.counts
+          (ap (λ (a : Waiting). a.items) (array_here arrays b flushed within) ∙ c.in_ok-flush_some.ensures.flushes.emptied)
           (λ n other. ap (λ (a : Waiting). a.items) (array_elsewhere arrays b n flushed other)),
       c.in_ok-flush_some.ensures.goes_on.sound (λ failed. let no : ⊥ = cc in absurd no),
       c.flush_some.ensures.goes_on.drum,

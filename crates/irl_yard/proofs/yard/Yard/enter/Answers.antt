@@ -1,4 +1,3 @@
-use Rattle.std.proofs.Common.{Err, ap}
 use Rattle.irl_yard.proofs.Answered.{enters_for}
 use Rattle.irl_yard.proofs.yard.Yard.enter.Goals as goal
 

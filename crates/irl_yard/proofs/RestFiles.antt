@@ -1,5 +1,5 @@
 -- What stands beside the bay of URLs once a store is open.
-use Rattle.std.proofs.Common.{◌≡◌, ◌≢◌, ◌⊎◌, inl, inr, ℕ, zero, suc, ◌+◌, ◌*◌, ◌≤◌, ◌<◌, List, [], ◌∷◌, length, refl, sym, subst, arith}
+use Rattle.std.proofs.Common.{◌≡◌, ◌≢◌, ◌⊎◌, inl, inr, ℕ, zero, suc, ◌+◌, ◌*◌, ◌≤◌, ◌<◌, refl, sym, subst, arith}
 use Rattle.irl_offer.specs.Settings.{AreValid}
 use Rattle.irl_offer.specs.declared.settings.Settings.{Settings}
 use Rattle.irl_disk.specs.Disk.{Files}
@@ -9,7 +9,7 @@ use Rattle.irl_bay.specs.Making.{IsJournalOn, IsJournalOf}
 use Rattle.irl_bay.proofs.Apart.{files_within, journal_files}
 use Rattle.irl_head.specs.StoreFiles.{head_file, crawl_file, urls_base, pairs_base}
 use Rattle.irl_yard.specs.Entering.{AreSynced, AreSyncedWithin, IsRestFile}
-use Rattle.irl_yard.proofs.ByKind.{StaysShort}
+use Rattle.irl_yard.proofs.ByKind.{IsSameBeside}
 
 pub few : (settings : Settings) → AreValid settings → settings.buckets ≤ 64
 few settings valid = let count = valid.buckets in grind arith
@@ -63,11 +63,8 @@ pub head_no_side : (buckets : ℕ) → buckets ≤ 64 → IsJournalOn urls_base 
 head_no_side buckets few is = head_no_journal buckets few (one_side 0 buckets head_file (omega arith) is)
 
 -- ---- a joint image with the rest as it was told
-pub short_as_told : (buckets : ℕ) (files image : Files) → ((f : ℕ) → IsRestFile buckets f → image f ≡ files f) → StaysShort buckets files image
-short_as_told buckets files image as_told = (still crawl_file (inl refl), λ f is. still f (pairs_rest buckets f is))
-  where
-    still : (f : ℕ) → IsRestFile buckets f → length (files f) ≤ 1 → length (image f) ≤ 1
-    still f is short = subst (λ (file : List ℕ). length file ≤ 1) (sym (as_told f is)) short
+pub same_as_told : (buckets : ℕ) (files image : Files) → ((f : ℕ) → IsRestFile buckets f → image f ≡ files f) → IsSameBeside buckets files image
+same_as_told buckets files image as_told = (as_told crawl_file (inl refl), λ f is. as_told f (pairs_rest buckets f is))
 
 -- ---- none of them is the head
 pub rest_no_head : (buckets f : ℕ) → IsRestFile buckets f → f ≢ head_file
