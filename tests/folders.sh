@@ -11,6 +11,37 @@ gives 3 '' 'not a store: byte 0 of file 0000|'
 [ "$(ls other)" = 0999 ] || fail 'the folder has other files'
 right
 
+# A folder may be named in any way that the system takes, and each way of naming it is the same store.
+try 'names of folders' 'a|'
+"$program" "new/with space/$(printf '\303\244')" seen <in >out 2>err
+gives 0 'a|' ''
+"$program" "./new//with space/$(printf '\303\244')/" seen <in >out 2>err
+gives 0 '' ''
+ln -s "new/with space/$(printf '\303\244')" link
+reads_again link 'a|b|' 'b|'
+(cd link && exec "$program" . seen <"$room/in" >"$room/out" 2>"$room/err")
+gives 0 '' ''
+right
+
+# Who removes a file, or brings back a part of a folder, is told so, and nothing of what is left changes.
+try 'files that were removed' 'a|b|'
+"$program" whole seen --buckets 1 <in >out 2>err
+gives 0 'a|b|' ''
+cp -R whole removed
+for file in 0103 0104; do
+    mv "removed/$file" kept
+    "$program" removed seen <in >out 2>err
+    gives 3 '' "damaged: byte 0 of file $file|"
+    mv kept "removed/$file"
+done
+mv removed/0000 kept
+"$program" removed seen <in >out 2>err
+gives 3 '' 'not a store: byte 0 of file 0000|'
+mv kept removed/0000
+diff -r whole removed >told 2>&1 || fail "another file: $(head -n 1 told)"
+reads_again removed 'a|b|c|' 'c|'
+right
+
 try 'a damaged journal' 'a|'
 "$program" damaged seen <in >out 2>err
 gives 0 'a|' ''

@@ -1,5 +1,5 @@
 #!/bin/sh
-# Two programs on one folder, and a full disk: what status 4 tells.
+# Two programs on one folder, and a disk that is full or may only be read: what status 4 tells.
 
 . "$(dirname -- "$0")/common.sh"
 trap 'umount disk 2>/dev/null; chmod -R u+rwx "$room"; rm -rf "$room"' EXIT
@@ -121,6 +121,26 @@ if mount -t tmpfs -o size=128k tmpfs disk 2>/dev/null; then
     right
 else
     pass_over 'no small disk can be mounted here'
+fi
+
+# A store on a disk that may only be read, a backup say, is opened, and says what is missing once a line is to be kept.
+try 'a disk that may only be read' 'a|'
+if mount -t tmpfs -o size=16m tmpfs disk 2>/dev/null; then
+    "$program" disk/store seen <in >out 2>err
+    gives 0 'a|' ''
+    mount -o remount,ro disk || fail 'the disk may still be written'
+    "$program" disk/store seen </dev/null >out 2>err
+    gives 0 '' ''
+    "$program" disk/store seen <in >out 2>err
+    status=$?
+    has out ''
+    tells_fault disk/store 30
+    mount -o remount,rw disk || fail 'the disk may not be written again'
+    reads_again disk/store 'a|b|' 'b|'
+    umount disk
+    right
+else
+    pass_over 'no disk can be mounted here'
 fi
 
 finish

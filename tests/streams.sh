@@ -9,6 +9,24 @@ gives 0 'a|b|' ''
 reads_again plain 'b|a|c|' 'c|'
 right
 
+# Files of other systems and other programs: lines are kept byte by byte, so one with a CR is another line, one behind the last
+# LF counts, and a line may have any bytes and 2,048 of them.
+try 'lines of any bytes' ''
+long=$(head -c 2048 /dev/zero | tr '\0' x)
+printf 'a\r\na\n\n \n\0b\n\377\n%s\na\nz' "$long" >in
+printf 'a\r\na\n \n\0b\n\377\n%s\nz\n' "$long" >expected
+"$program" bytes seen --buckets 1 <in >out 2>err
+status=$?
+[ "$status" -eq 0 ] || fail "status $status, and not 0"
+cmp -s expected out || fail 'the output has other bytes'
+has err ''
+"$program" bytes seen <expected >out 2>err
+gives 0 '' ''
+printf 'z\n%sx\ny\n' "$long" >in
+"$program" bytes seen <in >out 2>err
+gives 2 '' 'line 2 refused|'
+right
+
 try 'a closed input' ''
 "$program" plain seen <&- >out 2>err
 gives 0 '' ''
@@ -79,6 +97,28 @@ grep -qxF -- "$(cat out)" in || fail 'the first line is none of the input'
 reads_again broken "a|" 'a|'
 "$program" broken seen <in >out 2>err
 gives 0 '' ''
+right
+
+# The promise that the program is used for: it is killed while it waits for more, so that it can do nothing at its end. What it
+# has printed by then is remembered, and what it had only read is new again.
+try 'a program that is killed' ''
+mkfifo feed
+"$program" killed seen --buckets 1 --array 1 --trigger 1 <feed >out 2>err &
+killed=$!
+exec 3>feed
+text 'a|b|a|c|' >&3
+tries=0
+while [ "$(wc -l <out)" -lt 2 ]; do
+    tries=$((tries + 1))
+    [ "$tries" -lt 600 ] || fail "it printed '$(tr '\n' '|' <out)'"
+    sleep 0.1
+done
+kill -KILL "$killed"
+wait "$killed" 2>/dev/null
+gives 137 'a|b|' ''
+exec 3>&-
+rm feed
+reads_again killed 'a|b|c|d|' 'c|d|'
 right
 
 finish

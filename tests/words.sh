@@ -48,6 +48,27 @@ gives 0 'a|' ''
 reads_again ./-x 'a|b|' 'b|'
 right
 
+# What is tried first: the words the other way round, the input as a word, as other filters take it, and a command's help without
+# the command. No store is made by any of them.
+try 'words in other places' 'a|'
+"$program" seen unmade <in >out 2>err
+gives 1 '' 'words refused: unmade|'
+is_absent seen
+"$program" unmade <in >out 2>err
+gives 1 '' 'words refused: -|'
+"$program" unmade seen in <in >out 2>err
+gives 1 '' 'words refused: seen|'
+"$program" unmade --buckets 1 seen <in >out 2>err
+gives 1 '' 'words refused: --buckets|'
+for word in SEEN --help help ''; do
+    "$program" unmade "$word" <in >out 2>err
+    gives 1 '' "words refused: $word|"
+done
+is_absent unmade
+"$program" --version <in >out 2>err
+gives 0 'irl 0.1.0|' ''
+right
+
 try 'a word that is no command' 'a|'
 "$program" unmade sene <in >out 2>err
 gives 1 '' 'words refused: sene|'
