@@ -90,8 +90,8 @@ open_held among old new was (Crawl crawl) pairs events law consistent are stops 
     (holds.0, crawl_held among old new was crawl pairs events law consistent are stops (open_rest crawl refl) holds.1)
 
 -- a call of the schedule leaves what is open beside
-pub open_after : (old new : Moment) (was now : Rest) (pairs : Book) (events : List Happened) → IsDrum old.drum → IsConsistent new.store → Stays old new → IsOpenRest old.drum was old.store.files → now ≡ was
-    → HoldsOpen old.store.images old.drum.settings was pairs events → HoldsOpen new.store.images new.drum.settings now pairs events
+pub open_after : (old new : Moment) (was now : Rest) (pairs : Book) (events : List Happened) → IsDrum old.drum → IsConsistent new.store → Stays old new → IsOpenRest old.drum was old.store.files
+    → now ≡ was → HoldsOpen old.store.images old.drum.settings was pairs events → HoldsOpen new.store.images new.drum.settings now pairs events
 open_after old new was now pairs events law consistent stays open_rest same holds =
     let held = open_held (IsFileOf old.drum.base old.drum.settings.buckets) old.store new.store old.drum was pairs events law consistent (λ f is. is) stays.others_stop open_rest holds in
     subst (λ (s : Settings). HoldsOpen new.store.images s now pairs events) (sym stays.settings)

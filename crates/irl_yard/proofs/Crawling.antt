@@ -83,7 +83,8 @@ one_course domain settings urls pairs seen (x ∷ xs) (y ∷ ys) one two same =
     let events : events_of xs ≡ events_of ys = cc in
     let told = subst (λ (e : Event). IsOfBooks domain key_of settings urls pairs (progress settings.queues settings.buckets seen) e x.1) event one.0 in
     let here : x ≡ y = same_pair x y event (one_places domain key_of settings urls pairs (progress settings.queues settings.buckets seen) y.0 x.1 y.1 told two.0) in
-    let rest : xs ≡ ys = one_course domain settings urls pairs (seen ++ y ∷ []) xs ys (subst (λ (h : Happened). Along (IsToldBy domain settings urls pairs) (seen ++ h ∷ []) xs) here one.1) two.1 events in
+    let rest : xs ≡ ys = one_course domain settings urls pairs (seen ++ y ∷ []) xs ys
+    (subst (λ (h : Happened). Along (IsToldBy domain settings urls pairs) (seen ++ h ∷ []) xs) here one.1) two.1 events in
     rw (here, rest) refl
 
 same_beginning : (xs ys : List Happened) → events_of xs ≡ events_of ys → begun_with xs ≡ begun_with ys

@@ -1,3 +1,4 @@
+pub mod Adding
 pub mod Crawling
 pub mod Entering
 pub mod Flushing

@@ -22,14 +22,17 @@ HasStateBetween settings state x y image = (z : Book) × HasState (with_urls z s
 -- follow the state's in a store of this kind.
 pub record LiftsBooks (state : State) (old new : Moment) : Type 0 where
   -- one that the bay holds then,
-  pub holds : (book : Book) → MayFollow old.drum.settings.kind state.urls book → Holds new.store.images new.drum book
+  pub holds : (book : Book) → MayFollow old.drum.settings.kind state.urls book
+      → Holds new.store.images new.drum book
       → HoldsUrls new.store.images new.drum (with_urls book state)
   -- that its told files stand for,
-  pub told : (book : Book) → MayFollow old.drum.settings.kind state.urls book → ForSome new.store.files (Stands old.drum.base old.drum.settings book)
+  pub told : (book : Book) → MayFollow old.drum.settings.kind state.urls book
+      → ForSome new.store.files (Stands old.drum.base old.drum.settings book)
       → ForSome new.store.files (HasState (with_urls book state))
   -- or that a stop leaves, in the time between or from then on
   pub stops : (x y : Book) → MayFollow old.drum.settings.kind state.urls x
-      → MayFollow old.drum.settings.kind state.urls y → Leaves old.store new.store (HasBetween old.drum.base old.drum.settings x y)
+      → MayFollow old.drum.settings.kind state.urls y
+      → Leaves old.store new.store (HasBetween old.drum.base old.drum.settings x y)
       → Leaves old.store new.store (HasStateBetween old.drum.settings state x y)
   pub now : (x y : Book) (image : Files) → MayFollow old.drum.settings.kind state.urls x
       → MayFollow old.drum.settings.kind state.urls y → new.store.images image

@@ -2,6 +2,7 @@
 #![tactic(auto)]
 
 mod enter;
+mod events;
 mod laws;
 mod parts;
 mod scheduling;

@@ -5,6 +5,7 @@ use irl_bay::Bay;
 use irl_fate::Fates;
 use irl_log::Log;
 use irl_pld::Suffixes;
+use std::alloc::Global;
 
 /// What an open store keeps in memory.
 #[derive(Drop)]
@@ -26,6 +27,7 @@ pub enum Rest {
 /// What a store of a crawl keeps: the bay of pairs, the log of events, and the tables that the events make.
 #[derive(Drop)]
 pub struct CrawlParts {
+    pub(crate) alloc: Global,
     pub(crate) pairs: Bay,
     pub(crate) log: Log,
     pub(crate) fates: Fates,

@@ -11,4 +11,5 @@ pub returns-clause-open_rest : goal.returns-clause-open_rest
 returns-clause-open_rest g c = λ waits later state law holds still same.
     let before = c.args.before.now in
     let after = c.args.after.now in
-    open_after (moment_at before waits) (moment_at after later) before.parts.rest after.parts.rest state.pairs state.events law (g.met.S.Store.is_consistent after.store) still before.rest_is same holds.open_rest
+    open_after (moment_at before waits) (moment_at after later) before.parts.rest after.parts.rest state.pairs state.events law (g.met.S.Store.is_consistent after.store) still before.rest_is same
+    holds.open_rest

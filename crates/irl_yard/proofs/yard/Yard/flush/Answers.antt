@@ -47,8 +47,8 @@ returns-clause-states g c =
     let others = leaves.others.stops in
     let are : AreOfUrls was (IsBucketFile was.base (live_side was.last) b) =
     λ f is. bucket_files was.base was.settings.buckets (live_side was.last) b f c.requires.offers.bucket is (live_low was.last.live law.last.live) in
-    let legal = λ (state : State) (holds : HoldsState old.images parts state). rest_flushed was.settings state.pairs state.events was.settings.kind b news state.urls holds.urls.urls_hold.book_is.is_book
-    c.requires.taken holds.urls.legal in
+    let legal = λ (state : State) (holds : HoldsState old.images parts state). rest_flushed was.settings state.pairs state.events was.settings.kind b news state.urls
+    holds.urls.urls_hold.book_is.is_book c.requires.taken holds.urls.legal in
     record {
       holds = on_ok_both c.flush.result ok.holds ok.counts (λ gives counts state holds.
           state_after _ old new parts _ state (flushed b news state.urls) law (lawful c.flush.new.store) are others c.args.self.now.rest_is counts.base counts.settings refl holds (legal state holds)

@@ -19,7 +19,8 @@ invariant_of-self g c =
     let same = merge_stays c.merge.result was c.merge.new.self c.merge.ensures.merges.counts c.merge.ensures.refused.counts in
     record {
       long = c.merge.ensures.goes_on.long;
-      rest_is = rest_beside _ _ _ was c.merge.new.self c.args.self.now.parts.rest c.is_sound-is_sound.ensures.drum (merge_files was) c.merge.ensures.leaves.others.told same.0 same.1 c.args.self.now.rest_is;
+      rest_is = rest_beside _ _ _ was c.merge.new.self c.args.self.now.parts.rest c.is_sound-is_sound.ensures.drum (merge_files was) c.merge.ensures.leaves.others.told same.0 same.1
+          c.args.self.now.rest_is;
     }
 
 pub returns-clause-states : goal.returns-clause-states
