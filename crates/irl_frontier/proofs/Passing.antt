@@ -98,7 +98,8 @@ module _ (x : Frontier) (k : IsFrontier x) (judged : ℕ) (fresh : List Item) (b
         record {
           after =
               ap (λ (q : Progress). record x { progress = q; waiting = waits_after x.waiting (Some p) }) (after ∙ ap (λ (ps : List Place). after_event x.progress (Pass judged) ps) at)
-              ∙ ap (λ (w : Waiting Item). record x { progress = after_event x.progress (Pass judged) (places_for adds x fresh); waiting = w }) (waiting_is ∙ ap (λ (f : Budget). passed f x.waiting fresh) budgets);
+              ∙ ap (λ (w : Waiting Item). record x { progress = after_event x.progress (Pass judged) (places_for adds x fresh); waiting = w }) (waiting_is
+              ∙ ap (λ (f : Budget). passed f x.waiting fresh) budgets);
           legal = ap (λ (ps : List Place). broken x.progress (Pass judged) ps) (sym at) ∙ legal;
           places = sym given ∙ at;
         }

@@ -100,7 +100,7 @@ went_on : (kind : LineKind) (e : ℕ) (u : ℕ → ℕ) (before old new : Place)
     → Feeds e u [] old.moment new.moment → GoesOn kind (0 + e) (λ b. none_more b + u b) [] before new × HasReason before new Done
 went_on kind e u before old new law went still cut faults output printed feeds = (
   goes_on_both kind 0 e none_more u [] [] before old new went.reason.stays went.goes
-    (goes_call kind e u [] old new (inr (went.whole, cut_few old.moment.drum new.moment.drum cut)) (ap (λ s. s.bytes) output) printed feeds),
+      (goes_call kind e u [] old new (inr (went.whole, cut_few old.moment.drum new.moment.drum cut)) (ap (λ s. s.bytes) output) printed feeds),
   reason_then kind 0 none_more [] before old new Done Done law went.goes went.reason (reason_went old new still faults (omega (arith, ap (λ s. s.faults) output))),
 )
 

@@ -16,13 +16,16 @@ pub returns-clause-plan : goal.returns-clause-plan
 returns-clause-plan c =
     let x : Frontier = shown c.self.inside in
     subst (λ (y : Frontier). IsPlanOf y (record { event = c.in_ok-event.event; pass = Some c.in_ok-pass.pass; tally = c.self.inside.tally })) c.self.view_is
-    (plan_is x c.self.invariant.frontier c.args.judged c.args.fresh.now _ c.in_ok-pass.pass c.places.result.now c.in_ok-pass.ensures c.places.ensures c.in_ok-event.event c.self.inside.tally c.in_ok-event.ensures.after c.in_ok-event.ensures.plan c.self.invariant.tally)
+    (plan_is x c.self.invariant.frontier c.args.judged c.args.fresh.now _ c.in_ok-pass.pass c.places.result.now c.in_ok-pass.ensures c.places.ensures c.in_ok-event.event c.self.inside.tally
+    c.in_ok-event.ensures.after c.in_ok-event.ensures.plan c.self.invariant.tally)
 
 pub returns-clause-ok : goal.returns-clause-ok
 returns-clause-ok c =
     let x : Frontier = shown c.self.inside in
-    subst (λ (y : Frontier). (adds : List (List ℕ)) → Counts y.degrees adds → PlansPass y c.args.judged c.args.fresh.now (record { event = c.in_ok-event.event; pass = Some c.in_ok-pass.pass; tally = c.self.inside.tally }) adds) c.self.view_is
-    (plan_passes x c.self.invariant.frontier c.args.judged c.args.fresh.now _ c.in_ok-pass.pass c.places.result.now c.in_ok-pass.ensures c.places.ensures c.in_ok-event.event c.self.inside.tally c.in_ok-event.ensures.after c.in_ok-event.ensures.legal c.in_ok-budgets.ensures)
+    subst (λ (y : Frontier). (adds : List (List ℕ)) → Counts y.degrees adds → PlansPass y c.args.judged c.args.fresh.now
+    (record { event = c.in_ok-event.event; pass = Some c.in_ok-pass.pass; tally = c.self.inside.tally }) adds) c.self.view_is
+    (plan_passes x c.self.invariant.frontier c.args.judged c.args.fresh.now _ c.in_ok-pass.pass c.places.result.now c.in_ok-pass.ensures c.places.ensures c.in_ok-event.event c.self.inside.tally
+    c.in_ok-event.ensures.after c.in_ok-event.ensures.legal c.in_ok-budgets.ensures)
 
 pub returns-in_err-event-clause-illegal : goal.returns-in_err-event-clause-illegal
 returns-in_err-event-clause-illegal c = λ n adds was counts.
