@@ -37,7 +37,7 @@ fn opened(alloc: Global, queues: u32, base: u32, most: u32) -> Result<Frontier, 
 fn items(alloc: Global, first: u64, count: u64, domains: u64) -> Result<Vec<Item>, AllocError> {
     let mut items = Vec::with_capacity(alloc, 16)?;
     for number in first..first.saturating_add(count) {
-        let letter = (number % domains.max(1)) as u8;
+        let letter = u8::try_from(number % domains.max(1)).unwrap_or(0);
         let text = [b'a'.saturating_add(letter), b'.', b't', b'e', b's', b't'];
         let pld = Text::from_bytes(alloc, &text)?;
         items.push(Item { number, pld })?;
