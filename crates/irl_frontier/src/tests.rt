@@ -391,7 +391,7 @@ fn agree(frontier: &Frontier, course: &Course) -> Option<usize> {
         let fate = if at == 64 {
             Fate::Last
         } else {
-            Fate::Queue((at as u32).saturating_add(1))
+            Fate::Queue(u32::try_from(at).unwrap_or(0).saturating_add(1))
         };
         same &= have(frontier, list, fate);
         count = count.saturating_add(list.len());
