@@ -231,10 +231,10 @@ longer_lists (f ∷ fs) (l ∷ lists) (m ∷ more) h = (omega (arith, ap length 
 
 -- ---- a book and one that it is a front of
 module _ (book more : Book) (is : IsBook book) (front : IsFront book more) where
-  abbrev total : ℕ
+  abbrev pub total : ℕ
   total = gone book + length (judged book)
 
-  cuts_same : (n : ℕ) → n ≤ cut_count book → judged_offers (at_cut n more) ≡ judged_offers (at_cut n book)
+  pub cuts_same : (n : ℕ) → n ≤ cut_count book → judged_offers (at_cut n more) ≡ judged_offers (at_cut n book)
   cuts_same n le =
       let k = n - book.dropped in
       let there : k ≤ length book.cuts = omega arith in
@@ -244,42 +244,42 @@ module _ (book more : Book) (is : IsBook book) (front : IsFront book more) where
       ∙ ap (λ (cs : List (List ℕ)). stretches book.firsts book.firsts cs more.lists) (take-append-le k book.cuts front.cuts.0 there)
       ∙ stretches_same book.firsts book.firsts (take k book.cuts) book.lists more.lists (earlier_book k book is).cuts front.lists
 
-  judged_by_same : (n : ℕ) → n ≤ cut_count book → judged_by more n ≡ judged_by book n
+  pub judged_by_same : (n : ℕ) → n ≤ cut_count book → judged_by more n ≡ judged_by book n
   judged_by_same n le =
       ap (λ (fs : List ℕ). sum fs + length (judged_offers (at_cut n more))) front.firsts
       ∙ ap (λ (os : List Tuple). gone book + length os) (cuts_same n le)
 
-  judged_within : (n : ℕ) → judged_by book n ≤ total
+  pub judged_within : (n : ℕ) → judged_by book n ≤ total
   judged_within n =
       let k = n - book.dropped in
       let h = judged_offers_front (with_cuts k book) book (earlier_book k book is) (earlier_front k book) in
       omega (arith, ap length h.1, length-append (judged_offers (with_cuts k book)) h.0, length-judged book)
 
-  cuts_more : cut_count book ≤ cut_count more
+  pub cuts_more : cut_count book ≤ cut_count more
   cuts_more = omega (arith, front.dropped, ap length front.cuts.1, length-append book.cuts front.cuts.0)
 
   lengths_more : IsBelow (lengths_of book) (lengths_of more)
   lengths_more = subst (λ (fs : List ℕ). IsBelow (lengths_of book) (list_lengths fs more.lists)) (sym front.firsts) (longer_lists book.firsts book.lists more.lists front.lists)
 
-  abbrev later : List (ℕ × Tuple)
+  abbrev pub later : List (ℕ × Tuple)
   later = uniques_from (gone book + length (judged book)) (judged_front book more is front).0
 
   later_high : AllByRecursion (λ (p : ℕ × Tuple). total ≤ p.0) later
   later_high = high_uniques total total (judged_front book more is front).0 (omega arith)
 
-  uniques_more : uniques more ≡ uniques book ++ later
+  pub uniques_more : uniques more ≡ uniques book ++ later
   uniques_more =
       ap (λ (fs : List ℕ). uniques_from (sum fs) (judged more)) front.firsts
       ∙ ap (uniques_from (gone book)) (judged_front book more is front).1
       ∙ uniques_from-append (gone book) (judged book) (judged_front book more is front).0
 
-  within_same : (from to : ℕ) → to ≤ total → uniques_within from to more ≡ uniques_within from to book
+  pub within_same : (from to : ℕ) → to ≤ total → uniques_within from to more ≡ uniques_within from to book
   within_same from to le =
       ap (filter (is_within from to)) uniques_more ∙ filter-append (is_within from to) (uniques book) later
       ∙ ap (λ (us : List (ℕ × Tuple)). uniques_within from to book ++ us) (none_within total from to later le later_high)
       ∙ append-nil (uniques_within from to book)
 
-  text_same : (n : ℕ) → n < total → url_text more n ≡ url_text book n
+  pub text_same : (n : ℕ) → n < total → url_text more n ≡ url_text book n
   text_same n lt =
       let test : ℕ × Tuple → Bool = λ p. nat_eq p.0 n in
       let text : Option (ℕ × Tuple) → List ℕ = λ o. unwrap_or (option_map (λ (p : ℕ × Tuple). p.1.aux) o) [] in
@@ -301,15 +301,15 @@ module _ (book more : Book) (is : IsBook book) (front : IsFront book more) where
       (all_append (λ (n : ℕ). n < total) waits (map (λ (p : ℕ × Tuple). p.0) (uniques_within x.read q book)) (low_at total x.waiting.lists x.waiting.passes low)
       (low_within total x.read q (uniques book) le))
 
-  all_judged : (b : Book) → judged_offers (at_cut (cut_count b) b) ≡ judged_offers b
+  pub all_judged : (b : Book) → judged_offers (at_cut (cut_count b) b) ≡ judged_offers b
   all_judged b = ap judged_offers (earlier_all (cut_count b - b.dropped) b (omega arith))
 
   module _ (domain : List ℕ → List ℕ) (key : List ℕ → ℕ) where
-    pairs_same : (n : ℕ) → n ≤ cut_count book → pairs_of domain key more n ≡ pairs_of domain key book n
+    pub pairs_same : (n : ℕ) → n ≤ cut_count book → pairs_of domain key more n ≡ pairs_of domain key book n
     pairs_same n le = ap (pair_offers domain key) (cuts_same n le)
 
     -- all links: those of the front, and others behind them
-    links_more : (rest : List Tuple) × (pairs_of domain key more (cut_count more) ≡ pairs_of domain key book (cut_count book) ++ rest)
+    pub links_more : (rest : List Tuple) × (pairs_of domain key more (cut_count more) ≡ pairs_of domain key book (cut_count book) ++ rest)
     links_more =
         let h = judged_offers_front book more is front in (
           pair_offers domain key h.0,
@@ -317,7 +317,7 @@ module _ (book more : Book) (is : IsBook book) (front : IsFront book more) where
               ∙ ap (λ (os : List Tuple). pair_offers domain key os ++ pair_offers domain key h.0) (sym (all_judged book)),
         )
 
-    offered_more : (offers : List Tuple) → AreOffered (pairs_of domain key book (cut_count book)) offers → AreOffered (pairs_of domain key more (cut_count more)) offers
+    pub offered_more : (offers : List Tuple) → AreOffered (pairs_of domain key book (cut_count book)) offers → AreOffered (pairs_of domain key more (cut_count more)) offers
     offered_more offers h = record {
       each = h.each;
       first = λ k offer is.

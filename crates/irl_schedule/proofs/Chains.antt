@@ -17,6 +17,7 @@ use Rattle.irl_bay.proofs.Staying.{only_wider, tells_same, tells_both, leaves_sa
 use Rattle.irl_bay.proofs.Standing.{holds_stands}
 use Rattle.irl_bay.specs.Holding.{Holds}
 use Rattle.irl_bay.specs.Standing.{Stands, IsBookOf}
+use Rattle.irl_schedule.proofs.Counts.{grow_both, same_grow}
 use Rattle.irl_schedule.proofs.Journals.{left_records}
 use Rattle.irl_schedule.specs.Schedule.{early_cuts, HaveRecords, AddsUneven, LeavesUneven, none_more}
 use Rattle.irl_schedule.specs.Feeding.{list_at, length_at, handed_in, Waits, FewUnjudged, Grows, Keeps, TakesWaiting, HasBetween, Moment, Stays, Fed, Stranded, Feeds, HeldNone}
@@ -143,6 +144,7 @@ stays_both old mid new consistent first second =
     record {
       settings = second.settings ∙ first.settings;
       base = second.base ∙ first.base;
+      grows = grow_both old.drum mid.drum new.drum first.grows second.grows;
       others = tells_both _ _ _ _ first.others (subst (λ (n : ℕ). TellsOnly (IsFileOf n old.drum.settings.buckets) mid.store.files new.store.files) first.base
           (subst (λ (n : ℕ). TellsOnly (IsFileOf mid.drum.base n) mid.store.files new.store.files) buckets second.others));
       others_stop = leaves_both _ old.store mid.store new.store consistent first.others_stop
@@ -158,6 +160,7 @@ pub stays_same : (old new : Moment) → IsConsistent old.store → new.store ≡
 stays_same old new consistent store urls = record {
   settings = ap (λ (d : Drum). d.settings) urls;
   base = ap (λ (d : Drum). d.base) urls;
+  grows = same_grow old.drum new.drum urls;
   others = tells_same _ _ _ (ap (λ (s : Told). s.files) store);
   others_stop = subst (λ (s : Told). LeavesBy (ChangesOnly (IsFileOf old.drum.base old.drum.settings.buckets)) old.store s) (sym store)
       (leaves_same _ old.store old.store (stays old.store old.store.images consistent (λ image left. left)));
@@ -169,6 +172,7 @@ pub stays_read : (old new : Moment) → new.drum ≡ old.drum → new.store.file
 stays_read old new urls files same = record {
   settings = ap (λ (d : Drum). d.settings) urls;
   base = ap (λ (d : Drum). d.base) urls;
+  grows = same_grow old.drum new.drum urls;
   others = tells_same _ _ _ files;
   others_stop = leaves_same _ old.store new.store same;
   bound = λ b within. subst (λ (d : Drum). pending_at d b ≤ max (old.drum.settings.trigger + old.drum.settings.array - 1) (pending_at old.drum b)) (sym urls) (omega arith);

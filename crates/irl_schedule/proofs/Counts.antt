@@ -1,5 +1,5 @@
 -- What waits in front of a bucket, and what a call makes of the numbers of a bay.
-use Rattle.std.proofs.Common.{◌≡◌, ◌≢◌, ◌∙◌, inl, inr, ⊎_elim, ℕ, ◌+◌, ◌<◌, ◌≤◌, Bool, true, false, cond, List, length, nat_eq, slice_index, refl, sym, ap, arith}
+use Rattle.std.proofs.Common.{◌≡◌, ◌≢◌, ◌∙◌, inl, inr, ⊎_elim, ℕ, ◌+◌, ◌<◌, ◌≤◌, Bool, true, false, cond, List, length, nat_eq, slice_index, refl, sym, ap, subst, arith}
 use Rattle.std.proofs.lemmas.List.{get_or-set_same, get_or-set_other, length-map}
 use Rattle.std.proofs.Math.ListN.{get_or-map}
 use Rattle.std.proofs.lemmas.Bool.{eq-eqb}
@@ -8,7 +8,7 @@ use Rattle.irl_offer.specs.Tuple.{Tuple}
 use Rattle.irl_bay.specs.declared.bucket.Bucket.{Bucket}
 use Rattle.irl_layout.specs.Commits.{Commit}
 use Rattle.irl_bay.specs.Drum.{Drum, IsDrum, no_bucket, durables, durable_at, pending_at, KeepsCounts, CountsFlush, CountsMerge}
-use Rattle.irl_schedule.specs.Feeding.{Waits, with_waiting, Moment, Moves}
+use Rattle.irl_schedule.specs.Feeding.{CountsGrow, Waits, with_waiting, Moment, Moves}
 use Rattle.irl_schedule.specs.Schedule.{none_more, one_more_at, uneven_flush}
 
 -- ---- what waits
@@ -71,6 +71,45 @@ kept_durable old new b counts = same_durables old new b counts.offers
 
 pub merged_durable : (old new : Drum) (b : ℕ) → CountsMerge old new → durable_at new b ≡ durable_at old b
 merged_durable old new b counts = same_durables old new b counts.offers
+
+-- ---- no count falls
+pub same_grow : (old new : Drum) → new ≡ old → CountsGrow old new
+same_grow old new same = record {
+  cuts = omega (arith, ap (λ (d : Drum). d.cuts) same);
+  judged = omega (arith, ap (λ (d : Drum). d.last.judged) same);
+  durable = λ b. omega (arith, ap (λ (d : Drum). durable_at d b) same);
+}
+
+pub grow_both : (old mid new : Drum) → CountsGrow old mid → CountsGrow mid new → CountsGrow old new
+grow_both old mid new one two = record {
+  cuts = omega (arith, one.cuts, two.cuts);
+  judged = omega (arith, one.judged, two.judged);
+  durable = λ b. omega (arith, one.durable b, two.durable b);
+}
+
+pub kept_grow : (old new : Drum) → KeepsCounts old new → CountsGrow old new
+kept_grow old new counts = record {
+  cuts = omega (arith, counts.cuts);
+  judged = omega (arith, ap (λ (commit : Commit). commit.judged) counts.last);
+  durable = λ b. omega (arith, kept_durable old new b counts);
+}
+
+pub flushed_grow : (b n : ℕ) (old new : Drum) → IsDrum old → b < old.settings.buckets → CountsFlush b n old new → CountsGrow old new
+flushed_grow b n old new law within counts = record {
+  cuts = omega (arith, counts.cuts);
+  judged = omega (arith, ap (λ (commit : Commit). commit.judged) counts.last);
+  durable = λ c. ⊎_elim
+      (λ same. subst (λ (m : ℕ). durable_at old m ≤ durable_at new m) (sym same.1) (omega (arith, flushed_durable_here b n old new law within counts)))
+      (λ other. omega (arith, flushed_durable_elsewhere b n c old new other.1 counts))
+      (eqb_tells c b);
+}
+
+pub merged_grow : (old new : Drum) → CountsMerge old new → CountsGrow old new
+merged_grow old new counts = record {
+  cuts = omega (arith, counts.cuts);
+  judged = omega (arith, counts.unique, counts.unique_more);
+  durable = λ b. omega (arith, merged_durable old new b counts);
+}
 
 -- nothing moves where nothing changes
 pub moves_none : (old new : Moment) (b : ℕ) → new.waits b ≡ old.waits b → durable_at new.drum b ≡ durable_at old.drum b → Moves old new b

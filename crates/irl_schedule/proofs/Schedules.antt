@@ -28,7 +28,7 @@ use Rattle.irl_schedule.specs.Schedule.{IsDue, none_more, uneven_flush}
 use Rattle.irl_schedule.specs.Feeding.{Waits, with_waiting, IsArrayOf, OnlyFlushes, CutsOnce, AddsCut, Keeps, Moment, moment, Moves, Stays, Fed, Feeds, Strands}
 use Rattle.irl_schedule.specs.Scheduling.{Schedules}
 use Rattle.irl_schedule.proofs.Chains.{keeps_same, feeds_both, feeds_more, feeds_none, stays_both, stays_same, stranded_after, stranded_more, none_before, tells_on, tells_wider}
-use Rattle.irl_schedule.proofs.Counts.{flush_even, waiting_here, waiting_elsewhere, flushed_durable_here, flushed_durable_elsewhere, flushed_pending_here, flushed_pending_elsewhere, kept_durable, kept_pending, merged_durable, merged_pending, moves_none, moves_both}
+use Rattle.irl_schedule.proofs.Counts.{flush_even, waiting_here, waiting_elsewhere, flushed_durable_here, flushed_durable_elsewhere, flushed_pending_here, flushed_pending_elsewhere, kept_durable, kept_grow, flushed_grow, merged_grow, kept_pending, merged_durable, merged_pending, moves_none, moves_both}
 use Rattle.irl_schedule.proofs.Journals.{buckets_apart, journal_stays}
 use Rattle.irl_schedule.proofs.Merging.{Merging, merging, merge_fed, unmerged_fed, emptied_journals, kept_journals, merge_stranded, spoilt_told}
 use Rattle.irl_schedule.proofs.Outcomes.{by_answer, err_gives, err_weaker, ok_three, ok_five, unless_failed, not_full, same_refusal, fits_unless}
@@ -111,6 +111,7 @@ module _ {S : Type 0} (told : S → Told) (lawful : (s : S) → IsConsistent (to
       record {
         settings = by_answer result flushes.counts refused.counts (λ counts. counts.settings) (λ counts. counts.settings);
         base = by_answer result flushes.counts refused.counts (λ counts. counts.base) (λ counts. counts.base);
+        grows = by_answer result flushes.counts refused.counts (λ counts. flushed_grow b (length was.items) old new law may.bucket counts) (λ counts. kept_grow old new counts);
         others = tells_wider (IsBucketFile old.base (live_side old.last) b) (IsFileOf old.base old.settings.buckets) _ _ are leaves.others.told;
         others_stop = widens_by _ _ (ChangesOnly (IsBucketFile old.base (live_side old.last) b)) (ChangesOnly (IsFileOf old.base old.settings.buckets)) leaves.others.stops
             (λ x y. only_wider (IsBucketFile old.base (live_side old.last) b) (IsFileOf old.base old.settings.buckets) x y are);
@@ -208,6 +209,7 @@ module _ (result : Result ℕ Fault) (old new : Drum) (before after : Told) (wai
   merge_stays = record {
     settings = by_answer result merges.counts refused.counts (λ counts. counts.settings) (λ counts. counts.settings);
     base = by_answer result merges.counts refused.counts (λ counts. counts.base) (λ counts. counts.base);
+    grows = by_answer result merges.counts refused.counts (λ counts. merged_grow old new counts) (λ counts. kept_grow old new counts);
     others = tells_wider (IsMergeFile old) (IsFileOf old.base old.settings.buckets) _ _ (merge_files old) leaves.others.told;
     others_stop = widens_by _ _ (ChangesOnly (IsMergeFile old)) (ChangesOnly (IsFileOf old.base old.settings.buckets)) leaves.others.stops
         (λ x y. only_wider (IsMergeFile old) (IsFileOf old.base old.settings.buckets) x y (merge_files old));

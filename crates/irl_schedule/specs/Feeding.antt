@@ -102,10 +102,17 @@ abbrev pub AddsCut : Drum → Drum → Type 0
 AddsCut old new = ((new.cuts ≡ old.cuts) × (new.last ≡ old.last))
     ⊎ ((new.cuts ≡ old.cuts + 1) × ((b : ℕ) → pending_at new b ≡ 0))
 
+-- no count of a bay falls: how many cuts it has, how many offers are judged, and how many each bucket has
+pub record CountsGrow (old new : Drum) : Type 0 where
+  pub cuts : old.cuts ≤ new.cuts
+  pub judged : old.last.judged ≤ new.last.judged
+  pub durable : (b : ℕ) → durable_at old b ≤ durable_at new b
+
 -- Whatever is answered, and whatever the files stand for.
 pub record Stays (old new : Moment) : Type 0 where
   pub settings : new.drum.settings ≡ old.drum.settings
   pub base : new.drum.base ≡ old.drum.base
+  pub grows : CountsGrow old.drum new.drum
   -- only files of the bay change
   pub others : TellsOnly (IsFileOf old.drum.base old.drum.settings.buckets) old.store.files new.store.files
   pub others_stop : LeavesBy (ChangesOnly (IsFileOf old.drum.base old.drum.settings.buckets)) old.store new.store
