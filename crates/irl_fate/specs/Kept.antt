@@ -96,6 +96,8 @@ pub record IsKept (a : Inside) : Type 0 where
   -- a number that isn't below the last pass's is fresh
   pub fresh : (n : ℕ) → a.read ≤ n → fate_in a.fates.items n ≡ Fresh
   pub sent : a.read ≤ a.sent
+  -- and none is read before the crawl begins
+  pub begun : 0 < a.read → a.begun ≡ true
   -- the queues that the round has read are empty
   pub spent : (k : ℕ) → k < a.passes → list_at (items_of a.lists.items) k ≡ []
   -- and so are those that are not in use

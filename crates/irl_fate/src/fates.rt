@@ -1,6 +1,6 @@
 ghost use Rattle.std.specs.Prelude.{◌≡◌, ◌≤◌, ◌<◌, ◌+◌, ◌*◌, ◌++◌, ◌∷◌, [], ℕ, List, length, min, nat_eq, if◌then◌else◌, IfOk, OnOk, OnErr, None, Some, true};
 ghost use Rattle.irl_offer.specs.Buckets.{IsBucketCount};
-ghost use Rattle.irl_events.specs.Events.{Happened, before_all, after_event, progress, Pass as SeenPass, Settle as SeenSettle};
+ghost use Rattle.irl_events.specs.Events.{Happened, before_all, after_event, has_number, progress, Pass as SeenPass, Settle as SeenSettle};
 ghost use Rattle.irl_events.specs.Legal.{AreLegal, broken, begins_once, pairs_rise, passes_on, is_noted, settles};
 ghost use Rattle.irl_base.specs.Lists.{list_at};
 ghost use Rattle.irl_events.specs.Queues.{last_of, round_ended};
@@ -206,6 +206,7 @@ impl Fates {
         ensures once { (n : ℕ) → stands self.now n ≡ one_if (is_placed (fate_of self.now n)) }
         ensures fresh { (n : ℕ) → self.now.read ≤ n → fate_of self.now n ≡ FreshFate }
         ensures sent { self.now.read ≤ self.now.sent }
+        ensures begun { (n : ℕ) → has_number self.now.front n ≡ true → self.now.begun ≡ true }
         ensures spent { (k : ℕ) → k < self.now.waiting.passes → list_at self.now.waiting.lists k ≡ [] }
         ensures unused { (k : ℕ) → self.now.waiting.queues ≤ k → k < 64 → list_at self.now.waiting.lists k ≡ [] }
         ensures queue { (n i : ℕ) → fate_of self.now n ≡ QueueFate i →
@@ -243,6 +244,34 @@ impl Fates {
         ensures { result ≡ length self.now.done }
     {
         self.done.len()
+    }
+
+    /// How many cuts the last Pairs event names: 0 before any, as of its other numbers. It takes no memory.
+    pub fn cuts(&self) -> u64
+        ensures { result ≡ self.now.cuts }
+    {
+        self.cuts
+    }
+
+    /// How many judged offers the last Pairs event names. It takes no memory.
+    pub fn sent(&self) -> u64
+        ensures { result ≡ self.now.sent }
+    {
+        self.sent
+    }
+
+    /// How many judged pairs the last Pairs event names. It takes no memory.
+    pub fn pairs(&self) -> u64
+        ensures { result ≡ self.now.pairs }
+    {
+        self.pairs
+    }
+
+    /// The number of the last Pass event, 0 before any: each URL below it was read. It takes no memory.
+    pub fn read(&self) -> u64
+        ensures { result ≡ self.now.read }
+    {
+        self.read
     }
 
     fn keeps_begin(&self, event: &Event) -> bool

@@ -1,6 +1,6 @@
-ghost use Rattle.std.specs.Prelude.{◌≡◌, ◌++◌, ℕ, List, [], length, IfOk, OnOk, OnErr, Some};
+ghost use Rattle.std.specs.Prelude.{◌≡◌, ◌<◌, ◌≤◌, ◌++◌, ℕ, List, [], length, true, IfOk, OnOk, OnErr, Some};
 ghost use Rattle.irl_offer.specs.Settings.{AreValid};
-ghost use Rattle.irl_events.specs.Events.{Pass as SeenPass, after_event};
+ghost use Rattle.irl_events.specs.Events.{Pass as SeenPass, after_event, has_number};
 ghost use Rattle.irl_events.specs.Legal.{broken};
 ghost use Rattle.irl_events.specs.Seen.{seen, HasFronts};
 ghost use Rattle.irl_star.specs.Degrees.{Counts};
@@ -156,6 +156,34 @@ impl Frontier {
         self.fates.first_of_front(alloc, most)
     }
 
+    /// How many cuts the last Pairs event names: 0 before any, as of its other numbers. It takes no memory.
+    pub fn cuts(&self) -> u64
+        ensures { result ≡ self.now.progress.cuts }
+    {
+        self.fates.cuts()
+    }
+
+    /// How many judged offers the last Pairs event names. It takes no memory.
+    pub fn sent(&self) -> u64
+        ensures { result ≡ self.now.progress.sent }
+    {
+        self.fates.sent()
+    }
+
+    /// How many judged pairs the last Pairs event names. It takes no memory.
+    pub fn pairs(&self) -> u64
+        ensures { result ≡ self.now.progress.pairs }
+    {
+        self.fates.pairs()
+    }
+
+    /// The number of the last Pass event, 0 before any: each URL below it was read. It takes no memory.
+    pub fn read(&self) -> u64
+        ensures { result ≡ self.now.progress.read }
+    {
+        self.fates.read()
+    }
+
     /// How many numbers are to be fetched next. It takes no memory.
     pub fn left(&self) -> usize
         ensures { result ≡ length self.now.progress.front }
@@ -211,6 +239,15 @@ impl Frontier {
             }
             _ => Ok(self.tally),
         }
+    }
+
+    /// A law: each number that is to be fetched next was read by a pass, and so the crawl has begun. It does nothing.
+    pub fn front_was_read(&self)
+        ensures front { (n : ℕ) → has_number self.now.progress.front n ≡ true → n < self.now.progress.read }
+        ensures read { self.now.progress.read ≤ self.now.progress.sent }
+        ensures begun { (n : ℕ) → has_number self.now.progress.front n ≡ true → self.now.progress.begun ≡ true }
+    {
+        self.fates.stands_once();
     }
 
     /// A law: what each frontier keeps. It does nothing.

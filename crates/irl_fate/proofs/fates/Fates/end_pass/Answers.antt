@@ -63,6 +63,7 @@ invariant_of-self-2 c =
           (same_fates (fate_in new) becomes (turn (first_spent a k read) k.agree)));
       fresh = λ n le. becomes n ∙ turned_fresh (fate_in old) (front_left old a.front.items) lists a.done.items n k.agree (k.fresh n le);
       sent = k.sent;
+      begun = k.begun;
       spent = λ i lt. absurd (omega arith);
       unused = λ i le lt. ap (λ (t : List (List ℕ)). list_at t i) now ∙ turned_unused lists i (omega arith) lt (k.unused i (omega (arith, c.queues_after-self-inside.ensures.least)) lt);
       left = k.left ∙ sym (ap length front);

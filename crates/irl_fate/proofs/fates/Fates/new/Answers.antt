@@ -19,6 +19,7 @@ invariant_of-result c =
       agree = none_agree _ _ _ _ none front c.in_ok-lists.ensures.lists done;
       fresh = none_fresh _ none;
       sent = omega arith;
+      begun = λ lt. absurd (omega (arith, lt));
       spent = λ k lt. absurd (omega arith);
       unused = λ k le lt. ap (λ (t : List (List ℕ)). list_at t k) c.in_ok-lists.ensures.lists ∙ empty_at k;
       left = sym (ap (λ (t : List ℕ). length (front_left c.new.result.items t)) front);

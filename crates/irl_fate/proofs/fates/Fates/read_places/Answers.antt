@@ -1,4 +1,4 @@
-use Rattle.std.proofs.Common.{◌≡◌, ◌∙◌, ◌+◌, ◌-◌, ◌++◌, ◌≤◌, ◌<◌, ℕ, List, [], drop, get_or, set, length, true, sym, ap, subst, arith, rules}
+use Rattle.std.proofs.Common.{◌≡◌, ◌∙◌, ◌+◌, ◌-◌, ◌++◌, ◌≤◌, ◌<◌, ℕ, List, [], drop, get_or, set, length, true, refl, sym, ap, subst, arith, rules}
 use Rattle.std.specs.Prelude.{vec_len}
 use Rattle.std.specs.Vec.{with_items}
 use Rattle.std.proofs.lemmas.List.{drop-map, length-drop, length-map, length-set}
@@ -193,6 +193,7 @@ invariant_of-self c =
           (sym c.grow-2.ensures.items) (reads_agree _ _ _ _ _ _ _ _ _ _ _ is)));
       fresh = reads_fresh _ _ _ _ _ _ _ _ _ _ _ is;
       sent = omega arith;
+      begun = λ lt. refl;
       spent = λ i lt. ap (λ (l : List (List ℕ)). list_at l i) now ∙ reads_spent _ _ _ _ _ _ _ _ _ _ _ is i (omega arith);
       unused = λ i le lt. ap (λ (l : List (List ℕ)). list_at l i) now ∙ reads_unused _ _ _ _ _ _ _ _ _ _ _ is k.unused k.round i le lt;
       left = c.len-left.ensures ∙ front_count ∙ sym (ap length whole);

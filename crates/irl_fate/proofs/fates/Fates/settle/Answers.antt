@@ -1,4 +1,4 @@
-use Rattle.std.proofs.Common.{◌≡◌, ◌∙◌, ◌+◌, ◌++◌, ◌<◌, ℕ, List, [], get_or, length, true, false, sym, ap, subst, arith, rules, length-append}
+use Rattle.std.proofs.Common.{◌≡◌, ◌∙◌, ◌+◌, ◌++◌, ◌<◌, ℕ, List, [], get_or, length, true, false, refl, sym, ap, subst, arith, rules, length-append}
 use Rattle.std.specs.Prelude.{vec_len}
 use Rattle.std.specs.Vec.{with_items}
 use Rattle.std.specs.List.{list_all}
@@ -120,6 +120,7 @@ invariant_of-self c =
           (same_fates (fate_in new) becomes (settle_agree outcomes s.front s.distinct k.agree)));
       fresh = λ n le. becomes n ∙ settle_fresh (fate_in old) outcomes n s.front (k.fresh n le);
       sent = k.sent;
+      begun = λ lt. refl;
       spent = k.spent;
       unused = k.unused;
       left = omega (arith, few.left, c.len.ensures);

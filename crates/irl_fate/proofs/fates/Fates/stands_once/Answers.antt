@@ -1,13 +1,14 @@
-use Rattle.std.proofs.Common.{◌≡◌, ◌∙◌, ◌≤◌, ◌<◌, ℕ, [], length, sym, ap, subst}
+use Rattle.std.proofs.Common.{◌≡◌, ◌∙◌, ◌≤◌, ◌<◌, ℕ, [], length, true, sym, ap, subst, arith}
 use Rattle.irl_base.specs.Lists.{list_at}
-use Rattle.irl_events.specs.Events.{Progress}
+use Rattle.irl_events.specs.Events.{Progress, has_number}
 use Rattle.irl_fate.specs.declared.fate.Fate.{Fate}
 use Rattle.irl_fate.specs.declared.fate.Fate.TheVariants.{Fresh, Queue}
 use Rattle.irl_fate.specs.Fates.{fate_of}
 use Rattle.irl_fate.specs.Standing.{one_if, is_placed, stands, IsWaiting}
-use Rattle.irl_fate.specs.Kept.{shown}
+use Rattle.irl_fate.specs.Kept.{shown, fate_in}
 use Rattle.irl_fate.proofs.Fresh.{queue_within}
-use Rattle.irl_fate.proofs.Agreeing.{stands_where}
+use Rattle.irl_fate.proofs.Agreeing.{in_front, stands_where}
+use Rattle.irl_fate.proofs.Ordering.{in_front_below}
 use Rattle.irl_fate.proofs.Standing.{stands_as}
 use Rattle.irl_fate.proofs.fates.Fates.stands_once.Goals as goal
 
@@ -22,6 +23,8 @@ returns c =
       fresh = subst (λ (x : Progress). (n : ℕ) → x.read ≤ n → fate_of x n ≡ Fresh) view
           (λ n le. sym (stands_where k.agree n) ∙ k.fresh n le);
       sent = subst (λ (x : Progress). x.read ≤ x.sent) view k.sent;
+      begun = subst (λ (x : Progress). (n : ℕ) → has_number x.front n ≡ true → x.begun ≡ true) view
+          (λ n there. k.begun (omega (arith, in_front_below (fate_in c.self.inside.fates.items) c.self.inside.read n k.fresh (sym (in_front k.agree n) ∙ there))));
       spent = subst (λ (x : Progress). (i : ℕ) → i < x.waiting.passes → list_at x.waiting.lists i ≡ []) view k.spent;
       unused = subst (λ (x : Progress). (i : ℕ) → x.waiting.queues ≤ i → i < 64 → list_at x.waiting.lists i ≡ []) view k.unused;
       queue = subst (λ (x : Progress). (n i : ℕ) → fate_of x n ≡ Queue i → (x.waiting.passes < i) × (i ≤ x.waiting.queues)) view
