@@ -1,0 +1,61 @@
+-- One event more in the log of a crawl.
+use Rattle.std.proofs.Common.{◌≡◌, ℕ, true, false, List, [], ◌∷◌, length, length-append, Option, None, Some, Result, Ok, Err, refl, sym, ap, subst, arith}
+use Rattle.std.proofs.lemmas.Bool.{le-leb}
+use Rattle.irl_base.specs.Limits.{max_text, max_robots}
+use Rattle.irl_base.specs.declared.fault.Fault.{Fault}
+use Rattle.irl_offer.specs.declared.note.Note.{Note}
+use Rattle.irl_events.specs.Events.{Event, Begin, Robots, Progress}
+use Rattle.irl_events.specs.Legal.{broken, text_of}
+use Rattle.irl_disk.specs.Images.{Told}
+use Rattle.irl_frontier.specs.Frontier.{Frontier}
+use Rattle.irl_log.specs.Appending.{AppendsEvents}
+use Rattle.irl_log.specs.Log.{OpenLog}
+use Rattle.irl_log.specs.Form.{IsLogged, IsNote, IsSuffixText}
+use Rattle.irl_ledger.specs.declared.ledger.Ledger.{Ledger}
+use Rattle.irl_ledger.specs.Adding.{AddsToLog}
+
+-- a beginning tells its suffixes
+pub begun_of : {S : Type 0} (tells : S → Told) (result : Result Unit Fault) (event asked : Event) (frontier : Event → Frontier) (old new : Ledger) (read text : List ℕ) (before after : S)
+    → result ≡ Ok tt → event ≡ asked → read ≡ text → AddsToLog tells result event (frontier event) old.suffixes old new before after
+    → AddsToLog tells (Ok tt) asked (frontier asked) (Some text) old (record new { suffixes = Some read }) before after
+begun_of tells result event asked frontier old new read text before after is same_event same adds =
+    let ok : AddsToLog tells (Ok tt) asked (frontier asked) old.suffixes old new before after =
+    subst (λ (e : Event). AddsToLog tells (Ok tt) e (frontier e) old.suffixes old new before after) same_event
+    (subst (λ (r : Result Unit Fault). AddsToLog tells r event (frontier event) old.suffixes old new before after) is adds) in
+    record {
+      memory = λ no. cc;
+      log = ok.log;
+      done = (ok.done.0, ap (λ (t : List ℕ). Some t) same);
+      kept = tt;
+      pairs = ok.pairs;
+    }
+
+-- an append that is refused leaves the tables
+pub refused_of : {S : Type 0} (tells : S → Told) (answered result : Result Unit Fault) (fault : Fault) (event : Event) (frontier : Frontier) (suffixes : Option (List ℕ)) (old : Ledger) (log : OpenLog)
+    (before after : S) → result ≡ Err fault → answered ≡ Err fault → AppendsEvents tells result (event ∷ []) old.log log before after
+    → AddsToLog tells answered event frontier suffixes old (record old { log = log }) before after
+refused_of tells answered result fault event frontier suffixes old log before after is same appends =
+    let here : AppendsEvents tells (Err fault) (event ∷ []) old.log log before after = subst (λ (r : Result Unit Fault). AppendsEvents tells r (event ∷ []) old.log log before after) is appends in
+    subst (λ (r : Result Unit Fault). AddsToLog tells r event frontier suffixes old (record old { log = log }) before after) (sym same) (record {
+      memory = λ memory. ((here.memory memory).0, ap (λ (l : OpenLog). record old { log = l }) (here.memory memory).1);
+      log = λ other. here;
+      done = tt;
+      kept = (refl, refl);
+      pairs = refl;
+    })
+
+-- ---- the events
+-- a beginning
+pub begin_keeps : (x : Progress) (suffixes : List ℕ) → x.begun ≡ false → broken x (Begin suffixes) [] ≡ None
+begin_keeps x suffixes is = rw is refl
+
+pub begin_logged : (buckets : ℕ) (suffixes : List ℕ) → IsSuffixText suffixes → IsLogged buckets (Begin suffixes)
+begin_logged buckets suffixes is = record { form = is; fits = omega (arith, is.limit) }
+
+-- a note
+pub note_keeps : (x : Progress) (note : Note) → x.begun ≡ true → IsNote note → broken x (Robots note) [] ≡ None
+note_keeps x note is form =
+    rw (is, le-leb 1 (length note.host) form.host, le-leb (length note.host) max_text form.host_limit, le-leb (length (text_of note.state)) max_robots form.text_limit) refl
+
+pub note_logged : (buckets : ℕ) (note : Note) → IsNote note → IsLogged buckets (Robots note)
+note_logged buckets note is = record { form = is; fits = omega (arith, length-append note.host (text_of note.state), is.host_limit, is.text_limit) }

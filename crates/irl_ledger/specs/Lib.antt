@@ -1,0 +1,13 @@
+pub mod Adding
+pub mod Arrays
+pub mod Broken
+pub mod Crawling
+pub mod Damage
+pub mod Holding
+pub mod Making
+pub mod Passing
+pub mod Reading
+pub mod Running
+pub mod Sending
+pub mod Settling
+pub mod Telling
