@@ -1,7 +1,6 @@
 -- One event more in the log of a crawl: what it makes of the state that an open store holds.
 use Rattle.std.proofs.Common.{◌≡◌, ◌∙◌, ◌+◌, ◌⊎◌, inl, inr, ⊎_elim, ℕ, ◌<◌, ◌≤◌, true, false, List, [], ◌∷◌, ◌++◌, length, take, drop, length-append, length-take-le, Option, None, Some, Result, Ok, Err, IsOk, IsErrOf, OnOk, OnErr, refl, sym, ap, subst, arith}
-use Rattle.std.proofs.lemmas.Bool.{le-leb}
-use Rattle.irl_base.specs.Limits.{max_text, max_robots}
+use Rattle.std.specs.Prelude.{is_some}
 use Rattle.std.specs.Option.{ForSome}
 use Rattle.irl_base.specs.declared.fault.Fault.{Fault}
 use Rattle.irl_base.specs.declared.fault.Fault.TheVariants.{Failed, Memory, Full, Damaged}
@@ -13,7 +12,7 @@ use Rattle.irl_offer.specs.declared.place.Place.{Place}
 use Rattle.irl_key.specs.Key.{key_of}
 use Rattle.irl_model.specs.Book.{Book}
 use Rattle.irl_events.specs.Events.{Event, Begin, Pairs, Pass, Robots, Settle, Happened, Progress, after_event, after_events, before_all, progress}
-use Rattle.irl_events.specs.Legal.{broken, text_of}
+use Rattle.irl_events.specs.Legal.{broken}
 use Rattle.irl_events.specs.State.{State}
 use Rattle.irl_events.proofs.Following.{after_more}
 use Rattle.irl_core.specs.States.{IsOfBooks, begun_with}
@@ -33,16 +32,21 @@ use Rattle.irl_bay.proofs.Apart.{files_within, holds_beside, long_beside, stands
 use Rattle.irl_head.specs.StoreFiles.{head_file, crawl_file, urls_base, pairs_base}
 use Rattle.irl_head.specs.Head.{head_bytes}
 use Rattle.irl_log.specs.Appending.{HasOrGainsEvents}
-use Rattle.irl_log.specs.Form.{IsLogged, IsNote, IsSuffixText}
+use Rattle.irl_frontier.specs.Frontier.{Frontier, IsFrontier, after_other}
+use Rattle.irl_log.specs.Form.{IsNote}
 use Rattle.irl_log.specs.Log.{AreLogged, HasEvents, HoldsLog}
 use Rattle.irl_log.specs.Spelling.{log_records}
-use Rattle.irl_yard.specs.declared.parts.CrawlParts.{CrawlParts}
+use Rattle.irl_ledger.specs.declared.ledger.Ledger.{Ledger}
 use Rattle.irl_yard.specs.declared.parts.Parts.{Parts}
 use Rattle.irl_yard.specs.declared.parts.Rest.{Rest}
 use Rattle.irl_yard.specs.declared.parts.Rest.TheVariants.{Crawl}
-use Rattle.irl_yard.specs.Adding.{AddsEvent, AddsToLog, with_event}
-use Rattle.irl_yard.specs.Crawling.{AreCrawlFiles, IsCrawlState, domain_of, events_of, pair_settings}
-use Rattle.irl_yard.specs.Holding.{HoldsCrawl, HoldsOpen, HoldsState, HoldsUrls, HasOneOf, IsOpenCrawl, IsOpenRest, IsSoundRest}
+use Rattle.irl_yard.specs.Adding.{AddsEvent, TellsEvent, suffixes_after, with_event}
+use Rattle.irl_ledger.specs.Crawling.{AreCrawlFiles, IsCrawlState, domain_of, events_of, pair_settings}
+use Rattle.irl_ledger.specs.Adding.{AddsToLog}
+use Rattle.irl_ledger.specs.Holding.{FitsBays, HoldsLedger, IsFrontierOf, IsOpenLedger, domain_by}
+use Rattle.irl_ledger.proofs.Adding.{begin_keeps, note_keeps}
+use Rattle.irl_ledger.proofs.Tables.{tables_begun, tables_other}
+use Rattle.irl_yard.specs.Holding.{HoldsOpen, HoldsState, HoldsUrls, HasOneOf, IsOpenRest, IsSoundRest}
 use Rattle.irl_yard.specs.Standing.{HasRest, IsMade, IsRest}
 use Rattle.irl_yard.proofs.Grounds.{made_has}
 use Rattle.irl_yard.proofs.Making.{on_ok_then}
@@ -78,16 +82,16 @@ begun_more queues buckets [] h is = cc
 begun_more queues buckets (e ∷ es) h is = refl
 
 -- ---- the state
--- an event that keeps the rules after these, and of which the books say what they have to, gives no places
-pub record IsNext (settings : Settings) (urls pairs : Book) (events : List Happened) (event : Event) : Type 0 where
-  pub keeps : broken (progress settings.queues settings.buckets events) event [] ≡ None
-  pub told : (domain : List ℕ → List ℕ) → IsOfBooks domain key_of settings urls pairs (progress settings.queues settings.buckets events) event []
+-- an event that keeps the rules after these, with these places, and of which the books say what they have to
+pub record IsNext (settings : Settings) (urls pairs : Book) (events : List Happened) (event : Event) (places : List Place) : Type 0 where
+  pub keeps : broken (progress settings.queues settings.buckets events) event places ≡ None
+  pub told : IsOfBooks (domain_by (events ++ (event, places) ∷ [])) key_of settings urls pairs (progress settings.queues settings.buckets events) event places
 
-pub crawl_more : (settings : Settings) (urls pairs : Book) (events : List Happened) (event : Event) → IsNext settings urls pairs events event → IsCrawlState settings urls pairs events
-    → IsCrawlState settings urls pairs (events ++ (event, []) ∷ [])
-crawl_more settings urls pairs events event next state = record {
+pub crawl_more : (settings : Settings) (urls pairs : Book) (events : List Happened) (event : Event) (places : List Place) → IsNext settings urls pairs events event places
+    → IsCrawlState settings urls pairs events → IsCrawlState settings urls pairs (events ++ (event, places) ∷ [])
+crawl_more settings urls pairs events event places next state = record {
   pairs_are = state.pairs_are;
-  legal = legal-more domain_of key_of settings urls pairs events event [] state.legal next.keeps (next.told _);
+  legal = legal-more domain_of key_of settings urls pairs events event places state.legal next.keeps next.told;
   taken = state.taken;
 }
 
@@ -137,20 +141,20 @@ made_with settings state events old new kind changes made log legal =
     }
 
 -- ---- an open store
-module _ (old new : Told) (urls : Drum) (state : State) (event : Event) (law : IsDrum urls) (consistent : IsConsistent new) (kind : urls.settings.kind ≡ CrawlKind)
-    (holds : HoldsUrls old.images urls state) (next : IsNext urls.settings state.urls state.pairs state.events event) where
+module _ (old new : Told) (urls : Drum) (state : State) (event : Event) (places : List Place) (law : IsDrum urls) (consistent : IsConsistent new) (kind : urls.settings.kind ≡ CrawlKind)
+    (holds : HoldsUrls old.images urls state) (next : IsNext urls.settings state.urls state.pairs state.events event places) where
   small : urls.settings.buckets ≤ 64
   small = few urls.settings law.settings
 
   is_legal : IsCrawlState urls.settings state.urls state.pairs state.events
   is_legal = legal_as urls.settings kind state.pairs state.urls state.events holds.legal
 
-  more_legal : IsCrawlState urls.settings state.urls state.pairs (with_event event state).events
-  more_legal = crawl_more urls.settings state.urls state.pairs state.events event next is_legal
+  more_legal : IsCrawlState urls.settings state.urls state.pairs (with_event event places state).events
+  more_legal = crawl_more urls.settings state.urls state.pairs state.events event places next is_legal
 
   -- each stop from then on leaves the event
   pub urls_more : LeavesBy (ChangesOnly IsLog) old new → ((image : Files) → new.images image → HasEvents urls.settings.buckets (image crawl_file) (events_of state.events ++ event ∷ []))
-      → HoldsUrls new.images urls (with_event event state)
+      → HoldsUrls new.images urls (with_event event places state)
   urls_more stops log = record {
     settings = holds.settings;
     base = holds.base;
@@ -158,16 +162,16 @@ module _ (old new : Told) (urls : Drum) (state : State) (event : Event) (law : I
         let from = left_now old new _ consistent stops image left in
         subst (λ (file : List ℕ). HasRecords file (head_bytes urls.settings ∷ [])) (sym (from.2 head_file head_apart)) (holds.head from.0 from.1);
     urls_hold = holds_beside IsLog old new urls state.urls law consistent stops (λ f is. urls_apart urls.base urls.settings.buckets f holds.base small is) holds.urls_hold;
-    legal = legal_with urls.settings kind state.pairs state.urls (with_event event state).events more_legal;
+    legal = legal_with urls.settings kind state.pairs state.urls (with_event event places state).events more_legal;
     rest = λ image left.
         let from = left_now old new _ consistent stops image left in
-        rest_with urls.settings kind state.pairs state.events (with_event event state).events from.0 image small from.2
-        (subst (HasEvents urls.settings.buckets (image crawl_file)) (sym (events_more state.events (event, []))) (log image left)) (holds.rest from.0 from.1);
+        rest_with urls.settings kind state.pairs state.events (with_event event places state).events from.0 image small from.2
+        (subst (HasEvents urls.settings.buckets (image crawl_file)) (sym (events_more state.events (event, places))) (log image left)) (holds.rest from.0 from.1);
   }
 
   -- and one in between leaves it or not
   pub stops_more : LeavesBy (ChangesFile crawl_file (HasOrGainsEvents urls.settings.buckets (events_of state.events) (event ∷ []))) old new
-      → Leaves old new (HasOneOf state (with_event event state))
+      → Leaves old new (HasOneOf state (with_event event places state))
   stops_more stops = widens old new (Follows (ChangesFile crawl_file (HasOrGainsEvents urls.settings.buckets (events_of state.events) (event ∷ []))) old.images) _ stops (λ image from.
       let made = made_has urls.settings state from.0 (record { valid = law.settings; head = inr (holds.head from.0 from.1) }) (held_has old.images urls state from.0 law holds from.1) in
       let changes : ChangesOnly IsLog from.0 image = λ f out. from.2.others f out in
@@ -177,27 +181,28 @@ module _ (old new : Told) (urls : Drum) (state : State) (event : Event) (law : I
       (λ (more : HasEvents urls.settings.buckets (image crawl_file) (events_of state.events ++ event ∷ [])).
       inr (inr (
         urls.settings,
-        made_with urls.settings state (with_event event state).events from.0 image kind changes made
-            (subst (HasEvents urls.settings.buckets (image crawl_file)) (sym (events_more state.events (event, []))) more) more_legal,
+        made_with urls.settings state (with_event event places state).events from.0 image kind changes made
+            (subst (HasEvents urls.settings.buckets (image crawl_file)) (sym (events_more state.events (event, places))) more) more_legal,
       )))
       from.2.changed)
 
   -- what is open beside
-  pub open_more : (was now : CrawlParts) → LeavesBy (ChangesOnly IsLog) old new → IsOpenCrawl urls was old.files → now.pairs ≡ was.pairs
+  pub open_more : (was now : Ledger) → LeavesBy (ChangesOnly IsLog) old new → IsOpenLedger urls was old.files → now.pairs ≡ was.pairs
       → (HoldsLog old.images was.log (events_of state.events) → HoldsLog new.images now.log (events_of state.events ++ event ∷ []))
-      → now.fates ≡ after_event was.fates event [] → now.suffixes ≡ begun_with (with_event event state).events → HoldsCrawl old.images urls.settings was state.pairs state.events
-      → HoldsCrawl new.images urls.settings now state.pairs (with_event event state).events
-  open_more was now stops open_crawl pairs log fates suffixes held = record {
+      → IsFrontierOf urls.settings state.urls state.pairs (with_event event places state).events now.frontier → now.suffixes ≡ begun_with (with_event event places state).events
+      → HoldsLedger old.images urls.settings was state.urls state.pairs state.events
+      → HoldsLedger new.images urls.settings now state.urls state.pairs (with_event event places state).events
+  open_more was now stops open_crawl pairs log tables suffixes held = record {
     pairs_hold = subst (λ (d : Drum). Holds new.images d state.pairs) (sym pairs) (holds_beside IsLog old new was.pairs state.pairs open_crawl.drum consistent stops
         (λ f is. pairs_apart urls.settings.buckets f small (subst (λ (s : Settings). IsFileOf pairs_base s.buckets f) open_crawl.settings (subst (λ (n : ℕ). IsFileOf n was.pairs.settings.buckets f)
         open_crawl.base is))) held.pairs_hold);
-    log = subst (HoldsLog new.images now.log) (sym (events_more state.events (event, []))) (log held.log);
-    fates = fates ∙ ap (λ (x : Progress). after_event x event []) held.fates ∙ sym (progress_more urls.settings.queues urls.settings.buckets state.events (event, []));
+    log = subst (HoldsLog new.images now.log) (sym (events_more state.events (event, places))) (log held.log);
+    frontier = tables;
     suffixes = suffixes;
   }
 
 -- ---- what an append leaves
-pub same_crawl : (x y : CrawlParts) → Crawl x ≡ Crawl y → x ≡ y
+pub same_crawl : (x y : Ledger) → Crawl x ≡ Crawl y → x ≡ y
 same_crawl x y same = cc
 
 memory_or_not : (result : Result Unit Fault) → IsErrOf result Memory ⊎ (IsErrOf result Memory → ⊥)
@@ -210,11 +215,15 @@ memory_or_not (Err (Damaged f at)) = inr (λ is. cc)
 not_failed : (result : Result Unit Fault) → IsErrOf result Memory → IsErrOf result Failed → ⊥
 not_failed result memory failed = cc
 
-from_ok : {P : Type 0} (result : Result Unit Fault) → IsOk result → OnOk result P → P
+pub from_ok : {P : Type 0} (result : Result Unit Fault) → IsOk result → OnOk result P → P
 from_ok (Ok value) is has = has
 from_ok (Err error) is has = cc
 
-on_err_then : {P Q : Type 0} (result : Result Unit Fault) → (P → Q) → OnErr result P → OnErr result Q
+ok_or_err : {P Q : Type 0} (result : Result Unit Fault) → OnErr result P → OnOk result Q → P ⊎ Q
+ok_or_err (Ok value) was is = inr is
+ok_or_err (Err error) was is = inl was
+
+pub on_err_then : {P Q : Type 0} (result : Result Unit Fault) → (P → Q) → OnErr result P → OnErr result Q
 on_err_then (Ok value) gives has = tt
 on_err_then (Err error) gives has = gives has
 
@@ -248,9 +257,10 @@ long_after old new more before after long changes end = λ files told.
     let from = told_from old.file (HasAppended old.end more) before after files changes told in
     omega (arith, end, more_bytes old.end more (from.0 old.file) (files old.file) (long from.0 from.1) from.2.changed)
 
-module _ {S : Type 0} (tells : S → Told) (law : (s : S) → IsConsistent (tells s)) (result : Result Unit Fault) (event : Event) (suffixes : Option (List ℕ)) (before after : S)
-    (urls : Drum) (old new : CrawlParts) (drum : IsDrum urls) (open_crawl : IsOpenCrawl urls old (tells before).files) (was_sound : old.log.journal.is_sound ≡ true)
-    (adds : AddsToLog tells result event suffixes old new before after) where
+module _ {S : Type 0} (tells : S → Told) (law : (s : S) → IsConsistent (tells s)) (result : Result Unit Fault) (event : Event) (places : List Place) (frontier : Frontier)
+    (suffixes : Option (List ℕ)) (before after : S) (urls : Drum) (old new : Ledger) (drum : IsDrum urls) (open_crawl : IsOpenLedger urls old (tells before).files)
+        (was_sound : old.log.journal.is_sound ≡ true)
+    (adds : AddsToLog tells result event frontier suffixes old new before after) where
   -- whatever the files stand for, the log's alone changes
   pub log_changes : OnlyChanges (ChangesFile crawl_file (λ _ _. Unit {0})) (IsErrOf result Failed) (tells before) (tells after)
   log_changes = ⊎_elim
@@ -263,7 +273,7 @@ module _ {S : Type 0} (tells : S → Told) (law : (s : S) → IsConsistent (tell
   pub only_log : LeavesBy (ChangesOnly IsLog) (tells before) (tells after)
   only_log = widens_by (tells before) (tells after) _ _ log_changes.stops (λ x y changes f out. changes.others f out)
 
-  told_log : TellsOnly IsLog (tells before).files (tells after).files
+  pub told_log : TellsOnly IsLog (tells before).files (tells after).files
   told_log = told_wider _ _ (tells before).files (tells after).files (λ x y changes f out. changes.others f out) log_changes.told
 
   few_urls : urls.settings.buckets ≤ 64
@@ -277,9 +287,13 @@ module _ {S : Type 0} (tells : S → Told) (law : (s : S) → IsConsistent (tell
   pairs_no_log f is = pairs_apart urls.settings.buckets f few_urls
       (subst (λ (s : Settings). IsFileOf pairs_base s.buckets f) open_crawl.settings (subst (λ (n : ℕ). IsFileOf n old.pairs.settings.buckets f) open_crawl.base is))
 
+  -- the tables are as they were, or those that the event makes
+  frontier_is : (new.frontier ≡ old.frontier) × (new.suffixes ≡ old.suffixes) ⊎ (new.frontier ≡ frontier) × (new.suffixes ≡ suffixes)
+  frontier_is = ok_or_err result adds.kept adds.done
+
   -- and the parts are open still
-  appended_open : (IsErrOf result Memory → ⊥) → IsOpenCrawl urls new (tells after).files
-  appended_open other =
+  appended_open : FitsBays urls old.pairs frontier → frontier.progress.begun ≡ is_some suffixes → (IsErrOf result Memory → ⊥) → IsOpenLedger urls new (tells after).files
+  appended_open fits begun other =
       let log = adds.log other in
       let pairs = adds.pairs in
       record {
@@ -298,13 +312,21 @@ module _ {S : Type 0} (tells : S → Told) (law : (s : S) → IsConsistent (tell
             (from_ok result ok log.records.appends.bytes) (from_ok result ok log.records.appends.end)))
             (λ (memory : IsErrOf result Memory). absurd (other memory))
             (log.records.sound.0 sound);
+        fits = subst (λ (d : Drum). FitsBays urls d new.frontier) (sym pairs) (⊎_elim
+            (λ (was : (new.frontier ≡ old.frontier) × (new.suffixes ≡ old.suffixes)). subst (FitsBays urls old.pairs) (sym was.0) open_crawl.fits)
+            (λ (is : (new.frontier ≡ frontier) × (new.suffixes ≡ suffixes)). subst (FitsBays urls old.pairs) (sym is.0) fits)
+            frontier_is);
+        begun = ⊎_elim
+            (λ (was : (new.frontier ≡ old.frontier) × (new.suffixes ≡ old.suffixes)). ap (λ (x : Frontier). x.progress.begun) was.0 ∙ open_crawl.begun ∙ ap is_some (sym was.1))
+            (λ (is : (new.frontier ≡ frontier) × (new.suffixes ≡ suffixes)). ap (λ (x : Frontier). x.progress.begun) is.0 ∙ begun ∙ ap is_some (sym is.1))
+            frontier_is;
       }
 
-  pub still_open : IsOpenCrawl urls new (tells after).files
-  still_open = ⊎_elim
-      (λ (memory : IsErrOf result Memory). subst (λ (c : CrawlParts). IsOpenCrawl urls c (tells after).files) (sym (adds.memory memory).1)
-      (subst (λ (s : S). IsOpenCrawl urls old (tells s).files) (sym (adds.memory memory).0) open_crawl))
-      appended_open
+  pub still_open : FitsBays urls old.pairs frontier → frontier.progress.begun ≡ is_some suffixes → IsOpenLedger urls new (tells after).files
+  still_open fits begun = ⊎_elim
+      (λ (memory : IsErrOf result Memory). subst (λ (c : Ledger). IsOpenLedger urls c (tells after).files) (sym (adds.memory memory).1)
+      (subst (λ (s : S). IsOpenLedger urls old (tells s).files) (sym (adds.memory memory).0) open_crawl))
+      (appended_open fits begun)
       (memory_or_not result)
 
   -- ---- over states
@@ -316,128 +338,141 @@ module _ {S : Type 0} (tells : S → Told) (law : (s : S) → IsConsistent (tell
   }
 
   -- what a state has to say of the event
-  abbrev pub IsNextIn : State → Type 0
-  IsNextIn state = IsNext urls.settings state.urls state.pairs state.events event × (begun_with (with_event event state).events ≡ suffixes)
+  pub record IsNextIn (state : State) : Type 0 where
+    pub next : IsNext urls.settings state.urls state.pairs state.events event places
+    pub begun : begun_with (with_event event places state).events ≡ suffixes
+    pub tables : IsFrontierOf urls.settings state.urls state.pairs (with_event event places state).events frontier
 
-  state_more : (was now : Parts) (state : State) → was.urls ≡ urls → was.rest ≡ Crawl old → now.rest ≡ Crawl new → now.urls ≡ urls → (IsErrOf result Memory → ⊥)
-      → (new.fates ≡ after_event old.fates event []) × (new.suffixes ≡ suffixes)
+  -- of one state
+  pub state_next : (was now : Parts) (state : State) → was.urls ≡ urls → was.rest ≡ Crawl old → now.rest ≡ Crawl new → now.urls ≡ urls → (IsErrOf result Memory → ⊥)
+      → (new.frontier ≡ frontier) × (new.suffixes ≡ suffixes)
       → ((events : List Event) → HoldsLog (tells before).images old.log events → HoldsLog (tells after).images new.log (events ++ event ∷ []))
-      → ((state : State) → HoldsCrawl (tells before).images urls.settings old state.pairs state.events → IsNextIn state)
-      → HoldsState (tells before).images was state → HoldsState (tells after).images now (with_event event state)
-  state_more was now state was_urls was_rest now_rest now_urls other done gives next holds =
+      → IsNextIn state
+      → HoldsState (tells before).images was state → HoldsState (tells after).images now (with_event event places state)
+  state_next was now state was_urls was_rest now_rest now_urls other done gives is holds =
       let held = subst (λ (d : Drum). HoldsUrls (tells before).images d state) was_urls holds.urls in
-      let opened : HoldsOpen (tells before).images urls.settings (Crawl old) state.pairs state.events =
-      subst (λ (r : Rest). HoldsOpen (tells before).images urls.settings r state.pairs state.events) was_rest
-      (subst (λ (d : Drum). HoldsOpen (tells before).images d.settings was.rest state.pairs state.events) was_urls holds.open_rest) in
-      let is = next state opened.1 in
+      let opened : HoldsOpen (tells before).images urls.settings (Crawl old) state.urls state.pairs state.events =
+      subst (λ (r : Rest). HoldsOpen (tells before).images urls.settings r state.urls state.pairs state.events) was_rest
+      (subst (λ (d : Drum). HoldsOpen (tells before).images d.settings was.rest state.urls state.pairs state.events) was_urls holds.open_rest) in
       let log = adds.log other in
-      let more : HoldsUrls (tells after).images urls (with_event event state) =
-      urls_more (tells before) (tells after) urls state event drum (law after) opened.0 held is.0 only_log (λ image left.
+      let more : HoldsUrls (tells after).images urls (with_event event places state) =
+      urls_more (tells before) (tells after) urls state event places drum (law after) opened.0 held is.next only_log (λ image left.
       log_has (tells after).images (events_of state.events ++ event ∷ []) image (log.buckets ∙ open_crawl.buckets) (log.records.appends.file ∙ open_crawl.file)
       (gives (events_of state.events) opened.1.log) left) in
-      let beside : HoldsOpen (tells after).images urls.settings (Crawl new) state.pairs (with_event event state).events = (
+      let beside : HoldsOpen (tells after).images urls.settings (Crawl new) state.urls state.pairs (with_event event places state).events = (
         opened.0,
-        open_more (tells before) (tells after) urls state event drum (law after) opened.0 held is.0 old new only_log open_crawl adds.pairs (gives (events_of state.events)) done.0
-            (done.1 ∙ sym is.1) opened.1,
+        open_more (tells before) (tells after) urls state event places drum (law after) opened.0 held is.next old new only_log open_crawl adds.pairs (gives (events_of state.events))
+            (subst (IsFrontierOf urls.settings state.urls state.pairs (with_event event places state).events) (sym done.0) is.tables) (done.1 ∙ sym is.begun) opened.1,
       ) in
       record {
-        urls = subst (λ (d : Drum). HoldsUrls (tells after).images d (with_event event state)) (sym now_urls) more;
-        open_rest = subst (λ (d : Drum). HoldsOpen (tells after).images d.settings now.rest state.pairs (with_event event state).events) (sym now_urls)
-            (subst (λ (r : Rest). HoldsOpen (tells after).images urls.settings r state.pairs (with_event event state).events) (sym now_rest) beside);
+        urls = subst (λ (d : Drum). HoldsUrls (tells after).images d (with_event event places state)) (sym now_urls) more;
+        open_rest = subst (λ (d : Drum). HoldsOpen (tells after).images d.settings now.rest state.urls state.pairs (with_event event places state).events) (sym now_urls)
+            (subst (λ (r : Rest). HoldsOpen (tells after).images urls.settings r state.urls state.pairs (with_event event places state).events) (sym now_rest) beside);
       }
 
-  stops_at : (was : Parts) (state : State) → was.urls ≡ urls → was.rest ≡ Crawl old
-      → ((state : State) → HoldsCrawl (tells before).images urls.settings old state.pairs state.events → IsNextIn state)
-      → HoldsState (tells before).images was state → Leaves (tells before) (tells after) (HasOneOf state (with_event event state))
-  stops_at was state was_urls was_rest next holds =
+  pub stops_next : (was : Parts) (state : State) → was.urls ≡ urls → was.rest ≡ Crawl old
+      → IsNextIn state
+      → HoldsState (tells before).images was state → Leaves (tells before) (tells after) (HasOneOf state (with_event event places state))
+  stops_next was state was_urls was_rest is holds =
       let held = subst (λ (d : Drum). HoldsUrls (tells before).images d state) was_urls holds.urls in
-      let opened : HoldsOpen (tells before).images urls.settings (Crawl old) state.pairs state.events =
-      subst (λ (r : Rest). HoldsOpen (tells before).images urls.settings r state.pairs state.events) was_rest
-      (subst (λ (d : Drum). HoldsOpen (tells before).images d.settings was.rest state.pairs state.events) was_urls holds.open_rest) in
+      let opened : HoldsOpen (tells before).images urls.settings (Crawl old) state.urls state.pairs state.events =
+      subst (λ (r : Rest). HoldsOpen (tells before).images urls.settings r state.urls state.pairs state.events) was_rest
+      (subst (λ (d : Drum). HoldsOpen (tells before).images d.settings was.rest state.urls state.pairs state.events) was_urls holds.open_rest) in
       ⊎_elim
-      (λ (memory : IsErrOf result Memory). subst (λ (s : S). Leaves (tells before) (tells s) (HasOneOf state (with_event event state))) (sym (adds.memory memory).0)
-      (stays (tells before) (HasOneOf state (with_event event state)) (law before) (λ image left. inl (held_has (tells before).images urls state image drum held left))))
+      (λ (memory : IsErrOf result Memory). subst (λ (s : S). Leaves (tells before) (tells s) (HasOneOf state (with_event event places state))) (sym (adds.memory memory).0)
+      (stays (tells before) (HasOneOf state (with_event event places state)) (law before) (λ image left. inl (held_has (tells before).images urls state image drum held left))))
       (λ (other : IsErrOf result Memory → ⊥).
-      stops_more (tells before) (tells after) urls state event drum (law after) opened.0 held (next state opened.1).0
+      stops_more (tells before) (tells after) urls state event places drum (law after) opened.0 held is.next
       (subst (λ (n : ℕ). LeavesBy (ChangesFile crawl_file (HasOrGainsEvents n (events_of state.events) (event ∷ []))) (tells before) (tells after)) open_crawl.buckets
       (subst (λ (f : ℕ). LeavesBy (ChangesFile f (HasOrGainsEvents old.log.buckets (events_of state.events) (event ∷ []))) (tells before) (tells after)) open_crawl.file
       ((adds.log other).changes (events_of state.events) opened.1.log).stops)))
       (memory_or_not result)
 
-  fates_told : (was now c d : CrawlParts) → old ≡ c → new ≡ d → OnOk result (d.fates ≡ after_event c.fates event []) × OnErr result (d.fates ≡ c.fates)
-  fates_told was now c d is_old is_new = (
-    on_ok_then result (λ done. ap (λ (p : CrawlParts). p.fates) (sym is_new) ∙ done.0 ∙ ap (λ (p : CrawlParts). after_event p.fates event []) is_old) adds.done,
-    on_err_then result (λ kept. ap (λ (p : CrawlParts). p.fates) (sym is_new) ∙ kept.0 ∙ ap (λ (p : CrawlParts). p.fates) is_old) adds.kept,
-  )
+  -- of each
+  pub state_more : (was now : Parts) (state : State) → was.urls ≡ urls → was.rest ≡ Crawl old → now.rest ≡ Crawl new → now.urls ≡ urls → (IsErrOf result Memory → ⊥)
+      → (new.frontier ≡ frontier) × (new.suffixes ≡ suffixes)
+      → ((events : List Event) → HoldsLog (tells before).images old.log events → HoldsLog (tells after).images new.log (events ++ event ∷ []))
+      → ((state : State) → HoldsUrls (tells before).images urls state → HoldsLedger (tells before).images urls.settings old state.urls state.pairs state.events → IsNextIn state)
+      → HoldsState (tells before).images was state → HoldsState (tells after).images now (with_event event places state)
+  state_more was now state was_urls was_rest now_rest now_urls other done gives next holds =
+      let held = subst (λ (d : Drum). HoldsUrls (tells before).images d state) was_urls holds.urls in
+      let opened : HoldsOpen (tells before).images urls.settings (Crawl old) state.urls state.pairs state.events =
+      subst (λ (r : Rest). HoldsOpen (tells before).images urls.settings r state.urls state.pairs state.events) was_rest
+      (subst (λ (d : Drum). HoldsOpen (tells before).images d.settings was.rest state.urls state.pairs state.events) was_urls holds.open_rest) in
+      state_next was now state was_urls was_rest now_rest now_urls other done gives (next state held opened.1) holds
+
+  pub stops_at : (was : Parts) (state : State) → was.urls ≡ urls → was.rest ≡ Crawl old
+      → ((state : State) → HoldsUrls (tells before).images urls state → HoldsLedger (tells before).images urls.settings old state.urls state.pairs state.events → IsNextIn state)
+      → HoldsState (tells before).images was state → Leaves (tells before) (tells after) (HasOneOf state (with_event event places state))
+  stops_at was state was_urls was_rest next holds =
+      let held = subst (λ (d : Drum). HoldsUrls (tells before).images d state) was_urls holds.urls in
+      let opened : HoldsOpen (tells before).images urls.settings (Crawl old) state.urls state.pairs state.events =
+      subst (λ (r : Rest). HoldsOpen (tells before).images urls.settings r state.urls state.pairs state.events) was_rest
+      (subst (λ (d : Drum). HoldsOpen (tells before).images d.settings was.rest state.urls state.pairs state.events) was_urls holds.open_rest) in
+      stops_next was state was_urls was_rest (next state held opened.1) holds
+
+-- a call that adds an event which gives no places
+module _ {S : Type 0} (tells : S → Told) (law : (s : S) → IsConsistent (tells s)) (result : Result Unit Fault) (event : Event) (suffixes : Option (List ℕ)) (before after : S) (urls : Drum)
+    (old new : Ledger) (drum : IsDrum urls) (open_crawl : IsOpenLedger urls old (tells before).files) (was_sound : old.log.journal.is_sound ≡ true)
+    (adds : AddsToLog tells result event (after_other old.frontier event) suffixes old new before after) where
+  abbrev then : Frontier
+  then = after_other old.frontier event
 
   pub adds_event : (was now : Parts) → was.urls ≡ urls → was.rest ≡ Crawl old → now.rest ≡ Crawl new → now.urls ≡ urls → (now.rest ≡ was.rest → now ≡ was)
-      → ((state : State) → HoldsCrawl (tells before).images urls.settings old state.pairs state.events → IsNextIn state) → AddsEvent tells result event was now before after
-  adds_event was now was_urls was_rest now_rest now_urls same next = record {
-    holds = ok_then result _ adds.done (λ other done. on_ok_then result (λ gives state holds. state_more was now state was_urls was_rest now_rest now_urls other done gives next holds)
+      → ((state : State) → HoldsUrls (tells before).images urls state → HoldsLedger (tells before).images urls.settings old state.urls state.pairs state.events
+      → IsNextIn tells law result event [] then suffixes before after urls old new drum open_crawl was_sound adds state)
+      → suffixes ≡ suffixes_after event old.suffixes → AddsEvent tells result event was now before after
+  adds_event was now was_urls was_rest now_rest now_urls same next begins = record {
+    holds = ok_then result _ adds.done (λ other done. on_ok_then result (λ gives state holds.
+        state_more tells law result event [] then suffixes before after urls old new drum open_crawl was_sound adds was now state was_urls was_rest now_rest now_urls other done gives next holds)
         (adds.log other).acknowledged);
-    stops = λ state holds. stops_at was state was_urls was_rest next holds;
-    others = log_changes;
-    memory = λ is. ((adds.memory is).0, same (now_rest ∙ ap (λ (c : CrawlParts). Crawl c) (adds.memory is).1 ∙ sym was_rest));
+    stops = λ state holds. stops_at tells law result event [] then suffixes before after urls old new drum open_crawl was_sound adds was state was_urls was_rest next holds;
+    others = log_changes tells law result event [] then suffixes before after urls old new drum open_crawl was_sound adds;
+    memory = λ is. ((adds.memory is).0, same (now_rest ∙ ap (λ (c : Ledger). Crawl c) (adds.memory is).1 ∙ sym was_rest));
     full = λ n is. (adds.log (λ memory. cc)).records.full n is;
     damaged = λ f at is. (adds.log (λ memory. cc)).records.damaged f at is;
     urls = now_urls ∙ sym was_urls;
-    fates = λ c d was_is now_is. fates_told old new c d (same_crawl old c (sym was_rest ∙ was_is)) (same_crawl new d (sym now_rest ∙ now_is));
+    tables = λ c d was_is now_is.
+        subst (λ (x : Ledger). TellsEvent result event x d) (same_crawl old c (sym was_rest ∙ was_is))
+        (subst (TellsEvent result event old) (same_crawl new d (sym now_rest ∙ now_is))
+        (record { done = on_ok_then result (λ done. (done.0, done.1 ∙ begins)) adds.done; kept = adds.kept; pairs = adds.pairs }));
   }
 
 -- ---- the parts of a crawl that is open
-pub is_open : (urls : Drum) (rest : Rest) (crawl : CrawlParts) (told : Option Files) → rest ≡ Crawl crawl → IsOpenRest urls rest told → IsOpenCrawl urls crawl told
-is_open urls rest crawl told is open_rest = open_rest crawl is
+pub is_open : (urls : Drum) (rest : Rest) (crawl : Ledger) (told : Option Files) → rest ≡ Crawl crawl → IsOpenRest urls rest told → (urls.settings.kind ≡ CrawlKind) × IsOpenLedger urls crawl told
+is_open urls rest crawl told is open_rest = open_rest.1 crawl is
 
-pub log_sound : (rest : Rest) (crawl : CrawlParts) → rest ≡ Crawl crawl → IsSoundRest rest → crawl.log.journal.is_sound ≡ true
+pub log_sound : (rest : Rest) (crawl : Ledger) → rest ≡ Crawl crawl → IsSoundRest rest → crawl.log.journal.is_sound ≡ true
 log_sound rest crawl is sound = let both : IsSoundRest (Crawl crawl) = subst IsSoundRest is sound in both.1
 
-pub log_place : (urls : Drum) (rest : Rest) (crawl : CrawlParts) (told : Option Files) → rest ≡ Crawl crawl → IsOpenRest urls rest told → IsSoundRest rest
+pub log_place : (urls : Drum) (rest : Rest) (crawl : Ledger) (told : Option Files) → rest ≡ Crawl crawl → IsOpenRest urls rest told → IsSoundRest rest
     → ForSome told (λ files. crawl.log.journal.end < length (files crawl.log.journal.file))
 log_place urls rest crawl told is open_rest sound =
-    let opened = open_rest crawl is in
+    let opened = (is_open urls rest crawl told is open_rest).1 in
     subst (λ (f : ℕ). ForSome told (λ files. crawl.log.journal.end < length (files f))) (sym opened.file) (opened.log_long (log_sound rest crawl is sound))
-
--- a beginning tells its suffixes
-pub begun_of : {S : Type 0} (tells : S → Told) (result : Result Unit Fault) (event asked : Event) (old new : CrawlParts) (read text : List ℕ) (before after : S) → result ≡ Ok tt → event ≡ asked
-    → read ≡ text → AddsToLog tells result event old.suffixes old new before after → AddsToLog tells (Ok tt) asked (Some text) old (record new { suffixes = Some read }) before after
-begun_of tells result event asked old new read text before after is same_event same adds =
-    let ok : AddsToLog tells (Ok tt) asked old.suffixes old new before after =
-    subst (λ (e : Event). AddsToLog tells (Ok tt) e old.suffixes old new before after) same_event
-    (subst (λ (r : Result Unit Fault). AddsToLog tells r event old.suffixes old new before after) is adds) in
-    record {
-      memory = λ no. cc;
-      log = ok.log;
-      done = (ok.done.0, ap (λ (t : List ℕ). Some t) same);
-      kept = tt;
-      pairs = ok.pairs;
-    }
 
 -- ---- the events
 -- a beginning
-pub begin_keeps : (x : Progress) (suffixes : List ℕ) → x.begun ≡ false → broken x (Begin suffixes) [] ≡ None
-begin_keeps x suffixes is = rw is refl
-
-pub begin_logged : (buckets : ℕ) (suffixes : List ℕ) → IsSuffixText suffixes → IsLogged buckets (Begin suffixes)
-begin_logged buckets suffixes is = record { form = is; fits = omega (arith, is.limit) }
-
-pub begin_next : (settings : Settings) (urls pairs : Book) (events : List Happened) (suffixes : List ℕ) → (progress settings.queues settings.buckets events).begun ≡ false
-    → IsNext settings urls pairs events (Begin suffixes) × (begun_with (events ++ (Begin suffixes, []) ∷ []) ≡ Some suffixes)
-begin_next settings urls pairs events suffixes is = (
-  record { keeps = begin_keeps (progress settings.queues settings.buckets events) suffixes is; told = λ domain. refl },
-  subst (λ (es : List Happened). begun_with (es ++ (Begin suffixes, []) ∷ []) ≡ Some suffixes) (sym (none_begun settings.queues settings.buckets events is)) refl,
-)
+pub begin_next : (settings : Settings) (urls pairs : Book) (events : List Happened) (x : Frontier) (suffixes : List ℕ) → x.progress.begun ≡ false → IsFrontier x
+    → IsFrontierOf settings urls pairs events x → IsNext settings urls pairs events (Begin suffixes) [] × (begun_with (events ++ (Begin suffixes, []) ∷ []) ≡ Some suffixes)
+    × IsFrontierOf settings urls pairs (events ++ (Begin suffixes, []) ∷ []) (after_other x (Begin suffixes))
+begin_next settings urls pairs events x suffixes is keeps tables =
+    let begun : (progress settings.queues settings.buckets events).begun ≡ false = ap (λ (p : Progress). p.begun) (sym tables.progress_is) ∙ is in
+    let none = none_begun settings.queues settings.buckets events begun in (
+      record { keeps = begin_keeps (progress settings.queues settings.buckets events) suffixes begun; told = refl },
+      subst (λ (es : List Happened). begun_with (es ++ (Begin suffixes, []) ∷ []) ≡ Some suffixes) (sym none) refl,
+      subst (λ (es : List Happened). IsFrontierOf settings urls pairs (es ++ (Begin suffixes, []) ∷ []) (after_other x (Begin suffixes))) (sym none)
+          (tables_begun settings urls pairs x suffixes keeps (subst (λ (es : List Happened). IsFrontierOf settings urls pairs es x) none tables)),
+    )
 
 -- a note
-pub note_keeps : (x : Progress) (note : Note) → x.begun ≡ true → IsNote note → broken x (Robots note) [] ≡ None
-note_keeps x note is form =
-    rw (is, le-leb 1 (length note.host) form.host, le-leb (length note.host) max_text form.host_limit, le-leb (length (text_of note.state)) max_robots form.text_limit) refl
-
-pub note_logged : (buckets : ℕ) (note : Note) → IsNote note → IsLogged buckets (Robots note)
-note_logged buckets note is = record { form = is; fits = omega (arith, length-append note.host (text_of note.state), is.host_limit, is.text_limit) }
-
-pub note_next : (settings : Settings) (urls pairs : Book) (events : List Happened) (note : Note) → (progress settings.queues settings.buckets events).begun ≡ true → IsNote note
-    → IsNext settings urls pairs events (Robots note) × (begun_with (events ++ (Robots note, []) ∷ []) ≡ begun_with events)
-note_next settings urls pairs events note is form = (
-  record { keeps = note_keeps (progress settings.queues settings.buckets events) note is form; told = λ domain. refl },
-  begun_more settings.queues settings.buckets events (Robots note, []) is,
-)
+pub note_next : (settings : Settings) (urls pairs : Book) (events : List Happened) (x : Frontier) (note : Note) → x.progress.begun ≡ true → IsNote note
+    → IsFrontierOf settings urls pairs events x → IsNext settings urls pairs events (Robots note) [] × (begun_with (events ++ (Robots note, []) ∷ []) ≡ begun_with events)
+    × IsFrontierOf settings urls pairs (events ++ (Robots note, []) ∷ []) (after_other x (Robots note))
+note_next settings urls pairs events x note is form tables =
+    let begun : (progress settings.queues settings.buckets events).begun ≡ true = ap (λ (p : Progress). p.begun) (sym tables.progress_is) ∙ is in
+    let same = begun_more settings.queues settings.buckets events (Robots note, []) begun in (
+      record { keeps = note_keeps (progress settings.queues settings.buckets events) note begun form; told = refl },
+      same,
+      tables_other settings urls pairs events x (Robots note) same tables,
+    )

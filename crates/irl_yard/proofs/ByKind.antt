@@ -1,5 +1,8 @@
 -- What goes by the kind of a store.
-use Rattle.std.proofs.Common.{◌≡◌, ◌≢◌, ◌∙◌, ℕ, ◌≤◌, List, [], length, refl, sym, subst}
+use Rattle.std.proofs.Common.{◌≡◌, ◌≢◌, ◌∙◌, inl, ℕ, zero, suc, ◌≤◌, List, [], ◌∷◌, ◌++◌, length, replicate, refl, sym, subst}
+use Rattle.std.specs.List.{flat_map, AllByRecursion}
+use Rattle.irl_offer.specs.Settings.{AreValid}
+use Rattle.irl_offer.specs.declared.place.Place.{Place}
 use Rattle.irl_offer.specs.Tuple.{Tuple}
 use Rattle.irl_offer.specs.declared.offer.Rule.TheVariants.{Keep}
 use Rattle.irl_offer.specs.declared.settings.Asked.{Asked}
@@ -7,18 +10,20 @@ use Rattle.irl_offer.specs.declared.settings.Kind.{Kind}
 use Rattle.irl_offer.specs.declared.settings.Kind.TheVariants.{Lines, Tuples, Crawl}
 use Rattle.irl_offer.specs.declared.settings.Settings.{Settings}
 use Rattle.irl_model.specs.Book.{Book, IsBook, IsFront, blank_book, flushed, merged}
-use Rattle.irl_model.proofs.FrontLaws.{front_both}
-use Rattle.irl_events.specs.Events.{Happened}
+use Rattle.irl_model.proofs.FrontLaws.{flushed_front, front_both, front_same, merged_front}
+use Rattle.irl_events.specs.Events.{Event, Happened}
 use Rattle.irl_disk.specs.Disk.{Files}
 use Rattle.irl_layout.specs.BayFiles.{IsFileOf}
-use Rattle.irl_bay.proofs.Apart.{stands_apart}
+use Rattle.irl_bay.proofs.Apart.{stands_apart, unmade_stands}
+use Rattle.irl_bay.proofs.Blank.{blank_is_book}
 use Rattle.irl_head.specs.StoreFiles.{crawl_file, pairs_base}
 use Rattle.irl_head.specs.Asking.{Agrees}
 use Rattle.irl_head.specs.Head.{kind_number}
 use Rattle.irl_log.specs.Log.{HasEvents}
-use Rattle.irl_yard.specs.Crawling.{AreCrawlFiles, AreTaken, MayFollow, events_of, pair_settings}
+use Rattle.irl_ledger.specs.Crawling.{AreCrawlFiles, AreTaken, IsCrawlState, MayFollow, events_of, pair_settings}
+use Rattle.irl_ledger.proofs.Making.{pair_valid}
 use Rattle.irl_yard.specs.Standing.{ArePlainFiles, HasRest, IsRest}
-use Rattle.irl_yard.proofs.Crawling.{crawl_flushed, crawl_longer, crawl_merged, one_crawl, taken_fronts}
+use Rattle.irl_yard.proofs.Crawling.{crawl_longer, one_crawl, taken_flushed, taken_fronts}
 
 -- the files beside the head and the bay of URLs are as they were
 abbrev pub IsSameBeside : ℕ → Files → Files → Type 0
@@ -54,15 +59,39 @@ pub agrees_plain : (asked : Asked) (settings : Settings) → Agrees asked settin
 agrees_plain asked settings agrees plain is = plain (one_kind asked.kind settings.kind (agrees 0 (kind_number asked.kind) (kind_number settings.kind) refl refl) ∙ is)
 
 -- ---- a new store's
-pub new_rest : (kind : Kind) (settings : Settings) (urls : Book) → kind ≢ Crawl → IsRest kind settings urls (blank_book settings.buckets Keep) []
-new_rest Lines settings urls plain = record { pairs_are = refl; events_are = refl }
-new_rest Tuples settings urls plain = record { pairs_are = refl; events_are = refl }
-new_rest Crawl settings urls plain = absurd (plain refl)
+no_lists : (count : ℕ) → flat_map (λ (list : List Tuple). list) (replicate count []) ≡ []
+no_lists zero = refl
+no_lists (suc count) = no_lists count
 
-pub new_has : (kind : Kind) (settings : Settings) (files : Files) → kind ≢ Crawl → ArePlainFiles settings.buckets files → HasRest kind settings (blank_book settings.buckets Keep) [] files
-new_has Lines settings files plain are = are
-new_has Tuples settings files plain are = are
-new_has Crawl settings files plain are = absurd (plain refl)
+none_taken : (count : ℕ) → AllByRecursion (AreTaken Crawl) (replicate count [])
+none_taken zero = tt
+none_taken (suc count) = (tt, none_taken count)
+
+-- a crawl without a pair and without an event
+new_crawl : (settings : Settings) → AreValid settings → IsCrawlState settings (blank_book settings.buckets settings.rule) (blank_book settings.buckets Keep) []
+new_crawl settings valid = record {
+  pairs_are = record { is_book = blank_is_book settings.buckets Keep valid.buckets; buckets = refl; rule = refl; dropped = refl };
+  legal = record { rules = tt; each = λ before after event places is. none before after event places is; links = no_lists settings.buckets };
+  taken = none_taken settings.buckets;
+}
+  where
+    none : {P : Type 0} (before after : List Happened) (event : Event) (places : List Place) → [] ≡ before ++ (event, places) ∷ after → P
+    none [] after event places is = cc
+    none (h ∷ before) after event places is = cc
+
+pub new_rest : (kind : Kind) (settings : Settings) → AreValid settings → IsRest kind settings (blank_book settings.buckets settings.rule) (blank_book settings.buckets Keep) []
+new_rest Lines settings valid = record { pairs_are = refl; events_are = refl }
+new_rest Tuples settings valid = record { pairs_are = refl; events_are = refl }
+new_rest Crawl settings valid = new_crawl settings valid
+
+pub new_has : (kind : Kind) (settings : Settings) (files : Files) → AreValid settings → ArePlainFiles settings.buckets files
+    → HasRest kind settings (blank_book settings.buckets Keep) [] files
+new_has Lines settings files valid are = are
+new_has Tuples settings files valid are = are
+new_has Crawl settings files valid are = record {
+  pairs_stand = unmade_stands pairs_base (pair_settings settings) files (pair_valid settings valid) are.pairs;
+  log = record { each = tt; records = inl (are.crawl, refl) };
+}
 
 -- ---- the rest of one state
 module _ (settings : Settings) (pairs : Book) (events : List Happened) where
@@ -78,18 +107,21 @@ module _ (settings : Settings) (pairs : Book) (events : List Happened) where
   rest_follows Tuples urls more is follows rest = rest
   rest_follows Crawl urls more is follows rest = crawl_longer settings urls more pairs events is follows.0 follows.1 rest
 
-  -- a flush of offers that are taken
-  pub rest_flushed : (kind : Kind) (b : ℕ) (news : List Tuple) (urls : Book) → IsBook urls → AreTaken kind news → IsRest kind settings urls pairs events
-      → IsRest kind settings (flushed b news urls) pairs events
-  rest_flushed Lines b news urls is taken rest = rest
-  rest_flushed Tuples b news urls is taken rest = rest
-  rest_flushed Crawl b news urls is taken rest = crawl_flushed settings b news urls pairs events is taken rest
+  -- it may follow itself, and so may what a flush of offers that are taken makes of it, and a merge
+  pub follows_same : (kind : Kind) (urls : Book) → IsRest kind settings urls pairs events → MayFollow kind urls urls
+  follows_same Lines urls rest = tt
+  follows_same Tuples urls rest = tt
+  follows_same Crawl urls rest = (front_same urls, rest.taken)
 
-  -- and a merge
-  pub rest_merged : (kind : Kind) (urls : Book) → IsBook urls → IsRest kind settings urls pairs events → IsRest kind settings (merged urls) pairs events
-  rest_merged Lines urls is rest = rest
-  rest_merged Tuples urls is rest = rest
-  rest_merged Crawl urls is rest = crawl_merged settings urls pairs events is rest
+  pub follows_flushed : (kind : Kind) (b : ℕ) (news : List Tuple) (urls : Book) → AreTaken kind news → IsRest kind settings urls pairs events → MayFollow kind urls (flushed b news urls)
+  follows_flushed Lines b news urls taken rest = tt
+  follows_flushed Tuples b news urls taken rest = tt
+  follows_flushed Crawl b news urls taken rest = (flushed_front b news urls, taken_flushed b news urls.lists taken rest.taken)
+
+  pub follows_merged : (kind : Kind) (urls : Book) → IsRest kind settings urls pairs events → MayFollow kind urls (merged urls)
+  follows_merged Lines urls rest = tt
+  follows_merged Tuples urls rest = tt
+  follows_merged Crawl urls rest = (merged_front urls, rest.taken)
 
 -- any book may follow in a store of lines or of tuples
 pub plain_follows : (kind : Kind) (urls more : Book) → kind ≢ Crawl → MayFollow kind urls more

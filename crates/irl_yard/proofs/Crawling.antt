@@ -6,26 +6,22 @@ use Rattle.irl_offer.specs.declared.place.Place.{Place}
 use Rattle.irl_offer.specs.declared.settings.Kind.TheVariants.{Crawl}
 use Rattle.irl_offer.specs.declared.settings.Settings.{Settings}
 use Rattle.irl_key.specs.Key.{key_of}
-use Rattle.irl_model.specs.Book.{ArePrefixes, Book, IsBook, IsFront, flushed, flushed_lists, merged}
-use Rattle.irl_model.proofs.FrontLaws.{flushed_front, merged_front}
+use Rattle.irl_model.specs.Book.{ArePrefixes, Book, IsBook, IsFront, flushed_lists}
 use Rattle.irl_events.specs.Events.{Event, Begin, Pairs, Pass, Robots, Settle, Happened, Progress, progress}
 use Rattle.irl_core.specs.States.{IsLegalState, IsOfBooks, begun_with, suffixes_of}
 use Rattle.irl_core.proofs.StateLemmas.{Along, along-each, more_urls}
 use Rattle.irl_disk.specs.Disk.{Files}
-use Rattle.irl_journal.proofs.Lists.{one_list}
 use Rattle.irl_bay.proofs.OneBook.{one_book}
 use Rattle.irl_head.specs.StoreFiles.{crawl_file, pairs_base}
-use Rattle.irl_log.specs.Log.{AreLogged, HasEvents}
-use Rattle.irl_log.specs.Spelling.{log_records, payload_of}
-use Rattle.irl_log.proofs.OneEvent.{one_event}
-use Rattle.irl_yard.specs.Crawling.{AreCrawlFiles, AreTaken, IsCrawlState, domain_of, events_of, pair_settings}
+use Rattle.irl_log.proofs.OneLog.{one_log}
+use Rattle.irl_ledger.specs.Crawling.{AreCrawlFiles, AreTaken, IsCrawlState, domain_of, events_of, pair_settings}
 
 -- ---- it stays legal
 taken_both : (xs ys : List Tuple) → AreTaken Crawl xs → AreTaken Crawl ys → AreTaken Crawl (xs ++ ys)
 taken_both [] ys one two = two
 taken_both (x ∷ xs) ys one two = (one.0, taken_both xs ys one.1 two)
 
-taken_flushed : (b : ℕ) (news : List Tuple) (lists : List (List Tuple)) → AreTaken Crawl news → AllByRecursion (AreTaken Crawl) lists → AllByRecursion (AreTaken Crawl) (flushed_lists b news lists)
+pub taken_flushed : (b : ℕ) (news : List Tuple) (lists : List (List Tuple)) → AreTaken Crawl news → AllByRecursion (AreTaken Crawl) lists → AllByRecursion (AreTaken Crawl) (flushed_lists b news lists)
 taken_flushed b news [] more all = tt
 taken_flushed zero news (list ∷ lists) more all = (taken_both list news all.0 more, all.1)
 taken_flushed (suc b) news (list ∷ lists) more all = (all.0, taken_flushed b news lists more all.1)
@@ -47,14 +43,6 @@ module _ (settings : Settings) where
     legal = more_urls domain_of key_of settings urls more pairs is front events state.legal;
     taken = taken;
   }
-
-  pub crawl_flushed : (b : ℕ) (news : List Tuple) (urls pairs : Book) (events : List Happened) → IsBook urls → AreTaken Crawl news → IsCrawlState settings urls pairs events
-      → IsCrawlState settings (flushed b news urls) pairs events
-  crawl_flushed b news urls pairs events is more state =
-      crawl_longer urls (flushed b news urls) pairs events is (flushed_front b news urls) (taken_flushed b news urls.lists more state.taken) state
-
-  pub crawl_merged : (urls pairs : Book) (events : List Happened) → IsBook urls → IsCrawlState settings urls pairs events → IsCrawlState settings (merged urls) pairs events
-  crawl_merged urls pairs events is state = crawl_longer urls (merged urls) pairs events is (merged_front urls) state.taken state
 
 -- ---- its files have one
 -- the places of an event are determined
@@ -101,21 +89,6 @@ one_history settings urls pairs xs ys one two same =
     (along-each (IsToldBy domain settings urls pairs) [] ys (λ before h after is.
     subst (λ begun. IsToldBy (domain_of (unwrap_or begun [])) settings urls pairs before h) (sym (same_beginning xs ys same)) (two.each before after h.0 h.1 is)))
     same
-
--- and so are the events, by the records
-logged_alike : (buckets : ℕ) (xs ys : List Event) → AreLogged buckets xs → AreLogged buckets ys → log_records xs ≡ log_records ys → xs ≡ ys
-logged_alike buckets [] [] one two same = refl
-logged_alike buckets [] (y ∷ ys) one two same = cc
-logged_alike buckets (x ∷ xs) [] one two same = cc
-logged_alike buckets (x ∷ xs) (y ∷ ys) one two same =
-    let payload : payload_of x ≡ payload_of y = cc in
-    let records : log_records xs ≡ log_records ys = cc in
-    let event : x ≡ y = one_event buckets x y one.0 two.0 payload in
-    let events : xs ≡ ys = logged_alike buckets xs ys one.1 two.1 records in
-    rw (event, events) refl
-
-one_log : (buckets : ℕ) (file : List ℕ) (xs ys : List Event) → HasEvents buckets file xs → HasEvents buckets file ys → xs ≡ ys
-one_log buckets file xs ys one two = logged_alike buckets xs ys one.each two.each (one_list file (log_records xs) (log_records ys) one.records two.records)
 
 pub one_crawl : (settings : Settings) (urls pairs others : Book) (events more : List Happened) (files : Files) → IsCrawlState settings urls pairs events → AreCrawlFiles settings pairs events files
     → IsCrawlState settings urls others more → AreCrawlFiles settings others more files → (pairs ≡ others) × (events ≡ more)

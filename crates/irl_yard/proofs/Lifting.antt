@@ -13,7 +13,7 @@ use Rattle.irl_schedule.specs.Feeding.{Moment, Stays, HasBetween}
 use Rattle.irl_schedule.proofs.Journals.{leaves_pair}
 use Rattle.irl_yard.specs.Holding.{HoldsUrls}
 use Rattle.irl_yard.specs.Lifting.{HasStateBetween, LiftsBooks}
-use Rattle.irl_yard.specs.Crawling.{MayFollow}
+use Rattle.irl_ledger.specs.Crawling.{MayFollow}
 use Rattle.irl_yard.specs.Standing.{HasState, IsRest, with_urls}
 use Rattle.irl_yard.proofs.ByKind.{follows_between, rest_follows}
 use Rattle.irl_yard.proofs.Holding.{has_state, held_beside, held_state, holds_after, rest_kept}

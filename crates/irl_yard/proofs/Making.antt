@@ -1,17 +1,14 @@
 -- A store that wasn't made yet, while it is made.
-use Rattle.std.proofs.Common.{◌≡◌, ℕ, ◌≤◌, List, [], length, refl, sym, subst, arith, Option, None, Some, Result, Ok, Err}
+use Rattle.std.proofs.Common.{◌≡◌, ℕ, ◌≤◌, [], length, refl, sym, subst, arith, Option, None, Some, Result, Ok, Err}
 use Rattle.irl_disk.specs.Disk.{Files, TellsBy}
 use Rattle.irl_journal.specs.Format.{StandsFor}
 use Rattle.irl_layout.specs.BayFiles.{IsFileOf}
-use Rattle.irl_bay.specs.Making.{Makes}
-use Rattle.std.specs.Option.{ForSome}
 use Rattle.std.specs.Prelude.{IsErr, IsErrAnd, IsErrOf, IfErr, IfOk, OnOk}
 use Rattle.irl_bay.proofs.Apart.{files_within}
 use Rattle.irl_head.specs.declared.open_fault.OpenFault.{OpenFault}
 use Rattle.irl_head.specs.declared.open_fault.OpenFault.TheVariants.{Failed, Memory}
 use Rattle.irl_head.specs.StoreFiles.{head_file, crawl_file, urls_base, pairs_base, IsOtherFile}
 use Rattle.irl_head.specs.Opening.{IsBlank}
-use Rattle.irl_yard.proofs.RestFiles.{head_no_side}
 
 -- the files of both bays are files behind the head
 pub urls_other : (buckets f : ℕ) → buckets ≤ 64 → IsFileOf urls_base buckets f → IsOtherFile f
@@ -23,15 +20,6 @@ pairs_other buckets f small is = let within = files_within pairs_base buckets f 
 -- a head without a record, and short files behind it
 pub blank_both : (files : Files) → StandsFor (files head_file) [] → ((f : ℕ) → IsOtherFile f → length (files f) ≤ 1) → IsBlank files
 blank_both files head others = record { head = head; others = others }
-
--- ---- what is told
-pub no_record_yet : (buckets : ℕ) (old new : Option Files) → buckets ≤ 64 → TellsBy (Makes urls_base buckets) old new → ForSome old (λ files. StandsFor (files head_file) [])
-    → ForSome new (λ files. StandsFor (files head_file) [])
-no_record_yet buckets None new small makes blank = λ files told. cc
-no_record_yet buckets (Some old) new small makes blank = λ files told.
-    let same : makes.0 ≡ files = cc in
-    let head = subst (λ (file : List ℕ). StandsFor file []) (sym (makes.2.others head_file (head_no_side buckets small))) (blank old refl) in
-    subst (λ (f : Files). StandsFor (f head_file) []) same head
 
 -- ---- the head is none of the bay's files
 pub head_no_urls : (base buckets f : ℕ) → base ≡ urls_base → buckets ≤ 64 → IsFileOf base buckets f → f ≡ head_file → ⊥

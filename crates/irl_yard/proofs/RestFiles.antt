@@ -30,26 +30,37 @@ pairs_rest buckets f (Texts, is, e) = inr (inl (omega (arith, e), omega (arith, 
 pairs_rest buckets f (Journal side b, is, e) = pairs_bucket buckets side b f is.0 is.1 (inl e)
 pairs_rest buckets f (Aux side b, is, e) = pairs_bucket buckets side b f is.0 is.1 (inr e)
 
--- where they lie, and where the journals of the URLs do
-journal_at : (side b f : ℕ) → side ≤ 1 → b < 64 → f ≡ urls_base + 10 + 490 * side + 2 * b → ((urls_base ≤ f) × (f < urls_base + 138)) ⊎ ((urls_base + 500 ≤ f) × (f < urls_base + 628))
-journal_at zero b f low small e = inl (omega (arith, e), omega (arith, e, small))
-journal_at (suc zero) b f low small e = inr (omega (arith, e), omega (arith, e, small))
-journal_at (suc (suc n)) b f low small e = absurd (omega (arith, low))
+-- where the files of the URLs lie
+bucket_at : (side b f : ℕ) → side ≤ 1 → b < 64 → (f ≡ urls_base + 10 + 490 * side + 2 * b) ⊎ (f ≡ urls_base + 11 + 490 * side + 2 * b)
+    → ((urls_base ≤ f) × (f < urls_base + 138)) ⊎ ((urls_base + 500 ≤ f) × (f < urls_base + 628))
+bucket_at zero b f low small (inl e) = inl (omega (arith, e), omega (arith, e, small))
+bucket_at zero b f low small (inr e) = inl (omega (arith, e), omega (arith, e, small))
+bucket_at (suc zero) b f low small (inl e) = inr (omega (arith, e), omega (arith, e, small))
+bucket_at (suc zero) b f low small (inr e) = inr (omega (arith, e), omega (arith, e, small))
+bucket_at (suc (suc n)) b f low small is = absurd (omega (arith, low))
 
-rest_or_journal : (buckets f : ℕ) → buckets ≤ 64 → IsRestFile buckets f → ((urls_base ≤ f) × (f < urls_base + 138)) ⊎ ((urls_base + 500 ≤ f) × (f < urls_base + 628)) → ⊥
-rest_or_journal buckets f few (inl e) (inl at) = omega (arith, e, at.0)
-rest_or_journal buckets f few (inl e) (inr at) = omega (arith, e, at.0)
-rest_or_journal buckets f few (inr (inl rest)) (inl at) = omega (arith, rest.0, at.1)
-rest_or_journal buckets f few (inr (inl rest)) (inr at) = omega (arith, rest.1, at.0, few)
-rest_or_journal buckets f few (inr (inr rest)) (inl at) = omega (arith, rest.0, at.1)
-rest_or_journal buckets f few (inr (inr rest)) (inr at) = omega (arith, rest.0, at.1)
+file_at : (buckets f : ℕ) → buckets ≤ 64 → IsFileOf urls_base buckets f → ((urls_base ≤ f) × (f < urls_base + 138)) ⊎ ((urls_base + 500 ≤ f) × (f < urls_base + 628))
+file_at buckets f few (Manifest, is, e) = inl (omega (arith, e), omega (arith, e))
+file_at buckets f few (Cache side, is, e) = inl (omega (arith, e, is), omega (arith, e, is))
+file_at buckets f few (Judged, is, e) = inl (omega (arith, e), omega (arith, e))
+file_at buckets f few (Texts, is, e) = inl (omega (arith, e), omega (arith, e))
+file_at buckets f few (Journal side b, is, e) = bucket_at side b f is.0 (omega (arith, is.1, few)) (inl e)
+file_at buckets f few (Aux side b, is, e) = bucket_at side b f is.0 (omega (arith, is.1, few)) (inr e)
 
-pub rest_no_urls : (buckets more f : ℕ) → buckets ≤ 64 → more ≤ 64 → IsRestFile buckets f → IsJournalOf urls_base more f → ⊥
-rest_no_urls buckets more f few few_more rest (inl e) = rest_or_journal buckets f few rest (inl (omega (arith, e), omega (arith, e)))
-rest_no_urls buckets more f few few_more rest (inr is) = rest_or_journal buckets f few rest (journal_at is.0 is.1 f is.2 (omega (arith, is.3, few_more)) is.4)
+rest_or_urls : (buckets f : ℕ) → buckets ≤ 64 → IsRestFile buckets f → ((urls_base ≤ f) × (f < urls_base + 138)) ⊎ ((urls_base + 500 ≤ f) × (f < urls_base + 628)) → ⊥
+rest_or_urls buckets f few (inl e) (inl at) = omega (arith, e, at.0)
+rest_or_urls buckets f few (inl e) (inr at) = omega (arith, e, at.0)
+rest_or_urls buckets f few (inr (inl rest)) (inl at) = omega (arith, rest.0, at.1)
+rest_or_urls buckets f few (inr (inl rest)) (inr at) = omega (arith, rest.1, at.0, few)
+rest_or_urls buckets f few (inr (inr rest)) (inl at) = omega (arith, rest.0, at.1)
+rest_or_urls buckets f few (inr (inr rest)) (inr at) = omega (arith, rest.0, at.1)
+
+-- none of them is one of the rest
+pub rest_no_file : (buckets f : ℕ) → buckets ≤ 64 → IsRestFile buckets f → IsFileOf urls_base buckets f → ⊥
+rest_no_file buckets f few rest is = rest_or_urls buckets f few rest (file_at buckets f few is)
 
 pub rest_no_journal : (buckets f : ℕ) → buckets ≤ 64 → IsRestFile buckets f → IsJournalOf urls_base buckets f → ⊥
-rest_no_journal buckets f few rest is = rest_no_urls buckets buckets f few few rest is
+rest_no_journal buckets f few rest is = rest_no_file buckets f few rest (journal_files urls_base buckets f is)
 
 -- those on one side are the bay's
 pub one_side : (side buckets f : ℕ) → side ≤ 1 → IsJournalOn urls_base side buckets f → IsJournalOf urls_base buckets f

@@ -3,8 +3,9 @@ use Rattle.std.proofs.Common.{◌≡◌, ◌∙◌, inl, inr, ℕ, List, [], ◌
 use Rattle.irl_offer.specs.declared.settings.Asked.{Asked}
 use Rattle.irl_offer.specs.declared.settings.Settings.{Settings}
 use Rattle.irl_offer.specs.Tuple.{Tuple}
-use Rattle.irl_model.specs.Book.{Book, IsPrefixOf, judged}
-use Rattle.irl_events.specs.Events.{Happened}
+use Rattle.irl_offer.specs.declared.place.Place.{Place}
+use Rattle.irl_model.specs.Book.{Book, IsFront, IsPrefixOf, judged}
+use Rattle.irl_events.specs.Events.{Event, Happened}
 use Rattle.irl_events.specs.State.{State, IsFrontState}
 use Rattle.irl_model.proofs.FrontLaws.{prefix_same, prefix_both, front_same, front_both, judged_front, flushed_front, merged_front}
 use Rattle.irl_disk.specs.Disk.{Files}
@@ -13,6 +14,7 @@ use Rattle.irl_bay.specs.Standing.{Stands}
 use Rattle.irl_bay.proofs.OneBook.{one_book}
 use Rattle.irl_head.specs.StoreFiles.{head_file, urls_base}
 use Rattle.irl_head.specs.Head.{head_bytes}
+use Rattle.irl_yard.specs.Adding.{with_event}
 use Rattle.irl_yard.specs.Holding.{with_offers, with_cut}
 use Rattle.irl_yard.specs.Opening.{entered_state}
 use Rattle.irl_head.specs.Opening.{IsBlank}
@@ -72,6 +74,12 @@ offers_front b news state = inr (record { settings = refl; urls = flushed_front 
 pub cut_front : (state : State) → IsFrontState state (with_cut state)
 cut_front state = inr (record { settings = refl; urls = merged_front state.urls; pairs = front_same state.pairs; events = prefix_same state.events })
 
+pub event_front : (event : Event) (places : List Place) (state : State) → IsFrontState state (with_event event places state)
+event_front event places state = inr (record { settings = refl; urls = front_same state.urls; pairs = front_same state.pairs; events = ((event, places) ∷ [], refl) })
+
+pub pairs_front : (state : State) (book : Book) → IsFront state.pairs book → IsFrontState state (record state { pairs = book })
+pairs_front state book front = inr (record { settings = refl; urls = front_same state.urls; pairs = front; events = prefix_same state.events })
+
 entered_of : (asked : Asked) (settings : Option Settings) (urls pairs : Book) (events : List Happened)
     → IsFrontState (record { settings = settings; urls = urls; pairs = pairs; events = events }) (entered_state asked (record { settings = settings; urls = urls; pairs = pairs; events = events }))
 entered_of asked None urls pairs events = inl refl
@@ -81,7 +89,7 @@ pub entered_front : (asked : Asked) (state : State) → IsFrontState state (ente
 entered_front asked state = entered_of asked state.settings state.urls state.pairs state.events
 
 -- ---- what was judged stays
-no_settings : (settings : Settings) → Some settings ≡ None → ⊥
+pub no_settings : (settings : Settings) → Some settings ≡ None → ⊥
 no_settings settings same = cc
 
 pub judged_stays : (x y : State) (files : Files) → HasState x files → IsFrontState x y → IsPrefixOf (judged x.urls) (judged y.urls)

@@ -1,35 +1,51 @@
 -- A call that adds one event to a crawl's log: what it asks, and what it leaves of the store.
-use Rattle.std.specs.Prelude.{◌≡◌, ℕ, List, [], ◌∷◌, ◌++◌, Option, Result, OnOk, OnErr, IsErrOf, true, false, ⊤}
+use Rattle.std.specs.Prelude.{◌≡◌, ℕ, List, [], ◌∷◌, ◌++◌, Option, Some, Result, OnOk, OnErr, IsErrOf, ⊤}
 use Rattle.irl_base.specs.declared.fault.Fault.{Fault}
 use Rattle.irl_base.specs.declared.fault.Fault.TheVariants.{Failed, Memory, Full, Damaged}
 use Rattle.irl_offer.specs.declared.note.Note.{Note}
-use Rattle.irl_events.specs.Events.{Event, after_event}
+use Rattle.irl_offer.specs.declared.place.Place.{Place}
+use Rattle.irl_events.specs.Events.{Event, Begin, Pairs, Pass, Robots, Settle}
 use Rattle.irl_events.specs.State.{State}
 use Rattle.irl_disk.specs.Disk.{ChangesFile}
 use Rattle.irl_disk.specs.Effects.{OnlyChanges}
 use Rattle.irl_disk.specs.Images.{Told, Leaves}
 use Rattle.irl_head.specs.StoreFiles.{crawl_file}
-use Rattle.irl_log.specs.Appending.{AppendsEvents}
-use Rattle.irl_log.specs.Form.{IsNote, IsSuffixText}
+use Rattle.irl_frontier.specs.Frontier.{after_other}
+use Rattle.irl_ledger.specs.Adding.{MayBegin as LedgerMayBegin, MayNote as LedgerMayNote}
 use Rattle.irl_yard.specs.declared.parts.Parts.{Parts}
-use Rattle.irl_yard.specs.declared.parts.CrawlParts.{CrawlParts}
+use Rattle.irl_ledger.specs.declared.ledger.Ledger.{Ledger}
 use Rattle.irl_yard.specs.declared.parts.Rest.{Rest}
 use Rattle.irl_yard.specs.declared.parts.Rest.TheVariants.{Plain, Crawl}
 use Rattle.irl_yard.specs.Holding.{HoldsState, HasOneOf}
 
--- the state with one event more, beside which no places stand
-abbrev pub with_event : Event → State → State
-with_event event state = record state { events = state.events ++ (event, []) ∷ [] }
+-- the state with one event more, and the places that it gives
+abbrev pub with_event : Event → List Place → State → State
+with_event event places state = record state { events = state.events ++ (event, places) ∷ [] }
+
+-- the text of suffixes that a crawl began with, after an event
+abbrev pub suffixes_after : Event → Option (List ℕ) → Option (List ℕ)
+suffixes_after (Begin suffixes) was = Some suffixes
+suffixes_after (Pairs cuts judged sent) was = was
+suffixes_after (Pass judged) was = was
+suffixes_after (Robots note) was = was
+suffixes_after (Settle fronts outcomes) was = was
+
+-- What is kept in memory of a crawl is told of the event exactly after Ok, and its bay of pairs stays.
+pub record TellsEvent (result : Result Unit Fault) (event : Event) (old new : Ledger) : Type 0 where
+  pub done : OnOk result ((new.frontier ≡ after_other old.frontier event)
+      × (new.suffixes ≡ suffixes_after event old.suffixes))
+  pub kept : OnErr result ((new.frontier ≡ old.frontier) × (new.suffixes ≡ old.suffixes))
+  pub pairs : new.pairs ≡ old.pairs
 
 -- What a call that adds one event leaves, by its answer.
 pub record AddsEvent {S : Type 0} (told : S → Told) (result : Result Unit Fault) (event : Event) (was now : Parts)
     (before after : S) : Type 0 where
   -- the store holds the state with the event
   pub holds : OnOk result ((state : State) → HoldsState (told before).images was state
-      → HoldsState (told after).images now (with_event event state))
+      → HoldsState (told after).images now (with_event event [] state))
   -- a stop at any moment leaves files that stand for the state, with the event or without
   pub stops : (state : State) → HoldsState (told before).images was state
-      → Leaves (told before) (told after) (HasOneOf state (with_event event state))
+      → Leaves (told before) (told after) (HasOneOf state (with_event event [] state))
   -- whatever the files stand for, only the log's changes, and no byte is read
   pub others : OnlyChanges (ChangesFile crawl_file (λ _ _. ⊤)) (IsErrOf result Failed) (told before) (told after)
   -- want of memory changes nothing, and else only a fault of the store is answered
@@ -38,26 +54,16 @@ pub record AddsEvent {S : Type 0} (told : S → Told) (result : Result Unit Faul
   pub damaged : (f at : ℕ) → IsErrOf result (Damaged f at) → ⊥
   -- the bay of URLs stays
   pub urls : now.urls ≡ was.urls
-  -- the fates are told with the event exactly after Ok
-  pub fates : (old new : CrawlParts) → was.rest ≡ Crawl old → now.rest ≡ Crawl new
-      → OnOk result (new.fates ≡ after_event old.fates event []) × OnErr result (new.fates ≡ old.fates)
-
--- What an append of one event leaves of the open parts of a crawl, by its answer, where these are its suffixes then.
-pub record AddsToLog {S : Type 0} (told : S → Told) (result : Result Unit Fault) (event : Event)
-    (suffixes : Option (List ℕ)) (old new : CrawlParts) (before after : S) : Type 0 where
-  pub memory : IsErrOf result Memory → (after ≡ before) × (new ≡ old)
-  pub log : (IsErrOf result Memory → ⊥) → AppendsEvents told result (event ∷ []) old.log new.log before after
-  pub done : OnOk result ((new.fates ≡ after_event old.fates event []) × (new.suffixes ≡ suffixes))
-  pub kept : OnErr result ((new.fates ≡ old.fates) × (new.suffixes ≡ old.suffixes))
-  pub pairs : new.pairs ≡ old.pairs
+  -- and so does the bay of pairs; the tables have the event exactly after Ok
+  pub tables : (old new : Ledger) → was.rest ≡ Crawl old → now.rest ≡ Crawl new → TellsEvent result event old new
 
 -- ---- what is asked
 -- a crawl that hasn't begun, and a text of suffixes
 abbrev pub MayBegin : Rest → List ℕ → Type 0
 MayBegin Plain suffixes = ⊥
-MayBegin (Crawl crawl) suffixes = (crawl.fates.begun ≡ false) × IsSuffixText suffixes
+MayBegin (Crawl ledger) suffixes = LedgerMayBegin ledger suffixes
 
 -- a crawl that has begun, and a note
 abbrev pub MayNote : Rest → Note → Type 0
 MayNote Plain note = ⊥
-MayNote (Crawl crawl) note = (crawl.fates.begun ≡ true) × IsNote note
+MayNote (Crawl ledger) note = LedgerMayNote ledger note

@@ -10,7 +10,7 @@ use Rattle.irl_offer.specs.declared.settings.Asked.{Asked}
 use Rattle.irl_offer.specs.declared.settings.Kind.{Kind}
 use Rattle.irl_offer.specs.declared.settings.Kind.TheVariants.{Lines, Tuples, Crawl}
 use Rattle.irl_events.specs.State.{State}
-use Rattle.irl_disk.specs.Disk.{Files, ChangesAmong, ChangesFile, ChangesOnly, TellsBy}
+use Rattle.irl_disk.specs.Disk.{Files, ChangesFile, ChangesOnly, TellsBy}
 use Rattle.irl_disk.specs.Images.{Told, Leaves, LeavesBy}
 use Rattle.irl_disk.specs.Taken.{TakesAmong}
 use Rattle.irl_journal.specs.Visiting.{IsOpened}
@@ -18,6 +18,8 @@ use Rattle.irl_head.specs.declared.open_fault.OpenFault.{OpenFault}
 use Rattle.irl_head.specs.declared.open_fault.OpenFault.TheVariants.{NotOurs, Damaged, OtherSettings, BadSettings, Failed, Memory}
 use Rattle.irl_bay.specs.Drum.{IsDrum}
 use Rattle.irl_bay.specs.Holding.{IsLong}
+use Rattle.irl_layout.specs.BayFiles.{file_of}
+use Rattle.irl_layout.specs.declared.files.BayFile.TheVariants.{Judged, Texts}
 use Rattle.irl_bay.specs.Making.{IsUnmade, IsJournalOf}
 use Rattle.irl_head.specs.StoreFiles.{head_file, crawl_file, urls_base, pairs_base}
 use Rattle.irl_head.specs.Head.{head_bytes}
@@ -27,7 +29,7 @@ use Rattle.irl_head.specs.Writing.{GainsFirst}
 use Rattle.irl_yard.specs.declared.parts.Parts.{Parts}
 use Rattle.irl_yard.specs.Holding.{IsOpenRest, IsSound, HoldsState, HasOneOf}
 use Rattle.irl_yard.specs.Opening.{IsStoreDamagedAt, entered_state}
-use Rattle.irl_yard.specs.Standing.{HasState}
+use Rattle.irl_yard.specs.Standing.{ArePlainFiles, HasState}
 
 -- the files of a state beside the head and the bay of URLs; the bay of pairs has its buckets' files on two sides
 abbrev pub IsRestFile : ℕ → ℕ → Type 0
@@ -51,33 +53,44 @@ AreSynced images buckets files = (image : Files) → images image → (f : ℕ) 
 abbrev pub IsKindJournal : Kind → ℕ → ℕ → Type 0
 IsKindJournal Lines buckets f = ⊥
 IsKindJournal Tuples buckets f = ⊥
-IsKindJournal Crawl buckets f = ⊥
+IsKindJournal Crawl buckets f = (f ≡ crawl_file) ⊎ IsJournalOf pairs_base buckets f
 
 -- the journals of a store of a kind with so many buckets
 abbrev pub IsStoreJournal : Kind → ℕ → ℕ → Type 0
 IsStoreJournal kind buckets f = (f ≡ head_file) ⊎ IsJournalOf urls_base buckets f ⊎ IsKindJournal kind buckets f
 
--- the journals of a store whose files were told as these: the head, and those of the settings that it has
-abbrev pub IsToldJournal : Option Files → ℕ → Type 0
-IsToldJournal told f = (f ≡ head_file)
-    ⊎ ((settings : Settings) × AreValid settings × ForSome told (HasHead settings)
+-- the journals of a store whose files were told as these: the head, and those of the settings that it has, where they
+-- are as was asked
+abbrev pub IsToldJournal : Asked → Option Files → ℕ → Type 0
+IsToldJournal asked told f = (f ≡ head_file)
+    ⊎ ((settings : Settings) × AreValid settings × Agrees asked settings × ForSome told (HasHead settings)
     × IsStoreJournal settings.kind settings.buckets f)
 
--- it is opened: each of its journals changes at most as opening one may, and every other file stays
-abbrev pub OpensStore : Option Files → Files → Files → Type 0
-OpensStore told old new = ChangesAmong (IsToldJournal told) (λ f. IsOpened) old new
+-- the files of which a store that is opened may be read: its journals, and of one of a crawl the judged offers too, for
+-- what its events say of them
+abbrev pub IsJudgedFile : ℕ → ℕ → Type 0
+IsJudgedFile base f = (f ≡ file_of base 0 Judged) ⊎ (f ≡ file_of base 0 Texts)
 
--- A store is made: only its journals change. A bay that wasn't made isn't made yet, and a head without a record has
--- none, or these settings.
+abbrev pub IsReadFile : Asked → Option Files → ℕ → Type 0
+IsReadFile asked told f = IsToldJournal asked told f
+    ⊎ ((asked.kind ≡ Crawl) × (IsJudgedFile urls_base f ⊎ IsJudgedFile pairs_base f))
+
+-- it is opened: each file stays, or it is one of its journals and changes at most as opening one may
+abbrev pub OpensStore : Asked → Option Files → Files → Files → Type 0
+OpensStore asked told old new = (f : ℕ) → (new f ≡ old f) ⊎ (IsToldJournal asked told f × IsOpened (old f) (new f))
+
+-- A store is made: only its journals change. A bay that wasn't made isn't made yet, nor is the rest, and a head without
+-- a record has none, or these settings.
 pub record MakesStore (settings : Settings) (old new : Files) : Type 0 where
   pub others : ChangesOnly (IsStoreJournal settings.kind settings.buckets) old new
   pub unmade : IsUnmade urls_base settings.buckets old → IsUnmade urls_base settings.buckets new
+  pub rest : ArePlainFiles settings.buckets old → ArePlainFiles settings.buckets new
   pub head : GainsFirst (head_bytes settings) (old head_file) (new head_file)
 
 -- A store is entered whose files were told as these: it is opened, or it is made where a store was told that wasn't
 -- made yet.
 abbrev pub Enters : Asked → Option Files → Files → Files → Type 0
-Enters asked told old new = OpensStore told old new ⊎ (ForSome told IsBlank × AreValid (settings_of asked)
+Enters asked told old new = OpensStore asked told old new ⊎ (ForSome told IsBlank × AreValid (settings_of asked)
     × MakesStore (settings_of asked) old new)
 
 -- ---- a refusal
@@ -141,6 +154,6 @@ pub record EntersStore (asked : Asked) (failed : Type 0) (before after : Told) :
   -- so it leaves a made store's state, and of one that wasn't made that or the new store's
   pub stops : (state : State) → ((image : Files) → before.images image → HasState state image)
       → Leaves before after (HasOneOf state (entered_state asked state))
-  -- no byte is read but of the store's journals
-  pub taken : TakesAmong (IsToldJournal before.files) before.taken after.taken
+  -- no byte is read but of the store's journals, and of a crawl's judged offers
+  pub taken : TakesAmong (IsReadFile asked before.files) before.taken after.taken
   pub cause : HasCause failed before.faults after.faults

@@ -1,70 +1,47 @@
 -- An open store holds a state: what it keeps in memory is the state's, and each joint image that a stop now may leave
 -- stands for it.
-use Rattle.std.specs.Prelude.{◌≡◌, ◌≢◌, ◌⊎◌, ℕ, ◌<◌, List, length, true, false, Option, Some, ⊤}
+use Rattle.std.specs.Prelude.{◌≡◌, ◌≢◌, ◌⊎◌, ℕ, List, true, false, Option, Some, ⊤}
 use Rattle.std.specs.List.{AllByRecursion}
-use Rattle.std.specs.Option.{ForSome}
 use Rattle.irl_offer.specs.declared.settings.Kind.TheVariants.{Crawl as CrawlKind}
 use Rattle.irl_offer.specs.declared.settings.Settings.{Settings}
 use Rattle.irl_model.specs.Book.{Book, flushed, merged}
-use Rattle.irl_events.specs.Events.{Happened, progress}
+use Rattle.irl_events.specs.Events.{Happened}
 use Rattle.irl_events.specs.State.{State}
 use Rattle.irl_offer.specs.Tuple.{Tuple}
-use Rattle.irl_core.specs.States.{begun_with}
 use Rattle.irl_disk.specs.Disk.{Files}
 use Rattle.irl_journal.specs.Format.{StandsFor}
 use Rattle.irl_layout.specs.BayFiles.{file_of}
 use Rattle.irl_layout.specs.Commits.{Commit, IsCommit, HasCommits, first_commit, last_commit, live_side}
 use Rattle.irl_layout.specs.declared.files.BayFile.TheVariants.{Journal}
 use Rattle.irl_bay.specs.Drum.{Drum, IsDrum}
-use Rattle.irl_bay.specs.Holding.{Holds, IsLong}
+use Rattle.irl_bay.specs.Holding.{Holds}
 pub use Rattle.irl_schedule.specs.Schedule.{HasJournal}
-use Rattle.irl_log.specs.Log.{HoldsLog}
+use Rattle.irl_ledger.specs.declared.ledger.Ledger.{Ledger}
+use Rattle.irl_ledger.specs.Holding.{HoldsLedger, IsOpenLedger, IsSoundLedger}
 use Rattle.irl_yard.specs.declared.parts.Parts.{Parts}
-use Rattle.irl_yard.specs.declared.parts.CrawlParts.{CrawlParts}
 use Rattle.irl_yard.specs.declared.parts.Rest.{Rest}
 use Rattle.irl_yard.specs.declared.parts.Rest.TheVariants.{Plain, Crawl}
-use Rattle.irl_head.specs.StoreFiles.{crawl_file, urls_base, pairs_base}
+use Rattle.irl_head.specs.StoreFiles.{urls_base}
 use Rattle.irl_head.specs.Opening.{KeepsHead}
-use Rattle.irl_yard.specs.Crawling.{events_of, pair_settings}
 use Rattle.irl_yard.specs.Standing.{HasRest, HasState, IsRest, with_urls}
 
 -- ---- what an open store has beside its bay of URLs
--- The parts of a crawl's open store: each is open with what the state has, in its files.
-pub record HoldsCrawl (images : Files → Type 0) (settings : Settings) (crawl : CrawlParts) (pairs : Book)
-    (events : List Happened) : Type 0 where
-  pub pairs_hold : Holds images crawl.pairs pairs
-  pub log : HoldsLog images crawl.log (events_of events)
-  -- the tables are those of the events
-  pub fates : crawl.fates ≡ progress settings.queues settings.buckets events
-  pub suffixes : crawl.suffixes ≡ begun_with events
-
 -- by the kind of the store: one of lines or of tuples has nothing else open
-abbrev pub HoldsOpen : (Files → Type 0) → Settings → Rest → Book → List Happened → Type 0
-HoldsOpen images settings Plain pairs events = settings.kind ≢ CrawlKind
-HoldsOpen images settings (Crawl crawl) pairs events = (settings.kind ≡ CrawlKind)
-    × HoldsCrawl images settings crawl pairs events
+abbrev pub HoldsOpen : (Files → Type 0) → Settings → Rest → Book → Book → List Happened → Type 0
+HoldsOpen images settings Plain urls pairs events = settings.kind ≢ CrawlKind
+HoldsOpen images settings (Crawl ledger) urls pairs events = (settings.kind ≡ CrawlKind)
+    × HoldsLedger images settings ledger urls pairs events
 
--- What every open crawl keeps, over files that are told as these: which files are its parts', and that each is at least
--- as long as the last call left it.
-pub record IsOpenCrawl (urls : Drum) (crawl : CrawlParts) (told : Option Files) : Type 0 where
-  pub urls_at : urls.base ≡ urls_base
-  pub drum : IsDrum crawl.pairs
-  pub base : crawl.pairs.base ≡ pairs_base
-  pub settings : crawl.pairs.settings ≡ pair_settings urls.settings
-  pub file : crawl.log.journal.file ≡ crawl_file
-  pub buckets : crawl.log.buckets ≡ urls.settings.buckets
-  pub long : crawl.pairs.is_sound ≡ true → ForSome told (IsLong crawl.pairs)
-  pub log_long : crawl.log.journal.is_sound ≡ true
-      → ForSome told (λ files. crawl.log.journal.end < length (files crawl_file))
-
+-- what every open store keeps of it, over files that are told as these
 abbrev pub IsOpenRest : Drum → Rest → Option Files → Type 0
-IsOpenRest urls rest told = (crawl : CrawlParts) → rest ≡ Crawl crawl → IsOpenCrawl urls crawl told
+IsOpenRest urls rest told = (rest ≡ Plain → urls.settings.kind ≢ CrawlKind)
+    × ((ledger : Ledger) → rest ≡ Crawl ledger → (urls.settings.kind ≡ CrawlKind) × IsOpenLedger urls ledger told)
 
 -- ---- a store
 -- no call failed
 abbrev pub IsSoundRest : Rest → Type 0
 IsSoundRest Plain = ⊤
-IsSoundRest (Crawl crawl) = (crawl.pairs.is_sound ≡ true) × (crawl.log.journal.is_sound ≡ true)
+IsSoundRest (Crawl ledger) = IsSoundLedger ledger
 
 abbrev pub IsSound : Parts → Type 0
 IsSound parts = (parts.urls.is_sound ≡ true) × (parts.has_failed ≡ false) × IsSoundRest parts.rest
@@ -87,7 +64,7 @@ pub record HoldsUrls (images : Files → Type 0) (urls : Drum) (state : State) :
 -- an open store holds a state
 pub record HoldsState (images : Files → Type 0) (parts : Parts) (state : State) : Type 0 where
   pub urls : HoldsUrls images parts.urls state
-  pub open_rest : HoldsOpen images parts.urls.settings parts.rest state.pairs state.events
+  pub open_rest : HoldsOpen images parts.urls.settings parts.rest state.urls state.pairs state.events
 
 -- these offers stand at the end of a bucket's list of URLs
 abbrev pub with_offers : ℕ → List Tuple → State → State

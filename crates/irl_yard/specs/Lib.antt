@@ -1,10 +1,14 @@
 pub mod Adding
-pub mod Crawling
+pub mod Core
 pub mod Entering
 pub mod Flushing
 pub mod Holding
 pub mod Lifting
+pub mod Making
 pub mod Merges
 pub mod Moments
 pub mod Opening
+pub mod Passing
+pub mod Sending
+pub mod Settling
 pub mod Standing

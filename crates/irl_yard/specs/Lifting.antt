@@ -9,7 +9,7 @@ use Rattle.irl_disk.specs.Images.{Leaves}
 use Rattle.irl_bay.specs.Holding.{Holds}
 use Rattle.irl_bay.specs.Standing.{Stands, IsBookOf}
 use Rattle.irl_schedule.specs.Feeding.{Moment, FewUnjudged, HasBetween}
-use Rattle.irl_yard.specs.Crawling.{MayFollow}
+use Rattle.irl_ledger.specs.Crawling.{MayFollow}
 use Rattle.irl_yard.specs.Holding.{HoldsUrls}
 use Rattle.irl_yard.specs.Standing.{HasState, IsStateOf, with_urls}
 

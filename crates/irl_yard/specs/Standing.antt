@@ -15,7 +15,7 @@ use Rattle.irl_bay.specs.Standing.{Stands, IsBookOf}
 use Rattle.irl_head.specs.StoreFiles.{head_file, crawl_file, urls_base, pairs_base}
 use Rattle.irl_head.specs.Head.{head_bytes}
 use Rattle.irl_head.specs.Opening.{IsBlank}
-use Rattle.irl_yard.specs.Crawling.{AreCrawlFiles, IsCrawlState}
+use Rattle.irl_ledger.specs.Crawling.{AreCrawlFiles, IsCrawlState}
 
 -- ---- by the kind of store
 -- a store of lines or of tuples has no other book, and no event,

@@ -12,10 +12,12 @@ ghost use Rattle.irl_disk.specs.Disk.{Files};
 ghost use Rattle.irl_disk.specs.Images.{LeavesSame};
 ghost use Rattle.irl_journal.specs.Format.{StandsFor};
 ghost use Rattle.irl_head.specs.StoreFiles.{head_file, urls_base};
+ghost use Rattle.irl_head.specs.Asking.{Agrees};
 ghost use Rattle.irl_head.specs.Opening.{HasHead, KeepsHead, IsNotOursAt, IsKeptOtherwise, IsBadStore};
 ghost use Rattle.irl_head.specs.declared.open_fault.OpenFault.TheVariants.{Failed as OpenFailed};
-ghost use Rattle.irl_yard.specs.Standing.{HasState};
+ghost use Rattle.irl_yard.specs.Standing.{ArePlainFiles, HasState};
 ghost use Rattle.irl_yard.specs.Holding.{HasLiveJournal, HasOneOf};
+ghost use Rattle.irl_yard.specs.Making.{RestMade};
 ghost use Rattle.irl_yard.specs.Opening.{IsStoreDamagedAt, entered_state};
 ghost use Rattle.irl_yard.specs.Entering.{AreSynced, AreSyncedWithin, Enters, fault_of_bay};
 ghost use Rattle.irl_yard.specs.Entering.{OpensYard, OpeningRefused, EntersStore};
@@ -28,7 +30,8 @@ use irl_head::{
     CRAWL, OpenFault, PAIRS_BASE, URLS_BASE, find_head, first_bad, first_other, has_others,
     head_frame, write_head,
 };
-use irl_offer::{Asked, Fault, Settings};
+use irl_ledger::Ledger;
+use irl_offer::{Asked, Fault, Kind, Settings};
 use std::alloc::Global;
 
 impl<S: Store> Yard<S> {
@@ -63,7 +66,7 @@ fn open<S: Store>(alloc: Global, store: &mut S, asked: &Asked) -> Result<Parts, 
     }
 }
 
-// Opens the bay of URLs of a store with these settings.
+// Opens a store with these settings, where it was asked for so.
 fn adopt<S: Store>(
     alloc: Global,
     store: &mut S,
@@ -81,6 +84,26 @@ fn adopt<S: Store>(
     if let Some((n, kept, wanted)) = first_other(asked, settings) {
         return Err(OpenFault::OtherSettings(n, kept, wanted));
     }
+    adopt_plain(alloc, store, settings)
+}
+
+// Opens a store of lines or of tuples with these settings, whoever asks for them.
+fn adopt_plain<S: Store>(
+    alloc: Global,
+    store: &mut S,
+    settings: &Settings,
+) -> Result<Parts, OpenFault>
+    requires kind { settings.now.kind ≢ Crawl }
+    requires head { ForSome (S.told store.old).files (HasHead settings.now) }
+    requires valid { AreValid settings.now }
+    requires kept { KeepsHead (S.told store.old).images settings.now }
+    ensures opened { (asked : AskedValue) → Agrees asked settings.now →
+        IfOk result (λ parts. OpensYard asked parts (S.told store.old).files (S.told store.new)) }
+    ensures refused { (asked : AskedValue) → Agrees asked settings.now →
+        IfErr result (λ fault. OpeningRefused asked fault (S.told store.old) (S.told store.new)) }
+    ensures entered { (asked : AskedValue) → Agrees asked settings.now →
+        EntersStore asked (IsErrOf result OpenFailed) (S.told store.old) (S.told store.new) }
+{
     sync_rest(store, settings.buckets)?;
     match Bay::adopt(alloc, store, URLS_BASE, settings) {
         Ok(urls) => Ok(Parts {
@@ -105,9 +128,12 @@ fn bay_fault(fault: Fault) -> OpenFault
     }
 }
 
-// Makes a store: the bay of URLs, and at last the head.
-fn make<S: Store>(alloc: Global, store: &mut S, asked: &Asked) -> Result<Parts, OpenFault>
-    requires kind { asked.now.kind ≢ Crawl }
+// Makes a store: what it has beside its URLs, the bay of these, and at last the head.
+pub(crate) fn make<S: Store>(
+    alloc: Global,
+    store: &mut S,
+    asked: &Asked,
+) -> Result<Parts, OpenFault>
     requires blank { ForSome (S.told store.old).files (λ files. StandsFor (files head_file) []) }
     ensures opened { IfOk result (λ parts. OpensYard asked.now parts (S.told store.old).files (S.told store.new)) }
     ensures refused { IfErr result (λ fault. OpeningRefused asked.now fault (S.told store.old) (S.told store.new)) }
@@ -121,7 +147,7 @@ fn make<S: Store>(alloc: Global, store: &mut S, asked: &Asked) -> Result<Parts, 
         return Err(OpenFault::BadSettings(n));
     }
     let mut frame = head_frame(alloc, &settings)?;
-    sync_rest(store, settings.buckets)?;
+    let rest = make_rest(alloc, store, &settings)?;
     let urls = match Bay::make(alloc, store, URLS_BASE, &settings) {
         Ok(urls) => urls,
         Err(fault) => return Err(bay_fault(fault)),
@@ -129,9 +155,27 @@ fn make<S: Store>(alloc: Global, store: &mut S, asked: &Asked) -> Result<Parts, 
     write_head(alloc, store, &mut frame)?;
     Ok(Parts {
         urls,
-        rest: Rest::Plain,
+        rest,
         has_failed: false,
     })
+}
+
+// Makes what a store has beside its bay of URLs, by its kind.
+fn make_rest<S: Store>(alloc: Global, store: &mut S, settings: &Settings) -> Result<Rest, OpenFault>
+    requires valid { AreValid settings.now }
+    requires unmade { ForSome (S.told store.old).files (ArePlainFiles settings.now.buckets) }
+    ensures { RestMade result settings.now (S.told store.old) (S.told store.new) }
+{
+    match settings.kind {
+        Kind::Lines | Kind::Tuples => {
+            sync_rest(store, settings.buckets)?;
+            Ok(Rest::Plain)
+        }
+        Kind::Crawl => match Ledger::make(alloc, store, settings) {
+            Ok(ledger) => Ok(Rest::Crawl(ledger)),
+            Err(fault) => Err(bay_fault(fault)),
+        },
+    }
 }
 
 // Syncs the files that a store of lines or tuples lacks, so that a stop leaves of them what is told.
@@ -173,7 +217,7 @@ fn sync_files<S: Store>(store: &mut S, from: u16, end: u16) -> Result<(), Failed
 /// leaves the records of each bucket's live journal: of what is told, and of each image that a stop left, where what is told
 /// and each image stood for the state before.
 pub fn what_entering_keeps()
-    ensures state { (asked : AskedValue) (told old new : Files) (state : State) → asked.kind ≢ Crawl →
+    ensures state { (asked : AskedValue) (told old new : Files) (state : State) →
         HasState state told → HasState state old → Enters asked (Some told) old new →
         HasOneOf state (entered_state asked state) new }
     ensures records { (asked : AskedValue) (told old new : Files) (state : State) (buckets b : ℕ)

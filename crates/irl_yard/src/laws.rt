@@ -1,7 +1,9 @@
 ghost use Rattle.std.specs.Prelude.{◌≡◌, ◌≢◌, ◌<◌, ℕ, List, map, Some};
 ghost use Rattle.irl_offer.specs.Tuple.{Tuple};
 ghost use Rattle.irl_offer.specs.declared.settings.Asked.{Asked};
-ghost use Rattle.irl_model.specs.Book.{IsPrefixOf, judged};
+ghost use Rattle.irl_offer.specs.declared.place.Place.{Place};
+ghost use Rattle.irl_model.specs.Book.{Book, IsFront, IsPrefixOf, judged};
+ghost use Rattle.irl_events.specs.Events.{Event};
 ghost use Rattle.irl_events.specs.State.{State, IsFrontState};
 ghost use Rattle.irl_disk.specs.Disk.{Files};
 ghost use Rattle.irl_layout.specs.BayFiles.{IsBucketFile};
@@ -10,6 +12,8 @@ ghost use Rattle.irl_bay.specs.Drum.{Drum, IsDrum};
 ghost use Rattle.irl_bay.specs.Merging.{IsMergeFile};
 ghost use Rattle.irl_layout.specs.Runs.{AreRuns, run_bytes};
 ghost use Rattle.irl_schedule.specs.Feeding.{Waits, Stays};
+ghost use Rattle.irl_ledger.specs.Crawling.{MayFollow};
+ghost use Rattle.irl_yard.specs.Adding.{with_event};
 ghost use Rattle.irl_yard.specs.Holding.{HoldsOpen, HoldsState, HasJournal, with_offers, with_cut};
 ghost use Rattle.irl_yard.specs.Lifting.{LiftsBooks};
 ghost use Rattle.irl_yard.specs.Moments.{moment_at};
@@ -40,13 +44,18 @@ pub fn what_is_held_has_its_state<S: Store>(store: &S, parts: &Parts)
         × HasJournal (S.told store.now).images parts.now.urls b (map run_bytes runs) }
 {}
 
-/// A state is a front of what opening, flushes and merges make of it, and what was judged of a front stays.
+/// A state is a front of what opening, flushes, merges and events make of it, and of what has a longer book of pairs.
+/// What was judged of a front stays.
 pub fn states_grow()
     ensures same { (state : State) → IsFrontState state state }
     ensures both { (x y z : State) → IsFrontState x y → IsFrontState y z → IsFrontState x z }
     ensures offers { (b : ℕ) (news : List Tuple) (state : State) → IsFrontState state (with_offers b news state) }
     ensures cut { (state : State) → IsFrontState state (with_cut state) }
     ensures entered { (asked : Asked) (state : State) → IsFrontState state (entered_state asked state) }
+    ensures event { (event : Event) (places : List Place) (state : State) →
+        IsFrontState state (with_event event places state) }
+    ensures pairs { (state : State) (book : Book) → IsFront state.pairs book →
+        IsFrontState state (record state { pairs = book }) }
     ensures judged { (x y : State) (files : Files) → HasState x files → IsFrontState x y →
         IsPrefixOf (judged x.urls) (judged y.urls) }
 {}
@@ -59,11 +68,12 @@ pub fn books_make_states<S: Store>(before: &Yard<S>, after: &Yard<S>)
         Stays (moment_at before.now waits) (moment_at after.now later) →
         LiftsBooks state (moment_at before.now waits) (moment_at after.now later) }
     // What is open beside the bay stays open with the rest of the state.
-    ensures open_rest { (waits later : Waits) (state : State) → IsDrum before.now.parts.urls →
+    ensures open_rest { (waits later : Waits) (state : State) (book : Book) → IsDrum before.now.parts.urls →
         HoldsState (S.told before.now.store).images before.now.parts state →
         Stays (moment_at before.now waits) (moment_at after.now later) →
-        after.now.parts.rest ≡ before.now.parts.rest → HoldsOpen (S.told after.now.store).images
-        after.now.parts.urls.settings after.now.parts.rest state.pairs state.events }
+        after.now.parts.rest ≡ before.now.parts.rest →
+        MayFollow before.now.parts.urls.settings.kind state.urls book → HoldsOpen (S.told after.now.store).images
+        after.now.parts.urls.settings after.now.parts.rest book state.pairs state.events }
 {}
 
 /// A bucket's files on a side are no other's, and none on the other side. A merge changes none of the live ones.

@@ -1,11 +1,15 @@
 //! The whole store: its head, and the bay of URLs.
 #![tactic(auto)]
 
+mod due;
 mod enter;
 mod events;
 mod laws;
 mod parts;
+mod passes;
 mod scheduling;
+mod sending;
+mod tie;
 mod yard;
 
 pub use enter::{no_two_grounds, what_entering_keeps};
@@ -13,5 +17,6 @@ pub use laws::{
     a_buckets_files_are_its_own, books_make_states, one_state, states_grow,
     what_is_held_has_its_state,
 };
-pub use parts::{CrawlParts, Parts, Rest};
+pub use parts::{Parts, Rest};
+pub use tie::{calls_are_steps, events_are_steps};
 pub use yard::Yard;

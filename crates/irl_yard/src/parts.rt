@@ -1,11 +1,11 @@
-ghost use Rattle.std.specs.Prelude.{◌≡◌, ◌↔◌, true};
+ghost use Rattle.std.specs.Prelude.{◌≡◌, ◌↔◌, ℕ, true};
+ghost use Rattle.irl_events.specs.Events.{has_number};
+ghost use Rattle.irl_frontier.specs.Frontier.{IsFrontier};
+ghost use Rattle.irl_yard.specs.declared.parts.Rest.TheVariants.{Crawl as CrawlRest};
 ghost use Rattle.irl_yard.specs.Holding.{IsSoundRest};
 
 use irl_bay::Bay;
-use irl_fate::Fates;
-use irl_log::Log;
-use irl_pld::Suffixes;
-use std::alloc::Global;
+use irl_ledger::Ledger;
 
 /// What an open store keeps in memory.
 #[derive(Drop)]
@@ -21,18 +21,7 @@ pub struct Parts {
 pub enum Rest {
     // A store of lines or of tuples has nothing else.
     Plain,
-    Crawl(CrawlParts),
-}
-
-/// What a store of a crawl keeps: the bay of pairs, the log of events, and the tables that the events make.
-#[derive(Drop)]
-pub struct CrawlParts {
-    pub(crate) alloc: Global,
-    pub(crate) pairs: Bay,
-    pub(crate) log: Log,
-    pub(crate) fates: Fates,
-    // Those that the crawl began with.
-    pub(crate) suffixes: Option<Suffixes>,
+    Crawl(Ledger),
 }
 
 impl Rest {
@@ -42,7 +31,22 @@ impl Rest {
     {
         match self {
             Rest::Plain => true,
-            Rest::Crawl(crawl) => crawl.pairs.is_sound() && crawl.log.is_sound(),
+            Rest::Crawl(ledger) => ledger.is_sound(),
+        }
+    }
+
+    // A law: what the tables of a crawl keep. It does nothing.
+    pub(crate) fn keeps(&self)
+        ensures frontier { (ledger : Ledger) → self.now ≡ CrawlRest ledger → IsFrontier ledger.frontier }
+        ensures begun { (ledger : Ledger) (n : ℕ) → self.now ≡ CrawlRest ledger →
+            has_number ledger.frontier.progress.front n ≡ true → ledger.frontier.progress.begun ≡ true }
+    {
+        match self {
+            Rest::Plain => {}
+            Rest::Crawl(ledger) => {
+                ledger.keeps();
+                ledger.has_begun();
+            }
         }
     }
 }

@@ -9,7 +9,7 @@ ghost use Rattle.irl_bay.specs.Drum.{IsDrum, HasNumbers, durable_at, pending_at,
 ghost use Rattle.irl_bay.specs.Flushing.{MayFlush, Flushes, FlushRefused};
 ghost use Rattle.irl_bay.specs.Holding.{IsLong};
 ghost use Rattle.irl_bay.specs.Merges.{Merges, MergeRefused, ReadsJudged};
-ghost use Rattle.irl_yard.specs.Crawling.{AreTaken};
+ghost use Rattle.irl_ledger.specs.Crawling.{AreTaken};
 ghost use Rattle.irl_yard.specs.Flushing.{FlushesState, FlushLeaves};
 ghost use Rattle.irl_yard.specs.Holding.{IsOpenRest, IsSound, StaysSound};
 ghost use Rattle.irl_yard.specs.Merges.{MergesState, MergeLeaves, ReadsState};
@@ -169,7 +169,7 @@ impl<S: Store> Yard<S> {
 }
 
 // Whether an answer is that the store failed.
-fn is_failure<T>(found: &Result<T, Fault>) -> bool
+pub(crate) fn is_failure<T>(found: &Result<T, Fault>) -> bool
     ensures { (result ≡ true) ↔ IsErrOf found.now Fault.Failed }
 {
     matches!(found, Err(Fault::Failed))

@@ -4,7 +4,7 @@ ghost use Rattle.irl_offer.specs.Buckets.{bucket_of as bucket_of_key, IsBucketCo
 ghost use Rattle.irl_offer.specs.declared.settings.Kind.TheVariants.{Crawl};
 ghost use Rattle.irl_bay.specs.Flushing.{MayFlush};
 ghost use Rattle.irl_bay.specs.Drum.{pending_at, SomePending};
-ghost use Rattle.irl_yard.specs.Crawling.{AreTaken};
+ghost use Rattle.irl_ledger.specs.Crawling.{AreTaken};
 ghost use Rattle.irl_yard.specs.Holding.{IsSound};
 
 mod damage;

@@ -14,13 +14,13 @@ returns-in_err-settings-clause-refused g c =
     let asked = c.args.asked.now in
     let look = c.find_head.ensures in
     if_err c.from_residual.result _ (λ fault. OpeningRefused asked fault old new) c.from_residual.ensures.1
-    (refused_looked asked _ _ old new c.requires.kind (g.met.S.Store.is_consistent c.args.store.now) look.same look.changes
+    (refused_looked asked _ _ old new (g.met.S.Store.is_consistent c.args.store.now) look.same look.changes
     (found_ground asked old.files c.find_head.result _ c.in_err-settings.was look.not_ours look.damaged look.other look.bad))
 
 pub returns-in_err-settings-clause-entered : goal.returns-in_err-settings-clause-entered
 returns-in_err-settings-clause-entered g c =
     let look = c.find_head.ensures in
-    enters_looked c.args.asked.now _ _ (g.S.Store.told c.args.store.now) (g.S.Store.told c.find_head.new.store) c.requires.kind (g.met.S.Store.is_consistent c.args.store.now) look.same look.changes
+    enters_looked c.args.asked.now _ _ (g.S.Store.told c.args.store.now) (g.S.Store.told c.find_head.new.store) (g.met.S.Store.is_consistent c.args.store.now) look.same look.changes
     (same_err c.from_residual.result c.find_head.result _ _ c.from_residual.ensures.1 c.in_err-settings.was)
 
 -- it has settings
@@ -33,7 +33,7 @@ returns-in-Some-clause-refused g c =
     let tells = g.S.Store.told in
     let law = g.met.S.Store.is_consistent in
     let look = c.find_head.ensures in
-    if_err_then c.adopt.result _ _ (λ fault refused. refused_behind c.args.asked.now _ (tells c.args.store.now) (tells c.find_head.new.store) c.requires.kind (law c.args.store.now)
+    if_err_then c.adopt.result _ _ (λ fault refused. refused_behind c.args.asked.now _ (tells c.args.store.now) (tells c.find_head.new.store) (law c.args.store.now)
     (law c.find_head.new.store) look.same look.changes fault (tells c.adopt.new.store) refused) c.adopt.ensures.refused
 
 pub returns-in-Some-clause-entered : goal.returns-in-Some-clause-entered
@@ -41,7 +41,7 @@ returns-in-Some-clause-entered g c =
     let tells = g.S.Store.told in
     let law = g.met.S.Store.is_consistent in
     let look = c.find_head.ensures in
-    enters_behind c.args.asked.now _ (tells c.args.store.now) (tells c.find_head.new.store) c.requires.kind (law c.args.store.now) (law c.find_head.new.store) look.same look.changes _
+    enters_behind c.args.asked.now _ (tells c.args.store.now) (tells c.find_head.new.store) (law c.args.store.now) (law c.find_head.new.store) look.same look.changes _
     (tells c.adopt.new.store) c.adopt.ensures.entered
 
 -- or none
@@ -54,7 +54,7 @@ returns-in-None-clause-refused g c =
     let tells = g.S.Store.told in
     let law = g.met.S.Store.is_consistent in
     let look = c.find_head.ensures in
-    if_err_then c.make.result _ _ (λ fault refused. refused_behind c.args.asked.now _ (tells c.args.store.now) (tells c.find_head.new.store) c.requires.kind (law c.args.store.now)
+    if_err_then c.make.result _ _ (λ fault refused. refused_behind c.args.asked.now _ (tells c.args.store.now) (tells c.find_head.new.store) (law c.args.store.now)
     (law c.find_head.new.store) look.same look.changes fault (tells c.make.new.store) refused) c.make.ensures.refused
 
 pub returns-in-None-clause-entered : goal.returns-in-None-clause-entered
@@ -62,5 +62,5 @@ returns-in-None-clause-entered g c =
     let tells = g.S.Store.told in
     let law = g.met.S.Store.is_consistent in
     let look = c.find_head.ensures in
-    enters_behind c.args.asked.now _ (tells c.args.store.now) (tells c.find_head.new.store) c.requires.kind (law c.args.store.now) (law c.find_head.new.store) look.same look.changes _
+    enters_behind c.args.asked.now _ (tells c.args.store.now) (tells c.find_head.new.store) (law c.args.store.now) (law c.find_head.new.store) look.same look.changes _
     (tells c.make.new.store) c.make.ensures.entered

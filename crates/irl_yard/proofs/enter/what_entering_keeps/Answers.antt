@@ -3,7 +3,7 @@ use Rattle.irl_yard.proofs.Entering.{enters_keeps, enters_records}
 use Rattle.irl_yard.proofs.enter.what_entering_keeps.Goals as goal
 
 pub returns-clause-state : goal.returns-clause-state
-returns-clause-state g = λ asked told old new state kind has_told has enters. enters_keeps asked (Some told) told state old new kind refl has_told has enters
+returns-clause-state g = λ asked told old new state has_told has enters. enters_keeps asked (Some told) told state old new refl has_told has enters
 
 pub returns-clause-records : goal.returns-clause-records
 returns-clause-records g = λ asked told old new state buckets b payloads has_told has enters within journal.

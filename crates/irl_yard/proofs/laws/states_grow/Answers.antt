@@ -1,4 +1,4 @@
-use Rattle.irl_yard.proofs.States.{state_same, state_both, offers_front, cut_front, entered_front, judged_stays}
+use Rattle.irl_yard.proofs.States.{state_same, state_both, offers_front, cut_front, entered_front, event_front, pairs_front, judged_stays}
 use Rattle.irl_yard.proofs.laws.states_grow.Goals as goal
 
 pub returns-clause-same : goal.returns-clause-same
@@ -15,6 +15,12 @@ returns-clause-cut c = cut_front
 
 pub returns-clause-entered : goal.returns-clause-entered
 returns-clause-entered c = entered_front
+
+pub returns-clause-event : goal.returns-clause-event
+returns-clause-event c = event_front
+
+pub returns-clause-pairs : goal.returns-clause-pairs
+returns-clause-pairs c = pairs_front
 
 pub returns-clause-judged : goal.returns-clause-judged
 returns-clause-judged c = judged_stays

@@ -7,10 +7,11 @@ use Rattle.irl_layout.specs.Runs.{run_bytes}
 use Rattle.irl_bay.proofs.Apart.{bucket_files}
 use Rattle.irl_bay.proofs.DrumFiles.{live_low}
 use Rattle.irl_schedule.proofs.Journals.{journal_stays, records_stay, gains_stay, buckets_apart, manifest_apart}
-use Rattle.irl_schedule.proofs.Outcomes.{unless_failed}
+use Rattle.irl_schedule.proofs.Counts.{flushed_grow, kept_grow}
+use Rattle.irl_schedule.proofs.Outcomes.{by_answer, unless_failed}
 use Rattle.irl_yard.specs.Holding.{HoldsState}
 use Rattle.irl_yard.proofs.Beside.{rest_beside, state_after}
-use Rattle.irl_yard.proofs.ByKind.{rest_flushed}
+use Rattle.irl_yard.proofs.ByKind.{follows_flushed, rest_follows}
 use Rattle.irl_yard.proofs.Holding.{AreOfUrls, stops_one_of, on_ok_both}
 use Rattle.irl_yard.proofs.Journals.{journal_same, flush_keeps}
 use Rattle.irl_yard.proofs.yard.Yard.flush.Goals as goal
@@ -27,7 +28,9 @@ invariant_of-self g c =
     let same = flush_keeps c.flush.result _ _ was c.flush.new.self c.flush.ensures.flushes.counts c.flush.ensures.refused.counts in
     record {
       long = c.flush.ensures.goes_on.long;
-      rest_is = rest_beside _ _ _ was c.flush.new.self c.args.self.now.parts.rest law are c.flush.ensures.leaves.others.told same.0 same.1 c.args.self.now.rest_is;
+      rest_is = rest_beside _ _ _ was c.flush.new.self c.args.self.now.parts.rest law are c.flush.ensures.leaves.others.told same.0 same.1
+          (by_answer c.flush.result c.flush.ensures.flushes.counts c.flush.ensures.refused.counts
+          (λ counts. flushed_grow c.args.b _ was c.flush.new.self law c.requires.offers.bucket counts) (λ counts. kept_grow was c.flush.new.self counts)) c.args.self.now.rest_is;
     }
 
 pub returns-clause-states : goal.returns-clause-states
@@ -47,11 +50,13 @@ returns-clause-states g c =
     let others = leaves.others.stops in
     let are : AreOfUrls was (IsBucketFile was.base (live_side was.last) b) =
     λ f is. bucket_files was.base was.settings.buckets (live_side was.last) b f c.requires.offers.bucket is (live_low was.last.live law.last.live) in
-    let legal = λ (state : State) (holds : HoldsState old.images parts state). rest_flushed was.settings state.pairs state.events was.settings.kind b news state.urls
-    holds.urls.urls_hold.book_is.is_book c.requires.taken holds.urls.legal in
+    let follows = λ (state : State) (holds : HoldsState old.images parts state).
+        follows_flushed was.settings state.pairs state.events was.settings.kind b news state.urls c.requires.taken holds.urls.legal in
+    let legal = λ (state : State) (holds : HoldsState old.images parts state). rest_follows was.settings state.pairs state.events was.settings.kind state.urls (flushed b news state.urls)
+    holds.urls.urls_hold.book_is.is_book (follows state holds) holds.urls.legal in
     record {
       holds = on_ok_both c.flush.result ok.holds ok.counts (λ gives counts state holds.
-          state_after _ old new parts _ state (flushed b news state.urls) law (lawful c.flush.new.store) are others c.args.self.now.rest_is counts.base counts.settings refl holds (legal state holds)
+          state_after _ old new parts _ state (flushed b news state.urls) law (lawful c.flush.new.store) are others c.args.self.now.rest_is counts.base counts.settings refl holds (follows state holds)
           (gives state.urls holds.urls.urls_hold));
       stops = λ state holds.
           stops_one_of _ old new was state (flushed b news state.urls) law are holds.urls (legal state holds) (leaves.stops state.urls holds.urls.urls_hold);
