@@ -76,21 +76,24 @@ fn push(intake: &mut Intake<MemStore>, offer: Offer) -> Result<(), Fault> {
     Ok(())
 }
 
-// Hands an offer in. At most one merge runs alone before it.
+// All steps before an offer of a bucket, or at the end of the input: at most one merge runs alone.
+fn steps(intake: &mut Intake<MemStore>, bucket: Option<u32>) -> Result<(), Fault> {
+    if step(intake, bucket)? == Next::Merged {
+        step(intake, bucket)?;
+    }
+    Ok(())
+}
+
+// Hands an offer in.
 fn feed(intake: &mut Intake<MemStore>, offer: Offer) -> Result<(), Fault> {
     let b = bucket_of(offer.key, intake.settings().buckets);
-    if step(intake, Some(b))? == Next::Merged {
-        step(intake, Some(b))?;
-    }
+    steps(intake, Some(b))?;
     push(intake, offer)
 }
 
 // The end of the input.
 fn end(intake: &mut Intake<MemStore>) -> Result<(), Fault> {
-    if step(intake, None)? == Next::Merged {
-        step(intake, None)?;
-    }
-    Ok(())
+    steps(intake, None)
 }
 
 // A letter for a verdict.

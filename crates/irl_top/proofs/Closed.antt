@@ -184,20 +184,20 @@ legal_has x files (inl blank) = inl blank.1
 legal_has x files (inr (settings, made)) = inr (settings, made_state settings x files made)
 
 -- that of a store that was just made
-legal_new : (settings : Settings) → AreValid settings → settings.kind ≢ Crawl → IsLegal (new_state settings)
-legal_new settings valid kind = inr (
+legal_new : (settings : Settings) → AreValid settings → IsLegal (new_state settings)
+legal_new settings valid = inr (
   settings,
   record {
     settings_are = refl;
     valid = valid;
     book_is = record { is_book = blank_is_book settings.buckets settings.rule valid.buckets; buckets = refl; rule = refl; dropped = refl };
-    rest = new_rest settings.kind settings (blank_book settings.buckets settings.rule) kind;
+    rest = new_rest settings.kind settings valid;
   },
 )
 
-legal_entered : (asked : Asked) (x : State) (files : Files) → asked.kind ≢ Crawl → AreValid (settings_of asked) → HasState x files → IsLegal (entered_state asked x)
-legal_entered asked x files kind valid (inl blank) = subst (λ (s : State). IsLegal (entered_state asked s)) (sym blank.1) (legal_new (settings_of asked) valid kind)
-legal_entered asked x files kind valid (inr (settings, made)) = subst IsLegal (sym (entered_made asked settings x made.settings_are)) (legal_has x files (inr (settings, made)))
+legal_entered : (asked : Asked) (x : State) (files : Files) → AreValid (settings_of asked) → HasState x files → IsLegal (entered_state asked x)
+legal_entered asked x files valid (inl blank) = subst (λ (s : State). IsLegal (entered_state asked s)) (sym blank.1) (legal_new (settings_of asked) valid)
+legal_entered asked x files valid (inr (settings, made)) = subst IsLegal (sym (entered_made asked settings x made.settings_are)) (legal_has x files (inr (settings, made)))
 
 -- files that have the new store's state show that it can be made
 entered_valid : (asked : Asked) (x : State) (image : Files) → x ≡ blank_state → HasState (entered_state asked x) image → AreValid (settings_of asked)
@@ -214,7 +214,7 @@ keeps_either : (asked : Asked) (before after : Lent) (fault : OpenFault) (files 
     → IsLegal (entered_state asked x) → Keeps asked before after x (entered_state asked x)
 keeps_either asked before after fault files x refused told has legal =
     let new = told_after asked before.store.files after.store.files files refused.files told in
-    let one = enters_keeps asked before.store.files files x files new.0 refused.kind told has has new.2 in
+    let one = enters_keeps asked before.store.files files x files new.0 told has has new.2 in
     by_one new.0 new.1 one
   where
     stopped : ((image : Files) → before.store.images image → HasState x image) → Leaves before.store after.store (λ image. (z : State) × HasState z image × Reaches asked x z × IsFrontState x z
@@ -253,7 +253,7 @@ keeps_unmade : (asked : Asked) (before after : Lent) (fault : OpenFault) (files 
     → x ≡ blank_state → (AreValid (settings_of asked) → ⊥) → Keeps asked before after x x
 keeps_unmade asked before after fault files x refused told has blank bad =
     let new = told_after asked before.store.files after.store.files files refused.files told in
-    let one = enters_keeps asked before.store.files files x files new.0 refused.kind told has has new.2 in
+    let one = enters_keeps asked before.store.files files x files new.0 told has has new.2 in
     record {
       state = x;
       told = same_told after.store.files new.0 x new.1 (old_one new.0 one);
@@ -365,7 +365,7 @@ extends_blank kind asked before after fault files x law_before law_after refused
     refl)
 extends_blank kind asked before after fault files x law_before law_after refused told blank same (inr failed) = ⊎_elim
     (λ valid.
-    let k = keeps_either asked before after fault files x refused told (inl (blank, same)) (legal_entered asked x files refused.kind valid (inl (blank, same))) in
+    let k = keeps_either asked before after fault files x refused told (inl (blank, same)) (legal_entered asked x files valid (inl (blank, same))) in
     extends_closed kind asked before after fault files x (entered_state asked x) law_before law_after refused told (inl (blank, same)) k (λ fine. absurd (fine failed)))
     (λ bad. extends_closed kind asked before after fault files x x law_before law_after refused told (inl (blank, same))
     (keeps_unmade asked before after fault files x refused told (inl (blank, same)) same bad) (λ fine. refl))
@@ -403,8 +403,8 @@ pub ran_refused : (kind : LineKind) (asked : Asked) (before after : Lent) (fault
     → Ran (line_task kind asked) before after (ending_of_open fault)
 ran_refused kind asked before after fault law_before law_after refused = record {
   extends = λ files told x has. extends_refused kind asked before after fault files x law_before law_after refused told has;
-  others = enters_told asked before.store.files before.store.files after.store.files refused.files;
-  others_stop = enters_stops asked before.store.files before.store after.store refused.steps;
+  others = enters_told asked before.store.files before.store.files after.store.files refused.kind refused.files;
+  others_stop = enters_stops asked before.store.files before.store after.store refused.kind refused.steps;
   opened = inr (record { files = refused.files; steps = refused.steps; input = refused.input; output = refused.output; late = open_late fault });
   unopened = λ is. (refused.same (unwanted_open fault is), refused.input, refused.output);
   unopened_stop = λ is. refused.same_stops (unwanted_open fault is);

@@ -62,27 +62,29 @@ journal_of_store : (buckets f : ℕ) → buckets ≤ 64 → IsJournalOf urls_bas
 journal_of_store buckets f small (inl manifest) = inr (Manifest, tt, manifest)
 journal_of_store buckets f small (inr (side, b, low, within, is)) = inr (Journal side b, (low, omega (arith, within, small)), is)
 
-store_journal : (kind : Kind) (buckets f : ℕ) → buckets ≤ 64 → IsStoreJournal kind buckets f → IsStoreFile f
-store_journal kind buckets f small (inl head) = inl head
-store_journal kind buckets f small (inr (inl journal)) = journal_of_store buckets f small journal
-store_journal Lines buckets f small (inr (inr none)) = absurd none
-store_journal Tuples buckets f small (inr (inr none)) = absurd none
-store_journal Crawl buckets f small (inr (inr none)) = absurd none
+-- a store that isn't a crawl's has no other journal
+store_journal : (kind : Kind) (buckets f : ℕ) → kind ≢ Crawl → buckets ≤ 64 → IsStoreJournal kind buckets f → IsStoreFile f
+store_journal kind buckets f plain small (inl head) = inl head
+store_journal kind buckets f plain small (inr (inl journal)) = journal_of_store buckets f small journal
+store_journal Lines buckets f plain small (inr (inr none)) = absurd none
+store_journal Tuples buckets f plain small (inr (inr none)) = absurd none
+store_journal Crawl buckets f plain small (inr (inr other)) = absurd (plain refl)
 
-told_journal : (told : Option Files) (f : ℕ) → IsToldJournal told f → IsStoreFile f
-told_journal told f (inl head) = inl head
-told_journal told f (inr (settings, valid, has, journal)) = store_journal settings.kind settings.buckets f (count_small _ valid.buckets) journal
+told_journal : (asked : Asked) (told : Option Files) (f : ℕ) → asked.kind ≢ Crawl → IsToldJournal asked told f → IsStoreFile f
+told_journal asked told f plain (inl head) = inl head
+told_journal asked told f plain (inr (settings, valid, agrees, has, journal)) =
+    store_journal settings.kind settings.buckets f (agrees_plain asked settings agrees plain) (count_small _ valid.buckets) journal
 
-pub enters_only : (asked : Asked) (told : Option Files) (old new : Files) → Enters asked told old new → ChangesOnly IsStoreFile old new
-enters_only asked told old new (inl opens) = λ f not. opens.others f (λ is. not (told_journal told f is))
-enters_only asked told old new (inr (blank, valid, makes)) = λ f not. makes.others f (λ journal.
-    not (store_journal (settings_of asked).kind (settings_of asked).buckets f (count_small _ valid.buckets) journal))
+pub enters_only : (asked : Asked) (told : Option Files) (old new : Files) → asked.kind ≢ Crawl → Enters asked told old new → ChangesOnly IsStoreFile old new
+enters_only asked told old new plain (inl opens) = λ f not. ⊎_elim (λ same. same) (λ opened. absurd (not (told_journal asked told f plain opened.0))) (opens f)
+enters_only asked told old new plain (inr (blank, valid, makes)) = λ f not. makes.others f (λ journal.
+    not (store_journal (settings_of asked).kind (settings_of asked).buckets f plain (count_small _ valid.buckets) journal))
 
-pub enters_told : (asked : Asked) (told old new : Option Files) → TellsBy (Enters asked told) old new → TellsOnly IsStoreFile old new
-enters_told asked told old new tells = tells_only IsStoreFile old new (tells_wide (Enters asked told) (ChangesOnly IsStoreFile) old new (enters_only asked told) tells)
+pub enters_told : (asked : Asked) (told old new : Option Files) → asked.kind ≢ Crawl → TellsBy (Enters asked told) old new → TellsOnly IsStoreFile old new
+enters_told asked told old new plain tells = tells_only IsStoreFile old new (tells_wide (Enters asked told) (ChangesOnly IsStoreFile) old new (λ x y. enters_only asked told x y plain) tells)
 
-pub enters_stops : (asked : Asked) (told : Option Files) (old new : Told) → LeavesBy (Enters asked told) old new → LeavesBy (ChangesOnly IsStoreFile) old new
-enters_stops asked told old new steps = widens old new _ _ steps (λ image from. (from.0, from.1, enters_only asked told from.0 image from.2))
+pub enters_stops : (asked : Asked) (told : Option Files) (old new : Told) → asked.kind ≢ Crawl → LeavesBy (Enters asked told) old new → LeavesBy (ChangesOnly IsStoreFile) old new
+enters_stops asked told old new plain steps = widens old new _ _ steps (λ image from. (from.0, from.1, enters_only asked told from.0 image plain from.2))
 
 part_wider : (buckets : ℕ) (p : BayFile) → buckets ≤ 64 → IsPartOf buckets p → IsPartOf 64 p
 part_wider buckets Manifest small is = tt
@@ -305,9 +307,10 @@ ran_opened kind asked before old new input news ending law_before law_old law_ne
       extends = λ files told x has.
           let h = held files x told has in
           extends_opened kind asked before old new input news ending files x law_before law_old law_new entered reason read told has (ends h.0 h.1 (entered_state asked x).urls h.2.urls_hold h.3) h.2;
-      others = tells_both IsStoreFile before.store.files old.moment.store.files new.moment.store.files (enters_told asked before.store.files before.store.files old.moment.store.files entered.files)
+      others = tells_both IsStoreFile before.store.files old.moment.store.files new.moment.store.files
+          (enters_told asked before.store.files before.store.files old.moment.store.files entered.kind entered.files)
           (tells_more old.moment.store.files new.moment.store.files reason.stays.others);
-      others_stop = leaves_both IsStoreFile before.store old.moment.store new.moment.store law_old (enters_stops asked before.store.files before.store old.moment.store entered.steps)
+      others_stop = leaves_both IsStoreFile before.store old.moment.store new.moment.store law_old (enters_stops asked before.store.files before.store old.moment.store entered.kind entered.steps)
           (widens old.moment.store new.moment.store _ _ reason.stays.others_stop (λ image from.
           (from.0, from.1, only_wider (IsFileOf urls.base urls.settings.buckets) IsStoreFile from.0 image (λ f is. bay_of_store urls.base urls.settings.buckets f entered.base small is) from.2)));
       opened = inl openable;

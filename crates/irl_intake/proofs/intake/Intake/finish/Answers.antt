@@ -1,4 +1,4 @@
-use Rattle.std.proofs.Common.{◌∙◌, ◌<◌, [], Err, sym, ap, rules, subst, arith}
+use Rattle.std.proofs.Common.{◌∙◌, ◌<◌, [], Err, sym, ap, subst, arith}
 use Rattle.std.proofs.lemmas.Result.{err_from_is_err_and}
 use Rattle.irl_offer.specs.declared.settings.Settings.{Settings}
 use Rattle.irl_schedule.specs.Feeding.{Moment, moment}
