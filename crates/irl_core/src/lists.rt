@@ -1,6 +1,5 @@
 ghost use Rattle.std.specs.Prelude.{◌≡◌, ◌<◌, ◌∷◌, [], length, slice_index, slice_index_or, slice_set, replicate, vec_len, IfOk, OnOk, OnErr};
 ghost use Rattle.std.specs.Prelude.{map as list_map};
-ghost use Rattle.irl_events.specs.Legal.{one_rose};
 ghost use Rattle.irl_model.specs.Book.{flushed_lists};
 ghost use Rattle.irl_base.specs.Lists.{items_of};
 
@@ -94,19 +93,6 @@ pub fn set_at(numbers: &mut Vec<u64>, at: u32, number: u64)
     if (at as usize) < numbers.len() {
         numbers[at as usize] = number;
     }
-}
-
-/// Whether one of the second numbers is above the first's.
-pub fn rise(old: &[u64], new: &[u64]) -> bool
-    requires { length new.now ≡ length old.now }
-    ensures { result ≡ one_rose old.now new.now }
-{
-    for (i, front) in old.iter().enumerate() {
-        if *front < new[i] {
-            return true;
-        }
-    }
-    false
 }
 
 /// The same numbers, as an event keeps them.

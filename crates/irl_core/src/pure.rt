@@ -13,10 +13,10 @@ ghost use Rattle.irl_core.specs.declared.step.Step.TheVariants.{Offer as OfferSt
 ghost use Rattle.irl_core.specs.declared.step.Step.TheVariants.{FlushStop as FlushStopStep, MergeStop as MergeStopStep, SettleStop as SettleStopStep};
 
 use crate::fates::{add_event, begun, tell_sent};
-use crate::lists::{empty_all, length_at, lengths, move_to, numbers, push_at, rise, set_at, zeros};
+use crate::lists::{empty_all, length_at, lengths, move_to, numbers, push_at, set_at, zeros};
 use crate::{Reply, Step};
 use irl_base::lists::empty_lists;
-use irl_fate::{Event, Fate, Fates, Places, Settled};
+use irl_fate::{Event, Fate, Fates, Places, Settled, a_front_rose};
 use irl_offer::{Judged, Offer, Place, Receipt, Settings, bucket_of};
 use std::alloc::{AllocError, Global};
 use std::marker::Model;
@@ -304,7 +304,7 @@ impl Core {
         ensures { IfOk result (λ may. may ≡ may_merge_of self.now) }
     {
         let lengths = lengths(self.alloc, &self.lists)?;
-        Ok(rise(&self.cut, &lengths))
+        Ok(a_front_rose(&self.cut, &lengths))
     }
 
     // Whether places give all URLs that no pass has read, in order, and no other such number.

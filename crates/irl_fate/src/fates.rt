@@ -18,7 +18,7 @@ use crate::numbers::{begin_round, front_of, place_all, settle_all};
 use crate::order::{first_from, first_left, sorted};
 use crate::plan::{Act, Reading};
 use crate::room::{extend, grow, room};
-use crate::rules::{are_within, differ, has_lengths, reads_queue, settles_front};
+use crate::rules::{are_within, has_lengths, numbers_differ, reads_queue, settles_front};
 use crate::table::{enter, fate_at};
 use crate::{Fate, FateFault, Plan};
 use irl_base::lists::{empty_lists, replace_at, take_out};
@@ -321,7 +321,7 @@ impl Fates {
     {
         match event {
             Event::Settle { fronts, done } => {
-                let differ = differ(self.alloc, done.items())?;
+                let differ = numbers_differ(self.alloc, done.items())?;
                 Ok(settles_front(
                     &self.fates,
                     &self.fronts,

@@ -21,6 +21,7 @@ pub use laws::{
     counts_add_up, queues_wait_for_their_pass, what_is_done_stays_done, what_was_read_stands_once,
 };
 pub use plan::Plan;
+pub use rules::{a_front_rose, no_front_fell, numbers_differ};
 
 #[cfg(test)]
 mod tests;

@@ -69,8 +69,8 @@ pub fn has_lengths(note: &Note) -> bool
     1 <= host && host <= MAX_TEXT && text <= MAX_ROBOTS
 }
 
-// Whether none of the second numbers is below the first's.
-fn stay(old: &[u64], new: &[u64]) -> bool
+/// Whether none of the second numbers is below the first's.
+pub fn no_front_fell(old: &[u64], new: &[u64]) -> bool
     requires { length new.now ≡ length old.now }
     ensures { result ≡ none_fell old.now new.now }
 {
@@ -82,8 +82,8 @@ fn stay(old: &[u64], new: &[u64]) -> bool
     true
 }
 
-// Whether one of the second numbers is above the first's.
-fn rise(old: &[u64], new: &[u64]) -> bool
+/// Whether one of the second numbers is above the first's.
+pub fn a_front_rose(old: &[u64], new: &[u64]) -> bool
     requires { length new.now ≡ length old.now }
     ensures { result ≡ one_rose old.now new.now }
 {
@@ -108,8 +108,8 @@ fn are_front(entries: &[(u64, Fate)], done: &[(u64, Outcome)]) -> bool
     true
 }
 
-/// Whether no number stands twice.
-pub fn differ(alloc: Global, done: &[(u64, Outcome)]) -> Result<bool, AllocError>
+/// Whether no number has two outcomes.
+pub fn numbers_differ(alloc: Global, done: &[(u64, Outcome)]) -> Result<bool, AllocError>
     ensures { IfOk result (λ differ. differ ≡ are_distinct (map (λ d. d.0) done.now)) }
 {
     let mut seen = BTreeMap::new(alloc);
@@ -136,11 +136,11 @@ pub fn settles_front(
         && list_all (λ d. is_front (fate_in entries.now d.0)) done.now && differ && none_fell old.now
         fronts.now) }
 {
-    if done.is_empty() && !rise(old, fronts) {
+    if done.is_empty() && !a_front_rose(old, fronts) {
         return false;
     }
     if !are_front(entries, done) || !differ {
         return false;
     }
-    stay(old, fronts)
+    no_front_fell(old, fronts)
 }

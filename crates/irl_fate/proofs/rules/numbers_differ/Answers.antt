@@ -12,7 +12,7 @@ use Rattle.irl_events.specs.Events.{has_number}
 use Rattle.irl_events.specs.Legal.{are_distinct}
 use Rattle.irl_fate.proofs.Marking.{numbers_done, distinct_at}
 use Rattle.irl_fate.proofs.RuleLemmas.{distinct_more, seen_more}
-use Rattle.irl_fate.proofs.rules.differ.Goals as goal
+use Rattle.irl_fate.proofs.rules.numbers_differ.Goals as goal
 
 -- the number of one of the outcomes, and those of the outcomes before it
 number_at : (done : List (ℕ × Outcome)) (i : ℕ) → i < length done → get_or (numbers_done done) i 0 ≡ (get_or done i (0, Page)).0

@@ -1,6 +1,6 @@
 use Rattle.std.proofs.Common.{◌≡◌, drop}
 use Rattle.irl_events.specs.Legal.{one_rose}
-use Rattle.irl_core.proofs.lists.rise.Given as goal
+use Rattle.irl_fate.proofs.rules.a_front_rose.Given as goal
 
 -- what holds of all holds of the rest
 abbrev pub invariant-loop-i : goal.invariant-loop-i

@@ -6,7 +6,7 @@ use Rattle.std.specs.Map.{lookup}
 use Rattle.irl_events.specs.Events.{has_number}
 use Rattle.irl_events.specs.Legal.{are_distinct}
 use Rattle.irl_fate.proofs.Marking.{numbers_done}
-use Rattle.irl_fate.proofs.rules.differ.Given as goal
+use Rattle.irl_fate.proofs.rules.numbers_differ.Given as goal
 
 -- the numbers so far differ, and they are those that were seen
 abbrev pub invariant-loop-number : goal.invariant-loop-number

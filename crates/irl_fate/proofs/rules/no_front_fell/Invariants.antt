@@ -1,6 +1,6 @@
 use Rattle.std.proofs.Common.{◌≡◌, drop}
 use Rattle.irl_events.specs.Legal.{none_fell}
-use Rattle.irl_fate.proofs.rules.stay.Given as goal
+use Rattle.irl_fate.proofs.rules.no_front_fell.Given as goal
 
 -- what holds of all holds of the rest
 abbrev pub invariant-loop-i : goal.invariant-loop-i
