@@ -7,3 +7,4 @@ pub mod Merging
 pub mod Outcomes
 pub mod Schedules
 pub mod Steps
+pub mod Waits
