@@ -1,8 +1,9 @@
 -- One event more in the log of a crawl.
-use Rattle.std.proofs.Common.{◌≡◌, ℕ, true, false, List, [], ◌∷◌, length, length-append, Option, None, Some, Result, Ok, Err, refl, sym, ap, subst, arith}
+use Rattle.std.proofs.Common.{◌≡◌, ◌∙◌, ℕ, true, false, List, [], ◌∷◌, length, length-append, Option, None, Some, Result, Ok, Err, refl, sym, ap, subst, arith}
 use Rattle.std.proofs.lemmas.Bool.{le-leb}
 use Rattle.irl_base.specs.Limits.{max_text, max_robots}
 use Rattle.irl_base.specs.declared.fault.Fault.{Fault}
+use Rattle.irl_base.specs.declared.fault.Fault.TheVariants.{Memory}
 use Rattle.irl_offer.specs.declared.note.Note.{Note}
 use Rattle.irl_events.specs.Events.{Event, Begin, Robots, Progress}
 use Rattle.irl_events.specs.Legal.{broken, text_of}
@@ -13,6 +14,7 @@ use Rattle.irl_log.specs.Log.{OpenLog}
 use Rattle.irl_log.specs.Form.{IsLogged, IsNote, IsSuffixText}
 use Rattle.irl_ledger.specs.declared.ledger.Ledger.{Ledger}
 use Rattle.irl_ledger.specs.Adding.{AddsToLog}
+use Rattle.irl_ledger.specs.Noting.{NotePlaces, noted}
 
 -- a beginning tells its suffixes
 pub begun_of : {S : Type 0} (tells : S → Told) (result : Result Unit Fault) (event asked : Event) (frontier : Event → Frontier) (old new : Ledger) (read text : List ℕ) (before after : S)
@@ -28,21 +30,58 @@ begun_of tells result event asked frontier old new read text before after is sam
       done = (ok.done.0, ap (λ (t : List ℕ). Some t) same);
       kept = tt;
       pairs = ok.pairs;
+      noted_then = ok.noted_then;
+      noted_still = tt;
     }
 
 -- an append that is refused leaves the tables
 pub refused_of : {S : Type 0} (tells : S → Told) (answered result : Result Unit Fault) (fault : Fault) (event : Event) (frontier : Frontier) (suffixes : Option (List ℕ)) (old : Ledger) (log : OpenLog)
-    (before after : S) → result ≡ Err fault → answered ≡ Err fault → AppendsEvents tells result (event ∷ []) old.log log before after
-    → AddsToLog tells answered event frontier suffixes old (record old { log = log }) before after
-refused_of tells answered result fault event frontier suffixes old log before after is same appends =
+    (notes : NotePlaces) (before after : S) → result ≡ Err fault → answered ≡ Err fault → AppendsEvents tells result (event ∷ []) old.log log before after → notes ≡ old.notes
+    → AddsToLog tells answered event frontier suffixes old (record old { log = log; notes = notes }) before after
+refused_of tells answered result fault event frontier suffixes old log notes before after is same appends notes_are =
     let here : AppendsEvents tells (Err fault) (event ∷ []) old.log log before after = subst (λ (r : Result Unit Fault). AppendsEvents tells r (event ∷ []) old.log log before after) is appends in
-    subst (λ (r : Result Unit Fault). AddsToLog tells r event frontier suffixes old (record old { log = log }) before after) (sym same) (record {
-      memory = λ memory. ((here.memory memory).0, ap (λ (l : OpenLog). record old { log = l }) (here.memory memory).1);
+    subst (λ (r : Result Unit Fault). AddsToLog tells r event frontier suffixes old (record old { log = log; notes = notes }) before after) (sym same) (record {
+      memory = λ memory. (
+        (here.memory memory).0,
+        ap (λ (l : OpenLog). record old { log = l; notes = notes }) (here.memory memory).1 ∙ ap (λ (m : NotePlaces). record old { notes = m }) notes_are,
+      );
       log = λ other. here;
       done = tt;
       kept = (refl, refl);
       pairs = refl;
+      noted_then = tt;
+      noted_still = notes_are;
     })
+
+-- one for which there is no memory, too
+pub no_room_of : {S : Type 0} (tells : S → Told) (answered : Result Unit Fault) (event : Event) (frontier : Frontier) (suffixes : Option (List ℕ)) (old : Ledger) (notes : NotePlaces) (store : S)
+    → answered ≡ Err Memory → notes ≡ old.notes → AddsToLog tells answered event frontier suffixes old (record old { notes = notes }) store store
+no_room_of tells answered event frontier suffixes old notes store same notes_are =
+    subst (λ (r : Result Unit Fault). AddsToLog tells r event frontier suffixes old (record old { notes = notes }) store store) (sym same) (record {
+      memory = λ memory. (refl, ap (λ (m : NotePlaces). record old { notes = m }) notes_are);
+      log = λ other. absurd (other refl);
+      done = tt;
+      kept = (refl, refl);
+      pairs = refl;
+      noted_then = tt;
+      noted_still = notes_are;
+    })
+
+-- and one that is made leaves what is planned
+pub appended_of : {S : Type 0} (tells : S → Told) (result : Result Unit Fault) (event : Event) (frontier now : Frontier) (old : Ledger) (log : OpenLog) (notes : NotePlaces) (before after : S)
+    → result ≡ Ok tt → AppendsEvents tells result (event ∷ []) old.log log before after → now ≡ frontier → notes ≡ noted old.log.journal.end event old.notes
+    → AddsToLog tells (Ok tt) event frontier old.suffixes old (record old { log = log; frontier = now; notes = notes }) before after
+appended_of tells result event frontier now old log notes before after is appends tables notes_are =
+    let here : AppendsEvents tells (Ok tt) (event ∷ []) old.log log before after = subst (λ (r : Result Unit Fault). AppendsEvents tells r (event ∷ []) old.log log before after) is appends in
+    record {
+      memory = λ no. cc;
+      log = λ other. here;
+      done = (tables, refl);
+      kept = tt;
+      pairs = refl;
+      noted_then = notes_are;
+      noted_still = tt;
+    }
 
 -- ---- the events
 -- a beginning

@@ -53,7 +53,7 @@ all_kept true true true true false is = absurd (some_is_none 5 is)
 all_kept true true true true true is = (refl, refl, refl, refl, refl)
 
 -- of four tests that all hold, the first
-first_of_four : (a b c d : Bool) → (a && b && c && d) ≡ true → a ≡ true
+pub first_of_four : (a b c d : Bool) → (a && b && c && d) ≡ true → a ≡ true
 first_of_four true b c d is = refl
 first_of_four false b c d is = absurd (false≢true is)
 

@@ -1,5 +1,5 @@
 -- The log of a crawl is read: what is taken isn't refused, and damage is named only where it is.
-use Rattle.std.proofs.Common.{◌≡◌, ◌∙◌, ℕ, ◌+◌, ◌<◌, List, [], ◌∷◌, ◌++◌, length, Some, Result, Ok, Err, IsErrOf, refl, sym, ap, subst, arith}
+use Rattle.std.proofs.Common.{◌≡◌, ◌∙◌, ℕ, ◌+◌, ◌<◌, List, [], ◌∷◌, ◌++◌, length, Some, Result, Ok, Err, IsErrOf, refl, sym, ap, subst, arith, append_assoc, append-nil}
 use Rattle.std.proofs.lemmas.Bool.{false≢true}
 use Rattle.irl_base.specs.declared.fault.Fault.TheVariants.{Damaged, Failed, Full}
 use Rattle.irl_offer.specs.declared.settings.Settings.{Settings}
@@ -17,19 +17,21 @@ use Rattle.irl_bay.proofs.Staying.{tells_one, told_before}
 use Rattle.irl_head.specs.StoreFiles.{crawl_file}
 use Rattle.irl_log.specs.Log.{OpenLog, HasEvents, placed_events}
 use Rattle.irl_log.specs.Spelling.{log_records, records_of}
-use Rattle.irl_log.specs.Visiting.{IsLogDamaged, IsLogVisited, OpensLog, TakesEvents}
-use Rattle.irl_ledger.specs.Broken.{LogHistory, Outline, RefusesAlone, TakesAlone, blank_history, keeps_alone}
+use Rattle.irl_log.specs.Visiting.{IsLogDamaged, IsLogVisited, OpensLog, TakesEvents, TookEventsUpTo}
+use Rattle.irl_ledger.specs.Broken.{LogHistory, Outline, RefusesAlone, TakesAlone, blank_history, keeps_alone, kept_of, placed_kept}
 use Rattle.irl_ledger.specs.Crawling.{events_of}
 use Rattle.irl_ledger.specs.Damage.{IsLogDamagedAt, ReadsLog, fault_of_log}
+use Rattle.irl_ledger.specs.Noting.{NotePlaces, noted_all}
 use Rattle.irl_ledger.proofs.Broken.{legal_taken}
 
 -- ---- what is taken isn't refused
-abbrev with_both : Outline → List (ℕ × Event) → LogHistory
-with_both outline events = record { outline = outline; events = events }
+abbrev with_all : Outline → List (ℕ × Event) → NotePlaces → LogHistory
+with_all outline events notes = record { outline = outline; events = events; notes = notes }
 
 one_taken : (old a b : LogHistory) (at : ℕ) (event : Event) → TakesAlone old at event a → TakesAlone old at event b → a ≡ b
 one_taken old a b at event one two =
-    ap (λ (o : Outline). with_both o a.events) (one.outline ∙ sym two.outline) ∙ ap (λ (es : List (ℕ × Event)). with_both b.outline es) (one.events ∙ sym two.events)
+    ap (λ (o : Outline). with_all o a.events a.notes) (one.outline ∙ sym two.outline) ∙ ap (λ (es : List (ℕ × Event)). with_all b.outline es a.notes) (one.events ∙ sym two.events)
+    ∙ ap (λ (places : NotePlaces). with_all b.outline b.events places) (one.notes ∙ sym two.notes)
 
 taken_or_refused : (events first : List Event) (event : Event) (more : List Event) (from at : ℕ) (v last reached after : LogHistory) → events ≡ first ++ event ∷ more
     → TakesEvents TakesAlone v (placed_events from events) last → TakesEvents TakesAlone v (placed_events from first) reached → RefusesAlone reached at event after → ⊥
@@ -45,6 +47,22 @@ taken_or_refused (x ∷ xs) (e ∷ first) event more from at v last reached afte
     let further = subst (λ (y : Event). TakesEvents TakesAlone before.0 (placed_events (from + length (records_text (records_of y))) first) reached) (sym same) before.2 in
     taken_or_refused xs first event more (from + length (records_text (records_of x))) at took.0 last reached after rest took.2
     (subst (λ (h : LogHistory). TakesEvents TakesAlone h (placed_events (from + length (records_text (records_of x))) first) reached) mid further) refused
+
+-- ---- of a crawl's events just what they keep is kept
+pub taken_kept : (from : ℕ) (events : List Happened) (old new : LogHistory) → TakesEvents TakesAlone old (placed_events from (events_of events)) new
+    → new.events ≡ old.events ++ placed_kept from events
+taken_kept from [] old new took = ap (λ (h : LogHistory). h.events) took ∙ sym (append-nil old.events)
+taken_kept from (h ∷ events) old new took =
+    taken_kept (from + length (records_text (records_of h.0))) events took.0 new took.2
+    ∙ ap (λ (list : List (ℕ × Event)). list ++ placed_kept (from + length (records_text (records_of h.0))) events) took.1.events
+    ∙ append_assoc old.events (kept_of from h.0) (placed_kept (from + length (records_text (records_of h.0))) events)
+
+-- and the places of all notes
+pub taken_noted : (from : ℕ) (events : List Event) (old new : LogHistory) → TakesEvents TakesAlone old (placed_events from events) new → new.notes ≡ noted_all from events old.notes
+taken_noted from [] old new took = ap (λ (h : LogHistory). h.notes) took
+taken_noted from (event ∷ events) old new took =
+    taken_noted (from + length (records_text (records_of event))) events took.0 new took.2
+    ∙ ap (noted_all (from + length (records_text (records_of event))) events) took.1.notes
 
 -- ---- a log that is read
 module _ (settings : Settings) (log : OpenLog) (blank history : LogHistory) (before after : Told) (law : IsConsistent after) (is_blank : blank ≡ blank_history settings.buckets)
@@ -81,6 +99,7 @@ module _ (settings : Settings) (log : OpenLog) (blank history : LogHistory) (bef
     sane = read_sane;
     damaged = λ f at is. let no : ⊥ = cc in absurd no;
     full = λ n is. cc;
+    took = subst (λ (h : LogHistory). TookEventsUpTo TakesAlone h history settings.buckets 0 log.journal.end) is_blank opens.took;
     changes = record {
       told = opens.changes.told;
       stops = opens.changes.stops;
@@ -102,6 +121,7 @@ read_err settings result fault blank history before after is_blank was opens = r
   sane = tt;
   damaged = λ f at is files told. named fault f at is was files told;
   full = λ n is. none fault n is;
+  took = tt;
   changes = record {
     told = opens.changes.told;
     stops = opens.changes.stops;
@@ -117,9 +137,14 @@ read_err settings result fault blank history before after is_blank was opens = r
     named (JournalDamaged place) f at is was files told =
         let here : f ≡ crawl_file = cc in
         let same : place ≡ at = cc in
-        let damage = opens.damaged place was files told in
-        (here, (history, subst (λ (n : ℕ). IsLogDamaged TakesAlone RefusesAlone (blank_history settings.buckets) history settings.buckets (files crawl_file) n) same
-        (subst (λ (h : LogHistory). IsLogDamaged TakesAlone RefusesAlone h history settings.buckets (files crawl_file) place) is_blank damage)))
+        let damage = opens.damaged place was files told in (
+          here,
+          (
+            history,
+            subst (λ (n : ℕ). IsLogDamaged TakesAlone RefusesAlone (blank_history settings.buckets) history settings.buckets (files crawl_file) n) same
+                (subst (λ (h : LogHistory). IsLogDamaged TakesAlone RefusesAlone h history settings.buckets (files crawl_file) place) is_blank damage),
+          ),
+        )
 
     none : (fault : JournalFault) (n : ℕ) → IsErrOf {T = OpenLog × LogHistory} (Err (fault_of_log fault)) (Full n) → ⊥
     none JournalFailed n is = cc

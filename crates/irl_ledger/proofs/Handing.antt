@@ -23,9 +23,9 @@ use Rattle.irl_schedule.specs.Schedule.{IsDue, none_more}
 use Rattle.irl_schedule.proofs.Chains.{fed_still, stays_same}
 use Rattle.irl_schedule.proofs.Outcomes.{same_refusal}
 use Rattle.irl_schedule.proofs.Schedules.{schedules_none}
-use Rattle.irl_ledger.specs.Arrays.{AreArrays, array_at, waiting_at}
+use Rattle.irl_schedule.specs.Arrays.{AreArrays, array_at, waiting_at}
 use Rattle.irl_ledger.specs.Running.{Feeding, HandsIn, RunsSchedule, StaysOpen, Takes, moment_with, nowhere}
-use Rattle.irl_ledger.proofs.Waits.{arrays_set, in_arrays, push_keeps}
+use Rattle.irl_schedule.proofs.Waits.{arrays_set, in_arrays, push_keeps}
 use Rattle.irl_ledger.proofs.Running.{runs_both, runs_err, runs_evenly, runs_more, runs_ok, runs_once, runs_wider}
 
 -- ---- a bay that stays open

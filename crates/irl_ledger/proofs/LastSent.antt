@@ -122,7 +122,7 @@ prefixes_at (x ∷ xs) (y ∷ ys) (suc b) are within = prefixes_at xs ys b are.1
 module _ (settings : Settings) (urls pairs more : Book) (events : List Happened) (suffixes : List ℕ) (urls_are : IsBookOf settings urls) (state : IsCrawlState settings urls pairs events)
     (begun : begun_with events ≡ Some suffixes) (more_is : IsBookOf (pair_settings settings) more) (front : IsFront pairs more)
     (takes : (b : ℕ) → b < settings.buckets → IsPrefixOf (list_at more b) (list_at pairs b
-        ++ part settings.buckets b (links_of suffixes (judged_after (progress settings.queues settings.buckets events).sent urls)))) where
+    ++ part settings.buckets b (links_of suffixes (judged_after (progress settings.queues settings.buckets events).sent urls)))) where
   abbrev x : Progress
   x = progress settings.queues settings.buckets events
 

@@ -1,5 +1,6 @@
 pub mod Adding
 pub mod Broken
+pub mod Counts
 pub mod Damage
 pub mod FreshUrls
 pub mod Fronts
@@ -9,11 +10,21 @@ pub mod LastSent
 pub mod Links
 pub mod LinksOffered
 pub mod Making
+pub mod NoteMaps
+pub mod Noting
 pub mod Offering
+pub mod OpenedLedger
+pub mod Opening
 pub mod PairsEvent
+pub mod PairsOpened
 pub mod Passes
+pub mod ReadNotes
 pub mod ReadUrls
+pub mod ReadCounts
 pub mod Reading
+pub mod RedoneAll
+pub mod RedonePairs
+pub mod RedonePass
 pub mod Running
 pub mod Sent
 pub mod SentAlready
@@ -22,4 +33,3 @@ pub mod Settling
 pub mod Tables
 pub mod ToldDegrees
 pub mod ToldPairs
-pub mod Waits

@@ -24,7 +24,7 @@ use Rattle.irl_schedule.specs.Feeding.{Moment, Stays, moment, Waits}
 use Rattle.irl_schedule.specs.Schedule.{none_more, one_more}
 use Rattle.irl_schedule.proofs.Chains.{tells_on}
 use Rattle.irl_head.specs.StoreFiles.{pairs_base}
-use Rattle.irl_ledger.specs.Arrays.{waiting_at}
+use Rattle.irl_schedule.specs.Arrays.{waiting_at}
 use Rattle.irl_ledger.specs.Reading.{IsStrangeTextAt}
 use Rattle.irl_ledger.specs.Running.{Feeding, RunsSchedule, moment_with}
 use Rattle.irl_ledger.specs.Sending.{IsSpoiltUrl, MayReadUrls, OffersPairs, OffersPiece, judged_after, judged_between, links_of, no_waiting}
@@ -158,9 +158,9 @@ module _ (result : Result ℕ Fault) (suffixes : List ℕ) (from at : ℕ) (urls
         let after = tells_on _ s.files t.files files far.feeding.runs.stays.others told in
         let none = none_gone urls.settings book holds.book_is in
         let all = subst (λ (a : Result ℕ Fault). IfOk a (λ to. ForSome t.files (λ _. (book : Book) → Holds t.images urls book → piece.news ≡ links_of suffixes (judged_between at to book)))) is
-            piece.all in
+        piece.all in
         ap (λ (l : List Tuple). l ++ piece.news) (far.all files told book holds)
-            ∙ ap (λ (l : List Tuple). links_of suffixes (judged_between from at book) ++ l) (all after.0 after.1 book (held book holds))
+        ∙ ap (λ (l : List Tuple). links_of suffixes (judged_between from at book) ++ l) (all after.0 after.1 book (held book holds))
         ∙ sym (links_both suffixes (judged_between from at book) (judged_between at to book)) ∙ ap (links_of suffixes) (sym (between_both from at to book none far.behind le));
     feeding = feeding;
   }

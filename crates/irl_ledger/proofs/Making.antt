@@ -31,10 +31,12 @@ use Rattle.irl_log.specs.Log.{HoldsLog, OpenLog}
 use Rattle.irl_ledger.specs.declared.ledger.Ledger.{Ledger}
 use Rattle.irl_ledger.specs.Crawling.{pair_settings}
 use Rattle.irl_ledger.specs.Holding.{FitsBays, HoldsLedger, IsFrontierOf, IsItemOf, IsOpenLedger, domain_by}
+use Rattle.irl_ledger.specs.Noting.{AreWithin, no_notes}
+use Rattle.irl_ledger.proofs.Noting.{none_within}
 use Rattle.irl_ledger.specs.Making.{IsNewJournal, IsUnmadeCrawl, MakesCrawl, MakesLedger}
 
 -- ---- the files
-small : (settings : Settings) → AreValid settings → settings.buckets ≤ 64
+pub small : (settings : Settings) → AreValid settings → settings.buckets ≤ 64
 small settings valid = let count = valid.buckets in grind arith
 
 pub pair_valid : (settings : Settings) → AreValid settings → AreValid (pair_settings settings)
@@ -128,7 +130,7 @@ new_fits settings urls pairs is = record {
 
 -- ---- the ledger
 module _ (settings : Settings) (mid new : Told) (ledger : Ledger) (valid : AreValid settings) (law : IsConsistent new) (frontier : ledger.frontier ≡ new_frontier settings)
-    (none : ledger.suffixes ≡ None)
+    (none : ledger.suffixes ≡ None) (blank : ledger.notes ≡ no_notes)
     (drum : IsDrum ledger.pairs) (base : ledger.pairs.base ≡ pairs_base) (same : ledger.pairs.settings ≡ pair_settings settings)
     (held : Holds mid.images ledger.pairs (blank_book settings.buckets Keep)) (log : HoldsLog new.images ledger.log [])
     (log_is : ledger.log ≡ record { journal = record { file = crawl_file; end = 0; is_sound = true }; buckets = settings.buckets })
@@ -147,6 +149,8 @@ module _ (settings : Settings) (mid new : Told) (ledger : Ledger) (valid : AreVa
     log = log;
     frontier = subst (IsFrontierOf settings urls (blank_book settings.buckets Keep) []) (sym frontier) (new_tables settings urls (blank_book settings.buckets Keep));
     suffixes = none;
+    log_ends = ap (λ (l : OpenLog). l.journal.end) log_is;
+    notes = blank;
   }
 
   pub made_open : (after : Option Files) → Changes crawl_file (λ _ now. now ≡ 0 ∷ []) after new.files → (urls : Drum) → urls.base ≡ urls_base → urls.settings ≡ settings
@@ -163,6 +167,7 @@ module _ (settings : Settings) (mid new : Told) (ledger : Ledger) (valid : AreVa
         subst (λ (n : ℕ). n < length (files crawl_file)) (sym (ap (λ (l : OpenLog). l.journal.end) log_is)) (one_byte before new.files files wrote told);
     fits = subst (FitsBays urls ledger.pairs) (sym frontier) (new_fits settings urls ledger.pairs is);
     begun = ap (λ (x : Frontier). x.progress.begun) frontier ∙ sym (ap is_some none);
+    noted = subst (AreWithin ledger.log.journal.end) (sym blank) (none_within ledger.log.journal.end);
   }
     where
       one_byte : (before after : Option Files) (files : Files) → Changes crawl_file (λ _ now. now ≡ 0 ∷ []) before after → after ≡ Some files → 0 < length (files crawl_file)

@@ -27,7 +27,7 @@ use Rattle.irl_schedule.specs.Feeding.{Moment, Fed, Stays, Stranded}
 use Rattle.irl_schedule.specs.Schedule.{none_more}
 use Rattle.irl_schedule.proofs.Chains.{fed_read, few_same, stays_read}
 use Rattle.irl_head.specs.StoreFiles.{urls_base}
-use Rattle.irl_ledger.specs.Arrays.{AreArrays}
+use Rattle.irl_schedule.specs.Arrays.{AreArrays}
 use Rattle.irl_ledger.specs.Running.{Feeding, moment_with}
 use Rattle.irl_ledger.specs.Sending.{IsSpoiltUrl, IsStrangeIn, judged_after, judged_between, links_of}
 use Rattle.irl_ledger.proofs.Links.{links_both, take_rest}

@@ -186,6 +186,7 @@ module _ (urls : Drum) (old : Ledger) (now : Drum) (before after : Moment) (law 
       told = omega (arith, opened.fits.told, still.grows.judged, ap (λ (d : Drum). d.last.judged) was, ap (λ (d : Drum). d.last.judged) is);
     };
     begun = opened.begun;
+    noted = opened.noted;
   }
 
   -- and holds what it held, with the longer book of pairs
@@ -206,6 +207,8 @@ module _ (urls : Drum) (old : Ledger) (now : Drum) (before after : Moment) (law 
           (within_same pairs book holds.pairs_hold.book_is.is_book front 0 old.frontier.told (omega (arith, opened.fits.told, holds.pairs_hold.numbers.commit.judged))))) holds.frontier.degrees;
     };
     suffixes = holds.suffixes;
+    log_ends = holds.log_ends;
+    notes = holds.notes;
   }
 
 -- ---- legality
@@ -252,9 +255,10 @@ module _ (urls : Drum) (old new : Ledger) (s t : Told) (result : Result Unit Fau
           told = tells.within;
         };
         begun = ap (λ (x : Progress). x.begun) tells.tells.progress ∙ opened.begun;
+        noted = opened.noted;
       } in
       subst (λ (l : Ledger). IsOpenLedger urls l t.files) (sym tells.others) (subst (λ (files : Option Files). IsOpenLedger urls (record old { frontier = new.frontier }) files)
-          (sym tells.reads.reads.same) here)
+      (sym tells.reads.reads.same) here)
 
   pub told_ledger : (settings : Settings) (urls_book pairs : Book) (events : List Happened) (files : Files) → s.files ≡ Some files → HoldsLedger s.images settings old urls_book pairs events
       → HoldsLedger t.images settings (record old { frontier = new.frontier }) urls_book pairs events
@@ -270,4 +274,6 @@ module _ (urls : Drum) (old new : Ledger) (s t : Told) (result : Result Unit Fau
           degrees = tells.degrees files told pairs held.pairs_hold held.frontier.degrees;
         };
         suffixes = held.suffixes;
+        log_ends = held.log_ends;
+        notes = held.notes;
       }

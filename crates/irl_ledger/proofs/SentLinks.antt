@@ -66,7 +66,7 @@ first_filter k p (x ∷ xs) all = by (p x) (is_of k x) refl refl (first_filter k
 first_part : (buckets k : ℕ) (xs : List Tuple) → first_with k (part buckets (bucket_of buckets k) xs) ≡ first_with k xs
 first_part buckets k xs =
     first_filter k (λ (offer : Tuple). nat_eq (bucket_of buckets offer.key) (bucket_of buckets k)) xs (λ offer same.
-        eq-eqb (bucket_of buckets offer.key) (bucket_of buckets k) (ap (bucket_of buckets) same))
+    eq-eqb (bucket_of buckets offer.key) (bucket_of buckets k) (ap (bucket_of buckets) same))
 
 first_firsts : (k : ℕ) (xs : List Tuple) → first_with k (firsts_by_key xs) ≡ first_with k xs
 first_firsts k [] = refl
@@ -127,7 +127,7 @@ offer_of_pairs buckets (p ∷ ps) = ap (λ (l : List Tuple). p.0 ∷ l) (offer_o
 pub judged_are_offers : (book : Book) → map (λ (j : Judged). j.offer) (judged book) ≡ judged_offers book
 judged_are_offers book =
     offer_of_pairs book.buckets (judgements book.rule book.base (judged_offers book))
-        ∙ ap (λ (ps : List (Tuple × Option Verdict)). map (λ p. p.0) ps) (judgements-judged_on book.rule book.base (judged_offers book))
+    ∙ ap (λ (ps : List (Tuple × Option Verdict)). map (λ p. p.0) ps) (judgements-judged_on book.rule book.base (judged_offers book))
     ∙ offers_judged_on book.rule (judged_offers book) book.base
 
 none_unique : (k n : ℕ) (js : List Judged) → first_with k (map (λ (j : Judged). j.offer) js) ≡ None → first_with k (map (λ (p : ℕ × Tuple). p.1) (uniques_from n js)) ≡ None

@@ -9,6 +9,7 @@ use Rattle.irl_frontier.specs.Frontier.{Frontier}
 use Rattle.irl_log.specs.Appending.{AppendsEvents}
 use Rattle.irl_log.specs.Form.{IsNote, IsSuffixText}
 use Rattle.irl_ledger.specs.declared.ledger.Ledger.{Ledger}
+use Rattle.irl_ledger.specs.Noting.{noted}
 
 -- What an append of one event leaves of a ledger, by its answer, where its tables are these once it is done.
 pub record AddsToLog {S : Type 0} (told : S → Told) (result : Result Unit Fault) (event : Event) (frontier : Frontier)
@@ -18,6 +19,9 @@ pub record AddsToLog {S : Type 0} (told : S → Told) (result : Result Unit Faul
   pub done : OnOk result ((new.frontier ≡ frontier) × (new.suffixes ≡ suffixes))
   pub kept : OnErr result ((new.frontier ≡ old.frontier) × (new.suffixes ≡ old.suffixes))
   pub pairs : new.pairs ≡ old.pairs
+  -- the place of its record is known where it is a note
+  pub noted_then : OnOk result (new.notes ≡ noted old.log.journal.end event old.notes)
+  pub noted_still : OnErr result (new.notes ≡ old.notes)
 
 -- ---- what is asked
 -- a crawl that hasn't begun, and a text of suffixes

@@ -1,9 +1,12 @@
 -- What the log of a crawl shows by itself, without the places that passes give and without the books: how far it has
 -- come, and which events break a rule.
-use Rattle.std.specs.Prelude.{◌≡◌, ℕ, nat_eq, nat_le, nat_lt, Bool, true, false, not, ◌&&◌, ◌||◌, List, [], ◌∷◌, ◌++◌, map, length, replicate}
+use Rattle.std.specs.Prelude.{◌≡◌, ℕ, ◌+◌, nat_eq, nat_le, nat_lt, Bool, true, false, not, ◌&&◌, ◌||◌, List, [], ◌∷◌, ◌++◌, map, length, replicate}
 use Rattle.irl_offer.specs.declared.outcome.Outcome.{Outcome}
-use Rattle.irl_events.specs.Events.{Event, Begin, Pairs, Pass, Robots, Settle, Progress}
+use Rattle.irl_events.specs.Events.{Event, Begin, Pairs, Pass, Robots, Settle, Happened, Progress}
+use Rattle.irl_journal.specs.Format.{records_text}
+use Rattle.irl_log.specs.Spelling.{records_of}
 use Rattle.irl_events.specs.Legal.{are_distinct, none_fell, one_rose}
+use Rattle.irl_ledger.specs.Noting.{NotePlaces, no_notes, noted}
 
 -- how far a crawl has come, as events without their places show it
 pub record Outline : Type 0 where
@@ -56,21 +59,28 @@ kept_of at (Pass judged) = (at, Pass judged) ∷ []
 kept_of at (Robots note) = []
 kept_of at (Settle fronts outcomes) = (at, Settle fronts outcomes) ∷ []
 
--- what was read of a log: how far it brings the crawl, and the events that change its tables, each with the place of
--- its record's gate
+-- what is kept of the events of a crawl, the gate of whose first record stands at this place
+abbrev pub placed_kept : ℕ → List Happened → List (ℕ × Event)
+placed_kept at [] = []
+placed_kept at (h ∷ hs) = kept_of at h.0 ++ placed_kept (at + length (records_text (records_of h.0))) hs
+
+-- what was read of a log: how far it brings the crawl, the events that change its tables, each with the place of its
+-- record's gate, and the place of each host's last note
 pub record LogHistory : Type 0 where
   pub outline : Outline
   pub events : List (ℕ × Event)
+  pub notes : NotePlaces
 
 -- before the first event
 abbrev pub blank_history : ℕ → LogHistory
-blank_history buckets = record { outline = blank_outline buckets; events = [] }
+blank_history buckets = record { outline = blank_outline buckets; events = []; notes = no_notes }
 
 -- one more event was taken, which keeps what the log shows by itself
 pub record TakesAlone (old : LogHistory) (at : ℕ) (event : Event) (new : LogHistory) : Type 0 where
   pub keeps : keeps_alone old.outline event ≡ true
   pub outline : new.outline ≡ outline_after old.outline event
   pub events : new.events ≡ old.events ++ kept_of at event
+  pub notes : new.notes ≡ noted at event old.notes
 
 -- an event is refused that doesn't
 pub record RefusesAlone (old : LogHistory) (at : ℕ) (event : Event) (new : LogHistory) : Type 0 where

@@ -13,7 +13,7 @@ use Rattle.irl_journal.specs.declared.fault.JournalFault.{JournalFault}
 use Rattle.irl_journal.specs.declared.fault.JournalFault.TheVariants.{Damaged as JournalDamaged, Failed as JournalFailed, Memory as JournalMemory}
 use Rattle.irl_head.specs.StoreFiles.{crawl_file}
 use Rattle.irl_log.specs.Log.{OpenLog, HasEvents, HoldsLog, placed_events}
-use Rattle.irl_log.specs.Visiting.{IsLogDamaged, TakesEvents}
+use Rattle.irl_log.specs.Visiting.{IsLogDamaged, TakesEvents, TookEventsUpTo}
 use Rattle.irl_ledger.specs.Broken.{LogHistory, RefusesAlone, TakesAlone, blank_history}
 
 -- The log is damaged by itself at this place: its journal is broken there, or a whole record stands there which is of
@@ -47,6 +47,9 @@ pub record ReadsLog (result : Result (OpenLog × LogHistory) Fault) (settings : 
     pub damaged : (f at : ℕ) → IsErrOf result (Damaged f at) → ForSome before.files (λ files.
         IsLogDamagedAt settings files f at)
     pub full : (n : ℕ) → IsErrOf result (Full n) → ⊥
+    -- whatever the store tells, events were taken up to the log's end
+    pub took : IfOk result (λ found. TookEventsUpTo TakesAlone (blank_history settings.buckets) found.1
+        settings.buckets 0 found.0.journal.end)
     -- it reads no other file, and a stop at any moment leaves each as it was, but that a log of at most one byte has at
     -- most one
     pub changes : ReadsAndChanges (λ f. f ≡ crawl_file) (ChangesFile crawl_file IsOpened) (IsErrOf result Failed) before

@@ -15,9 +15,12 @@ use Rattle.irl_disk.specs.Disk.{Files}
 use Rattle.irl_bay.specs.Drum.{Drum, IsDrum, durable_at}
 use Rattle.irl_bay.specs.Holding.{Holds, IsLong}
 use Rattle.irl_head.specs.StoreFiles.{crawl_file, urls_base, pairs_base}
+use Rattle.irl_journal.specs.Format.{records_text}
 use Rattle.irl_log.specs.Log.{HoldsLog}
+use Rattle.irl_log.specs.Spelling.{log_records}
 use Rattle.irl_ledger.specs.declared.ledger.Ledger.{Ledger}
 use Rattle.irl_ledger.specs.Crawling.{domain_of, events_of, pair_settings}
+use Rattle.irl_ledger.specs.Noting.{AreWithin, note_places}
 
 -- ---- the tables
 -- the pay-level domain of a page of a crawl with these events
@@ -51,6 +54,9 @@ pub record HoldsLedger (images : Files → Type 0) (settings : Settings) (ledger
   pub log : HoldsLog images ledger.log (events_of events)
   pub frontier : IsFrontierOf settings urls pairs events ledger.frontier
   pub suffixes : ledger.suffixes ≡ begun_with events
+  -- the log ends behind its events, and of each host the place of the last note is known
+  pub log_ends : ledger.log.journal.end ≡ length (records_text (log_records (events_of events)))
+  pub notes : ledger.notes ≡ note_places 0 (events_of events)
 
 -- no number of the tables passes what the bays of URLs and of pairs count
 pub record FitsBays (urls pairs : Drum) (x : Frontier) : Type 0 where
@@ -79,6 +85,8 @@ pub record IsOpenLedger (urls : Drum) (ledger : Ledger) (told : Option Files) : 
   pub fits : FitsBays urls ledger.pairs ledger.frontier
   -- a crawl that has begun has its suffixes
   pub begun : ledger.frontier.progress.begun ≡ is_some ledger.suffixes
+  -- each note that is known stands within the log
+  pub noted : AreWithin ledger.log.journal.end ledger.notes
 
 -- no call failed
 abbrev pub IsSoundLedger : Ledger → Type 0

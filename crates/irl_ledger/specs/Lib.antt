@@ -1,12 +1,14 @@
 pub mod Adding
-pub mod Arrays
 pub mod Broken
 pub mod Crawling
 pub mod Damage
 pub mod Holding
 pub mod Making
+pub mod Noting
+pub mod Opening
 pub mod Passing
 pub mod Reading
+pub mod Redoing
 pub mod Running
 pub mod Sending
 pub mod Settling

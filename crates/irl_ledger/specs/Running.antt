@@ -13,7 +13,7 @@ use Rattle.irl_bay.specs.Holding.{Holds, IsLong}
 use Rattle.irl_bay.specs.Spoilt.{IsSpoiltAt}
 use Rattle.irl_schedule.specs.Feeding.{Moment, moment, Stays, Feeds, Stranded, HeldNone}
 use Rattle.irl_schedule.specs.Schedule.{none_more}
-use Rattle.irl_ledger.specs.Arrays.{AreArrays, waiting_at}
+use Rattle.irl_schedule.specs.Arrays.{AreArrays, waiting_at}
 
 -- where the store failed, the files stand for a book, of each book that the bay held
 abbrev pub StrandsEach : ℕ → (ℕ → ℕ) → List Tuple → Moment → Moment → Type 0

@@ -75,7 +75,8 @@ impl Ledger {
         self.append(store, event, plan)
     }
 
-    // One event more that is planned: it is logged, and then done.
+    // One event more that is planned: it is logged, and then done. A note's place is known before, and put back where the log
+    // refuses it.
     pub(crate) fn append<S: Store>(
         &mut self,
         store: &mut S,
@@ -90,7 +91,11 @@ impl Ledger {
         ensures { AddsToLog S.told result (seen event) (after_plan self.old.frontier plan)
             self.old.suffixes self.old self.new store.old store.new }
     {
-        self.log.append(self.alloc, store, &[event])?;
+        let before = self.notes.take(self.log.end(), &event)?;
+        if let Err(fault) = self.log.append(self.alloc, store, &[event]) {
+            self.notes.put_back(before);
+            return Err(fault);
+        }
         self.frontier.commit(plan);
         Ok(())
     }

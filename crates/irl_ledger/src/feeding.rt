@@ -1,30 +1,17 @@
-ghost use Rattle.std.specs.Prelude.{◌≡◌, ◌<◌, ◌∷◌, ℕ, [], true, length, IfOk, OnOk};
+ghost use Rattle.std.specs.Prelude.{◌≡◌, ◌<◌, ◌∷◌, ℕ, [], true, length, OnOk};
 ghost use Rattle.std.specs.Option.{ForSome};
 ghost use Rattle.irl_offer.specs.Buckets.{bucket_of as bucket_of_key};
 ghost use Rattle.irl_bay.specs.Drum.{pending_at};
 ghost use Rattle.irl_bay.specs.Holding.{IsLong};
 ghost use Rattle.irl_schedule.specs.Schedule.{IsDue, none_more, one_more};
-ghost use Rattle.irl_ledger.specs.Arrays.{AreArrays, waiting_at};
+ghost use Rattle.irl_schedule.specs.Arrays.{AreArrays, waiting_at};
 ghost use Rattle.irl_ledger.specs.Running.{Feeding, HandsIn, Takes, nowhere};
 
 use irl_array::Array;
 use irl_bay::Bay;
 use irl_disk::Store;
-use irl_offer::{Fault, Offer, Settings, bucket_of};
+use irl_offer::{Fault, Offer, bucket_of};
 use irl_schedule::{flush_some, make_room, merge_if_due, merge_rest};
-use std::alloc::{AllocError, Global};
-
-// An empty array for each bucket.
-pub fn arrays_of(alloc: Global, settings: &Settings) -> Result<Vec<Array>, AllocError>
-    ensures are { IfOk result (λ arrays. AreArrays settings.now arrays.items) }
-    ensures empty { IfOk result (λ arrays. (b : ℕ) → waiting_at arrays.items b ≡ []) }
-{
-    let mut arrays = Vec::with_capacity(alloc, settings.buckets as usize)?;
-    for _b in 0..settings.buckets {
-        arrays.push_reserved(Array::with_room(alloc, settings.array)?);
-    }
-    Ok(arrays)
-}
 
 // Hands an offer in: where its bucket's array is full, a merge runs that is due, and then the array is flushed, and a
 // merge runs that is due then.

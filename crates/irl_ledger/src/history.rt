@@ -1,20 +1,22 @@
 //! What the log of a crawl shows by itself.
 
-ghost use Rattle.std.specs.Prelude.{◌≡◌, ◌&&◌, ◌||◌, ◌++◌, nat_lt, length, IfOk, OnOk};
+ghost use Rattle.std.specs.Prelude.{◌≡◌, ◌&&◌, ◌||◌, ◌++◌, nat_lt, length, map, IfOk, OnOk};
 ghost use Rattle.irl_events.specs.Seen.{seen};
 ghost use Rattle.irl_events.specs.Legal.{are_distinct, none_fell, one_rose};
 ghost use Rattle.irl_ledger.specs.Broken.{RefusesAlone, TakesAlone, blank_history, keeps_alone, kept_of};
 ghost use Rattle.irl_ledger.specs.Broken.{outline_after, settled_numbers};
+ghost use Rattle.irl_ledger.specs.Noting.{noted};
 
+use crate::notes::Notes;
 use irl_events::{Event, Numbers, Settled};
+use irl_fate::{a_front_rose, no_front_fell, numbers_differ};
 use irl_log::VisitEvents;
 use irl_offer::Outcome;
 use std::alloc::{AllocError, Global};
-use std::collections::BTreeMap;
 use std::marker::Model;
 
-/// What was read of a crawl's log: how far it brings the crawl, and its events but for the notes, each with the place of its
-/// record. It takes the events in order, up to the first that breaks a rule which the log shows by itself. Contracts see it
+/// What was read of a crawl's log: how far it brings the crawl, its events but for the notes, each with the place of its
+/// record, and the place of each host's last note. It takes the events in order, up to the first that breaks a rule which the log shows by itself. Contracts see it
 /// as a `LogHistory`.
 #[derive(Drop)]
 pub struct History {
@@ -26,19 +28,27 @@ pub struct History {
     pairs: u64,
     // Those of the last Settle.
     fronts: Vec<u64>,
-    pub(crate) events: Vec<(u64, Event)>,
+    events: Vec<(u64, Event)>,
+    notes: Notes,
 }
 
 impl Model for History {
+    ghost use Rattle.std.specs.Coded.{codes, coded_ℕ, coded_list};
+    ghost use Rattle.std.specs.Cmp.Lexicographic.{slice_cmp};
+    ghost use Rattle.std.specs.FinMap as finmap;
+    ghost use Rattle.std.specs.Ordering.{nat_cmp};
     ghost use Rattle.std.specs.Prelude.{map};
     ghost use Rattle.irl_events.specs.Seen.{seen};
     ghost use Rattle.irl_ledger.specs.Broken.{LogHistory};
 
     ghost Value = { LogHistory };
 
+    ghost coded = { Prim.hlevel (codes, finmap.code {R = slice_cmp nat_cmp} (coded_list coded_ℕ) coded_ℕ) };
+
     ghost view = { λ h. record {
       outline = record { begun = h.begun; cuts = h.cuts; sent = h.sent; pairs = h.pairs; fronts = h.fronts.items };
       events = map (λ p. (p.0, seen p.1)) h.events.items;
+      notes = h.notes;
     } };
 }
 
@@ -55,7 +65,17 @@ impl History {
             pairs: 0,
             fronts: vec![in alloc; 0; buckets as usize]?,
             events: Vec::new(alloc),
+            notes: Notes::new(alloc),
         })
+    }
+
+    // Its events but for the notes, each with its place, and the places of the notes.
+    pub(crate) fn into_parts(self) -> (Vec<(u64, Event)>, Notes)
+        ensures events { map (λ p. (p.0, seen p.1)) result.0.items ≡ self.events }
+        ensures notes { result.1 ≡ self.notes }
+    {
+        let History { events, notes, .. } = self;
+        (events, notes)
     }
 
     // Whether an event keeps what the log shows by itself.
@@ -89,7 +109,9 @@ impl History {
     fn keep(&mut self, at: u64, event: Event) -> Result<(), AllocError>
         ensures outline { OnOk result (self.new.outline ≡ outline_after self.old.outline (seen event)) }
         ensures events { OnOk result (self.new.events ≡ self.old.events ++ kept_of at (seen event)) }
+        ensures notes { OnOk result (self.new.notes ≡ noted at (seen event) self.old.notes) }
     {
+        self.notes.take(at, &event)?;
         match &event {
             Event::Pairs {
                 cuts,
@@ -137,50 +159,11 @@ fn settles_alone(
     if old.len() != fronts.len() {
         return Ok(false);
     }
-    if done.is_empty() && !rise(old, fronts) {
+    if done.is_empty() && !a_front_rose(old, fronts) {
         return Ok(false);
     }
-    if !differ(alloc, done)? {
+    if !numbers_differ(alloc, done)? {
         return Ok(false);
     }
-    Ok(stay(old, fronts))
-}
-
-// Whether none of the second numbers is below the first's.
-fn stay(old: &[u64], new: &[u64]) -> bool
-    requires { length new.now ≡ length old.now }
-    ensures { result ≡ none_fell old.now new.now }
-{
-    for (i, front) in old.iter().enumerate() {
-        if new[i] < *front {
-            return false;
-        }
-    }
-    true
-}
-
-// Whether one of the second numbers is above the first's.
-fn rise(old: &[u64], new: &[u64]) -> bool
-    requires { length new.now ≡ length old.now }
-    ensures { result ≡ one_rose old.now new.now }
-{
-    for (i, front) in old.iter().enumerate() {
-        if *front < new[i] {
-            return true;
-        }
-    }
-    false
-}
-
-// Whether no number stands twice.
-fn differ(alloc: Global, done: &[(u64, Outcome)]) -> Result<bool, AllocError>
-    ensures { IfOk result (λ differ. differ ≡ are_distinct (settled_numbers done.now)) }
-{
-    let mut seen = BTreeMap::new(alloc);
-    for (number, _) in done {
-        if seen.insert(*number, true)?.is_some() {
-            return Ok(false);
-        }
-    }
-    Ok(true)
+    Ok(no_front_fell(old, fronts))
 }

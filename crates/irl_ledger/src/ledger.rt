@@ -4,6 +4,7 @@ ghost use Rattle.irl_events.specs.Events.{has_number};
 ghost use Rattle.irl_frontier.specs.Frontier.{IsFrontier};
 ghost use Rattle.irl_ledger.specs.Holding.{IsSoundLedger};
 
+use crate::notes::Notes;
 use irl_bay::Bay;
 use irl_frontier::Frontier;
 use irl_log::Log;
@@ -20,6 +21,8 @@ pub struct Ledger {
     pub(crate) frontier: Frontier,
     // Those that the crawl began with.
     pub(crate) suffixes: Option<Suffixes>,
+    // Where the last robots note of each host stands.
+    pub(crate) notes: Notes,
 }
 
 impl Ledger {

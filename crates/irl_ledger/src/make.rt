@@ -7,6 +7,7 @@ ghost use Rattle.irl_ledger.specs.Crawling.{pair_settings as settings_of_pairs};
 ghost use Rattle.irl_ledger.specs.Making.{IsUnmadeCrawl, MakesLedger};
 
 use crate::Ledger;
+use crate::notes::Notes;
 use irl_bay::Bay;
 use irl_disk::Store;
 use irl_frontier::Frontier;
@@ -36,6 +37,7 @@ impl Ledger {
             log,
             frontier,
             suffixes: None,
+            notes: Notes::new(alloc),
         })
     }
 }

@@ -38,7 +38,7 @@ impl History {
 }
 
 // What the log was refused with.
-fn log_fault(fault: JournalFault) -> Fault
+pub(crate) fn log_fault(fault: JournalFault) -> Fault
     ensures { result ≡ fault_of_log fault }
 {
     match fault {

@@ -14,13 +14,13 @@ ghost use Rattle.irl_base.specs.Limits.{max_text};
 ghost use Rattle.irl_frontier.specs.Frontier.{after_other};
 ghost use Rattle.irl_ledger.specs.Adding.{AddsToLog};
 ghost use Rattle.irl_ledger.specs.Holding.{FitsBays};
-ghost use Rattle.irl_ledger.specs.Arrays.{AreArrays, waiting_at};
+ghost use Rattle.irl_schedule.specs.Arrays.{AreArrays, waiting_at};
 ghost use Rattle.irl_ledger.specs.Running.{HandsIn};
 ghost use Rattle.irl_ledger.specs.Sending.{IsStrangeIn, MayReadUrls, OffersPairs, OffersPiece, links_of, option_items, pairs_event};
 
 use crate::Ledger;
 use crate::domains::domain_of_url;
-use crate::feeding::{arrays_of, finish, hand_in};
+use crate::feeding::{finish, hand_in};
 use irl_array::Array;
 use irl_bay::{Bay, JudgedPart, JudgedRef};
 use irl_disk::Store;
@@ -30,6 +30,7 @@ use irl_key::key_of;
 use irl_layout::BayFile;
 use irl_offer::{Fault, Offer, Op, Text};
 use irl_pld::Suffixes;
+use irl_schedule::arrays_of;
 use std::alloc::{AllocError, Global};
 
 // How many judged offers are read in one piece.

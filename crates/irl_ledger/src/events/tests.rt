@@ -5,6 +5,7 @@ ghost use Rattle.irl_events.specs.Events.{Event as SeenEvent};
 ghost use Rattle.irl_log.specs.Log.{HoldsLog};
 
 use super::*;
+use crate::notes::Notes;
 use irl_bay::Bay;
 use irl_disk::{MemStore, Part};
 use irl_frontier::Frontier;
@@ -61,6 +62,7 @@ fn made(alloc: Global, failing: Vec<u64>) -> Result<Kept, Fault>
         log,
         frontier,
         suffixes: None,
+        notes: Notes::new(alloc),
     };
     Ok(Kept { store, ledger })
 }

@@ -4,7 +4,7 @@ use Rattle.std.proofs.lemmas.Result.{err_from_is_err_and}
 use Rattle.irl_offer.specs.declared.settings.Settings.{Settings}
 use Rattle.irl_schedule.specs.Feeding.{IsArrayOf}
 use Rattle.irl_schedule.specs.Schedule.{none_more}
-use Rattle.irl_ledger.specs.Arrays.{AreArrays, array_at, no_array}
+use Rattle.irl_schedule.specs.Arrays.{AreArrays, array_at, no_array}
 use Rattle.irl_ledger.specs.Running.{nowhere}
 use Rattle.irl_ledger.proofs.Handing.{feeding_at, feeding_both, feeding_err, feeding_merge, feeding_nothing, feeding_ok, open_after}
 use Rattle.irl_ledger.proofs.feeding.before_offer.Goals as goal
@@ -90,5 +90,5 @@ returns-in_ok-make_room-clause-feeds g c =
 pub returns-else-is_full-clause-feeds : goal.returns-else-is_full-clause-feeds
 returns-else-is_full-clause-feeds g c =
     feeding_nothing {A = Unit {0}} (Ok (tt {0})) nowhere c.args.arrays.now c.args.bay.now (g.S.Store.told c.args.store.now) (g.met.S.Store.is_consistent c.args.store.now)
-        c.is_sound-is_sound.ensures.drum
+    c.is_sound-is_sound.ensures.drum
     c.requires.arrays c.requires.sound c.requires.long (λ is. let no : ⊥ = cc in absurd no) (λ n is. let no : ⊥ = cc in absurd no) (λ f at is. let no : ⊥ = cc in absurd no)

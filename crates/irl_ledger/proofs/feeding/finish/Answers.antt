@@ -3,7 +3,7 @@ use Rattle.std.proofs.lemmas.Result.{err_from_is_err_and}
 use Rattle.irl_offer.specs.declared.settings.Settings.{Settings}
 use Rattle.irl_schedule.specs.Schedule.{none_more, one_more}
 use Rattle.irl_schedule.proofs.Outcomes.{ok_weaker}
-use Rattle.irl_ledger.specs.Arrays.{AreArrays}
+use Rattle.irl_schedule.specs.Arrays.{AreArrays}
 use Rattle.irl_ledger.specs.Running.{nowhere}
 use Rattle.irl_ledger.proofs.Handing.{feeding_both, feeding_err, feeding_merge, feeding_more, feeding_ok, feeding_then, open_after}
 use Rattle.irl_ledger.proofs.feeding.finish.Goals as goal
@@ -64,7 +64,7 @@ returns-clause-feeds g c =
     (feeding_merge c.merge_if_due.result 0 none_more arrays old mid s t c.requires.arrays c.merge_if_due.ensures.schedules c.merge_if_due.ensures.goes_on) in
     let second = feeding_ok c.flush_all.result _ (tt {0}) nowhere 0 one_more [] arrays later old flushed s u c.in_ok-flush_all.was
     (feeding_both (tt {0}) c.flush_all.result nowhere 0 one_more [] [] arrays arrays later old mid flushed s t u (g.met.S.Store.is_consistent c.merge_if_due.new.store) first
-        c.flush_all.ensures.feeds) in
+    c.flush_all.ensures.feeds) in
     feeding_more c.merge_rest.result nowhere (0 + 1) 1 (λ b. one_more b + none_more b) one_more [] arrays later old new s w (omega arith) (λ b. omega arith)
     (feeding_then (tt {0}) c.merge_rest.result nowhere 0 1 one_more none_more [] [] arrays later later old flushed new s u w (g.met.S.Store.is_consistent c.flush_all.new.store) second
     (feeding_merge c.merge_rest.result 1 none_more later flushed new u w c.flush_all.ensures.feeds.arrays c.merge_rest.ensures.schedules c.merge_rest.ensures.goes_on))

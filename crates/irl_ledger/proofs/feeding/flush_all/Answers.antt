@@ -6,11 +6,11 @@ use Rattle.irl_array.specs.Waiting.{Waiting}
 use Rattle.irl_schedule.specs.Feeding.{IsArrayOf, Moment}
 use Rattle.irl_schedule.specs.Schedule.{one_more, one_more_at}
 use Rattle.irl_schedule.proofs.Finishing.{all_flushed, begins, ends, goes_on}
-use Rattle.irl_ledger.specs.Arrays.{array_at, no_array}
+use Rattle.irl_schedule.specs.Arrays.{array_at, no_array}
 use Rattle.irl_ledger.specs.Running.{moment_with, nowhere}
 use Rattle.irl_ledger.proofs.Handing.{feeding_err, feeding_once, open_after, still_few}
 use Rattle.irl_ledger.proofs.Running.{runs_once}
-use Rattle.irl_ledger.proofs.Waits.{array_elsewhere, array_here, arrays_set, in_arrays, none_waits}
+use Rattle.irl_schedule.proofs.Waits.{array_elsewhere, array_here, arrays_set, in_arrays, none_waits}
 use Rattle.irl_ledger.proofs.feeding.flush_all.Goals as goal
 
 pub loop-b-init : goal.loop-b-init
@@ -115,6 +115,11 @@ returns-clause-feeds g c =
 pub returns-clause-emptied : goal.returns-clause-emptied
 returns-clause-emptied g c = λ b.
     none_waits c.loop-b.arrays c.loop-b.b b
-    (omega (arith, c.loop-b.invariant.1.count, c.loop-b-test.false, ap (λ (s : Settings). s.buckets) c.settings-b-end.ensures,
-        ap (λ (s : Settings). s.buckets) c.loop-b.invariant.0.schedules.stays.settings))
+    (omega (
+      arith,
+      c.loop-b.invariant.1.count,
+      c.loop-b-test.false,
+      ap (λ (s : Settings). s.buckets) c.settings-b-end.ensures,
+      ap (λ (s : Settings). s.buckets) c.loop-b.invariant.0.schedules.stays.settings,
+    ))
     c.loop-b.invariant.0.before

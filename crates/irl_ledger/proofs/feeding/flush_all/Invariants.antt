@@ -1,6 +1,6 @@
 use Rattle.std.proofs.Common.{◌≡◌, true}
 use Rattle.irl_schedule.proofs.Finishing.{SoFar}
-use Rattle.irl_ledger.specs.Arrays.{AreArrays}
+use Rattle.irl_schedule.specs.Arrays.{AreArrays}
 use Rattle.irl_ledger.specs.Running.{StaysOpen, moment_with}
 use Rattle.irl_ledger.proofs.feeding.flush_all.Given as goal
 

@@ -84,6 +84,6 @@ returns g c =
     let count = c.judged_len.ensures.book book holds.numbers in
     far.all files tells book holds ∙ ap (links_of c.args.suffixes.now) (all_between c.args.from c.loop-at.at book (omega (arith, count, c.loop-at-test.false)) none far.behind) in
     offers_ended c.finish.result c.args.suffixes.now c.args.from urls x z p r far.news s w c.requires.empty (λ files tells book holds.
-        ([], sym (all files tells book holds) ∙ sym (append-nil far.news)))
+    ([], sym (all files tells book holds) ∙ sym (append-nil far.news)))
     (any_answer c.finish.result all) feeding c.finish.ensures.emptied
     (ok_weaker c.finish.result c.finish.ensures.judged (λ judged b within. judged b (subst (λ (s : Settings). b < s.buckets) (sym far.feeding.runs.stays.settings) within)))

@@ -42,7 +42,7 @@ returns-in_err-offer_one g c =
     let last = hands_wider c.offer_one.result (IsStrangeIn (c.args.from + i) (one ∷ [])) elsewhere ys c.loop-i.arrays r c.loop-i.pairs z (told c.loop-i.store) w
     (λ f at there. strange_part c.args.from i part one f at c.get.ensures there) c.offer_one.ensures in
     let both = hands_both (tt {0}) c.offer_one.result elsewhere xs ys p c.loop-i.arrays r x c.loop-i.pairs z s (told c.loop-i.store) w (g.met.S.Store.is_consistent c.loop-i.store) c.loop-i.invariant
-        last in
+    last in
     let out = err_from_is_err_and c.from_residual.result c.from_residual.ensures.1 in
     hands_err c.offer_one.result c.from_residual.result _ elsewhere (links_of c.args.suffixes.now part) p r x z s w c.in_err-offer_one.was (out.1 ∙ ap (λ e. Err e) out.2)
     (subst (λ (l : List Tuple). HandsIn c.offer_one.result elsewhere l p r x z s w) (sym (links_split c.args.suffixes.now part i one c.get.ensures))
@@ -67,7 +67,7 @@ loop-i-preserved g c =
     (λ f at there. strange_part c.args.from i part one f at c.get.ensures there)
     (hands_ok c.offer_one.result _ (tt {0}) (IsStrangeIn (c.args.from + i) (one ∷ [])) ys c.loop-i.arrays r c.loop-i.pairs z (told c.loop-i.store) w c.in_ok-offer_one.was c.offer_one.ensures) in
     let both = hands_both (tt {0}) (Ok (tt {0})) elsewhere xs ys p c.loop-i.arrays r x c.loop-i.pairs z s (told c.loop-i.store) w (g.met.S.Store.is_consistent c.loop-i.store) c.loop-i.invariant
-        last in
+    last in
     let same : xs ++ ys ≡ links_of c.args.suffixes.now (take (i + 1) part) =
     sym (ap (links_of c.args.suffixes.now) (take_next part i one c.get.ensures) ∙ links_both c.args.suffixes.now (take i part) (one ∷ [])) in
     subst (λ (l : List Tuple). HandsIn (Ok (tt {0})) elsewhere l p r x z s w) same both

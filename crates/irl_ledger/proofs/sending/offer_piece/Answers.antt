@@ -64,7 +64,7 @@ returns-in_err-offer_part-clause-offers g c =
           → c.offer_part.ensures.news ≡ links_of c.args.suffixes.now (judged_between c.args.from to book))) is;
       feeding = feeding_err c.offer_part.result c.from_residual-in_err-offer_part.result _ (IsSpoiltUrl s urls) 0 none_more c.offer_part.ensures.news p r x z s w c.in_err-offer_part.was is
           (feeding_both (tt {0}) c.offer_part.result (IsSpoiltUrl s urls) 0 none_more [] c.offer_part.ensures.news p p r x x z s t w (g.met.S.Store.is_consistent c.judged_from.new.store) first
-              second);
+          second);
     }
 
 pub returns-clause-offers : goal.returns-clause-offers
@@ -95,5 +95,5 @@ returns-clause-offers g c =
           ∙ ap (λ (n : ℕ). links_of c.args.suffixes.now (judged_between c.args.from (c.args.from + n) book)) (sym c.len.ensures);
       feeding = feeding_ok c.offer_part.result _ _ (IsSpoiltUrl s urls) 0 none_more c.offer_part.ensures.news p r x z s w c.in_ok-offer_part.was
           (feeding_both (tt {0}) c.offer_part.result (IsSpoiltUrl s urls) 0 none_more [] c.offer_part.ensures.news p p r x x z s t w (g.met.S.Store.is_consistent c.judged_from.new.store) first
-              second);
+          second);
     }

@@ -59,12 +59,14 @@ returns g c =
     let drum = c.in_ok-pairs.ensures in
     let log = c.in_ok-log.ensures in
     let held = subst (λ (s : Settings). Holds (tells c.make.new.store).images c.in_ok-pairs.pairs (blank_book s.buckets s.rule)) c.pair_settings.ensures drum.holds in
-    let ledger : Ledger = record { alloc = c.args.alloc; pairs = c.in_ok-pairs.pairs; log = c.in_ok-log.log; frontier = c.in_ok-frontier.frontier; suffixes = None } in
+    let ledger : Ledger = record { alloc = c.args.alloc; pairs = c.in_ok-pairs.pairs; log = c.in_ok-log.log; frontier = c.in_ok-frontier.frontier; suffixes = None; notes = c.new-2.result } in
     record {
-      holds = made_holds settings (tells c.make.new.store) (tells c.make-2.new.store) ledger c.requires.settings (law c.make-2.new.store) c.in_ok-frontier.ensures refl drum.drum drum.base
+      holds = made_holds settings (tells c.make.new.store) (tells c.make-2.new.store) ledger c.requires.settings (law c.make-2.new.store) c.in_ok-frontier.ensures refl c.new-2.ensures drum.drum
+          drum.base
           (drum.settings ∙ c.pair_settings.ensures) held log.holds log.log c.make-2.ensures.changes.stops;
       sound = (drum.sound, ap (λ (l : OpenLog). l.journal.is_sound) log.log);
-      is_open = made_open settings (tells c.make.new.store) (tells c.make-2.new.store) ledger c.requires.settings (law c.make-2.new.store) c.in_ok-frontier.ensures refl drum.drum drum.base
+      is_open = made_open settings (tells c.make.new.store) (tells c.make-2.new.store) ledger c.requires.settings (law c.make-2.new.store) c.in_ok-frontier.ensures refl c.new-2.ensures drum.drum
+          drum.base
           (drum.settings ∙ c.pair_settings.ensures) held log.holds log.log c.make-2.ensures.changes.stops (tells c.make.new.store).files log.ok;
       changes = both_changes settings _ _ (tells c.args.store.now) (tells c.make.new.store) (tells c.make-2.new.store) c.requires.settings (law c.make.new.store) bay
           (changes_for (ChangesFile crawl_file (Scribbled 0 1)) _ _ (tells c.make.new.store) (tells c.make-2.new.store) (λ is. let no : ⊥ = cc in absurd no) c.make-2.ensures.changes);

@@ -30,9 +30,9 @@ returns-in_err-tell_piece-clause-tells g c =
     let told = g.S.Store.told in
     let out = err_from_is_err_and c.from_residual.result c.from_residual.ensures.1 in
     pairs_err c.tell_piece.result c.from_residual.result _ c.args.self.now c.tell_piece.new.self (told c.args.store.now) (told c.tell_piece.new.store) c.in_err-tell_piece.was (out.1
-        ∙ ap (λ e. Err e) out.2)
+    ∙ ap (λ e. Err e) out.2)
     (pairs_both c.tell_piece.result c.args.self.now c.loop-self.self c.tell_piece.new.self (told c.args.store.now) (told c.loop-self.store) (told c.tell_piece.new.store)
-        c.is_sound-is_sound.ensures.drum
+    c.is_sound-is_sound.ensures.drum
     (g.met.S.Store.is_consistent c.loop-self.store) c.loop-self.invariant.tells c.tell_piece.ensures.tells)
 
 pub loop-self-preserved : goal.loop-self-preserved

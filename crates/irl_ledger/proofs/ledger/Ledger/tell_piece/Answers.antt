@@ -25,9 +25,9 @@ returns-in_err-tell_part-clause-tells g c =
     let out = err_from_is_err_and c.from_residual-in_err-tell_part.result c.from_residual-in_err-tell_part.ensures.1 in
     let is : c.from_residual-in_err-tell_part.result ≡ Err Memory = out.1 ∙ ap (λ e. Err e) out.2 in
     told_piece c.from_residual-in_err-tell_part.result old c.tell_part.new.frontier s t c.min-most.result c.tell_part.ensures.count part
-        (told_some c.tell_part.result part old.frontier c.tell_part.new.frontier c.tell_part.ensures)
+    (told_some c.tell_part.result part old.frontier c.tell_part.new.frontier c.tell_part.ensures)
     c.tell_part.ensures.few (subst (λ (n : ℕ). ForSome s.files (λ _. (book : Book) → Holds s.images old.pairs book → part ≡ take c.min-most.result (drop (n - gone book) (judged book))))
-        c.told-from.ensures c.in_ok-part.ensures.reads.value) (omega (arith, c.in_ok-part.ensures.count, c.told-from.ensures, c.requires.told))
+    c.told-from.ensures c.in_ok-part.ensures.reads.value) (omega (arith, c.in_ok-part.ensures.count, c.told-from.ensures, c.requires.told))
     (reads_well c.from_residual-in_err-tell_part.result _ old.pairs s t (λ fault named. memory_alone c.from_residual-in_err-tell_part.result fault is named) c.judged_from.ensures.reads.reads)
 
 pub returns-clause-tells : goal.returns-clause-tells
@@ -37,7 +37,7 @@ returns-clause-tells g c =
     let old = c.args.self.now in
     let part = c.in_ok-part.part in
     told_piece (Ok (tt {0})) old c.tell_part.new.frontier s t c.min-most.result c.tell_part.ensures.count part
-        (told_some c.tell_part.result part old.frontier c.tell_part.new.frontier c.tell_part.ensures)
+    (told_some c.tell_part.result part old.frontier c.tell_part.new.frontier c.tell_part.ensures)
     c.tell_part.ensures.few (subst (λ (n : ℕ). ForSome s.files (λ _. (book : Book) → Holds s.images old.pairs book → part ≡ take c.min-most.result (drop (n - gone book) (judged book))))
-        c.told-from.ensures c.in_ok-part.ensures.reads.value) (omega (arith, c.in_ok-part.ensures.count, c.told-from.ensures, c.requires.told))
+    c.told-from.ensures c.in_ok-part.ensures.reads.value) (omega (arith, c.in_ok-part.ensures.count, c.told-from.ensures, c.requires.told))
     (reads_well (Ok (tt {0})) _ old.pairs s t (λ fault named. let no : ⊥ = cc in absurd no) c.judged_from.ensures.reads.reads)
