@@ -2,6 +2,7 @@
 use Rattle.std.proofs.Common.{◌≡◌, ◌∙◌, ◌+◌, ◌⊎◌, inl, inr, ⊎_elim, ℕ, ◌<◌, ◌≤◌, true, false, List, [], ◌∷◌, ◌++◌, length, take, drop, length-append, length-take-le, Option, None, Some, Result, Ok, Err, IsOk, IsErrOf, OnOk, OnErr, refl, sym, ap, subst, arith}
 use Rattle.std.specs.Prelude.{is_some}
 use Rattle.std.specs.Option.{ForSome}
+use Rattle.std.proofs.lemmas.List.Concat.{flat_map-append}
 use Rattle.irl_base.specs.declared.fault.Fault.{Fault}
 use Rattle.irl_base.specs.declared.fault.Fault.TheVariants.{Failed, Memory, Full, Damaged}
 use Rattle.irl_offer.specs.declared.settings.Kind.{Kind}
@@ -24,7 +25,7 @@ use Rattle.irl_disk.proofs.Effects.{told_none, told_wider}
 use Rattle.irl_disk.proofs.Frames.{told_from}
 use Rattle.irl_disk.proofs.Stretches.{left_now, same_by, stays, widens, widens_by}
 use Rattle.irl_journal.specs.Appending.{HasAppended, Tail}
-use Rattle.irl_journal.specs.Format.{HasRecords, StandsFor, records_text}
+use Rattle.irl_journal.specs.Format.{HasRecords, StandsFor, record_text, records_text}
 use Rattle.irl_layout.specs.BayFiles.{IsFileOf}
 use Rattle.irl_bay.specs.Drum.{Drum, IsDrum}
 use Rattle.irl_bay.specs.Holding.{Holds, IsLong}
@@ -35,7 +36,7 @@ use Rattle.irl_log.specs.Appending.{HasOrGainsEvents}
 use Rattle.irl_frontier.specs.Frontier.{Frontier, IsFrontier, after_other}
 use Rattle.irl_log.specs.Form.{IsNote}
 use Rattle.irl_log.specs.Log.{AreLogged, HasEvents, HoldsLog}
-use Rattle.irl_log.specs.Spelling.{log_records}
+use Rattle.irl_log.specs.Spelling.{log_records, records_of}
 use Rattle.irl_ledger.specs.declared.ledger.Ledger.{Ledger}
 use Rattle.irl_yard.specs.declared.parts.Parts.{Parts}
 use Rattle.irl_yard.specs.declared.parts.Rest.{Rest}
@@ -44,7 +45,9 @@ use Rattle.irl_yard.specs.Adding.{AddsEvent, TellsEvent, suffixes_after, with_ev
 use Rattle.irl_ledger.specs.Crawling.{AreCrawlFiles, IsCrawlState, domain_of, events_of, pair_settings}
 use Rattle.irl_ledger.specs.Adding.{AddsToLog}
 use Rattle.irl_ledger.specs.Holding.{FitsBays, HoldsLedger, IsFrontierOf, IsOpenLedger, domain_by}
+use Rattle.irl_ledger.specs.Noting.{AreWithin, no_notes, note_places, noted}
 use Rattle.irl_ledger.proofs.Adding.{begin_keeps, note_keeps}
+use Rattle.irl_ledger.proofs.Noting.{noted_within, places_more}
 use Rattle.irl_ledger.proofs.Tables.{tables_begun, tables_other}
 use Rattle.irl_yard.specs.Holding.{HoldsOpen, HoldsState, HoldsUrls, HasOneOf, IsOpenRest, IsSoundRest}
 use Rattle.irl_yard.specs.Standing.{HasRest, IsMade, IsRest}
@@ -141,6 +144,18 @@ made_with settings state events old new kind changes made log legal =
     }
 
 -- ---- an open store
+from_zero : (n : ℕ) → n ≡ 0 + n
+from_zero n = omega arith
+
+-- the log's end behind one more event
+end_more : (events : List Event) (event : Event) (was now : ℕ) → was ≡ length (records_text (log_records events)) → now ≡ was + length (records_text (log_records (event ∷ [])))
+    → now ≡ length (records_text (log_records (events ++ event ∷ [])))
+end_more events event was now is more =
+    let text = ap (λ (l : List (List ℕ)). length (records_text l)) (flat_map-append records_of events (event ∷ [])) in
+    let size = ap (λ (l : List ℕ). length l) (flat_map-append record_text (log_records events) (log_records (event ∷ []))) in
+    let both = length-append (records_text (log_records events)) (records_text (log_records (event ∷ []))) in
+    omega (arith, is, more, text, size, both)
+
 module _ (old new : Told) (urls : Drum) (state : State) (event : Event) (places : List Place) (law : IsDrum urls) (consistent : IsConsistent new) (kind : urls.settings.kind ≡ CrawlKind)
     (holds : HoldsUrls old.images urls state) (next : IsNext urls.settings state.urls state.pairs state.events event places) where
   small : urls.settings.buckets ≤ 64
@@ -190,15 +205,21 @@ module _ (old new : Told) (urls : Drum) (state : State) (event : Event) (places 
   pub open_more : (was now : Ledger) → LeavesBy (ChangesOnly IsLog) old new → IsOpenLedger urls was old.files → now.pairs ≡ was.pairs
       → (HoldsLog old.images was.log (events_of state.events) → HoldsLog new.images now.log (events_of state.events ++ event ∷ []))
       → IsFrontierOf urls.settings state.urls state.pairs (with_event event places state).events now.frontier → now.suffixes ≡ begun_with (with_event event places state).events
+      → now.log.journal.end ≡ was.log.journal.end + length (records_text (log_records (event ∷ []))) → now.notes ≡ noted was.log.journal.end event was.notes
       → HoldsLedger old.images urls.settings was state.urls state.pairs state.events
       → HoldsLedger new.images urls.settings now state.urls state.pairs (with_event event places state).events
-  open_more was now stops open_crawl pairs log tables suffixes held = record {
+  open_more was now stops open_crawl pairs log tables suffixes end notes held = record {
     pairs_hold = subst (λ (d : Drum). Holds new.images d state.pairs) (sym pairs) (holds_beside IsLog old new was.pairs state.pairs open_crawl.drum consistent stops
         (λ f is. pairs_apart urls.settings.buckets f small (subst (λ (s : Settings). IsFileOf pairs_base s.buckets f) open_crawl.settings (subst (λ (n : ℕ). IsFileOf n was.pairs.settings.buckets f)
         open_crawl.base is))) held.pairs_hold);
     log = subst (HoldsLog new.images now.log) (sym (events_more state.events (event, places))) (log held.log);
     frontier = tables;
     suffixes = suffixes;
+    log_ends = end_more (events_of state.events) event was.log.journal.end now.log.journal.end held.log_ends end
+        ∙ ap (λ (es : List Event). length (records_text (log_records es))) (sym (events_more state.events (event, places)));
+    notes = notes ∙ ap (λ (n : ℕ). noted n event was.notes) (held.log_ends ∙ from_zero (length (records_text (log_records (events_of state.events)))))
+        ∙ ap (noted (0 + length (records_text (log_records (events_of state.events)))) event) held.notes
+        ∙ sym (places_more 0 (events_of state.events) event no_notes) ∙ ap (note_places 0) (sym (events_more state.events (event, places)));
   }
 
 -- ---- what an append leaves
@@ -223,12 +244,16 @@ ok_or_err : {P Q : Type 0} (result : Result Unit Fault) → OnErr result P → O
 ok_or_err (Ok value) was is = inr is
 ok_or_err (Err error) was is = inl was
 
+both_ways : {A B C D : Type 0} (result : Result Unit Fault) → OnErr result A → OnErr result B → OnOk result C → OnOk result D → (A × B) ⊎ (C × D)
+both_ways (Ok value) a b c d = inr (c, d)
+both_ways (Err error) a b c d = inl (a, b)
+
 pub on_err_then : {P Q : Type 0} (result : Result Unit Fault) → (P → Q) → OnErr result P → OnErr result Q
 on_err_then (Ok value) gives has = tt
 on_err_then (Err error) gives has = gives has
 
-ok_then : {P : Type 0} (result : Result Unit Fault) (Q : Type 0) → OnOk result P → ((IsErrOf result Memory → ⊥) → P → OnOk result Q) → OnOk result Q
-ok_then (Ok value) Q has gives = gives (λ is. cc) has
+ok_then : {P : Type 0} (result : Result Unit Fault) (Q : Type 0) → OnOk result P → ((IsErrOf result Memory → ⊥) → IsOk result → P → OnOk result Q) → OnOk result Q
+ok_then (Ok value) Q has gives = gives (λ is. cc) refl has
 ok_then (Err error) Q has gives = tt
 
 none_changes : (now : Told) (failed : Type 0) → IsConsistent now → (failed → ⊥) → OnlyChanges (ChangesFile crawl_file (λ _ _. Unit {0})) failed now now
@@ -259,7 +284,7 @@ long_after old new more before after long changes end = λ files told.
 
 module _ {S : Type 0} (tells : S → Told) (law : (s : S) → IsConsistent (tells s)) (result : Result Unit Fault) (event : Event) (places : List Place) (frontier : Frontier)
     (suffixes : Option (List ℕ)) (before after : S) (urls : Drum) (old new : Ledger) (drum : IsDrum urls) (open_crawl : IsOpenLedger urls old (tells before).files)
-        (was_sound : old.log.journal.is_sound ≡ true)
+    (was_sound : old.log.journal.is_sound ≡ true)
     (adds : AddsToLog tells result event frontier suffixes old new before after) where
   -- whatever the files stand for, the log's alone changes
   pub log_changes : OnlyChanges (ChangesFile crawl_file (λ _ _. Unit {0})) (IsErrOf result Failed) (tells before) (tells after)
@@ -320,6 +345,12 @@ module _ {S : Type 0} (tells : S → Told) (law : (s : S) → IsConsistent (tell
             (λ (was : (new.frontier ≡ old.frontier) × (new.suffixes ≡ old.suffixes)). ap (λ (x : Frontier). x.progress.begun) was.0 ∙ open_crawl.begun ∙ ap is_some (sym was.1))
             (λ (is : (new.frontier ≡ frontier) × (new.suffixes ≡ suffixes)). ap (λ (x : Frontier). x.progress.begun) is.0 ∙ begun ∙ ap is_some (sym is.1))
             frontier_is;
+        noted = ⊎_elim
+            (λ (was : (new.notes ≡ old.notes) × (new.log.journal.end ≡ old.log.journal.end)). subst (AreWithin new.log.journal.end) (sym was.0)
+            (subst (λ (n : ℕ). AreWithin n old.notes) (sym was.1) open_crawl.noted))
+            (λ (is : (new.notes ≡ noted old.log.journal.end event old.notes) × (new.log.journal.end ≡ old.log.journal.end + length (records_text (log_records (event ∷ []))))).
+            subst (AreWithin new.log.journal.end) (sym is.0) (noted_within old.log.journal.end new.log.journal.end event old.notes open_crawl.noted (omega (arith, is.1))))
+            (both_ways result adds.noted_still log.records.appends.end_kept adds.noted_then log.records.appends.end);
       }
 
   pub still_open : FitsBays urls old.pairs frontier → frontier.progress.begun ≡ is_some suffixes → IsOpenLedger urls new (tells after).files
@@ -344,12 +375,12 @@ module _ {S : Type 0} (tells : S → Told) (law : (s : S) → IsConsistent (tell
     pub tables : IsFrontierOf urls.settings state.urls state.pairs (with_event event places state).events frontier
 
   -- of one state
-  pub state_next : (was now : Parts) (state : State) → was.urls ≡ urls → was.rest ≡ Crawl old → now.rest ≡ Crawl new → now.urls ≡ urls → (IsErrOf result Memory → ⊥)
+  pub state_next : (was now : Parts) (state : State) → was.urls ≡ urls → was.rest ≡ Crawl old → now.rest ≡ Crawl new → now.urls ≡ urls → (IsErrOf result Memory → ⊥) → IsOk result
       → (new.frontier ≡ frontier) × (new.suffixes ≡ suffixes)
       → ((events : List Event) → HoldsLog (tells before).images old.log events → HoldsLog (tells after).images new.log (events ++ event ∷ []))
       → IsNextIn state
       → HoldsState (tells before).images was state → HoldsState (tells after).images now (with_event event places state)
-  state_next was now state was_urls was_rest now_rest now_urls other done gives is holds =
+  state_next was now state was_urls was_rest now_rest now_urls other ok done gives is holds =
       let held = subst (λ (d : Drum). HoldsUrls (tells before).images d state) was_urls holds.urls in
       let opened : HoldsOpen (tells before).images urls.settings (Crawl old) state.urls state.pairs state.events =
       subst (λ (r : Rest). HoldsOpen (tells before).images urls.settings r state.urls state.pairs state.events) was_rest
@@ -362,7 +393,8 @@ module _ {S : Type 0} (tells : S → Told) (law : (s : S) → IsConsistent (tell
       let beside : HoldsOpen (tells after).images urls.settings (Crawl new) state.urls state.pairs (with_event event places state).events = (
         opened.0,
         open_more (tells before) (tells after) urls state event places drum (law after) opened.0 held is.next old new only_log open_crawl adds.pairs (gives (events_of state.events))
-            (subst (IsFrontierOf urls.settings state.urls state.pairs (with_event event places state).events) (sym done.0) is.tables) (done.1 ∙ sym is.begun) opened.1,
+            (subst (IsFrontierOf urls.settings state.urls state.pairs (with_event event places state).events) (sym done.0) is.tables) (done.1 ∙ sym is.begun)
+            (from_ok result ok log.records.appends.end) (from_ok result ok adds.noted_then) opened.1,
       ) in
       record {
         urls = subst (λ (d : Drum). HoldsUrls (tells after).images d (with_event event places state)) (sym now_urls) more;
@@ -389,17 +421,17 @@ module _ {S : Type 0} (tells : S → Told) (law : (s : S) → IsConsistent (tell
       (memory_or_not result)
 
   -- of each
-  pub state_more : (was now : Parts) (state : State) → was.urls ≡ urls → was.rest ≡ Crawl old → now.rest ≡ Crawl new → now.urls ≡ urls → (IsErrOf result Memory → ⊥)
+  pub state_more : (was now : Parts) (state : State) → was.urls ≡ urls → was.rest ≡ Crawl old → now.rest ≡ Crawl new → now.urls ≡ urls → (IsErrOf result Memory → ⊥) → IsOk result
       → (new.frontier ≡ frontier) × (new.suffixes ≡ suffixes)
       → ((events : List Event) → HoldsLog (tells before).images old.log events → HoldsLog (tells after).images new.log (events ++ event ∷ []))
       → ((state : State) → HoldsUrls (tells before).images urls state → HoldsLedger (tells before).images urls.settings old state.urls state.pairs state.events → IsNextIn state)
       → HoldsState (tells before).images was state → HoldsState (tells after).images now (with_event event places state)
-  state_more was now state was_urls was_rest now_rest now_urls other done gives next holds =
+  state_more was now state was_urls was_rest now_rest now_urls other ok done gives next holds =
       let held = subst (λ (d : Drum). HoldsUrls (tells before).images d state) was_urls holds.urls in
       let opened : HoldsOpen (tells before).images urls.settings (Crawl old) state.urls state.pairs state.events =
       subst (λ (r : Rest). HoldsOpen (tells before).images urls.settings r state.urls state.pairs state.events) was_rest
       (subst (λ (d : Drum). HoldsOpen (tells before).images d.settings was.rest state.urls state.pairs state.events) was_urls holds.open_rest) in
-      state_next was now state was_urls was_rest now_rest now_urls other done gives (next state held opened.1) holds
+      state_next was now state was_urls was_rest now_rest now_urls other ok done gives (next state held opened.1) holds
 
   pub stops_at : (was : Parts) (state : State) → was.urls ≡ urls → was.rest ≡ Crawl old
       → ((state : State) → HoldsUrls (tells before).images urls state → HoldsLedger (tells before).images urls.settings old state.urls state.pairs state.events → IsNextIn state)
@@ -423,8 +455,8 @@ module _ {S : Type 0} (tells : S → Told) (law : (s : S) → IsConsistent (tell
       → IsNextIn tells law result event [] then suffixes before after urls old new drum open_crawl was_sound adds state)
       → suffixes ≡ suffixes_after event old.suffixes → AddsEvent tells result event was now before after
   adds_event was now was_urls was_rest now_rest now_urls same next begins = record {
-    holds = ok_then result _ adds.done (λ other done. on_ok_then result (λ gives state holds.
-        state_more tells law result event [] then suffixes before after urls old new drum open_crawl was_sound adds was now state was_urls was_rest now_rest now_urls other done gives next holds)
+    holds = ok_then result _ adds.done (λ other ok done. on_ok_then result (λ gives state holds.
+        state_more tells law result event [] then suffixes before after urls old new drum open_crawl was_sound adds was now state was_urls was_rest now_rest now_urls other ok done gives next holds)
         (adds.log other).acknowledged);
     stops = λ state holds. stops_at tells law result event [] then suffixes before after urls old new drum open_crawl was_sound adds was state was_urls was_rest next holds;
     others = log_changes tells law result event [] then suffixes before after urls old new drum open_crawl was_sound adds;

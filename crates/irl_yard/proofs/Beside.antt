@@ -57,6 +57,7 @@ ledger_beside among old new was now crawl law are tells base settings grows rest
       subst (λ (file : List ℕ). crawl.log.journal.end < length file) (sym (before.2 crawl_file (log_apart among was crawl old law are rest))) (rest.log_long sound before.0 before.1);
   fits = fits_grown was now crawl.pairs crawl.frontier settings grows rest.fits;
   begun = rest.begun;
+  noted = rest.noted;
 }
 
 -- a store of lines or of tuples has nothing open beside, and one of a crawl its ledger
@@ -100,6 +101,8 @@ ledger_held among old new was crawl urls more pairs events law consistent are st
   };
   frontier = tables_more was.settings urls more pairs events crawl.frontier is front holds.frontier;
   suffixes = holds.suffixes;
+  log_ends = holds.log_ends;
+  notes = holds.notes;
 }
 
 open_held : (among : ℕ → Type 0) (old new : Told) (was : Drum) (rest : Rest) (urls more pairs : Book) (events : List Happened) → IsDrum was → IsConsistent new → AreOfUrls was among

@@ -58,6 +58,10 @@ one_kind Crawl Crawl same = refl
 pub agrees_plain : (asked : Asked) (settings : Settings) → Agrees asked settings → asked.kind ≢ Crawl → settings.kind ≢ Crawl
 agrees_plain asked settings agrees plain is = plain (one_kind asked.kind settings.kind (agrees 0 (kind_number asked.kind) (kind_number settings.kind) refl refl) ∙ is)
 
+-- so a crawl was asked for where one was made
+pub agrees_crawl : (asked : Asked) (settings : Settings) → Agrees asked settings → settings.kind ≡ Crawl → asked.kind ≡ Crawl
+agrees_crawl asked settings agrees kind = one_kind asked.kind settings.kind (agrees 0 (kind_number asked.kind) (kind_number settings.kind) refl refl) ∙ kind
+
 -- ---- a new store's
 no_lists : (count : ℕ) → flat_map (λ (list : List Tuple). list) (replicate count []) ≡ []
 no_lists zero = refl

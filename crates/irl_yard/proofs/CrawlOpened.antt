@@ -42,7 +42,7 @@ opens_both asked told x y z first second = λ f. both f (first f) (second f)
 
 module _ (asked : Asked) (told : Option Files) (settings : Settings) (valid : AreValid settings) (agrees : Agrees asked settings) (has : ForSome told (HasHead settings))
     (kind : settings.kind ≡ Crawl) where
-  of_kind : (f : ℕ) → (f ≡ crawl_file) ⊎ IsJournalOf pairs_base settings.buckets f → IsToldJournal asked told f
+  pub of_kind : (f : ℕ) → (f ≡ crawl_file) ⊎ IsJournalOf pairs_base settings.buckets f → IsToldJournal asked told f
   of_kind f is = inr (settings, valid, agrees, has, inr (inr (subst (λ (k : Kind). IsKindJournal k settings.buckets f) (sym kind) is)))
 
   -- the log
@@ -57,9 +57,9 @@ module _ (asked : Asked) (told : Option Files) (settings : Settings) (valid : Ar
   pairs_open x y step =
       let adopted = adopted_wider pairs_base settings.buckets x y step in
       λ f. ⊎_elim
-          (λ (is : IsJournalOf pairs_base settings.buckets f). inr (of_kind f (inr is), adopted.changed f is))
-          (λ (none : IsJournalOf pairs_base settings.buckets f → ⊥). inl (adopted.others f none))
-          (side_or_none pairs_base settings.buckets f)
+      (λ (is : IsJournalOf pairs_base settings.buckets f). inr (of_kind f (inr is), adopted.changed f is))
+      (λ (none : IsJournalOf pairs_base settings.buckets f → ⊥). inl (adopted.others f none))
+      (side_or_none pairs_base settings.buckets f)
 
 -- ---- calls
 -- two that open

@@ -88,7 +88,7 @@ opens_none asked told files = λ f. inl refl
 each_opened : (asked : Asked) (told : Option Files) (old new : Files) → OpensStore asked told old new → (f : ℕ) → IsOpened (old f) (new f)
 each_opened asked told old new opens f = ⊎_elim (λ same. inl same) (λ opened. opened.1) (opens f)
 
-head_opens : (asked : Asked) (told : Option Files) (x y z : Files) → ChangesFile head_file IsOpened x y → OpensStore asked told y z → OpensStore asked told x z
+pub head_opens : (asked : Asked) (told : Option Files) (x y z : Files) → ChangesFile head_file IsOpened x y → OpensStore asked told y z → OpensStore asked told x z
 head_opens asked told x y z first second = λ f. ⊎_elim
     (λ (e : f ≡ head_file). inr (
       inl e,
@@ -323,7 +323,8 @@ module _ (settings : Settings) (pairs : Book) (events : List Happened) (old new 
       none f is out (inr (inr (inl log))) = omega (arith, log, (files_within pairs_base settings.buckets f small is).0)
       none f is out (inr (inr (inr journal))) = out journal
 
-opens_made : (asked : Asked) (told : Option Files) (files : Files) (settings : Settings) (state : State) (old new : Files) → told ≡ Some files → HasHead settings files → OpensStore asked told old new
+pub opens_made : (asked : Asked) (told : Option Files) (files : Files) (settings : Settings) (state : State) (old new : Files) → told ≡ Some files → HasHead settings files
+    → OpensStore asked told old new
     → IsMade settings state old → IsMade settings state new
 opens_made asked told files settings state old new is head opens made = record {
   settings_are = made.settings_are;

@@ -96,7 +96,7 @@ module _ {A : Type 0} (result : Result A Fault) (items : A → List Work) (most 
       let opened : HoldsOpen old.images was.urls.settings (Crawl ledger) state.urls state.pairs state.events =
       subst (λ (r : Rest). HoldsOpen old.images was.urls.settings r state.urls state.pairs state.events) e holds.open_rest in
       let found = subst (λ (r : Result A Fault). IfOk r (λ works. ForSome old.files (λ _. (book : Book) → Holds old.images was.urls book → AllByRecursion (IsWorkOf book) (items works)))) is
-          reads.value in
+      reads.value in
       let these = subst (λ (r : Result A Fault). IfOk r (λ works. AreFirst (front_in was.rest) most (map (λ (work : Work). work.number) (items works)))) is first in
       front_works old.images was.urls ledger state most (items works) law opened.0 holds.urls opened.1
       (subst (λ (r : Rest). AreFirst (front_in r) most (map (λ (work : Work). work.number) (items works))) e these) (found files told state.urls holds.urls.urls_hold)

@@ -1,8 +1,10 @@
 -- Of which state files stand, and what of them is the ground of a refusal.
-use Rattle.std.proofs.Common.{◌≡◌, inl, inr, ℕ, List, [], ◌∷◌, refl, sym, subst, Option, None, Some, Result, Err, IsErrOf}
+use Rattle.std.proofs.Common.{◌≡◌, ◌≢◌, ◌⊎◌, ⊎_elim, inl, inr, ℕ, List, [], ◌∷◌, refl, sym, subst, Option, None, Some, Result, Err, IsErrOf}
 use Rattle.std.specs.Option.{ForSome}
 use Rattle.irl_offer.specs.Settings.{settings_of}
 use Rattle.irl_offer.specs.declared.settings.Asked.{Asked}
+use Rattle.irl_offer.specs.declared.settings.Kind.{Kind}
+use Rattle.irl_offer.specs.declared.settings.Kind.TheVariants.{Lines, Tuples, Crawl}
 use Rattle.irl_offer.specs.declared.settings.Settings.{Settings}
 use Rattle.irl_base.specs.declared.fault.Fault.{Fault}
 use Rattle.irl_base.specs.declared.fault.Fault.TheVariants.{Failed as BayFailed, Memory as BayMemory, Full as BayFull, Damaged as BayDamaged}
@@ -17,12 +19,15 @@ use Rattle.irl_bay.specs.Damage.{IsDamagedAt}
 use Rattle.irl_bay.proofs.Whole.{stands_whole}
 use Rattle.irl_head.specs.declared.open_fault.OpenFault.{OpenFault}
 use Rattle.irl_head.specs.declared.open_fault.OpenFault.TheVariants.{NotOurs, Damaged, OtherSettings, BadSettings, Failed, Memory}
-use Rattle.irl_head.specs.StoreFiles.{head_file, urls_base}
+use Rattle.irl_head.specs.StoreFiles.{head_file, pairs_base, urls_base}
 use Rattle.irl_head.specs.Head.{head_bytes}
 use Rattle.irl_head.specs.Opening.{IsBlank, HasHead, IsBadStore, IsKeptOtherwise, IsNotOursAt, DeniesState, IsUnwanted}
-use Rattle.irl_yard.specs.Standing.{IsMade, HasState}
+use Rattle.irl_ledger.specs.Crawling.{pair_settings}
+use Rattle.irl_ledger.specs.Damage.{IsLogDamagedAt}
+use Rattle.irl_ledger.proofs.Damage.{legal_undamaged}
+use Rattle.irl_yard.specs.Standing.{IsMade, IsRest, HasRest, HasState}
 use Rattle.irl_head.specs.Asking.{Agrees, IsOther}
-use Rattle.irl_yard.specs.Opening.{IsStoreDamagedAt, entered_state, new_state}
+use Rattle.irl_yard.specs.Opening.{IsDamageAt, IsRestDamagedAt, IsStoreDamagedAt, entered_state, new_state}
 use Rattle.irl_yard.specs.Holding.{HoldsState}
 use Rattle.irl_yard.specs.declared.parts.Parts.{Parts}
 use Rattle.irl_yard.specs.Entering.{HasGround, fault_of_bay}
@@ -62,19 +67,49 @@ pub blank_undamaged : (asked : Asked) (files : Files) (f at : ℕ) → IsBlank f
 blank_undamaged asked files f at blank (inl broken) = whole_list (files head_file) [] 0 blank.head broken.2
 blank_undamaged asked files f at blank (inr bay) = none_or_one (files head_file) (head_bytes bay.0) blank.head bay.1.head
 
-pub head_undamaged : (asked : Asked) (settings : Settings) (files : Files) (f at : ℕ) → HasHead settings files → (IsDamagedAt urls_base settings files f at → ⊥) → IsStoreDamagedAt asked files f at → ⊥
-head_undamaged asked settings files f at head sane (inl broken) = whole_list (files head_file) (head_bytes settings ∷ []) 0 head.head broken.2
-head_undamaged asked settings files f at head sane (inr bay) = sane (subst (λ (s : Settings). IsDamagedAt urls_base s files f at) (one_head bay.0 settings files bay.1 head) bay.3)
+pub head_undamaged : (asked : Asked) (settings : Settings) (files : Files) (f at : ℕ) → HasHead settings files → (IsDamagedAt urls_base settings files f at → ⊥)
+    → (IsRestDamagedAt settings.kind settings files f at → ⊥) → IsStoreDamagedAt asked files f at → ⊥
+head_undamaged asked settings files f at head sane rest (inl broken) = whole_list (files head_file) (head_bytes settings ∷ []) 0 head.head broken.2
+head_undamaged asked settings files f at head sane rest (inr part) = ⊎_elim
+    sane
+    rest
+    (subst (λ (s : Settings). IsDamagedAt urls_base s files f at ⊎ IsRestDamagedAt s.kind s files f at) (one_head part.0 settings files part.1 head) part.3)
+
+-- a store of lines or of tuples has nothing beside that is damaged, and one of a crawl its log and its bay of pairs
+pub plain_whole : (kind : Kind) (settings : Settings) (files : Files) (f at : ℕ) → kind ≢ Crawl → IsRestDamagedAt kind settings files f at → ⊥
+plain_whole Lines settings files f at plain is = is
+plain_whole Tuples settings files f at plain is = is
+plain_whole Crawl settings files f at plain is = plain refl
+
+pub crawl_damaged : (kind : Kind) (settings : Settings) (files : Files) (f at : ℕ) → kind ≡ Crawl → IsLogDamagedAt settings files f at ⊎ IsDamagedAt pairs_base (pair_settings settings) files f at
+    → IsRestDamagedAt kind settings files f at
+crawl_damaged kind settings files f at is damaged = subst (λ (k : Kind). IsRestDamagedAt k settings files f at) (sym is) damaged
+
+pub crawl_whole : (kind : Kind) (settings : Settings) (files : Files) (f at : ℕ) → kind ≡ Crawl → (IsLogDamagedAt settings files f at → ⊥)
+    → (IsDamagedAt pairs_base (pair_settings settings) files f at → ⊥) → IsRestDamagedAt kind settings files f at → ⊥
+crawl_whole kind settings files f at is log pairs damaged = ⊎_elim log pairs (subst (λ (k : Kind). IsRestDamagedAt k settings files f at) is damaged)
 
 -- ---- no state is refused as another's or as damaged
 not_ours_denied : (state : State) (files : Files) (at : ℕ) → IsNotOursAt files at → HasState state files → ⊥
 not_ours_denied state files at other (inl blank) = blank_ours files at blank.0 other
 not_ours_denied state files at other (inr (settings, made)) = head_ours settings files at (made_head settings state files made) other
 
-damaged_denied : (asked : Asked) (state : State) (files : Files) (f at : ℕ) → IsStoreDamagedAt asked files f at → HasState state files → ⊥
-damaged_denied asked state files f at damaged (inl blank) = blank_undamaged asked files f at blank.0 damaged
-damaged_denied asked state files f at damaged (inr (settings, made)) =
-    head_undamaged asked settings files f at (made_head settings state files made) (stands_whole urls_base settings state.urls files f at made.urls) damaged
+rest_denied : (kind : Kind) (settings : Settings) (urls pairs : Book) (events : List Happened) (files : Files) (f at : ℕ) → IsRest kind settings urls pairs events
+    → HasRest kind settings pairs events files → IsRestDamagedAt kind settings files f at → ⊥
+rest_denied Lines settings urls pairs events files f at legal has damaged = damaged
+rest_denied Tuples settings urls pairs events files f at legal has damaged = damaged
+rest_denied Crawl settings urls pairs events files f at legal has (inl log) = legal_undamaged settings events files f at legal.legal.rules has.log log
+rest_denied Crawl settings urls pairs events files f at legal has (inr bay) = stands_whole pairs_base (pair_settings settings) pairs files f at has.pairs_stand bay
+
+store_denied : (asked : Asked) (state : State) (files : Files) (f at : ℕ) → IsStoreDamagedAt asked files f at → HasState state files → ⊥
+store_denied asked state files f at damaged (inl blank) = blank_undamaged asked files f at blank.0 damaged
+store_denied asked state files f at damaged (inr (settings, made)) =
+    head_undamaged asked settings files f at (made_head settings state files made) (stands_whole urls_base settings state.urls files f at made.urls)
+    (rest_denied settings.kind settings state.urls state.pairs state.events files f at made.legal made.rest) damaged
+
+damaged_denied : (asked : Asked) (state : State) (files : Files) (f at : ℕ) → IsDamageAt asked files f at → HasState state files → ⊥
+damaged_denied asked state files f at (inl damaged) has = store_denied asked state files f at damaged has
+damaged_denied asked state files f at (inr strange) has = strange.none state has
 
 pub ground_denies : (asked : Asked) (told : Option Files) (fault : OpenFault) → HasGround asked told fault → DeniesState fault → ForSome told (λ files. (state : State) → HasState state files → ⊥)
 ground_denies asked told (NotOurs at) ground denies = λ files is state. not_ours_denied state files at (ground files is)
@@ -91,7 +126,7 @@ pub found_ground : {T : Type 0} (asked : Asked) (told : Option Files) (result : 
     → ((f at : ℕ) → IsErrOf result (Damaged f at) → ForSome told (λ files. (f ≡ head_file) × (at ≡ 0) × IsBrokenAt (files head_file) 0))
     → ((n kept wanted : ℕ) → IsErrOf result (OtherSettings n kept wanted) → ⊥) → ((n : ℕ) → IsErrOf result (BadSettings n) → ⊥) → HasGround asked told fault
 found_ground asked told result (NotOurs at) is ours damaged other bad = ours at is
-found_ground asked told result (Damaged f at) is ours damaged other bad = λ files t. inl (damaged f at is files t)
+found_ground asked told result (Damaged f at) is ours damaged other bad = λ files t. inl (inl (damaged f at is files t))
 found_ground asked told result (OtherSettings n kept wanted) is ours damaged other bad = absurd (other n kept wanted is)
 found_ground asked told result (BadSettings n) is ours damaged other bad = absurd (bad n is)
 found_ground asked told result Failed is ours damaged other bad = tt
@@ -103,20 +138,36 @@ pub bay_ground : (asked : Asked) (told : Option Files) (settings : Settings) (fa
 bay_ground asked told settings BayFailed head agrees damaged = tt
 bay_ground asked told settings BayMemory head agrees damaged = tt
 bay_ground asked told settings (BayFull n) head agrees damaged = tt
-bay_ground asked told settings (BayDamaged f at) head agrees damaged = λ files t. inr (settings, head files t, agrees, damaged f at refl files t)
+bay_ground asked told settings (BayDamaged f at) head agrees damaged = λ files t. inl (inr (settings, head files t, agrees, inl (damaged f at refl files t)))
+
+-- what it has beside,
+pub part_ground : (asked : Asked) (told : Option Files) (fault : Fault) → ((f at : ℕ) → fault ≡ BayDamaged f at → ForSome told (λ files. IsDamageAt asked files f at))
+    → HasGround asked told (fault_of_bay fault)
+part_ground asked told BayFailed damaged = tt
+part_ground asked told BayMemory damaged = tt
+part_ground asked told (BayFull n) damaged = tt
+part_ground asked told (BayDamaged f at) damaged = damaged f at refl
+
+pub rest_ground : (asked : Asked) (settings : Settings) (files : Files) (f at : ℕ) → HasHead settings files → Agrees asked settings → settings.kind ≡ Crawl
+    → IsLogDamagedAt settings files f at ⊎ IsDamagedAt pairs_base (pair_settings settings) files f at → IsDamageAt asked files f at
+rest_ground asked settings files f at head agrees kind damaged = inl (inr (settings, head, agrees, inr (crawl_damaged settings.kind settings files f at kind damaged)))
 
 -- ---- no two kinds of refusal have their grounds in the same files
-pub ours_or_damaged : (asked : Asked) (files : Files) (at f place : ℕ) → IsNotOursAt files at → IsStoreDamagedAt asked files f place → ⊥
-ours_or_damaged asked files at f place other (inl broken) = ours_unbroken files at other broken.2
-ours_or_damaged asked files at f place other (inr bay) = head_ours bay.0 files at bay.1 other
+pub ours_or_damaged : (asked : Asked) (files : Files) (at f place : ℕ) → IsNotOursAt files at → IsDamageAt asked files f place → ⊥
+ours_or_damaged asked files at f place other (inl (inl broken)) = ours_unbroken files at other broken.2
+ours_or_damaged asked files at f place other (inl (inr part)) = head_ours part.0 files at part.1 other
+ours_or_damaged asked files at f place other (inr strange) = head_ours strange.settings files at strange.head other
 
-pub other_or_damaged : (asked : Asked) (files : Files) (n kept wanted f place : ℕ) → IsKeptOtherwise asked files n kept wanted → IsStoreDamagedAt asked files f place → ⊥
-other_or_damaged asked files n kept wanted f place (settings, head, other) (inl broken) = whole_list (files head_file) (head_bytes settings ∷ []) 0 head.head broken.2
-other_or_damaged asked files n kept wanted f place (settings, head, other) (inr bay) =
-    agrees_or_other asked settings n kept wanted (subst (Agrees asked) (one_head bay.0 settings files bay.1 head) bay.2) other
+pub other_or_damaged : (asked : Asked) (files : Files) (n kept wanted f place : ℕ) → IsKeptOtherwise asked files n kept wanted → IsDamageAt asked files f place → ⊥
+other_or_damaged asked files n kept wanted f place (settings, head, other) (inl (inl broken)) = whole_list (files head_file) (head_bytes settings ∷ []) 0 head.head broken.2
+other_or_damaged asked files n kept wanted f place (settings, head, other) (inl (inr part)) =
+    agrees_or_other asked settings n kept wanted (subst (Agrees asked) (one_head part.0 settings files part.1 head) part.2) other
+other_or_damaged asked files n kept wanted f place (settings, head, other) (inr strange) =
+    agrees_or_other asked settings n kept wanted (subst (Agrees asked) (one_head strange.settings settings files strange.head head) strange.agrees) other
 
-pub bad_or_damaged : (asked : Asked) (files : Files) (n f place : ℕ) → IsBadStore asked files n → IsStoreDamagedAt asked files f place → ⊥
-bad_or_damaged asked files n f place bad = blank_undamaged asked files f place bad.0
+pub bad_or_damaged : (asked : Asked) (files : Files) (n f place : ℕ) → IsBadStore asked files n → IsDamageAt asked files f place → ⊥
+bad_or_damaged asked files n f place bad (inl damaged) = blank_undamaged asked files f place bad.0 damaged
+bad_or_damaged asked files n f place bad (inr strange) = none_or_one (files head_file) (head_bytes strange.settings) bad.0.head strange.head.head
 
 -- what was asked otherwise
 pub kept_ground : (asked : Asked) (settings : Settings) (n kept wanted : ℕ) (told : Option Files) → ForSome told (HasHead settings) → IsOther asked settings n kept wanted

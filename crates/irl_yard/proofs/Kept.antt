@@ -48,6 +48,7 @@ module _ (among : ℕ → Type 0) (urls : Drum) (apart : (f : ℕ) → IsRestFil
         subst (λ (file : List ℕ). ledger.log.journal.end < length file) (sym (before.2 crawl_file (apart crawl_file (inl refl)))) (is.log_long sound before.0 before.1);
     fits = is.fits;
     begun = is.begun;
+    noted = is.noted;
   }
 
   pub rest_kept_open : (rest : Rest) (old new : Option Files) → TellsOnly among old new → IsOpenRest urls rest old → IsOpenRest urls rest new
@@ -65,6 +66,8 @@ module _ (among : ℕ → Type 0) (urls : Drum) (apart : (f : ℕ) → IsRestFil
     };
     frontier = holds.frontier;
     suffixes = holds.suffixes;
+    log_ends = holds.log_ends;
+    notes = holds.notes;
   }
 
   pub rest_kept_held : (rest : Rest) (old new : Told) (book pairs : Book) (events : List Happened) → IsConsistent new → LeavesBy (ChangesOnly among) old new → IsOpenRest urls rest old.files

@@ -3,8 +3,10 @@ pub mod Answered
 pub mod Beside
 pub mod ByKind
 pub mod Core
+pub mod CrawlEntered
 pub mod CrawlOpened
 pub mod Crawling
+pub mod DamageStays
 pub mod Entering
 pub mod FrontStates
 pub mod Grounds
@@ -12,8 +14,10 @@ pub mod Holding
 pub mod Journals
 pub mod Kept
 pub mod Lifting
+pub mod Looking
 pub mod Making
 pub mod MayAsk
+pub mod NoteStates
 pub mod PassStates
 pub mod PassWhole
 pub mod Receipts

@@ -7,13 +7,12 @@ use Rattle.irl_offer.specs.declared.settings.Kind.TheVariants.{Crawl as CrawlKin
 use Rattle.irl_disk.specs.Disk.{Files}
 use Rattle.irl_bay.specs.Drum.{Drum}
 use Rattle.irl_events.specs.Events.{has_number}
-use Rattle.irl_fate.specs.Fates.{fate_of, done_by, waits_from}
+use Rattle.irl_fate.specs.Fates.{done_by, waits_from}
 use Rattle.irl_fate.specs.Kept.{is_front}
 use Rattle.irl_fate.specs.declared.fate.Fate.{Fate}
 use Rattle.irl_fate.specs.declared.fate.Fate.TheVariants.{Fresh, Queue, Last, Front, Done}
 use Rattle.irl_offer.specs.declared.outcome.Outcome.{Outcome}
 use Rattle.irl_log.specs.Form.{IsSuffixText}
-use Rattle.irl_ledger.specs.declared.ledger.Ledger.{Ledger}
 use Rattle.irl_yard.specs.declared.parts.Rest.{Rest}
 use Rattle.irl_yard.specs.declared.parts.Rest.TheVariants.{Plain, Crawl}
 use Rattle.irl_yard.specs.Adding.{MayBegin}

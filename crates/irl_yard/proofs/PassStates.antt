@@ -1,5 +1,5 @@
 -- A pass of an open store, and what it reads of the URLs, over states.
-use Rattle.std.proofs.Common.{◌≡◌, ◌∙◌, ℕ, true, List, [], ◌∷◌, ◌++◌, Option, None, Some, Result, Ok, Err, IsOk, IsErrOf, OnOk, refl, sym, ap, subst}
+use Rattle.std.proofs.Common.{◌≡◌, ◌∙◌, ℕ, true, List, [], Option, None, Some, Result, Ok, Err, IsOk, IsErrOf, OnOk, refl, sym, ap, subst}
 use Rattle.std.specs.Prelude.{is_some, unwrap_or}
 use Rattle.std.specs.Option.{ForSome}
 use Rattle.std.proofs.lemmas.Result.{IfOk-weaker}
@@ -118,7 +118,7 @@ next_pass images urls ledger state fresh kind keeps fits begun due lawful held h
 module _ {S : Type 0} (tells : S → Told) (law : (s : S) → IsConsistent (tells s)) (result : Result Unit Fault) (fresh : List Item) (before after : S) (urls : Drum) (old new : Ledger)
     (drum : IsDrum urls)
     (open_crawl : IsOpenLedger urls old (tells before).files) (was_sound : old.log.journal.is_sound ≡ true) (kind : urls.settings.kind ≡ CrawlKind) (keeps : IsFrontier old.frontier)
-        (due : IsDue urls old)
+    (due : IsDue urls old)
     (lawful : (adds : List (List ℕ)) → broken old.frontier.progress (Pass old.frontier.progress.sent) (places_for adds old.frontier fresh) ≡ None)
     (each : (adds : List (List ℕ)) → DegreeCounts old.frontier.degrees adds → AddsToLog tells result (Pass old.frontier.progress.sent)
     (after_pass adds old.frontier old.frontier.progress.sent fresh) old.suffixes old new before after) where
@@ -185,7 +185,7 @@ module _ {S : Type 0} (tells : S → Told) (law : (s : S) → IsConsistent (tell
         let adds_to = call held in
         let other : IsErrOf result Memory → ⊥ = ok_no_err result Memory ok in
         subst (HoldsState (tells after).images now) (same_after beside held)
-        (state_next tells law result (Pass sent) placed (told_then adds) old.suffixes before after urls old new drum open_crawl was_sound adds_to was now state is.0 is.1 now_rest now_urls other
+        (state_next tells law result (Pass sent) placed (told_then adds) old.suffixes before after urls old new drum open_crawl was_sound adds_to was now state is.0 is.1 now_rest now_urls other ok
         (from_ok result ok adds_to.done) (from_ok result ok (adds_to.log other).acknowledged) (next_in beside held) holds)
 
     pass_stops : (was : Parts) → IsWas was → HoldsState (tells before).images was state → Leaves (tells before) (tells after) (HasOneOf state (with_pass urls.settings state))

@@ -1,5 +1,5 @@
 -- A pass of an open store, whole: what its reading and its event come to.
-use Rattle.std.proofs.Common.{◌≡◌, ◌∙◌, ◌⊎◌, inl, inr, ℕ, List, [], length, Option, None, Some, Result, Ok, Err, IsOk, IsErr, IsErrOf, OnOk, OnErr, refl, sym, ap, subst}
+use Rattle.std.proofs.Common.{◌≡◌, ◌∙◌, inl, ℕ, List, [], length, Option, None, Some, Result, Ok, Err, IsOk, IsErr, IsErrOf, OnOk, OnErr, refl, sym, ap, subst}
 use Rattle.std.specs.Prelude.{IfOk}
 use Rattle.std.specs.Option.{ForSome}
 use Rattle.std.proofs.lemmas.Result.{IfOk-weaker}
@@ -136,7 +136,7 @@ module _ {S : Type 0} (tells : S → Told) (law : (s : S) → IsConsistent (tell
       (found : ForSome (tells before).files (λ _. (state : State) → HoldsState (tells before).images was state → AreFresh was.rest fresh state.urls))
       (read_holds : (state : State) → HoldsState (tells before).images was state → HoldsState (tells between).images mid state)
       (read_stops : (state : State) → HoldsState (tells before).images was state
-          → Leaves (tells before) (tells between) (HasState state)) (mid_urls : mid.urls ≡ was.urls) (mid_rest : mid.rest ≡ was.rest)
+      → Leaves (tells before) (tells between) (HasState state)) (mid_urls : mid.urls ≡ was.urls) (mid_rest : mid.rest ≡ was.rest)
       (adds : AddsPass tells added fresh mid now between after) (done : IsOk result → IsOk added) (not_done : IsErr result → IsErr added) (same : (e : Fault) → IsErrOf result e → IsErrOf added e)
       (count : IfOk result (λ count. count ≡ length (front_in now.rest))) where
     settings_same : mid.urls.settings ≡ was.urls.settings

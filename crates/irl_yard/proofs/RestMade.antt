@@ -11,6 +11,7 @@ use Rattle.irl_offer.specs.declared.settings.Kind.{Kind}
 use Rattle.irl_offer.specs.declared.settings.Kind.TheVariants.{Lines, Tuples, Crawl as CrawlKind}
 use Rattle.irl_offer.specs.declared.settings.Settings.{Settings}
 use Rattle.irl_model.specs.Book.{Book, blank_book}
+use Rattle.irl_events.specs.Events.{Happened}
 use Rattle.irl_disk.specs.Disk.{Files}
 use Rattle.irl_disk.specs.Effects.{OnlyChanges}
 use Rattle.irl_disk.specs.Images.{Told, IsConsistent, LeavesSame}
@@ -25,8 +26,10 @@ use Rattle.irl_head.specs.declared.open_fault.OpenFault.{OpenFault}
 use Rattle.irl_head.specs.declared.open_fault.OpenFault.TheVariants.{Failed, Memory}
 use Rattle.irl_head.specs.Opening.{IsUnwanted}
 use Rattle.irl_head.specs.StoreFiles.{crawl_file, pairs_base, urls_base}
+use Rattle.irl_log.specs.Log.{AreLogged}
+use Rattle.irl_log.specs.Spelling.{log_records}
 use Rattle.irl_ledger.specs.declared.ledger.Ledger.{Ledger}
-use Rattle.irl_ledger.specs.Crawling.{AreCrawlFiles, pair_settings}
+use Rattle.irl_ledger.specs.Crawling.{AreCrawlFiles, events_of, pair_settings}
 use Rattle.irl_ledger.specs.Holding.{HoldsLedger, IsOpenLedger}
 use Rattle.irl_ledger.specs.Making.{IsNewJournal, MakesCrawl, MakesLedger}
 use Rattle.irl_yard.specs.declared.parts.Rest.{Rest}
@@ -104,15 +107,18 @@ crawl_rest kind buckets x y is makes = record {
 }
 
 -- what it holds stands in each image
-crawl_files : (settings : Settings) (images : Files → Type 0) (ledger : Ledger) (urls : Drum) (told : Option Files) (book : Book) (image : Files) → images image → urls.settings ≡ settings
-    → IsOpenLedger urls ledger told → HoldsLedger images settings ledger book (blank_book settings.buckets Keep) [] → AreCrawlFiles settings (blank_book settings.buckets Keep) [] image
-crawl_files settings images ledger urls told book image left same is held =
-    let pairs = holds_stands images ledger.pairs (blank_book settings.buckets Keep) image is.drum held.pairs_hold left in
+pub crawl_files : (settings : Settings) (images : Files → Type 0) (ledger : Ledger) (urls : Drum) (told : Option Files) (book pairs : Book) (events : List Happened) (image : Files) → images image
+    → urls.settings ≡ settings → IsOpenLedger urls ledger told → HoldsLedger images settings ledger book pairs events → AreCrawlFiles settings pairs events image
+crawl_files settings images ledger urls told book pairs events image left same is held =
+    let stands = holds_stands images ledger.pairs pairs image is.drum held.pairs_hold left in
     record {
-      pairs_stand = subst (λ (s : Settings). Stands pairs_base (pair_settings s) (blank_book settings.buckets Keep) image) same
-          (subst (λ (s : Settings). Stands pairs_base s (blank_book settings.buckets Keep) image) is.settings
-          (subst (λ (n : ℕ). Stands n ledger.pairs.settings (blank_book settings.buckets Keep) image) is.base pairs));
-      log = record { each = tt; records = inr (subst (λ (f : ℕ). HasRecords (image f) []) is.file (held.log.records image left).records) };
+      pairs_stand = subst (λ (s : Settings). Stands pairs_base (pair_settings s) pairs image) same
+          (subst (λ (s : Settings). Stands pairs_base s pairs image) is.settings
+          (subst (λ (n : ℕ). Stands n ledger.pairs.settings pairs image) is.base stands));
+      log = record {
+        each = subst (λ (n : ℕ). AreLogged n (events_of events)) (is.buckets ∙ ap (λ (s : Settings). s.buckets) same) held.log.each;
+        records = inr (subst (λ (f : ℕ). HasRecords (image f) (log_records (events_of events))) is.file (held.log.records image left).records);
+      };
     }
 
 -- its ledger is made,
@@ -127,7 +133,8 @@ crawl_made result ledger settings old new before after is kind makes =
           let held = made.holds (blank_book settings.buckets Keep) in
           let beside : Drum = record ledger.pairs { base = urls_base; settings = settings } in
           subst (λ (k : Kind). HasRest k settings (blank_book settings.buckets Keep) [] image) (sym kind)
-              (crawl_files settings after.images ledger beside after.files (blank_book settings.buckets Keep) image left refl (made.is_open beside refl refl) held);
+          (crawl_files settings after.images ledger beside after.files (blank_book settings.buckets Keep) (blank_book settings.buckets Keep) [] image left refl
+          (made.is_open beside refl refl) held);
       sound = made.sound;
       is_open = λ urls at same. crawl_open urls ledger after.files (ap (λ (s : Settings). s.kind) same ∙ kind) (made.is_open urls at same);
       changes = changes_wider (MakesCrawl settings.buckets) (MakesRest settings.kind settings.buckets) _ before after (λ x y. crawl_rest settings.kind settings.buckets x y kind) changes;

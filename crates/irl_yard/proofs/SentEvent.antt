@@ -136,7 +136,8 @@ module _ {S : Type 0} (tells : S → Told) (law : (s : S) → IsConsistent (tell
           let other : IsErrOf result Memory → ⊥ = λ memory. let both = sym is ∙ memory in let no : ⊥ = cc in no in
           subst (λ (x : State). HoldsState (tells after).images now x) (sym (sent_is state holds))
           (state_next tells law result event [] then old.suffixes before after was.urls old new drum opened sound adds was now state refl was_rest now_rest now_urls other
-              (ok_gives result value adds.done is)
+          (subst (λ (r : Result Unit Fault). IsOk r) (sym is) refl)
+          (ok_gives result value adds.done is)
           (ok_gives result value (adds.log other).acknowledged is) (next_in state holds sent) holds));
       stops = λ state holds sent. subst (λ (x : State). Leaves (tells before) (tells after) (HasOneOf state x)) (sym (sent_is state holds))
           (stops_next tells law result event [] then old.suffixes before after was.urls old new drum opened sound adds was state refl was_rest (next_in state holds sent) holds);
@@ -184,7 +185,7 @@ module _ {S : Type 0} (tells : S → Told) (law : (s : S) → IsConsistent (tell
     (opened : IsOpenLedger was.urls old (tells before).files) (sound : old.log.journal.is_sound ≡ true) (begun : old.frontier.progress.begun ≡ true) (told : old.frontier.told ≡ old.pairs.last.judged)
     (none : old.frontier.progress.cuts ≡ was.urls.cuts → IsOk result × (new ≡ old) × (after ≡ before))
     (adds : (old.frontier.progress.cuts ≡ was.urls.cuts → ⊥) → AddsToLog tells result (pairs_event was.urls old.pairs) (after_other old.frontier (pairs_event was.urls old.pairs)) old.suffixes old new
-        before after) where
+    before after) where
   abbrev sends : Event
   sends = pairs_event was.urls old.pairs
 

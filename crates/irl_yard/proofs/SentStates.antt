@@ -338,9 +338,11 @@ module _ (result : Result Unit Fault) (was now : Parts) (old new : Ledger) (s t 
     holds = λ files told state holds.
         let both : HoldsOpen s.images was.urls.settings (Crawl old) state.urls state.pairs state.events =
         subst (λ (r : Rest). HoldsOpen s.images was.urls.settings r state.urls state.pairs state.events) was_rest holds.open_rest in
-        let beside : HoldsOpen t.images was.urls.settings (Crawl new) state.urls state.pairs state.events =
-        (kind, subst (λ (l : Ledger). HoldsLedger t.images was.urls.settings l state.urls state.pairs state.events) (sym tells.others)
-            (told_ledger was.urls old new s t result lawful opened tells was.urls.settings state.urls state.pairs state.events files told both.1)) in
+        let beside : HoldsOpen t.images was.urls.settings (Crawl new) state.urls state.pairs state.events = (
+          kind,
+          subst (λ (l : Ledger). HoldsLedger t.images was.urls.settings l state.urls state.pairs state.events) (sym tells.others)
+              (told_ledger was.urls old new s t result lawful opened tells was.urls.settings state.urls state.pairs state.events files told both.1),
+        ) in
         record {
           urls = subst (λ (d : Drum). HoldsUrls t.images d state) (sym now_urls) (holds_same s t was.urls state law lawful tells.reads.reads.stops holds.urls);
           open_rest = subst (λ (d : Drum). HoldsOpen t.images d.settings now.rest state.urls state.pairs state.events) (sym now_urls)

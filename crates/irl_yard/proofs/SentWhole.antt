@@ -187,7 +187,7 @@ sent_again result was now s t open_rest has_begun sends not = λ files told stat
     let begun = begun_of was.rest old rest has_begun in
     let settings = was.urls.settings in
     let both : HoldsOpen s.images settings (Crawl old) state.urls state.pairs state.events =
-        subst (λ (r : Rest). HoldsOpen s.images settings r state.urls state.pairs state.events) rest holds.open_rest in
+    subst (λ (r : Rest). HoldsOpen s.images settings r state.urls state.pairs state.events) rest holds.open_rest in
     let crawl = legal_as settings kind state.pairs state.urls state.events holds.urls.legal in
     let begun_events : is_some (begun_with state.events) ≡ true = ap (λ (o : Option (List ℕ)). is_some o) (sym both.1.suffixes) ∙ sym opened.begun ∙ begun in
     let none = none_new settings state.urls state.pairs state.events holds.urls.urls_hold.book_is crawl begun_events already.0 in

@@ -1,4 +1,4 @@
--- What the parts of opening a store do.
+-- Entering a store: what it does to the files, the ground of each refusal, and what is answered.
 use Rattle.std.specs.Prelude.{◌≡◌, ◌≢◌, ◌⊎◌, ℕ, ◌+◌, ◌*◌, ◌<◌, ◌≤◌, Option, ⊤}
 use Rattle.irl_base.specs.Faults.{HasCause}
 use Rattle.irl_base.specs.declared.fault.Fault.{Fault}
@@ -28,7 +28,7 @@ use Rattle.irl_head.specs.Asking.{Agrees, IsBadAsked}
 use Rattle.irl_head.specs.Writing.{GainsFirst}
 use Rattle.irl_yard.specs.declared.parts.Parts.{Parts}
 use Rattle.irl_yard.specs.Holding.{IsOpenRest, IsSound, HoldsState, HasOneOf}
-use Rattle.irl_yard.specs.Opening.{IsStoreDamagedAt, entered_state}
+use Rattle.irl_yard.specs.Opening.{IsDamageAt, IsStoreDamagedAt, entered_state}
 use Rattle.irl_yard.specs.Standing.{ArePlainFiles, HasState}
 
 -- the files of a state beside the head and the bay of URLs; the bay of pairs has its buckets' files on two sides
@@ -97,7 +97,7 @@ Enters asked told old new = OpensStore asked told old new ⊎ (ForSome told IsBl
 -- What is told of the files is the ground of it. That no store can be made as is asked is one whatever is told.
 abbrev pub HasGround : Asked → Option Files → OpenFault → Type 0
 HasGround asked told (NotOurs at) = ForSome told (λ files. IsNotOursAt files at)
-HasGround asked told (Damaged f at) = ForSome told (λ files. IsStoreDamagedAt asked files f at)
+HasGround asked told (Damaged f at) = ForSome told (λ files. IsDamageAt asked files f at)
 HasGround asked told (OtherSettings n kept wanted) = ForSome told (λ files. IsKeptOtherwise asked files n kept wanted)
 HasGround asked told (BadSettings n) = ForSome told (λ files. IsBadStore asked files n)
     × IsBadAsked (settings_of asked) n

@@ -4,9 +4,11 @@ pub mod Entering
 pub mod Flushing
 pub mod Holding
 pub mod Lifting
+pub mod Looking
 pub mod Making
 pub mod Merges
 pub mod Moments
+pub mod Noting
 pub mod Opening
 pub mod Passing
 pub mod Sending

@@ -13,12 +13,12 @@ ghost use Rattle.irl_disk.specs.Images.{LeavesSame};
 ghost use Rattle.irl_journal.specs.Format.{StandsFor};
 ghost use Rattle.irl_head.specs.StoreFiles.{head_file, urls_base};
 ghost use Rattle.irl_head.specs.Asking.{Agrees};
-ghost use Rattle.irl_head.specs.Opening.{HasHead, KeepsHead, IsNotOursAt, IsKeptOtherwise, IsBadStore};
+ghost use Rattle.irl_head.specs.Opening.{HasHead, KeepsHead, IsNotOursAt, IsKeptOtherwise, IsBadStore, IsUnwanted};
 ghost use Rattle.irl_head.specs.declared.open_fault.OpenFault.TheVariants.{Failed as OpenFailed};
 ghost use Rattle.irl_yard.specs.Standing.{ArePlainFiles, HasState};
 ghost use Rattle.irl_yard.specs.Holding.{HasLiveJournal, HasOneOf};
 ghost use Rattle.irl_yard.specs.Making.{RestMade};
-ghost use Rattle.irl_yard.specs.Opening.{IsStoreDamagedAt, entered_state};
+ghost use Rattle.irl_yard.specs.Opening.{IsDamageAt, entered_state};
 ghost use Rattle.irl_yard.specs.Entering.{AreSynced, AreSyncedWithin, Enters, fault_of_bay};
 ghost use Rattle.irl_yard.specs.Entering.{OpensYard, OpeningRefused, EntersStore};
 
@@ -30,14 +30,13 @@ use irl_head::{
     CRAWL, OpenFault, PAIRS_BASE, URLS_BASE, find_head, first_bad, first_other, has_others,
     head_frame, write_head,
 };
-use irl_ledger::Ledger;
+use irl_ledger::{History, Ledger};
 use irl_offer::{Asked, Fault, Kind, Settings};
 use std::alloc::Global;
 
 impl<S: Store> Yard<S> {
     /// Opens a store, or makes one where there is none.
     pub fn enter(alloc: Global, store: S, asked: &Asked) -> Result<Yard<S>, (OpenFault, S)>
-        requires kind { asked.now.kind ≢ Crawl }
         ensures opened { IfOk result (λ yard.
             OpensYard asked.now yard.parts (S.told store).files (S.told yard.store)) }
         ensures refused { IfErr result (λ e. OpeningRefused asked.now e.0 (S.told store) (S.told e.1)) }
@@ -53,9 +52,8 @@ impl<S: Store> Yard<S> {
     }
 }
 
-// Opens the bay of URLs of a store, or makes it and the head.
+// Opens the parts of a store, or makes them.
 fn open<S: Store>(alloc: Global, store: &mut S, asked: &Asked) -> Result<Parts, OpenFault>
-    requires kind { asked.now.kind ≢ Crawl }
     ensures opened { IfOk result (λ parts. OpensYard asked.now parts (S.told store.old).files (S.told store.new)) }
     ensures refused { IfErr result (λ fault. OpeningRefused asked.now fault (S.told store.old) (S.told store.new)) }
     ensures entered { EntersStore asked.now (IsErrOf result OpenFailed) (S.told store.old) (S.told store.new) }
@@ -73,7 +71,6 @@ fn adopt<S: Store>(
     asked: &Asked,
     settings: &Settings,
 ) -> Result<Parts, OpenFault>
-    requires kind { asked.now.kind ≢ Crawl }
     requires head { ForSome (S.told store.old).files (HasHead settings.now) }
     requires valid { AreValid settings.now }
     requires kept { KeepsHead (S.told store.old).images settings.now }
@@ -84,7 +81,30 @@ fn adopt<S: Store>(
     if let Some((n, kept, wanted)) = first_other(asked, settings) {
         return Err(OpenFault::OtherSettings(n, kept, wanted));
     }
-    adopt_plain(alloc, store, settings)
+    adopt_made(alloc, store, settings)
+}
+
+// Opens a store with these settings, whoever asks for them, by its kind.
+pub(crate) fn adopt_made<S: Store>(
+    alloc: Global,
+    store: &mut S,
+    settings: &Settings,
+) -> Result<Parts, OpenFault>
+    requires head { ForSome (S.told store.old).files (HasHead settings.now) }
+    requires valid { AreValid settings.now }
+    requires kept { KeepsHead (S.told store.old).images settings.now }
+    ensures opened { (asked : AskedValue) → Agrees asked settings.now →
+        IfOk result (λ parts. OpensYard asked parts (S.told store.old).files (S.told store.new)) }
+    ensures refused { (asked : AskedValue) → Agrees asked settings.now →
+        IfErr result (λ fault. OpeningRefused asked fault (S.told store.old) (S.told store.new)) }
+    ensures wanted { IfErr result (λ fault. IsUnwanted fault → ⊥) }
+    ensures entered { (asked : AskedValue) → Agrees asked settings.now →
+        EntersStore asked (IsErrOf result OpenFailed) (S.told store.old) (S.told store.new) }
+{
+    match settings.kind {
+        Kind::Lines | Kind::Tuples => adopt_plain(alloc, store, settings),
+        Kind::Crawl => adopt_crawl(alloc, store, settings),
+    }
 }
 
 // Opens a store of lines or of tuples with these settings, whoever asks for them.
@@ -101,6 +121,7 @@ fn adopt_plain<S: Store>(
         IfOk result (λ parts. OpensYard asked parts (S.told store.old).files (S.told store.new)) }
     ensures refused { (asked : AskedValue) → Agrees asked settings.now →
         IfErr result (λ fault. OpeningRefused asked fault (S.told store.old) (S.told store.new)) }
+    ensures wanted { IfErr result (λ fault. IsUnwanted fault → ⊥) }
     ensures entered { (asked : AskedValue) → Agrees asked settings.now →
         EntersStore asked (IsErrOf result OpenFailed) (S.told store.old) (S.told store.new) }
 {
@@ -115,7 +136,44 @@ fn adopt_plain<S: Store>(
     }
 }
 
-// What a bay was refused with.
+// Opens a store of a crawl with these settings, whoever asks for them: its log, its URLs, and then what the log tells
+// of these and of its pairs.
+fn adopt_crawl<S: Store>(
+    alloc: Global,
+    store: &mut S,
+    settings: &Settings,
+) -> Result<Parts, OpenFault>
+    requires kind { settings.now.kind ≡ Crawl }
+    requires head { ForSome (S.told store.old).files (HasHead settings.now) }
+    requires valid { AreValid settings.now }
+    requires kept { KeepsHead (S.told store.old).images settings.now }
+    ensures opened { (asked : AskedValue) → Agrees asked settings.now →
+        IfOk result (λ parts. OpensYard asked parts (S.told store.old).files (S.told store.new)) }
+    ensures refused { (asked : AskedValue) → Agrees asked settings.now →
+        IfErr result (λ fault. OpeningRefused asked fault (S.told store.old) (S.told store.new)) }
+    ensures wanted { IfErr result (λ fault. IsUnwanted fault → ⊥) }
+    ensures entered { (asked : AskedValue) → Agrees asked settings.now →
+        EntersStore asked (IsErrOf result OpenFailed) (S.told store.old) (S.told store.new) }
+{
+    let (log, history) = match History::read(alloc, store, settings) {
+        Ok(read) => read,
+        Err(fault) => return Err(bay_fault(fault)),
+    };
+    let urls = match Bay::adopt(alloc, store, URLS_BASE, settings) {
+        Ok(urls) => urls,
+        Err(fault) => return Err(bay_fault(fault)),
+    };
+    match Ledger::open(alloc, store, settings, &urls, log, history) {
+        Ok(ledger) => Ok(Parts {
+            urls,
+            rest: Rest::Crawl(ledger),
+            has_failed: false,
+        }),
+        Err(fault) => Err(bay_fault(fault)),
+    }
+}
+
+// What a bay, the log or the ledger was refused with.
 fn bay_fault(fault: Fault) -> OpenFault
     requires not_full { (n : ℕ) → fault ≡ Fault.Full n → ⊥ }
     ensures { result ≡ fault_of_bay fault }
@@ -129,11 +187,7 @@ fn bay_fault(fault: Fault) -> OpenFault
 }
 
 // Makes a store: what it has beside its URLs, the bay of these, and at last the head.
-pub(crate) fn make<S: Store>(
-    alloc: Global,
-    store: &mut S,
-    asked: &Asked,
-) -> Result<Parts, OpenFault>
+fn make<S: Store>(alloc: Global, store: &mut S, asked: &Asked) -> Result<Parts, OpenFault>
     requires blank { ForSome (S.told store.old).files (λ files. StandsFor (files head_file) []) }
     ensures opened { IfOk result (λ parts. OpensYard asked.now parts (S.told store.old).files (S.told store.new)) }
     ensures refused { IfErr result (λ fault. OpeningRefused asked.now fault (S.told store.old) (S.told store.new)) }
@@ -213,9 +267,8 @@ fn sync_files<S: Store>(store: &mut S, from: u16, end: u16) -> Result<(), Failed
     Ok(())
 }
 
-/// Entering a store with a state leaves files that stand for it, or for the new store's where it wasn't made yet, and
-/// leaves the records of each bucket's live journal: of what is told, and of each image that a stop left, where what is told
-/// and each image stood for the state before.
+/// Entering a store whose told files stand for a state leaves files that stand for it, or for the new store's state where it
+/// wasn't made yet; so it does of each image of that state. The live journal of each bucket of URLs keeps its records.
 pub fn what_entering_keeps()
     ensures state { (asked : AskedValue) (told old new : Files) (state : State) →
         HasState state told → HasState state old → Enters asked (Some told) old new →
@@ -228,15 +281,15 @@ pub fn what_entering_keeps()
 /// No two kinds of refusal have their grounds in the same files.
 pub fn no_two_grounds()
     ensures ours_or_damaged { (asked : AskedValue) (files : Files) (at f place : ℕ) → IsNotOursAt files at →
-        IsStoreDamagedAt asked files f place → ⊥ }
+        IsDamageAt asked files f place → ⊥ }
     ensures ours_or_other { (asked : AskedValue) (files : Files) (at n kept wanted : ℕ) → IsNotOursAt files at →
         IsKeptOtherwise asked files n kept wanted → ⊥ }
     ensures ours_or_bad { (asked : AskedValue) (files : Files) (at n : ℕ) → IsNotOursAt files at →
         IsBadStore asked files n → ⊥ }
     ensures other_or_damaged { (asked : AskedValue) (files : Files) (n kept wanted f place : ℕ) →
-        IsKeptOtherwise asked files n kept wanted → IsStoreDamagedAt asked files f place → ⊥ }
+        IsKeptOtherwise asked files n kept wanted → IsDamageAt asked files f place → ⊥ }
     ensures bad_or_damaged { (asked : AskedValue) (files : Files) (n f place : ℕ) → IsBadStore asked files n →
-        IsStoreDamagedAt asked files f place → ⊥ }
+        IsDamageAt asked files f place → ⊥ }
     ensures other_or_bad { (asked : AskedValue) (files : Files) (n kept wanted m : ℕ) →
         IsKeptOtherwise asked files n kept wanted → IsBadStore asked files m → ⊥ }
 {}

@@ -5,8 +5,10 @@ mod due;
 mod enter;
 mod events;
 mod laws;
+mod look;
 mod parts;
 mod passes;
+mod robots;
 mod scheduling;
 mod sending;
 mod tie;
@@ -17,6 +19,7 @@ pub use laws::{
     a_buckets_files_are_its_own, books_make_states, one_state, states_grow,
     what_is_held_has_its_state,
 };
+pub use look::Looked;
 pub use parts::{Parts, Rest};
 pub use tie::{calls_are_steps, events_are_steps};
 pub use yard::Yard;

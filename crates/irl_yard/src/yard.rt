@@ -176,4 +176,4 @@ pub(crate) fn is_failure<T>(found: &Result<T, Fault>) -> bool
 }
 
 #[cfg(test)]
-mod tests;
+pub(crate) mod tests;

@@ -1,11 +1,7 @@
 ghost use Rattle.std.specs.Prelude.{◌≡◌, ⊤, IsTrue, IfOk};
 ghost use Rattle.std.specs.List.{AllByRecursion};
-ghost use Rattle.std.specs.Option.{ForSome};
 ghost use Rattle.irl_bay.specs.Flushing.{MayFlush};
 ghost use Rattle.irl_bay.specs.Drum.{SomePending};
-ghost use Rattle.irl_disk.specs.Memory.{told_by};
-ghost use Rattle.irl_head.specs.StoreFiles.{head_file};
-ghost use Rattle.irl_journal.specs.Format.{StandsFor};
 ghost use Rattle.irl_key.specs.Links.{IsCanonicalText};
 ghost use Rattle.irl_ledger.specs.Crawling.{AreTaken};
 ghost use Rattle.irl_log.specs.Form.{IsSuffixText};
@@ -19,16 +15,18 @@ ghost use Rattle.irl_yard.specs.Sending.{HasBegun};
 ghost use Rattle.irl_yard.specs.Settling.{MaySettle};
 
 use super::*;
-use crate::enter::make;
 use irl_array::Array;
 use irl_disk::{MemStore, Part};
 use irl_events::Event;
-use irl_head::{CRAWL, find_head};
+use irl_head::CRAWL;
 use irl_key::{Canon, canonical, key_of};
 use irl_log::{Log, VisitEvents};
 use irl_offer::{Asked, Done, Kind, MAX_TEXT, Offer, Op, Outcome, Receipts, Text, bucket_of};
 use std::alloc::AllocError;
 use std::test::Fail;
+
+mod entered;
+mod noted;
 
 // What is asked of a crawl with one bucket and arrays of two offers.
 const ASKED: Asked = Asked {
@@ -47,13 +45,8 @@ const ASKED: Asked = Asked {
 
 // A new crawl, of whose store the calls of these numbers fail.
 fn made(alloc: Global, failing: Vec<u64>) -> Result<Yard<MemStore>, Fault> {
-    let mut store = MemStore::new(alloc, failing);
-    match find_head(alloc, &mut store) {
-        Ok(None) => {}
-        _ => return Err(Fault::Memory),
-    }
-    match make(alloc, &mut store, &ASKED) {
-        Ok(parts) => Ok(Yard { store, parts }),
+    match Yard::enter(alloc, MemStore::new(alloc, failing), &ASKED) {
+        Ok(yard) => Ok(yard),
         Err(_) => Err(Fault::Memory),
     }
 }

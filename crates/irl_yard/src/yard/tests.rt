@@ -8,7 +8,7 @@ ghost use Rattle.irl_ledger.specs.Crawling.{AreTaken};
 ghost use Rattle.irl_yard.specs.Holding.{IsSound};
 
 mod damage;
-mod rows;
+pub(crate) mod rows;
 
 use super::*;
 use irl_disk::MemStore;

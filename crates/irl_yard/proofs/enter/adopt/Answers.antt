@@ -2,7 +2,6 @@ use Rattle.std.proofs.Common.{ℕ, subst, Option, IfSome}
 use Rattle.irl_head.specs.Asking.{IsOther}
 use Rattle.irl_yard.proofs.Answered.{enters_none, refused_none}
 use Rattle.irl_yard.proofs.Grounds.{kept_ground}
-use Rattle.irl_yard.proofs.ByKind.{agrees_plain}
 use Rattle.irl_yard.proofs.enter.adopt.Goals as goal
 
 -- ---- something else was asked
@@ -17,15 +16,12 @@ returns-in-Some-clause-refused g c =
 pub returns-in-Some-clause-entered : goal.returns-in-Some-clause-entered
 returns-in-Some-clause-entered g c = enters_none c.args.asked.now _ (g.S.Store.told c.args.store.now) (g.met.S.Store.is_consistent c.args.store.now) (λ is. let no : ⊥ = cc in no)
 
--- ---- it is a store of lines or of tuples
-pub adopt_plain-requires-clause-kind : goal.adopt_plain-requires-clause-kind
-adopt_plain-requires-clause-kind g c = agrees_plain c.args.asked.now c.args.settings.now (c.first_other.ensures.none c.in_default.is) c.requires.kind
-
+-- ---- it was asked for so
 pub returns-clause-opened : goal.returns-clause-opened
-returns-clause-opened g c = c.adopt_plain.ensures.opened c.args.asked.now (c.first_other.ensures.none c.in_default.is)
+returns-clause-opened g c = c.adopt_made.ensures.opened c.args.asked.now (c.first_other.ensures.none c.in_default.is)
 
 pub returns-clause-refused : goal.returns-clause-refused
-returns-clause-refused g c = c.adopt_plain.ensures.refused c.args.asked.now (c.first_other.ensures.none c.in_default.is)
+returns-clause-refused g c = c.adopt_made.ensures.refused c.args.asked.now (c.first_other.ensures.none c.in_default.is)
 
 pub returns-clause-entered : goal.returns-clause-entered
-returns-clause-entered g c = c.adopt_plain.ensures.entered c.args.asked.now (c.first_other.ensures.none c.in_default.is)
+returns-clause-entered g c = c.adopt_made.ensures.entered c.args.asked.now (c.first_other.ensures.none c.in_default.is)

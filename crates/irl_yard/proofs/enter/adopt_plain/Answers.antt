@@ -16,7 +16,7 @@ use Rattle.irl_yard.specs.Standing.{HasRest, IsRest}
 use Rattle.irl_yard.specs.Holding.{HoldsState}
 use Rattle.irl_yard.specs.Entering.{HasGround, OpeningRefused}
 use Rattle.irl_yard.proofs.Answered.{enters_still, enters_adopted, refused_still, refused_head, still}
-use Rattle.irl_yard.proofs.Grounds.{made_has, entered_made, bay_failed, bay_ground, bay_wanted, head_undamaged}
+use Rattle.irl_yard.proofs.Grounds.{made_has, entered_made, bay_failed, bay_ground, bay_wanted, head_undamaged, plain_whole}
 use Rattle.irl_yard.proofs.Making.{if_err, open_fault_of, was_err}
 use Rattle.irl_yard.proofs.Beside.{plain_open}
 use Rattle.irl_yard.proofs.ByKind.{rest_stays}
@@ -32,6 +32,9 @@ returns-in_err-sync_rest-clause-refused g c = λ asked agrees.
     let call = c.sync_rest.ensures in
     if_err c.from_residual.result Failed (λ fault. OpeningRefused asked fault old new) c.from_residual.ensures.1
     (refused_still asked Failed _ old new law tt (still _ old new call.same call.stops call.taken call.cause))
+
+pub returns-in_err-sync_rest-clause-wanted : goal.returns-in_err-sync_rest-clause-wanted
+returns-in_err-sync_rest-clause-wanted g c = if_err c.from_residual.result Failed (λ fault. IsUnwanted fault → ⊥) c.from_residual.ensures.1 (λ is. is)
 
 pub returns-in_err-sync_rest-clause-entered : goal.returns-in_err-sync_rest-clause-entered
 returns-in_err-sync_rest-clause-entered g c = λ asked agrees.
@@ -83,7 +86,8 @@ returns-in-Ok-clause-opened g c = λ asked agrees.
       settings = λ files told. inl (subst (λ (s : Settings). HasHead s files) (sym same) (head files told));
       agrees = subst (Agrees asked) (sym same) agrees;
       ours = λ files told at. settings_ours asked files settings at (inl (head files told));
-      undamaged = λ files told f at. head_undamaged asked settings files f at (head files told) (adopts.sane files (c.sync_rest.ensures.same ∙ told) f at);
+      undamaged = λ files told f at. head_undamaged asked settings files f at (head files told) (adopts.sane files (c.sync_rest.ensures.same ∙ told) f at)
+          (plain_whole settings.kind settings files f at c.requires.kind);
     }
 
 pub returns-in-Ok-clause-entered : goal.returns-in-Ok-clause-entered
@@ -110,6 +114,9 @@ returns-in-Err-clause-refused g c = λ asked agrees.
     (bay_ground asked (tells c.args.store.now).files c.args.settings.now c.in-Err.fault c.requires.head agrees
     (λ f at is files told. c.in-Err.ensures.refused.damaged f at (ap (λ (fault : Fault). Err fault) is) files (c.sync_rest.ensures.same ∙ told))))
     enters
+
+pub returns-in-Err-clause-wanted : goal.returns-in-Err-clause-wanted
+returns-in-Err-clause-wanted g c = λ unwanted. bay_wanted c.in-Err.fault (subst IsUnwanted c.bay_fault.ensures unwanted)
 
 pub returns-in-Err-clause-entered : goal.returns-in-Err-clause-entered
 returns-in-Err-clause-entered g c = λ asked agrees.

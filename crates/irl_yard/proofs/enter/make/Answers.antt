@@ -378,7 +378,7 @@ returns-clause-opened g c =
                   subst (λ (s : Settings). HasRest s.kind s (blank_book (settings_of asked).buckets Keep) [] image) (sym as_asked)
                   (subst (λ (s : Settings). HasRest s.kind s (blank_book s.buckets Keep) [] image) is_new
                   (has_then settings _ _ _ rest made new small (law c.make.new.store) (law c.write_head.new.store) c.make.ensures.changes c.write_head.ensures.changes pairs [] besides.stops image
-                      left));
+                  left));
             };
             open_rest = subst (λ (s : Settings). HoldsOpen new.images urls.settings c.in_ok-rest.rest (blank_book s.buckets s.rule) (blank_book s.buckets Keep) []) is_new
                 (held_then settings _ _ _ rest made new small (law c.make.new.store) (law c.write_head.new.store) c.make.ensures.changes c.write_head.ensures.changes urls same c.in_ok-rest.rest

@@ -18,4 +18,4 @@ returns-clause-settle g c =
     let tells = g.S.Store.told yard.store in
     λ state arrays acknowledged done law holds may.
     settle_is_step tells.images tells.files yard.parts.urls state arrays acknowledged done law holds.urls yard.parts.rest holds.open_rest yard.rest_is c.keeps.ensures.frontier (λ ledger is n.
-        c.keeps.ensures.begun ledger n is) may
+    c.keeps.ensures.begun ledger n is) may

@@ -51,7 +51,7 @@ returns-clause-states g c =
     let are : AreOfUrls was (IsBucketFile was.base (live_side was.last) b) =
     λ f is. bucket_files was.base was.settings.buckets (live_side was.last) b f c.requires.offers.bucket is (live_low was.last.live law.last.live) in
     let follows = λ (state : State) (holds : HoldsState old.images parts state).
-        follows_flushed was.settings state.pairs state.events was.settings.kind b news state.urls c.requires.taken holds.urls.legal in
+    follows_flushed was.settings state.pairs state.events was.settings.kind b news state.urls c.requires.taken holds.urls.legal in
     let legal = λ (state : State) (holds : HoldsState old.images parts state). rest_follows was.settings state.pairs state.events was.settings.kind state.urls (flushed b news state.urls)
     holds.urls.urls_hold.book_is.is_book (follows state holds) holds.urls.legal in
     record {

@@ -35,7 +35,7 @@ invariant_of-self g c =
           (λ files told. self.long urls_sound files told);
       rest_is = crawl_open parts.urls new (tells c.log_pairs.new.store).files opened.0
           (event_open tells law c.log_pairs.result self.store c.log_pairs.new.store parts old new c.is_sound-is_sound.ensures.drum opened.1 sound begun all c.log_pairs.ensures.idle
-              c.log_pairs.ensures.adds);
+          c.log_pairs.ensures.adds);
     }
 
 pub returns-clause-logs : goal.returns-clause-logs

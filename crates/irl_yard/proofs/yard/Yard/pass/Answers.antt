@@ -1,4 +1,4 @@
-use Rattle.std.proofs.Common.{List, Ok, IsErrOf, refl, sym, subst, rules}
+use Rattle.std.proofs.Common.{List, Ok, IsErrOf, sym, subst, rules}
 use Rattle.irl_base.specs.declared.fault.Fault.TheVariants.{Failed}
 use Rattle.irl_beast.specs.declared.item.Item.{Item}
 use Rattle.irl_yard.specs.Passing.{AreFresh}

@@ -25,7 +25,7 @@ returns-in_err-tell_pairs-clause-sends g c =
     let is = out.1 ∙ ap (λ e. Err e) out.2 in
     subst (λ (r : Result Unit Fault). SendsPairs r was.parts next.parts (tells was.store) (tells next.store)) (c.in_err-tell_pairs.was ∙ sym is)
     (told_alone c.offer_pairs.result c.tell_pairs.result _ was.parts mid.parts next.parts (tells was.store) (tells mid.store) (tells next.store) (g.met.S.Store.is_consistent mid.store)
-        c.in_ok-offer_pairs.was c.offer_pairs.ensures.offers
+    c.in_ok-offer_pairs.was c.offer_pairs.ensures.offers
     c.tell_pairs.ensures.tells _ c.in_err-tell_pairs.was)
 
 pub returns-clause-sends : goal.returns-clause-sends
@@ -36,7 +36,7 @@ returns-clause-sends g c =
     let next = c.tell_pairs.new.self in
     let last = c.log_pairs.new.self in
     sends_whole c.offer_pairs.result c.tell_pairs.result _ was.parts mid.parts next.parts (tells was.store) (tells mid.store) (tells next.store) (g.met.S.Store.is_consistent mid.store)
-        c.in_ok-offer_pairs.was c.offer_pairs.ensures.offers
+    c.in_ok-offer_pairs.was c.offer_pairs.ensures.offers
     c.tell_pairs.ensures.tells tells c.log_pairs.result last.parts next.store last.store (g.met.S.Store.is_consistent next.store) refl _ c.in_ok-tell_pairs.was c.log_pairs.ensures.logs
 
 pub returns-in_err-offer_pairs-clause-idle : goal.returns-in_err-offer_pairs-clause-idle
@@ -50,7 +50,7 @@ returns-in_err-tell_pairs-clause-idle g c =
     let was = c.args.self.now in
     let last = c.tell_pairs.new.self in
     sent_again c.from_residual-in_err-tell_pairs.result was.parts last.parts (g.S.Store.told was.store) (g.S.Store.told last.store) was.rest_is c.requires.begun
-        (returns-in_err-tell_pairs-clause-sends g c)
+    (returns-in_err-tell_pairs-clause-sends g c)
 
 pub returns-clause-idle : goal.returns-clause-idle
 returns-clause-idle g c =
