@@ -9,7 +9,7 @@ use Rattle.irl_bay.specs.Holding.{Holds}
 use Rattle.irl_schedule.specs.Feeding.{Moment, moment, Stays, Feeds}
 use Rattle.irl_schedule.specs.Schedule.{IsDue, none_more, one_more}
 use Rattle.irl_schedule.specs.Scheduling.{Schedules}
-use Rattle.irl_intake.specs.Arrays.{waiting_at}
+use Rattle.irl_schedule.specs.Arrays.{waiting_at}
 use Rattle.irl_intake.specs.declared.intake.Intake.{Intake}
 use Rattle.irl_intake.specs.declared.next.Next.{Next}
 use Rattle.irl_intake.specs.declared.next.Next.TheVariants.{Merged, Ready}

@@ -8,7 +8,7 @@ ghost use Rattle.irl_schedule.specs.Schedule.{IsDue, none_more, one_more};
 ghost use Rattle.irl_schedule.specs.Scheduling.{Schedules};
 ghost use Rattle.irl_yard.specs.Holding.{IsSound, StaysSound};
 ghost use Rattle.irl_intake.specs.Advancing.{moment_of, Advances, StopsAt, early_at, uneven_at};
-ghost use Rattle.irl_intake.specs.Arrays.{waiting_at, SomeWaiting};
+ghost use Rattle.irl_schedule.specs.Arrays.{waiting_at, SomeWaiting};
 ghost use Rattle.irl_intake.specs.declared.next.Next.TheVariants.{Ready as ReadyNext};
 
 use crate::intake::Intake;

@@ -2,13 +2,14 @@ ghost use Rattle.std.specs.Prelude.{◌≡◌, ◌↔◌, ◌≤◌, ◌<◌, �
 ghost use Rattle.irl_offer.specs.Settings.{AreValid};
 ghost use Rattle.irl_bay.specs.Drum.{IsDrum};
 ghost use Rattle.irl_yard.specs.Holding.{IsSound};
-ghost use Rattle.irl_intake.specs.Arrays.{AreArrays, array_at, waiting_at, SomeWaiting};
+ghost use Rattle.irl_schedule.specs.Arrays.{AreArrays, array_at, waiting_at, SomeWaiting};
 
 use irl_array::Array;
 use irl_disk::Store;
 use irl_offer::Settings;
+use irl_schedule::arrays_of;
 use irl_yard::Yard;
-use std::alloc::{AllocError, Global};
+use std::alloc::Global;
 
 /// An open store with an array in front of each bucket of URLs.
 ///
@@ -83,17 +84,4 @@ impl<S: Store> Intake<S> {
         let Intake { yard, arrays: _ } = self;
         yard.into_store()
     }
-}
-
-// An empty array for each bucket.
-fn arrays_of(alloc: Global, settings: &Settings) -> Result<Vec<Array>, AllocError>
-    ensures count { IfOk result (λ arrays. length arrays.items ≡ settings.now.buckets) }
-    ensures each { IfOk result (λ arrays. (b : ℕ) → b < settings.now.buckets →
-        array_at arrays.items b ≡ record { room = settings.now.array; items = [] }) }
-{
-    let mut arrays = Vec::with_capacity(alloc, settings.buckets as usize)?;
-    for _b in 0..settings.buckets {
-        arrays.push_reserved(Array::with_room(alloc, settings.array)?);
-    }
-    Ok(arrays)
 }

@@ -30,7 +30,7 @@ use Rattle.irl_schedule.specs.Scheduling.{Schedules}
 use Rattle.irl_schedule.proofs.Chains.{stays_same, fed_still, keeps_same, feeds_more, feeds_none}
 use Rattle.irl_schedule.proofs.Schedules.{cut_few, cuts_few}
 use Rattle.irl_schedule.proofs.Steps.{durable_held}
-use Rattle.irl_intake.specs.Arrays.{AreArrays, waiting_at}
+use Rattle.irl_schedule.specs.Arrays.{AreArrays, waiting_at}
 use Rattle.irl_io.specs.Written.{AppendsPrefix}
 use Rattle.irl_top.specs.Message.{ending_of, ending_of_store, IsAllPrinted, IsEndOfInput, IsUnopened}
 use Rattle.irl_top.specs.Printed.{before_last, judged_lines, judged_count}

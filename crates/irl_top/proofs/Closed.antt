@@ -19,11 +19,11 @@ use Rattle.irl_head.specs.StoreFiles.{head_file}
 use Rattle.irl_head.specs.Opening.{IsBlank, DeniesState, IsUnwanted}
 use Rattle.irl_yard.specs.Standing.{HasState}
 use Rattle.irl_yard.specs.Holding.{HasOneOf}
-use Rattle.irl_yard.specs.Opening.{entered_state, new_state}
+use Rattle.irl_yard.specs.Opening.{IsDamageAt, IsStoreDamagedAt, entered_state, new_state}
 use Rattle.irl_yard.specs.Entering.{Enters, HasGround}
 use Rattle.irl_head.specs.declared.open_fault.OpenFault.{OpenFault}
 use Rattle.irl_head.specs.declared.open_fault.OpenFault.TheVariants.{NotOurs as OpenNotOurs, Damaged as OpenDamaged, OtherSettings as OpenOtherSettings, BadSettings as OpenBadSettings, Failed as OpenFailed, Memory as OpenMemory}
-use Rattle.irl_yard.proofs.ByKind.{new_rest}
+use Rattle.irl_yard.proofs.ByKind.{agrees_crawl, new_rest}
 use Rattle.irl_yard.proofs.Holding.{made_state}
 use Rattle.irl_yard.proofs.Grounds.{entered_made}
 use Rattle.irl_yard.proofs.States.{state_same, entered_front}
@@ -396,6 +396,11 @@ unwanted_open fault is = elim is [
 ground_as : (asked : Asked) (told : Option Files) (fault other : OpenFault) → fault ≡ other → HasGround asked told fault → HasGround asked told other
 ground_as asked told fault other is ground = subst (HasGround asked told) is ground
 
+-- a store that no crawl is asked of is damaged by itself
+store_damaged : (asked : Asked) (files : Files) (f at : ℕ) → asked.kind ≢ Crawl → IsDamageAt asked files f at → IsStoreDamagedAt asked files f at
+store_damaged asked files f at plain (inl damaged) = damaged
+store_damaged asked files f at plain (inr strange) = absurd (plain (agrees_crawl asked strange.settings strange.agrees strange.kind))
+
 denies_as : (fault other : OpenFault) → fault ≡ other → DeniesState other → DeniesState fault
 denies_as fault other is denies = subst DeniesState (sym is) denies
 
@@ -414,7 +419,9 @@ ran_refused kind asked before after fault law_before law_after refused = record 
   line = λ n is. absurd (open_late fault (inr (inl (n, is))));
   not_ours = λ at is. ground_as asked before.store.files fault (OpenNotOurs at) (open_ours fault at is) refused.ground;
   other = λ n kept wanted is. ground_as asked before.store.files fault (OpenOtherSettings n kept wanted) (open_other fault n kept wanted is) refused.ground;
-  damaged = λ f at is. inl (ground_as asked before.store.files fault (OpenDamaged f at) (open_damaged fault f at is) refused.ground);
+  damaged = λ f at is.
+      let ground = ground_as asked before.store.files fault (OpenDamaged f at) (open_damaged fault f at is) refused.ground in
+      inl (λ files told. store_damaged asked files f at refused.kind (ground files told));
   whole = λ f at is. refused.whole (denies_as fault (OpenDamaged f at) (open_damaged fault f at is) tt);
   whole_ours = λ at is. refused.whole (denies_as fault (OpenNotOurs at) (open_ours fault at is) tt);
   disk = record { later = refused.cause.later; rose = λ is. refused.cause.rose (open_disk fault is) };

@@ -1,7 +1,7 @@
 use Rattle.std.proofs.Common.{◌∙◌, ℕ, [], inl, refl, sym, ap, subst, arith}
 use Rattle.irl_bay.specs.Drum.{Drum}
 use Rattle.irl_schedule.specs.Feeding.{Waits, moment}
-use Rattle.irl_intake.specs.Arrays.{waiting_at}
+use Rattle.irl_schedule.specs.Arrays.{waiting_at}
 use Rattle.irl_top.specs.declared.ending.Ending.{Ending}
 use Rattle.irl_top.specs.declared.ending.Ending.TheVariants.{NoMemory}
 use Rattle.irl_top.specs.Message.{ending_of}

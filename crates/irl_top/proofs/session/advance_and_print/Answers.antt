@@ -1,7 +1,7 @@
 use Rattle.std.proofs.Common.{[], Ok, refl, ap, subst}
 use Rattle.irl_layout.specs.Commits.{Commit}
 use Rattle.irl_intake.specs.Advancing.{moment_of, early_at, uneven_at}
-use Rattle.irl_intake.specs.Arrays.{waiting_at}
+use Rattle.irl_schedule.specs.Arrays.{waiting_at}
 use Rattle.irl_intake.specs.declared.next.Next.{Next}
 use Rattle.irl_schedule.specs.Scheduling.{Schedules}
 use Rattle.irl_top.specs.Message.{ending_of_store}

@@ -6,7 +6,7 @@ use Rattle.irl_schedule.specs.Schedule.{IsDue, none_more}
 use Rattle.irl_schedule.proofs.Schedules.{answers_ok}
 use Rattle.irl_schedule.specs.Scheduling.{Schedules}
 use Rattle.irl_intake.specs.Advancing.{Advances, early_at, uneven_at}
-use Rattle.irl_intake.specs.Arrays.{AreArrays, SomeWaiting, waiting_at}
+use Rattle.irl_schedule.specs.Arrays.{AreArrays, SomeWaiting, waiting_at}
 use Rattle.irl_intake.specs.declared.next.Next.TheVariants.{Merged}
 use Rattle.irl_intake.proofs.Steps.{alone_refused, last_at_end, merged_at_end, never_full, refused_at_end, refused_at_none, same_moment, stops_first}
 use Rattle.irl_intake.proofs.intake.Intake.at_end.Goals as goal

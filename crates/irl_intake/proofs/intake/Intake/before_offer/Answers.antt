@@ -9,10 +9,10 @@ use Rattle.irl_schedule.specs.Scheduling.{Schedules}
 use Rattle.irl_schedule.proofs.Counts.{waiting_elsewhere}
 use Rattle.irl_schedule.proofs.Finishing.{full_names}
 use Rattle.irl_schedule.proofs.Schedules.{answers_ok, schedules_none}
-use Rattle.irl_intake.specs.Arrays.{AreArrays, no_array, array_at, waiting_at}
+use Rattle.irl_schedule.specs.Arrays.{AreArrays, no_array, array_at, waiting_at}
 use Rattle.irl_intake.specs.declared.next.Next.TheVariants.{Merged, Ready}
 use Rattle.irl_intake.proofs.Steps.{alone_refused, handed_on, made_room, merged_first, never_full, refused_first, same_answer, same_moment, sound_on}
-use Rattle.irl_intake.proofs.Waits.{array_elsewhere, arrays_set, in_arrays}
+use Rattle.irl_schedule.proofs.Waits.{array_elsewhere, arrays_set, in_arrays}
 use Rattle.irl_intake.proofs.intake.Intake.before_offer.Goals as goal
 
 pub returns-then-not-is_full-clause-schedules : goal.returns-then-not-is_full-clause-schedules

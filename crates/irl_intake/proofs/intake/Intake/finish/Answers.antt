@@ -4,9 +4,9 @@ use Rattle.irl_offer.specs.declared.settings.Settings.{Settings}
 use Rattle.irl_schedule.specs.Feeding.{Moment, moment}
 use Rattle.irl_schedule.specs.Schedule.{none_more, one_more}
 use Rattle.irl_schedule.proofs.Schedules.{answers_ok, schedules_more, schedules_then}
-use Rattle.irl_intake.specs.Arrays.{AreArrays, waiting_at}
+use Rattle.irl_schedule.specs.Arrays.{AreArrays, waiting_at}
 use Rattle.irl_intake.proofs.Steps.{all_done, handed_on, never_full, refused_at_end, refused_by, stops_last}
-use Rattle.irl_intake.proofs.Waits.{none_past}
+use Rattle.irl_schedule.proofs.Waits.{none_past}
 use Rattle.irl_intake.proofs.intake.Intake.finish.Goals as goal
 
 pub invariant_of-self : goal.invariant_of-self

@@ -8,9 +8,9 @@ use Rattle.irl_schedule.specs.Schedule.{one_more, one_more_at}
 use Rattle.irl_schedule.proofs.Counts.{waiting_elsewhere}
 use Rattle.irl_schedule.proofs.Finishing.{all_flushed, begins, ends, full_names, goes_on}
 use Rattle.irl_schedule.proofs.Outcomes.{err_gives}
-use Rattle.irl_intake.specs.Arrays.{no_array, array_at, waiting_at}
+use Rattle.irl_schedule.specs.Arrays.{no_array, array_at, waiting_at}
 use Rattle.irl_intake.proofs.Steps.{handed_on, refused_stop, stops_here}
-use Rattle.irl_intake.proofs.Waits.{array_here, array_elsewhere, arrays_set, in_arrays, none_waits, set_same}
+use Rattle.irl_schedule.proofs.Waits.{array_here, array_elsewhere, arrays_set, in_arrays, none_waits, set_same}
 use Rattle.irl_intake.proofs.intake.Intake.flush_all.Goals as goal
 
 pub loop-b-init : goal.loop-b-init

@@ -6,7 +6,7 @@ use Rattle.irl_bay.specs.Holding.{Holds}
 use Rattle.irl_bay.proofs.MergeFrames.{holds_fewer}
 use Rattle.irl_schedule.specs.Feeding.{moment, Moment}
 use Rattle.irl_schedule.proofs.Chains.{fed_read, stays_read}
-use Rattle.irl_intake.specs.Arrays.{waiting_at}
+use Rattle.irl_schedule.specs.Arrays.{waiting_at}
 use Rattle.irl_intake.proofs.intake.Intake.judged_from.Goals as goal
 
 pub returns-clause-still : goal.returns-clause-still

@@ -4,8 +4,8 @@ use Rattle.irl_offer.specs.Buckets.{bucket_of}
 use Rattle.irl_offer.specs.declared.settings.Settings.{Settings}
 use Rattle.irl_offer.specs.Tuple.{Tuple}
 use Rattle.irl_schedule.proofs.Chains.{fed_still}
-use Rattle.irl_intake.specs.Arrays.{no_array}
-use Rattle.irl_intake.proofs.Waits.{push_keeps}
+use Rattle.irl_schedule.specs.Arrays.{no_array}
+use Rattle.irl_schedule.proofs.Waits.{push_keeps}
 use Rattle.irl_intake.proofs.intake.Intake.push.Goals as goal
 
 pub returns-clause-keeps : goal.returns-clause-keeps
