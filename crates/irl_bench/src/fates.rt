@@ -45,7 +45,11 @@ pub fn run(alloc: Global, events: u32, stage: Stage) -> Result<Score, AllocError
         _ => (turns.len() as u64).saturating_mul(3).saturating_add(1),
     };
     let calls = 3 * u64::from(events / 3) + 1;
-    Ok(Score { right, calls })
+    Ok(Score {
+        right,
+        calls,
+        beside: None,
+    })
 }
 
 // How many events are taken, up to the first that is refused.

@@ -23,7 +23,11 @@ pub fn run(alloc: Global, hosts: u32, stage: Stage) -> Result<Score, AllocError>
         Stage::Loaded => loaded(alloc, items)?.left(),
         Stage::Done => answered(&mut loaded(alloc, items)?, 4 * calls),
     };
-    Ok(Score { right, calls })
+    Ok(Score {
+        right,
+        calls,
+        beside: None,
+    })
 }
 
 // The pages of so many hosts.

@@ -6,19 +6,23 @@ ghost use Rattle.std.specs.Io.KnownBytes.{Appends};
 ghost use Rattle.irl_base.specs.Faults.{Rose};
 ghost use Rattle.irl_bench.specs.Words.{begins_with_name};
 
+mod crawl;
 mod fates;
 mod front;
 mod reply;
 mod robots;
 mod score;
+mod site;
 mod words;
+mod yard;
 
+use irl_files::Lockable;
 use irl_io::{Sink, WriteSink};
 use score::Score;
 use std::alloc::{AllocError, Global};
 use std::env;
 use std::process::ExitCode;
-use std::rt::Env;
+use std::rt::{Env, Files};
 use words::{Bench, Stage, number};
 
 /// Every bench at a small size.
@@ -31,6 +35,8 @@ robots 40 done ordinary 2
 robots 5 done one-run 1
 robots 5 done many-stars 1
 robots 40 done short 1
+yard 600 done yard-small 16 10 10000
+yard 600 done yard-queues 16 1 4
 ";
 
 const USAGE: &str = "\
@@ -40,6 +46,7 @@ words refused. These name benches, where STAGE is made, loaded or done:
   front HOSTS [STAGE]
   reply BYTES [STAGE [plain | chunked  PIECE ROUNDS]]
   robots RULES [STAGE [ordinary | one-run | many-stars | short  ROUNDS]]
+  yard URLS [STAGE [FOLDER DOMAINS BASE MOST]]
 ";
 
 /// The exit status where the words are refused.
@@ -55,7 +62,9 @@ const OUTPUT_FAULT: u8 = 6;
 const NO_MEMORY: u8 = 7;
 
 // Runs the bench that these words name. None where they name none.
-fn run(alloc: Global, words: &[&str]) -> Result<Option<Score>, AllocError>
+fn run<R: Files + AllocGlobal>(rt: &R, words: &[&str]) -> Result<Option<Score>, AllocError>
+where
+    R::File: Lockable,
     ensures odd { begins_with_name (map (λ word. word.now) words.now) ≡ false → result ≡ Ok None }
 {
     let [name, size, choices @ ..] = words else {
@@ -67,17 +76,21 @@ fn run(alloc: Global, words: &[&str]) -> Result<Option<Score>, AllocError>
     let (Some(size), Some((stage, choices))) = (number(size), stage_of(choices)) else {
         return Ok(None);
     };
-    run_bench(alloc, bench, size, stage, choices)
+    run_bench(rt, bench, size, stage, choices)
 }
 
 // Runs a bench up to a stage. None where these further words are none of its choices.
-fn run_bench(
-    alloc: Global,
+fn run_bench<R: Files + AllocGlobal>(
+    rt: &R,
     bench: Bench,
     size: u32,
     stage: Stage,
     choices: &[&str],
-) -> Result<Option<Score>, AllocError> {
+) -> Result<Option<Score>, AllocError>
+where
+    R::File: Lockable,
+{
+    let alloc = rt.alloc();
     match bench {
         Bench::Fates if choices.is_empty() => Ok(Some(fates::run(alloc, size, stage)?)),
         Bench::Front if choices.is_empty() => Ok(Some(front::run(alloc, size, stage)?)),
@@ -87,6 +100,10 @@ fn run_bench(
         },
         Bench::Robots => match robots::Manner::from_words(choices) {
             Some(manner) => Ok(Some(robots::run(alloc, size, stage, manner)?)),
+            None => Ok(None),
+        },
+        Bench::Yard => match yard::Manner::from_words(choices) {
+            Some(manner) => Ok(Some(yard::run(rt, size, stage, manner)?)),
             None => Ok(None),
         },
         _ => Ok(None),
@@ -106,7 +123,11 @@ fn tell<O: Sink>(alloc: Global, output: &mut O, words: &str, score: Score) -> Re
     ensures done { result ≡ Ok 0 → score.right ≡ score.calls }
     ensures known { result ≢ Ok WORDS_REFUSED }
 {
-    let line = format!(in alloc; "{words}: {} of {}\n", score.right, score.calls)?;
+    let beside = match score.beside {
+        Some(beside) => { format!(in alloc; ", {} pairs, {} passes", beside.pairs, beside.passes)? }
+        None => String::new(alloc),
+    };
+    let line = format!(in alloc; "{words}: {} of {}{beside}\n", score.right, score.calls)?;
     if output.write(line.as_bytes()).is_err() {
         return Ok(OUTPUT_FAULT);
     }
@@ -114,15 +135,17 @@ fn tell<O: Sink>(alloc: Global, output: &mut O, words: &str, score: Score) -> Re
 }
 
 // Runs every bench at a small size, up to the first whose status isn't 0, and gives the exit status.
-fn run_all<O: Sink>(alloc: Global, output: &mut O) -> Result<u8, AllocError>
+fn run_all<R: Files + AllocGlobal, O: Sink>(rt: &R, output: &mut O) -> Result<u8, AllocError>
+where
+    R::File: Lockable,
     ensures known { result ≢ Ok WORDS_REFUSED }
 {
     for line in SMALL.lines() {
-        let words: Vec<&str> = line.split(' ').collect(alloc)?;
-        let Some(score) = run(alloc, &words)? else {
+        let words: Vec<&str> = line.split(' ').collect(rt.alloc())?;
+        let Some(score) = run(rt, &words)? else {
             return Ok(WRONG_ANSWER);
         };
-        let status = tell(alloc, output, line, score)?;
+        let status = tell(rt.alloc(), output, line, score)?;
         if status != 0 {
             return Ok(status);
         }
@@ -142,12 +165,14 @@ fn refuse<E: Sink>(errors: &mut E) -> u8
 
 // Does what the words ask for, and gives the exit status. Words that name no bench are refused by a line, and nothing else
 // is done for them.
-fn obey<O: Sink, E: Sink>(
-    alloc: Global,
+fn obey<R: Files + AllocGlobal, O: Sink, E: Sink>(
+    rt: &R,
     words: &[&str],
     output: &mut O,
     errors: &mut E,
 ) -> Result<u8, AllocError>
+where
+    R::File: Lockable,
     ensures odd { begins_with_name (map (λ word. word.now) words.now) ≡ false → result ≡ Ok WORDS_REFUSED }
     ensures says { result ≡ Ok WORDS_REFUSED → Appends (E.written errors.old) (E.written errors.new) USAGE.now
         ⊎ Rose (E.faults errors.old) (E.faults errors.new) }
@@ -155,10 +180,10 @@ fn obey<O: Sink, E: Sink>(
     ensures quiet { result ≢ Ok WORDS_REFUSED → errors.new ≡ errors.old }
 {
     match words {
-        [word] if *word == "all" => run_all(alloc, output),
-        _ => match run(alloc, words)? {
+        [word] if *word == "all" => run_all(rt, output),
+        _ => match run(rt, words)? {
             Some(score) => tell(
-                alloc,
+                rt.alloc(),
                 output,
                 words.first().copied().unwrap_or_default(),
                 score,
@@ -169,11 +194,14 @@ fn obey<O: Sink, E: Sink>(
 }
 
 // Does what the words of the command line ask for, and gives the exit status. Words that are no text are refused.
-fn answer<R: Env + AllocGlobal, O: Sink, E: Sink>(
+fn answer<R: Env + Files + AllocGlobal, O: Sink, E: Sink>(
     rt: &R,
     output: &mut O,
     errors: &mut E,
-) -> Result<u8, AllocError> {
+) -> Result<u8, AllocError>
+where
+    R::File: Lockable,
+{
     let Ok(arguments) = env::args(rt) else {
         return Ok(refuse(errors));
     };
@@ -182,7 +210,7 @@ fn answer<R: Env + AllocGlobal, O: Sink, E: Sink>(
     for argument in &arguments {
         words.push(argument.as_str())?;
     }
-    obey(rt.alloc(), &words, output, errors)
+    obey(rt, &words, output, errors)
 }
 
 fn main(rt: HostRuntime) -> ExitCode {

@@ -109,7 +109,11 @@ pub fn run(alloc: Global, size: u32, stage: Stage, manner: Manner) -> Result<Sco
         Stage::Done => whole_readings(alloc, bytes, size, manner)?,
         _ => all_if(bytes.len() >= size as usize, calls),
     };
-    Ok(Score { right, calls })
+    Ok(Score {
+        right,
+        calls,
+        beside: None,
+    })
 }
 
 fn body_of(word: &str) -> Option<Body> {

@@ -65,7 +65,11 @@ pub fn run(alloc: Global, size: u32, stage: Stage, manner: Manner) -> Result<Sco
         Stage::Loaded => all_if(is_read(alloc, &file, manner.rounds)?, calls),
         Stage::Done => right_answers(alloc, &file, &questions, manner.rounds)?,
     };
-    Ok(Score { right, calls })
+    Ok(Score {
+        right,
+        calls,
+        beside: None,
+    })
 }
 
 fn rules_of(word: &str) -> Option<Rules> {

@@ -7,6 +7,16 @@ pub struct Score {
     pub right: u64,
     /// How many calls there were to make.
     pub calls: u64,
+    /// What a crawl counted beside.
+    pub beside: Option<Beside>,
+}
+
+/// What a crawl counted beside its pages.
+#[derive(Clone, Copy)]
+pub struct Beside {
+    /// Links from one domain to another, each counted once.
+    pub pairs: u64,
+    pub passes: u64,
 }
 
 impl Score {

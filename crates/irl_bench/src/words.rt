@@ -12,6 +12,8 @@ pub enum Bench {
     Reply,
     /// A robots file and questions to it.
     Robots,
+    /// A crawl over a store.
+    Yard,
 }
 
 impl Bench {
@@ -24,6 +26,7 @@ impl Bench {
             "front" => Some(Bench::Front),
             "reply" => Some(Bench::Reply),
             "robots" => Some(Bench::Robots),
+            "yard" => Some(Bench::Yard),
             _ => None,
         }
     }
