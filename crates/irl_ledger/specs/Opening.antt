@@ -193,8 +193,8 @@ pub record OpensLedger (result : Result Ledger Fault) (settings : Settings) (url
   pub holds : IfOk result (λ ledger. ForSome before.files (λ files. (u p : Book) (events : List Happened)
       → IsCrawlIn before.images settings urls log u p events files
       → HoldsLedger after.images settings ledger u p events))
-  -- it goes on with this log, and whatever the store tells, no event is passed over that breaks a rule of the crawl, by
-  -- the places of the passes or by the numbers of the bays
+  -- it goes on with this log, and whatever the store tells, no event is passed over that breaks a rule of the crawl,
+  -- with some places for its passes, or that has other numbers than the bays
   pub same_log : IfOk result (λ ledger. ledger.log ≡ log)
   pub legal : IfOk result (λ ledger. AreOfBooks settings urls kept ledger before)
   -- no damage of the bay of pairs is passed over
