@@ -1,5 +1,5 @@
--- One event more in the log of a crawl.
-use Rattle.std.proofs.Common.{◌≡◌, ◌∙◌, ℕ, true, false, List, [], ◌∷◌, length, length-append, Option, None, Some, Result, Ok, Err, refl, sym, ap, subst, arith}
+-- One event more in the log of a crawl, or several.
+use Rattle.std.proofs.Common.{◌≡◌, ◌∙◌, ℕ, ◌+◌, true, false, List, [], ◌∷◌, length, length-append, Option, None, Some, Result, Ok, Err, refl, sym, ap, subst, arith}
 use Rattle.std.proofs.lemmas.Bool.{le-leb}
 use Rattle.irl_base.specs.Limits.{max_text, max_robots}
 use Rattle.irl_base.specs.declared.fault.Fault.{Fault}
@@ -8,13 +8,15 @@ use Rattle.irl_offer.specs.declared.note.Note.{Note}
 use Rattle.irl_events.specs.Events.{Event, Begin, Robots, Progress}
 use Rattle.irl_events.specs.Legal.{broken, text_of}
 use Rattle.irl_disk.specs.Images.{Told}
+use Rattle.irl_journal.specs.Format.{records_text}
 use Rattle.irl_frontier.specs.Frontier.{Frontier}
 use Rattle.irl_log.specs.Appending.{AppendsEvents}
 use Rattle.irl_log.specs.Log.{OpenLog}
 use Rattle.irl_log.specs.Form.{IsLogged, IsNote, IsSuffixText}
+use Rattle.irl_log.specs.Spelling.{log_records}
 use Rattle.irl_ledger.specs.declared.ledger.Ledger.{Ledger}
-use Rattle.irl_ledger.specs.Adding.{AddsToLog}
-use Rattle.irl_ledger.specs.Noting.{NotePlaces, noted}
+use Rattle.irl_ledger.specs.Adding.{AddsAllToLog, AddsToLog}
+use Rattle.irl_ledger.specs.Noting.{NotePlaces, noted, noted_all}
 
 -- a beginning tells its suffixes
 pub begun_of : {S : Type 0} (tells : S → Told) (result : Result Unit Fault) (event asked : Event) (frontier : Event → Frontier) (old new : Ledger) (read text : List ℕ) (before after : S)
@@ -77,6 +79,53 @@ appended_of tells result event frontier now old log notes before after is append
       memory = λ no. cc;
       log = λ other. here;
       done = (tables, refl);
+      kept = tt;
+      pairs = refl;
+      noted_then = notes_are;
+      noted_still = tt;
+    }
+
+-- ---- several
+-- one append of one event is an append of several
+pub one_of_all : {S : Type 0} (tells : S → Told) (result : Result Unit Fault) (event : Event) (frontier : Frontier) (suffixes : Option (List ℕ)) (old new : Ledger) (before after : S)
+    → AddsToLog tells result event frontier suffixes old new before after → AddsAllToLog tells result (event ∷ []) frontier suffixes old new before after
+one_of_all tells result event frontier suffixes old new before after adds = record {
+  memory = adds.memory;
+  idle = λ none. absurd (cc);
+  log = adds.log;
+  done = adds.done;
+  kept = adds.kept;
+  pairs = adds.pairs;
+  noted_then = adds.noted_then;
+  noted_still = adds.noted_still;
+}
+
+-- the log then ends behind them
+pub ends_there : {S : Type 0} (tells : S → Told) (result : Result Unit Fault) (events : List Event) (old new : OpenLog) (before after : S) → result ≡ Ok tt
+    → AppendsEvents tells result events old new before after → new.journal.end ≡ old.journal.end + length (records_text (log_records events))
+ends_there tells result events old new before after is appends =
+    let here : AppendsEvents tells (Ok tt) events old new before after = subst (λ (r : Result Unit Fault). AppendsEvents tells r events old new before after) is appends in
+    here.records.appends.end
+
+-- an append of events which change no table but that of the notes leaves what they make of that one
+pub appended_all : {S : Type 0} (tells : S → Told) (result : Result Unit Fault) (seens events : List Event) (old : Ledger) (log : OpenLog) (notes : NotePlaces) (before after : S)
+    → result ≡ Ok tt → seens ≡ events → AppendsEvents tells result seens old.log log before after → notes ≡ noted_all old.log.journal.end seens old.notes
+    → AddsAllToLog tells (Ok tt) events old.frontier old.suffixes old (record old { log = log; notes = notes }) before after
+appended_all tells result seens events old log notes before after is seen_are appends noted_are =
+    let here : AppendsEvents tells (Ok tt) events old.log log before after =
+    subst (λ (es : List Event). AppendsEvents tells (Ok tt) es old.log log before after) seen_are
+    (subst (λ (r : Result Unit Fault). AppendsEvents tells r seens old.log log before after) is appends) in
+    let notes_are = noted_are ∙ ap (λ (es : List Event). noted_all old.log.journal.end es old.notes) seen_are in
+    record {
+      memory = λ no. cc;
+      idle = λ none. (
+        refl,
+        (here.idle none).1,
+        ap (λ (l : OpenLog). record old { log = l; notes = notes }) (here.idle none).2
+            ∙ ap (λ (m : NotePlaces). record old { notes = m }) (notes_are ∙ ap (λ (es : List Event). noted_all old.log.journal.end es old.notes) none),
+      );
+      log = λ other. here;
+      done = (refl, refl);
       kept = tt;
       pairs = refl;
       noted_then = notes_are;

@@ -30,6 +30,7 @@ pub mod Sent
 pub mod SentAlready
 pub mod SentLinks
 pub mod Settling
+pub mod SeveralNotes
 pub mod Tables
 pub mod ToldDegrees
 pub mod ToldPairs

@@ -38,6 +38,14 @@ places_more at (x ∷ events) event places =
     places_more (at + length (records_text (records_of x))) events event (noted at x places)
     ∙ ap (λ (n : ℕ). noted n event (noted_all (at + length (records_text (records_of x))) events (noted at x places))) (behind at x events)
 
+-- and several more
+pub places_both : (at : ℕ) (events more : List Event) (places : NotePlaces)
+    → noted_all at (events ++ more) places ≡ noted_all (at + length (records_text (log_records events))) more (noted_all at events places)
+places_both at [] more places = ap (λ (n : ℕ). noted_all n more places) (at_first at)
+places_both at (x ∷ events) more places =
+    places_both (at + length (records_text (records_of x))) events more (noted at x places)
+    ∙ ap (λ (n : ℕ). noted_all n more (noted_all (at + length (records_text (records_of x))) events (noted at x places))) (behind at x events)
+
 -- ---- each place is below the end
 set_within : (b : Bool) (at end p : ℕ) (o : Option ℕ) → at < end → (o ≡ Some p → p < end) → cond b (Some at) o ≡ Some p → p < end
 set_within true at end p o here rest is = let same : at ≡ p = cc in subst (λ (n : ℕ). n < end) same here

@@ -93,8 +93,8 @@ other_error : {A B : Type 0} (fault asked : Fault) → IsErrOf {T = A} (Err faul
 other_error fault asked is = let same : fault ≡ asked = cc in ap (λ (e : Fault). Err e) same
 
 -- want of memory before the first call of the store
-pub tables_refused : (settings : Settings) (urls : Drum) (log : OpenLog) (kept : List (ℕ × Event)) (s : Told) → IsConsistent s → OpensLedger (Err Memory) settings urls log kept s s
-tables_refused settings urls log kept s law =
+pub tables_refused : (settings : Settings) (urls : Drum) (log : OpenLog) (history : LogHistory) (s : Told) → IsConsistent s → OpensLedger (Err Memory) settings urls log history s s
+tables_refused settings urls log history s law =
     let answer : Result Ledger Fault = Err Memory in
     let calls = none_opened (IsReopenedFile settings urls) s settings.buckets law in
     record {
@@ -103,6 +103,7 @@ tables_refused settings urls log kept s law =
       holds = tt;
       same_log = tt;
       legal = tt;
+      notes_are = tt;
       sane = tt;
       spoilt = λ f at named. absurd (cc);
       whole = λ f at named. absurd (cc);
@@ -111,14 +112,15 @@ tables_refused settings urls log kept s law =
     }
 
 -- a bay of pairs that isn't opened
-pub adopt_refused : (settings : Settings) (urls : Drum) (log : OpenLog) (kept : List (ℕ × Event)) (fault : Fault) (s t : Told) → AdoptRefused (Err fault) pairs_base (pair_settings settings) s.files
-    → ReadsAndChanges (IsReopenedFile settings urls) (IsAdopted pairs_base settings.buckets) (IsErrOf {T = Drum} (Err fault) Failed) s t → OpensLedger (Err fault) settings urls log kept s t
-adopt_refused settings urls log kept fault s t refused calls = record {
+pub adopt_refused : (settings : Settings) (urls : Drum) (log : OpenLog) (history : LogHistory) (fault : Fault) (s t : Told) → AdoptRefused (Err fault) pairs_base (pair_settings settings) s.files
+    → ReadsAndChanges (IsReopenedFile settings urls) (IsAdopted pairs_base settings.buckets) (IsErrOf {T = Drum} (Err fault) Failed) s t → OpensLedger (Err fault) settings urls log history s t
+adopt_refused settings urls log history fault s t refused calls = record {
   opened = tt;
   sound = tt;
   holds = tt;
   same_log = tt;
   legal = tt;
+  notes_are = tt;
   sane = tt;
   spoilt = λ f at named files told. inl (refused.damaged f at (other_error fault (Damaged f at) named) files told);
   whole = λ f at named files told u p events crawl. refused.whole f at (other_error fault (Damaged f at) named) files told p crawl.files_are.pairs_stand;
@@ -169,7 +171,7 @@ module _ (settings : Settings) (urls : Drum) (history : LogHistory) (old : Ledge
       (d, subst IsDrum same is, base, subst (λ (y : Drum). IsBaySpoiltAt y files f at) same spoilt)
 
   -- how many offers were judged isn't read
-  pub counts_refused : (fault : Fault) (w : Told) → ReadsCounts (Err fault) urls old.pairs t w → OpensLedger (Err fault) settings urls old.log history.events s w
+  pub counts_refused : (fault : Fault) (w : Told) → ReadsCounts (Err fault) urls old.pairs t w → OpensLedger (Err fault) settings urls old.log history s w
   counts_refused fault w reads =
       let answer : Result Ledger Fault = Err fault in
       record {
@@ -178,6 +180,7 @@ module _ (settings : Settings) (urls : Drum) (history : LogHistory) (old : Ledge
         holds = tt;
         same_log = tt;
         legal = tt;
+        notes_are = tt;
         sane = tt;
         spoilt = λ f at named files told.
             let now = then_told files told in
@@ -266,7 +269,7 @@ module _ (settings : Settings) (urls : Drum) (history : LogHistory) (old : Ledge
 
     -- an event isn't done again
     pub redo_refused : (fault : Fault) (new : Ledger) (v : Told) → RedoesAll counts (Err fault) history.events urls old new w v
-        → OpensLedger (Err fault) settings urls old.log history.events s v
+        → OpensLedger (Err fault) settings urls old.log history s v
     redo_refused fault new v redoes =
         let answer : Result Ledger Fault = Err fault in
         let calls = all_changes (IsErrOf {T = Unit} (Err fault) Failed) v redoes.reads in
@@ -276,6 +279,7 @@ module _ (settings : Settings) (urls : Drum) (history : LogHistory) (old : Ledge
           holds = tt;
           same_log = tt;
           legal = tt;
+          notes_are = tt;
           sane = tt;
           spoilt = λ f at named files told.
               let now = then_told files told in
@@ -324,7 +328,7 @@ module _ (settings : Settings) (urls : Drum) (history : LogHistory) (old : Ledge
 
     -- all are
     pub all_redone : (value : Unit) (new : Ledger) (v : Told) → IsConsistent v → RedoesAll counts (Ok value) history.events urls old new w v
-        → OpensLedger (Ok (record new { notes = history.notes })) settings urls old.log history.events s v
+        → OpensLedger (Ok (record new { notes = history.notes })) settings urls old.log history s v
     all_redone value new v consistent_last redoes =
         let ledger : Ledger = record new { notes = history.notes } in
         let answer : Result Ledger Fault = Ok ledger in
@@ -375,6 +379,7 @@ module _ (settings : Settings) (urls : Drum) (history : LogHistory) (old : Ledge
                 (sym redoes.pairs)
                 redoes.legal);
           };
+          notes_are = refl;
           sane = adopts.sane;
           spoilt = λ f at named. absurd (cc);
           whole = λ f at named. absurd (cc);

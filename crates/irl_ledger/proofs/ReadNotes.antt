@@ -86,6 +86,8 @@ module _ (log : OpenLog) (places : NotePlaces) (host : List ℕ) (s : Told) (law
       let reads = reads_none (λ f. f ≡ crawl_file) s law in
       record {
         value = λ files told events holds note last used. let no : None ≡ Some note = sym (no_last events holds none) ∙ last in absurd (cc);
+        sane = λ at known. let no : None ≡ Some at = sym none ∙ known in absurd (cc);
+        idle = λ same. (refl, refl);
         spoilt = λ f at is. absurd (cc);
         whole = λ f at is. absurd (cc);
         full = λ n is. cc;
@@ -100,6 +102,12 @@ module _ (log : OpenLog) (places : NotePlaces) (host : List ℕ) (s : Told) (law
           let same = finds.one files told last.first last.more last.note (subst (EndsLog log (files log.journal.file)) last.among (ends_now files told events holds))
           (from_first at (length (records_text (log_records last.first))) last.here) in
           used_as moment (last_note host events) (Some note) found (last.last ∙ ap (λ (n : Note). Some n) (sym same)) used;
+      sane = λ place known files told.
+          let both : Some at ≡ Some place = sym some ∙ known in
+          let same : at ≡ place = cc in
+          let stands = subst (λ (f : ℕ). NoteStandsAt log (files f) at note) file (finds.found files told) in
+          (note, subst (λ (p : ℕ). NoteStandsAt log (files crawl_file) p note) same stands, used);
+      idle = λ none. let no : None ≡ Some at = sym none ∙ some in absurd (cc);
       spoilt = λ f at is. absurd (cc);
       whole = λ f at is. absurd (cc);
       full = λ n is. cc;
@@ -124,6 +132,8 @@ module _ (log : OpenLog) (places : NotePlaces) (host : List ℕ) (s : Told) (law
     pub note_refused : (fault : JournalFault) → FindsNote (Err fault) log at s t → ReadsNote (Err (fault_of_log fault)) host moment log places s t
     note_refused fault finds = record {
       value = tt;
+      sane = tt;
+      idle = λ none. let no : None ≡ Some at = sym none ∙ some in absurd (cc);
       spoilt = λ f place is.
           let why = damaged_of fault f place is in
           let damage = finds.damaged place (ap (λ (e : JournalFault). Err e) why.1) in (

@@ -31,12 +31,9 @@ use Rattle.irl_ledger.specs.Opening.{AreRising, HaveHappened, IsCounted, IsDone,
 use Rattle.irl_ledger.specs.Reading.{IsStrangeTextAt}
 use Rattle.irl_ledger.proofs.Opening.{begins_legal, next_books, next_legal, next_other}
 use Rattle.irl_ledger.proofs.Reading.{held_later}
+use Rattle.irl_ledger.proofs.Tables.{note_stays}
 
 -- ---- notes are passed over
--- a note leaves the tables
-note_stays : (x : Frontier) (note : Note) → x.progress.begun ≡ true → x ≡ after_other x (Robots note)
-note_stays x note begun = ap (λ (b : Bool). let y : Frontier = record x { progress = record x.progress { begun = b } } in y) begun
-
 module _ (store : Told) (urls : Drum) (ledger : Ledger) (settings : Settings) (u p : Book) where
   abbrev Is : List Happened → List Happened → Type 0
   Is first more = IsCrawlOf store.images urls ledger settings u p first more

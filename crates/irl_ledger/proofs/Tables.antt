@@ -1,10 +1,11 @@
 -- The tables of an open ledger: they stay those of its crawl while the URLs grow, and after each event.
-use Rattle.std.proofs.Common.{◌≡◌, ◌∙◌, ℕ, zero, suc, ◌<◌, nat_eq, List, [], ◌∷◌, ◌++◌, map, replicate, Option, sym, ap, subst, arith}
+use Rattle.std.proofs.Common.{◌≡◌, ◌∙◌, ℕ, zero, suc, ◌<◌, nat_eq, Bool, true, List, [], ◌∷◌, ◌++◌, map, replicate, Option, sym, ap, subst, arith}
 use Rattle.std.specs.Prelude.{find, unwrap_or, ⊤}
 use Rattle.std.specs.List.{AllByRecursion}
 use Rattle.std.specs.Option.{option_or}
 use Rattle.std.proofs.lemmas.List.Folds.{find-append}
 use Rattle.irl_offer.specs.Tuple.{Tuple}
+use Rattle.irl_offer.specs.declared.note.Note.{Note}
 use Rattle.irl_offer.specs.declared.settings.Settings.{Settings}
 use Rattle.irl_beast.specs.declared.item.Item.{Item}
 use Rattle.irl_model.specs.Book.{Book, IsBook, IsFront, uniques}
@@ -78,6 +79,10 @@ fits_idle urls pairs x (Pass judged) idle fits = absurd idle
 fits_idle urls pairs x (Robots note) idle fits =
     record { settings = fits.settings; cuts = fits.cuts; sent = fits.sent; read = fits.read; fronts = fits.fronts; pairs_sent = fits.pairs_sent; told = fits.told }
 fits_idle urls pairs x (Settle fronts outcomes) idle fits = absurd idle
+
+-- a note changes none of the tables
+pub note_stays : (x : Frontier) (note : Note) → x.progress.begun ≡ true → x ≡ after_other x (Robots note)
+note_stays x note begun = ap (λ (b : Bool). let y : Frontier = record x { progress = record x.progress { begun = b } } in y) begun
 
 -- after an event that is no pass the tables are those of the events with it, where the suffixes stay
 pub tables_other : (settings : Settings) (urls pairs : Book) (events : List Happened) (x : Frontier) (event : Event) → begun_with (events ++ (event, []) ∷ []) ≡ begun_with events

@@ -210,9 +210,11 @@ reads_both result failed drum s t w law consistent first second = record {
 -- what was told of a part that was read
 pub told_piece : (result : Result Unit Fault) (old : Ledger) (x : Frontier) (s t : Told) (most count : ℕ) (part : List Judged) → ToldSome part count old.frontier x → count ≤ length part
     → ForSome s.files (λ _. (book : Book) → Holds s.images old.pairs book → part ≡ take most (drop (old.frontier.told - gone book) (judged book)))
-    → old.frontier.told + length part ≤ old.pairs.last.judged → ReadsJudged result (λ _ _. ⊤) old.pairs s t → TellsPairs result old (record old { frontier = x }) s t
-told_piece result old x s t most count part told few value within reads = record {
+    → old.frontier.told + length part ≤ old.pairs.last.judged → old.frontier.told < old.pairs.last.judged → ReadsJudged result (λ _ _. ⊤) old.pairs s t
+    → TellsPairs result old (record old { frontier = x }) s t
+told_piece result old x s t most count part told few value within some reads = record {
   tells = told.tells;
+  idle = λ same. absurd (omega (arith, some, same));
   others = refl;
   within = omega (arith, told.told, few, within);
   degrees = λ files tells book holds counts.
@@ -234,6 +236,7 @@ pairs_none old s consistent within = record {
   tells = tells_same old.frontier;
   others = refl;
   within = within;
+  idle = λ same. (refl, refl, refl);
   degrees = λ files told book holds counts. counts;
   reads = reads_well (Ok (tt {0})) ⊥ old.pairs s s (λ fault is. let no : ⊥ = cc in absurd no) (reads_none (IsJudgedFile old.pairs) s consistent);
 }
@@ -247,6 +250,10 @@ pairs_both result x y z s t w law consistent first second =
       tells = tells_both x.frontier y.frontier z.frontier first.tells second.tells;
       others = second.others ∙ ap (λ (l : Ledger). record l { frontier = z.frontier }) first.others;
       within = subst (λ (d : Drum). z.frontier.told ≤ d.last.judged) pairs second.within;
+      idle = λ same.
+          let one = first.idle same in
+          let two = second.idle (subst (λ (l : Ledger). l.frontier.told ≡ l.pairs.last.judged) (sym one.1) same) in
+          (two.0, two.1 ∙ one.1, two.2 ∙ one.2);
       degrees = λ files told book holds counts.
           let there = holds_fewer s.images t.images x.pairs book law (left_now s t s.images consistent first.reads.reads.stops) holds in
           second.degrees files (first.reads.reads.same ∙ told) book (subst (λ (d : Drum). Holds t.images d book) (sym pairs) there) (first.degrees files told book holds counts);
@@ -258,11 +265,12 @@ pub told_some : {E : Type 0} (result : Result Unit E) (found : List Judged) (x z
 told_some result found x z each = record { tells = each.tells; told = each.told; degrees = each.degrees }
 
 -- none of it was read
-pub told_nothing : (result : Result Unit Fault) (old : Ledger) (s t : Told) → old.frontier.told ≤ old.pairs.last.judged → ReadsJudged result (λ _ _. ⊤) old.pairs s t → TellsPairs result old old s t
-told_nothing result old s t within reads = record {
+pub told_nothing : (result : Result Unit Fault) (old : Ledger) (s t : Told) → old.frontier.told < old.pairs.last.judged → ReadsJudged result (λ _ _. ⊤) old.pairs s t → TellsPairs result old old s t
+told_nothing result old s t some reads = record {
   tells = tells_same old.frontier;
   others = refl;
-  within = within;
+  within = omega (arith, some);
+  idle = λ same. absurd (omega (arith, some, same));
   degrees = λ files told book holds counts. counts;
   reads = reads;
 }

@@ -1,5 +1,5 @@
 -- The last robots note of a host: which it is by the events, where its record stands, and reading it.
-use Rattle.std.specs.Prelude.{◌≡◌, ℕ, ◌+◌, ◌<◌, bytes_eq, cond, List, [], ◌∷◌, length, Option, None, Some, Result, IfOk, IsErrOf, Vec, ⊤}
+use Rattle.std.specs.Prelude.{◌≡◌, ℕ, ◌+◌, ◌<◌, bytes_eq, cond, List, [], ◌∷◌, length, Option, None, Some, Result, Ok, IfOk, IsErrOf, Vec, ⊤}
 use Rattle.std.specs.Option.{ForSome, option_or}
 use Rattle.std.specs.Cmp.Lexicographic.{slice_cmp}
 use Rattle.std.specs.FinMap.{FinMap, empty, get, insert, remove}
@@ -69,6 +69,16 @@ abbrev pub CanRestore : Option (List ℕ × Option ℕ) → NotePlaces → Type 
 CanRestore None places = ⊤
 CanRestore (Some before) places = (at : ℕ) × (get places before.0 ≡ Some at)
 
+-- what puts several back, from the last one to the first
+abbrev pub restored_all : List (Option (List ℕ × Option ℕ)) → NotePlaces → NotePlaces
+restored_all [] places = places
+restored_all (before ∷ all) places = restored before (restored_all all places)
+
+-- and may do so
+abbrev pub CanRestoreAll : List (Option (List ℕ × Option ℕ)) → NotePlaces → Type 0
+CanRestoreAll [] places = ⊤
+CanRestoreAll (before ∷ all) places = CanRestoreAll all places × CanRestore before (restored_all all places)
+
 -- entries with vectors as keys, each with a place of its text or none
 abbrev pub places_in : {A : Type 0} → List (Vec ℕ A × Option ℕ) → NotePlaces
 places_in [] = no_notes
@@ -105,6 +115,11 @@ pub record ReadsNote (result : Result (Option Note) Fault) (host : List ℕ) (mo
     (places : NotePlaces) (before after : Told) : Type 0 where
   pub value : IfOk result (λ found. ForSome before.files (λ _. (events : List Event)
       → HoldsNotes before.images log places events → IsUsedOf moment (last_note host events) found))
+  -- whatever the log has, where a place is known of the host a note's record stands there, which is used or isn't
+  pub sane : IfOk result (λ found. (at : ℕ) → get places host ≡ Some at → ForSome before.files (λ files.
+      (note : Note) × NoteStandsAt log (files crawl_file) at note × IsUsedOf moment (Some note) found))
+  -- and where none is known there is no note, and no byte is read for that, nor memory taken
+  pub idle : get places host ≡ None → (result ≡ Ok None) × (after.taken ≡ before.taken)
   -- damage is named where the host's last note should be and no note's record stands, and never of a log that is held
   pub spoilt : (f at : ℕ) → IsErrOf result (Damaged f at) → (f ≡ crawl_file) × (get places host ≡ Some at)
       × ForSome before.files (λ files. (note : Note) → NoteStandsAt log (files crawl_file) at note → ⊥)

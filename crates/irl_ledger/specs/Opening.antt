@@ -186,7 +186,7 @@ pub record AreOfBooks (settings : Settings) (urls : Drum) (kept : List (ℕ × E
 
 -- A ledger is opened over files that are there, by the answer, where these events were kept of its log.
 pub record OpensLedger (result : Result Ledger Fault) (settings : Settings) (urls : Drum) (log : OpenLog)
-    (kept : List (ℕ × Event)) (before after : Told) : Type 0 where
+    (history : LogHistory) (before after : Told) : Type 0 where
   -- it is open and sound, and of the crawl that the files stand for
   pub opened : IfOk result (λ ledger. IsOpenLedger urls ledger after.files)
   pub sound : IfOk result IsSoundLedger
@@ -196,13 +196,16 @@ pub record OpensLedger (result : Result Ledger Fault) (settings : Settings) (url
   -- it goes on with this log, and whatever the store tells, no event is passed over that breaks a rule of the crawl,
   -- with some places for its passes, or that has other numbers than the bays
   pub same_log : IfOk result (λ ledger. ledger.log ≡ log)
-  pub legal : IfOk result (λ ledger. AreOfBooks settings urls kept ledger before)
+  pub legal : IfOk result (λ ledger. AreOfBooks settings urls history.events ledger before)
+  -- the places of notes are those that the log showed
+  pub notes_are : IfOk result (λ ledger. ledger.notes ≡ history.notes)
   -- no damage of the bay of pairs is passed over
   pub sane : OnOk result (ForSome before.files (λ files. (f at : ℕ)
       → IsDamagedAt pairs_base (pair_settings settings) files f at → ⊥))
   -- damage is named where it is, and never over files that stand for a crawl
   pub spoilt : (f at : ℕ) → IsErrOf result (Damaged f at) → ForSome before.files (λ files.
-      IsDamagedAt pairs_base (pair_settings settings) files f at ⊎ IsStrangeAt before.images urls kept files f at)
+      IsDamagedAt pairs_base (pair_settings settings) files f at ⊎ IsStrangeAt before.images urls history.events files f
+      at)
   pub whole : (f at : ℕ) → IsErrOf result (Damaged f at) → ForSome before.files (λ files. (u p : Book)
       (events : List Happened) → IsCrawlIn before.images settings urls log u p events files → ⊥)
   pub full : (n : ℕ) → IsErrOf result (Full n) → ⊥

@@ -1,5 +1,5 @@
 -- Telling the tables the judged pairs, by which they know how many domains link to each.
-use Rattle.std.specs.Prelude.{◌≡◌, ℕ, ◌+◌, ◌≤◌, List, ◌++◌, filter, map, take, length, Result, OnOk, ⊤}
+use Rattle.std.specs.Prelude.{◌≡◌, ℕ, ◌+◌, ◌≤◌, List, ◌++◌, filter, map, take, length, Result, OnOk, IsOk, ⊤}
 use Rattle.std.specs.Option.{ForSome}
 use Rattle.irl_base.specs.declared.fault.Fault.{Fault}
 use Rattle.irl_offer.specs.declared.receipt.Judged.{Judged}
@@ -40,6 +40,8 @@ pub record TellsPairs (result : Result Unit Fault) (old new : Ledger) (before af
   pub tells : TellsMore old.frontier new.frontier
   pub others : new ≡ record old { frontier = new.frontier }
   pub within : new.frontier.told ≤ old.pairs.last.judged
+  -- where all of them were told it answers Ok, changes nothing and reads nothing, and takes no memory for that
+  pub idle : old.frontier.told ≡ old.pairs.last.judged → IsOk result × (new ≡ old) × (after.taken ≡ before.taken)
   -- whatever is answered, the degrees are those of what was told
   pub degrees : ForSome before.files (λ _. (book : Book) → Holds before.images old.pairs book
       → Counts old.frontier.degrees (domains_told old.frontier.told book)

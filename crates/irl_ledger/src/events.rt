@@ -1,6 +1,6 @@
 //! Events that are added to a crawl's log.
 
-ghost use Rattle.std.specs.Prelude.{◌≡◌, ◌<◌, [], true, false, length, None, Some, IfOk};
+ghost use Rattle.std.specs.Prelude.{◌≡◌, ◌<◌, [], true, false, length, map, None, Some, IfOk, IsOk};
 ghost use Rattle.std.specs.Option.{ForSome};
 ghost use Rattle.irl_events.specs.Events.{Begin as SeenBegin, Robots as SeenRobots};
 ghost use Rattle.irl_events.specs.Legal.{broken};
@@ -8,7 +8,7 @@ ghost use Rattle.irl_events.specs.Seen.{seen, HasFronts};
 ghost use Rattle.irl_frontier.specs.Frontier.{after_other};
 ghost use Rattle.irl_frontier.specs.Plans.{IsNoPass, IsPlanOf, after_plan};
 ghost use Rattle.irl_log.specs.Form.{IsLogged};
-ghost use Rattle.irl_ledger.specs.Adding.{AddsToLog, MayBegin, MayNote};
+ghost use Rattle.irl_ledger.specs.Adding.{AddsAllToLog, AddsToLog, MayBegin, MayNote, MayNoteAll};
 
 use crate::Ledger;
 use irl_disk::Store;
@@ -55,6 +55,27 @@ impl Ledger {
         self.add(store, event)
     }
 
+    /// Notes what is known of several hosts' robots files, in order: all of it is in one append, of two syncs. Want of
+    /// memory changes nothing, and neither do no notes; `Failed` ends the log's soundness.
+    pub fn note_all<S: Store>(&mut self, store: &mut S, notes: &[Note]) -> Result<(), Fault>
+        requires sound { self.old.log.journal.is_sound ≡ true }
+        requires place { ForSome (S.told store.old).files (λ files.
+            self.old.log.journal.end < length (files self.old.log.journal.file)) }
+        requires notes { MayNoteAll self.old notes.now }
+        ensures { AddsAllToLog S.told result (map SeenRobots notes.now) self.old.frontier self.old.suffixes
+            self.old self.new store.old store.new }
+    {
+        let events = robots_events(self.alloc, notes)?;
+        let before = self.notes.take_all(self.log.end(), &events)?;
+        if let Err(fault) = self.log.append(self.alloc, store, &events) {
+            self.notes.put_all_back(before);
+            return Err(fault);
+        }
+        // No place was cut off, since the end behind all of them is a number.
+        let _end = self.log.end();
+        Ok(())
+    }
+
     // One event more, which breaks no rule and gives no places: it is planned, logged, and then done.
     pub(crate) fn add<S: Store>(&mut self, store: &mut S, event: Event) -> Result<(), Fault>
         requires sound { self.old.log.journal.is_sound ≡ true }
@@ -99,6 +120,18 @@ impl Ledger {
         self.frontier.commit(plan);
         Ok(())
     }
+}
+
+// The events of some notes, in order.
+fn robots_events(alloc: Global, notes: &[Note]) -> Result<Vec<Event>, AllocError>
+    ensures value { IfOk result (λ events. map seen events.items ≡ map SeenRobots notes.now) }
+    ensures none { length notes.now ≡ 0 → IsOk result }
+{
+    let mut events = Vec::new(alloc);
+    for note in notes {
+        events.push(Event::Robots(copied(alloc, note)?))?;
+    }
+    Ok(events)
 }
 
 // The same note once more.

@@ -51,8 +51,7 @@ impl Ledger {
         history: History,
     ) -> Result<Ledger, Fault>
         requires { MayOpen settings.now urls.now log history (S.told store.old).files }
-        ensures { OpensLedger result settings.now urls.now log history.events (S.told store.old)
-            (S.told store.new) }
+        ensures { OpensLedger result settings.now urls.now log history (S.told store.old) (S.told store.new) }
     {
         let _is_drum = urls.is_sound();
         let frontier = Frontier::new(alloc, settings)?;

@@ -1,6 +1,8 @@
 ghost use Rattle.std.specs.FinMap.{get};
-ghost use Rattle.std.specs.Prelude.{◌≤◌, ℕ, List, IfOk};
+ghost use Rattle.std.specs.Option.{ForSome};
+ghost use Rattle.std.specs.Prelude.{◌≡◌, ◌<◌, ◌≤◌, ℕ, List, true, is_some, length, IfOk};
 ghost use Rattle.irl_offer.specs.Settings.{AreValid};
+ghost use Rattle.irl_disk.specs.Memory.{told_by};
 ghost use Rattle.irl_layout.specs.BayFiles.{max_base};
 ghost use Rattle.irl_ledger.specs.Noting.{MayReadNote};
 
@@ -12,6 +14,8 @@ use irl_layout::BayFile;
 use irl_offer::{Kind, Outcome, Rule};
 use std::alloc::AllocError;
 use std::test::Fail;
+
+mod several;
 
 // A crawl over one bucket. A pass takes two pages of a domain that no other links to, and up to 10,000 of one that is
 // linked to.
@@ -137,14 +141,24 @@ fn written(alloc: Global, count: u32, log: &[u8]) -> Result<MemStore, Fault> {
     Ok(store)
 }
 
-// Opens it.
-fn opened(alloc: Global, store: &mut MemStore) -> Result<Ledger, Fault>
-    ensures { IfOk result (λ ledger. (host : List ℕ) → MayReadNote ledger.log (get ledger.notes host)) }
+// Opens it, and tells all that its calls ask.
+fn opened_whole(alloc: Global, store: &mut MemStore) -> Result<Ledger, Fault>
+    ensures notes { IfOk result (λ ledger. (host : List ℕ) → MayReadNote ledger.log (get ledger.notes host)) }
+    ensures begun { IfOk result (λ ledger. ledger.frontier.progress.begun ≡ is_some ledger.suffixes) }
+    ensures place { IfOk result (λ ledger. ledger.log.journal.is_sound ≡ true → ForSome (told_by store.new).files
+        (λ files. ledger.log.journal.end < length (files ledger.log.journal.file))) }
 {
     let settings = settings();
     let urls = Bay::adopt(alloc, store, URLS_BASE, &settings)?;
     let (log, history) = History::read(alloc, store, &settings)?;
     Ledger::open(alloc, store, &settings, &urls, log, history)
+}
+
+// Opens it, to read.
+fn opened(alloc: Global, store: &mut MemStore) -> Result<Ledger, Fault>
+    ensures { IfOk result (λ ledger. (host : List ℕ) → MayReadNote ledger.log (get ledger.notes host)) }
+{
+    opened_whole(alloc, store)
 }
 
 // ---- a log of a real size

@@ -55,8 +55,8 @@ pub returns-in_err-frontier : goal.returns-in_err-frontier
 returns-in_err-frontier g c =
     let s = g.S.Store.told c.args.store.now in
     let is : c.from_residual.result ≡ Err Memory = search rules in
-    subst (λ (r : Result Ledger Fault). OpensLedger r c.args.settings.now c.args.urls.now c.args.log c.args.history.events s s) (sym is)
-    (tables_refused c.args.settings.now c.args.urls.now c.args.log c.args.history.events s (g.met.S.Store.is_consistent c.args.store.now))
+    subst (λ (r : Result Ledger Fault). OpensLedger r c.args.settings.now c.args.urls.now c.args.log c.args.history s s) (sym is)
+    (tables_refused c.args.settings.now c.args.urls.now c.args.log c.args.history s (g.met.S.Store.is_consistent c.args.store.now))
 
 pub returns-in_err-pairs : goal.returns-in_err-pairs
 returns-in_err-pairs g c =
@@ -64,7 +64,7 @@ returns-in_err-pairs g c =
     let t = g.S.Store.told c.adopt.new.store in
     let settings = c.args.settings.now in
     let urls = c.args.urls.now in
-    let kept = c.args.history.events in
+    let history = c.args.history in
     let out = err_from_is_err_and c.from_residual-in_err-pairs.result c.from_residual-in_err-pairs.ensures.1 in
     let fault = c.in_err-pairs.field-0.0 in
     let is : c.from_residual-in_err-pairs.result ≡ Err fault = out.1 ∙ ap (λ e. Err e) out.2 in
@@ -72,8 +72,8 @@ returns-in_err-pairs g c =
     (subst (λ (x : Settings). AdoptRefused c.adopt.result pairs_base x s.files) c.pair_settings.ensures c.adopt.ensures.refused) in
     let leaves = subst (λ (r : Result Drum Fault). AdoptMayLeave (IsErrOf r Failed) pairs_base (pair_settings settings) s t) c.in_err-pairs.was
     (subst (λ (x : Settings). AdoptMayLeave (IsErrOf c.adopt.result Failed) pairs_base x s t) c.pair_settings.ensures c.adopt.ensures.leaves) in
-    subst (λ (r : Result Ledger Fault). OpensLedger r settings urls c.args.log kept s t) (sym is)
-    (adopt_refused settings urls c.args.log kept fault s t refused
+    subst (λ (r : Result Ledger Fault). OpensLedger r settings urls c.args.log history s t) (sym is)
+    (adopt_refused settings urls c.args.log history fault s t refused
     (adopted_changes settings urls (IsErrOf {T = Drum} (Err fault) Failed) s t (record {
       valid = c.requires.valid;
       law = c.is_sound-is_drum.ensures.drum;
@@ -97,7 +97,7 @@ returns-in_err-counts g c =
     let adopts = subst (λ (x : Settings). Adopts (Ok c.in_ok-pairs.pairs) pairs_base x s t) c.pair_settings.ensures c.in_ok-pairs.ensures.adopts in
     let leaves = subst (λ (x : Settings). AdoptMayLeave (IsErrOf c.adopt.result Failed) pairs_base x s t) c.pair_settings.ensures c.adopt.ensures.leaves in
     let read = subst (λ (r : Result JudgedCounts Fault). ReadsCounts r c.args.urls.now old.pairs t w) c.in_err-counts.was c.judged_counts.ensures in
-    subst (λ (r : Result Ledger Fault). OpensLedger r settings c.args.urls.now c.args.log c.args.history.events s w) (sym is)
+    subst (λ (r : Result Ledger Fault). OpensLedger r settings c.args.urls.now c.args.log c.args.history s w) (sym is)
     (counts_refused settings c.args.urls.now c.args.history old (IsErrOf c.adopt.result Failed) s t c.is_sound-is_drum.ensures.drum (g.met.S.Store.is_consistent c.adopt.new.store) c.requires
     adopts leaves fault w read)
 
@@ -124,7 +124,7 @@ returns-in_err-redo_all g c =
     ap (map (λ (e : ℕ × LogEvent). (e.0, seen e.1))) c.deref.ensures.value ∙ c.into_parts-events.ensures.events in
     let redoes = subst (λ (r : Result Unit Fault). RedoesAll counts r history.events urls old c.redo_all.new.self w v) c.in_err-redo_all.was
     (subst (λ (es : List (ℕ × Event)). RedoesAll counts c.redo_all.result es urls old c.redo_all.new.self w v) events c.redo_all.ensures) in
-    subst (λ (r : Result Ledger Fault). OpensLedger r settings urls c.args.log history.events s v) (sym is)
+    subst (λ (r : Result Ledger Fault). OpensLedger r settings urls c.args.log history s v) (sym is)
     (redo_refused settings urls history old (IsErrOf c.adopt.result Failed) s t c.is_sound-is_drum.ensures.drum (law c.adopt.new.store) c.requires adopts leaves counts w
     (law c.judged_counts.new.store) c.in_ok-frontier.ensures refl read fault c.redo_all.new.self v redoes)
 
@@ -148,6 +148,6 @@ returns g c =
     ap (map (λ (e : ℕ × LogEvent). (e.0, seen e.1))) c.deref.ensures.value ∙ c.into_parts-events.ensures.events in
     let redoes = subst (λ (r : Result Unit Fault). RedoesAll counts r history.events urls old c.redo_all.new.self w v) c.in_ok-redo_all.was
     (subst (λ (es : List (ℕ × Event)). RedoesAll counts c.redo_all.result es urls old c.redo_all.new.self w v) events c.redo_all.ensures) in
-    subst (λ (n : NotePlaces). OpensLedger (Ok (record c.redo_all.new.self { notes = n })) settings urls c.args.log history.events s v) (sym c.into_parts-events.ensures.notes)
+    subst (λ (n : NotePlaces). OpensLedger (Ok (record c.redo_all.new.self { notes = n })) settings urls c.args.log history s v) (sym c.into_parts-events.ensures.notes)
     (all_redone settings urls history old (IsErrOf c.adopt.result Failed) s t c.is_sound-is_drum.ensures.drum (law c.adopt.new.store) c.requires adopts leaves counts w (law c.judged_counts.new.store)
     c.in_ok-frontier.ensures refl read c.in_ok-redo_all.field-0 c.redo_all.new.self v (law c.redo_all.new.store) redoes)

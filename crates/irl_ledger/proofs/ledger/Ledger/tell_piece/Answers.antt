@@ -13,7 +13,7 @@ returns-in_err-part-clause-tells g c =
     let t = g.S.Store.told c.judged_from.new.store in
     let old = c.args.self.now in
     let out = err_from_is_err_and c.from_residual.result c.from_residual.ensures.1 in
-    told_nothing c.from_residual.result old s t (omega (arith, c.requires.told))
+    told_nothing c.from_residual.result old s t (omega (arith, c.requires.told, c.requires.to))
     (reads_refused c.judged_from.result c.from_residual.result _ _ old.pairs s t c.in_err-part.was (out.1 ∙ ap (λ e. Err e) out.2) c.judged_from.ensures.reads)
 
 pub returns-in_err-tell_part-clause-tells : goal.returns-in_err-tell_part-clause-tells
@@ -28,6 +28,7 @@ returns-in_err-tell_part-clause-tells g c =
     (told_some c.tell_part.result part old.frontier c.tell_part.new.frontier c.tell_part.ensures)
     c.tell_part.ensures.few (subst (λ (n : ℕ). ForSome s.files (λ _. (book : Book) → Holds s.images old.pairs book → part ≡ take c.min-most.result (drop (n - gone book) (judged book))))
     c.told-from.ensures c.in_ok-part.ensures.reads.value) (omega (arith, c.in_ok-part.ensures.count, c.told-from.ensures, c.requires.told))
+    (omega (arith, c.requires.told, c.requires.to))
     (reads_well c.from_residual-in_err-tell_part.result _ old.pairs s t (λ fault named. memory_alone c.from_residual-in_err-tell_part.result fault is named) c.judged_from.ensures.reads.reads)
 
 pub returns-clause-tells : goal.returns-clause-tells
@@ -40,4 +41,5 @@ returns-clause-tells g c =
     (told_some c.tell_part.result part old.frontier c.tell_part.new.frontier c.tell_part.ensures)
     c.tell_part.ensures.few (subst (λ (n : ℕ). ForSome s.files (λ _. (book : Book) → Holds s.images old.pairs book → part ≡ take c.min-most.result (drop (n - gone book) (judged book))))
     c.told-from.ensures c.in_ok-part.ensures.reads.value) (omega (arith, c.in_ok-part.ensures.count, c.told-from.ensures, c.requires.told))
+    (omega (arith, c.requires.told, c.requires.to))
     (reads_well (Ok (tt {0})) _ old.pairs s t (λ fault named. let no : ⊥ = cc in absurd no) c.judged_from.ensures.reads.reads)

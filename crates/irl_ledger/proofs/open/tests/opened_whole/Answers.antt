@@ -1,4 +1,5 @@
-use Rattle.std.proofs.Common.{◌≡◌, inl, inr, ℕ, List, refl, subst, arith}
+use Rattle.std.proofs.Common.{◌≡◌, ◌<◌, inl, inr, ℕ, List, length, refl, sym, subst, arith}
+use Rattle.std.specs.Option.{ForSome}
 use Rattle.std.proofs.lemmas.Result.{IfOk-weaker}
 use Rattle.irl_disk.specs.Memory.{told_by}
 use Rattle.irl_disk.proofs.Frames.{told_from}
@@ -10,7 +11,7 @@ use Rattle.irl_bay.proofs.Staying.{tells_one}
 use Rattle.irl_head.specs.StoreFiles.{crawl_file}
 use Rattle.irl_log.specs.Spelling.{log_records}
 use Rattle.irl_ledger.proofs.Making.{small}
-use Rattle.irl_ledger.proofs.open.tests.opened.Goals as goal
+use Rattle.irl_ledger.proofs.open.tests.opened_whole.Goals as goal
 
 -- what a file stands for once it was opened it stood for before
 opened_back : (old new : List ℕ) (payloads : List (List ℕ)) → IsOpened old new → StandsFor new payloads → StandsFor old payloads
@@ -45,5 +46,12 @@ open-requires c =
           })).1;
     }
 
-pub returns : goal.returns
-returns c = IfOk-weaker c.open.result _ _ (λ ledger is host. record { file = is.file; within = λ at known. is.noted host at known }) c.open.ensures.opened
+pub returns-clause-notes : goal.returns-clause-notes
+returns-clause-notes c = IfOk-weaker c.open.result _ _ (λ ledger is host. record { file = is.file; within = λ at known. is.noted host at known }) c.open.ensures.opened
+
+pub returns-clause-begun : goal.returns-clause-begun
+returns-clause-begun c = IfOk-weaker c.open.result _ _ (λ ledger is. is.begun) c.open.ensures.opened
+
+pub returns-clause-place : goal.returns-clause-place
+returns-clause-place c = IfOk-weaker c.open.result _ _
+    (λ ledger is sound. subst (λ (f : ℕ). ForSome (told_by c.open.new.store).files (λ files. ledger.log.journal.end < length (files f))) (sym is.file) (is.log_long sound)) c.open.ensures.opened
