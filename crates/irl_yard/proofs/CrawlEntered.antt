@@ -24,7 +24,7 @@ use Rattle.irl_bay.specs.Damage.{IsAdopted, IsDamagedAt}
 use Rattle.irl_bay.specs.Drum.{Drum, IsDrum}
 use Rattle.irl_bay.specs.Making.{IsJournalOf, IsJournalOn}
 use Rattle.irl_bay.specs.Opening.{AdoptMayLeave, Adopts}
-use Rattle.irl_bay.proofs.Apart.{HasSameFiles, files_within, holds_beside, journal_files, long_beside}
+use Rattle.irl_bay.proofs.Apart.{HasSameFiles, files_within, holds_beside, journal_files, long_beside, stands_apart}
 use Rattle.irl_bay.proofs.LiveJournals.{adopted_wider}
 use Rattle.irl_bay.proofs.Staying.{open_stays}
 use Rattle.irl_head.specs.Asking.{Agrees}
@@ -43,7 +43,8 @@ use Rattle.irl_yard.specs.declared.parts.Parts.{Parts}
 use Rattle.irl_yard.specs.declared.parts.Rest.TheVariants.{Crawl}
 use Rattle.irl_yard.specs.Entering.{EntersStore, IsReadFile, OpeningRefused, OpensStore, OpensYard, fault_of_bay}
 use Rattle.irl_yard.specs.Holding.{HoldsOpen, HoldsState}
-use Rattle.irl_yard.specs.Opening.{IsComparedFile, IsDamageAt}
+use Rattle.irl_yard.specs.Opening.{IsComparedFile, IsDamageAt, IsOfItsLog}
+use Rattle.irl_yard.proofs.OfItsLog.{opened_log}
 use Rattle.irl_yard.specs.Standing.{HasRest, IsMade, IsRest}
 use Rattle.irl_yard.proofs.Answered.{enters_for, refused_head}
 use Rattle.irl_yard.proofs.Beside.{crawl_open}
@@ -212,7 +213,7 @@ module _ (asked : Asked) (settings : Settings) (valid : AreValid settings) (agre
       λ f is. pairs_beside settings small first.0 then_.0 then_.2 f is ∙ pairs_same settings small files first.0 first.2 f is
 
   -- ---- and then the rest is opened
-  module _ (result : Result Ledger Fault) (kept : List (ℕ × Event)) (new : Told) (opens : OpensLedger result settings urls log kept late new) where
+  module _ (result : Result Ledger Fault) (taken : LogHistory) (new : Told) (opens : OpensLedger result settings urls log taken late new) where
     -- it is refused
     pub damage_ground : (f at : ℕ) → IsErrOf result (BayDamaged f at) → ForSome old.files (λ files. IsDamageAt asked files f at)
     damage_ground f at is = λ files told.
@@ -222,17 +223,17 @@ module _ (asked : Asked) (settings : Settings) (valid : AreValid settings) (agre
         (λ (damaged : IsDamagedAt pairs_base (pair_settings settings) then_.0 f at).
         rest_ground asked settings files f at (head files told) agrees kind
         (inr (damage_stays pairs_base (pair_settings settings) then_.0 files (λ g of. sym (pairs_was files told g of)) f at damaged)))
-        (λ (strange : IsStrangeAt late.images urls kept then_.0 f at). inr (record {
+        (λ (strange : IsStrangeAt late.images urls taken.events then_.0 f at). inr (record {
           settings = settings;
           head = head files told;
           agrees = agrees;
           kind = kind;
-          file = strange_file late.images urls kept then_.0 f at adopts.drum adopts.base strange;
+          file = strange_file late.images urls taken.events then_.0 f at adopts.drum adopts.base strange;
           none = λ state has. opens.whole f at is then_.0 then_.1 state.urls state.pairs state.events (crawl_in files state told (made_has settings state files (head files told) has));
         }))
         (opens.spoilt f at is then_.0 then_.1)
 
-  module _ (ledger : Ledger) (kept : List (ℕ × Event)) (new : Told) (opens : OpensLedger (Ok ledger) settings urls log kept late new) (law_new : IsConsistent new)
+  module _ (ledger : Ledger) (new : Told) (opens : OpensLedger (Ok ledger) settings urls log history late new) (law_new : IsConsistent new)
       (stops : LeavesBy (OpensStore asked old.files) old new) (head_kept : KeepsHead old.images settings) where
     abbrev parts : Parts
     parts = record { urls = urls; rest = Crawl ledger; has_failed = false }
@@ -295,6 +296,15 @@ module _ (asked : Asked) (settings : Settings) (valid : AreValid settings) (agre
       rest = crawl_open urls ledger new.files (ap (λ (s : Settings). s.kind) adopts.settings ∙ kind) opens.opened;
       settings = λ files told. inl (subst (λ (s : Settings). HasHead s files) (sym adopts.settings) (head files told));
       agrees = subst (Agrees asked) (sym adopts.settings) agrees;
+      legal = λ other is.
+          let same : ledger ≡ other = cc in
+          subst (IsOfItsLog old.files urls) same (opened_log old.files settings urls log history ledger late adopts.settings opens.same_log opens.notes_are read.took opens.legal
+          (λ files told events has_events. (read.holds files told events has_events).1)
+          (λ files told has_head u p of_urls of_pairs.
+          let first = to_mid files told in
+          let then_ = to_late first.0 first.1 in
+          let holds_u = adopts.holds first.0 first.1 u (stands_apart urls_base settings u files first.0 (urls_same settings small files first.0 first.2) of_urls) in
+          opens.legal.judged then_.0 then_.1 u p holds_u (stands_apart pairs_base (pair_settings settings) p files then_.0 (pairs_was files told) of_pairs)));
       ours = λ files told at. settings_ours asked files settings at (inl (head files told));
       undamaged = λ files told f at. head_undamaged asked settings files f at (head files told) (none_damaged files told f at)
           (crawl_whole settings.kind settings files f at kind (read.sane files told f at) (no_pairs_damaged files told f at));

@@ -38,7 +38,7 @@ use Rattle.irl_yard.specs.Holding.{HoldsOpen, HoldsState, HoldsUrls, IsOpenRest}
 use Rattle.irl_yard.specs.Merges.{ReadsState}
 use Rattle.irl_yard.specs.Passing.{AreCounts, AreWorks, come, front_in}
 use Rattle.irl_yard.specs.Standing.{IsRest}
-use Rattle.irl_yard.proofs.Adding.{legal_as}
+use Rattle.irl_yard.proofs.Appended.{legal_as}
 use Rattle.irl_yard.proofs.Beside.{state_same}
 use Rattle.irl_yard.proofs.Holding.{stops_same}
 use Rattle.irl_yard.proofs.PassWhole.{come_plain}

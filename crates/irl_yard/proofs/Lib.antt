@@ -1,7 +1,10 @@
 pub mod Adding
+pub mod Appended
 pub mod Answered
 pub mod Beside
+pub mod BooksLead
 pub mod ByKind
+pub mod CallsLead
 pub mod Core
 pub mod CrawlEntered
 pub mod CrawlOpened
@@ -13,11 +16,14 @@ pub mod Grounds
 pub mod Holding
 pub mod Journals
 pub mod Kept
+pub mod Leading
 pub mod Lifting
 pub mod Looking
 pub mod Making
 pub mod MayAsk
 pub mod NoteStates
+pub mod NotesAdded
+pub mod OfItsLog
 pub mod PassStates
 pub mod PassWhole
 pub mod Receipts

@@ -60,6 +60,11 @@ then_front : (b : Bool) (y : Fate) → (y ≡ Front → ⊥) → cond b Front y 
 then_front true y fails is = refl
 then_front false y fails is = absurd (fails is)
 
+-- and what is in front has that fate
+pub front_has : (rest : Rest) (n : ℕ) → has_number (front_in rest) n ≡ true → fate_in rest n ≡ Front
+front_has Plain n has = absurd (cc)
+front_has (Crawl ledger) n has = let x = ledger.frontier.progress in ap (λ (b : Bool). cond b Front (waits_from 0 x.waiting.lists n (done_by x.done n Fresh))) has
+
 pub in_front : (rest : Rest) (n : ℕ) → fate_in rest n ≡ Front → has_number (front_in rest) n ≡ true
 in_front Plain n is = absurd (not_front Fresh refl is)
 in_front (Crawl ledger) n is =

@@ -25,7 +25,7 @@ use Rattle.irl_yard.specs.declared.parts.Parts.{Parts}
 use Rattle.irl_yard.specs.declared.parts.Rest.{Rest}
 use Rattle.irl_yard.specs.declared.parts.Rest.TheVariants.{Plain, Crawl}
 use Rattle.irl_yard.specs.Holding.{HoldsOpen, HoldsState, IsOpenRest}
-use Rattle.irl_yard.specs.Noting.{MayReadNoteIn, ReadsLastNote, ReadsNoteIn}
+use Rattle.irl_yard.specs.Noting.{HasNoPlace, MayReadNoteIn, ReadsLastNote, ReadsNoteIn}
 use Rattle.irl_yard.specs.Standing.{IsRest}
 use Rattle.irl_yard.proofs.Beside.{state_same}
 use Rattle.irl_yard.proofs.Holding.{stops_same}
@@ -40,7 +40,7 @@ may_read urls (Crawl ledger) told host open_rest =
 -- ---- by the kind
 pub none_in : (host : List ℕ) (moment : ℕ) (s : Told) → IsConsistent s → ReadsNoteIn (Ok None) host moment Plain s s
 none_in host moment s law = record {
-  plain = λ is. refl;
+  plain = λ is. (refl, refl);
   crawl = λ ledger is. let no : ⊥ = cc in absurd no;
   reads = reads_for (λ f. f ≡ crawl_file) ⊥ (IsErrOf {T = Option Note} (Ok None) Failed) s s (λ is. cc) (reads_none (λ f. f ≡ crawl_file) s law);
 }
@@ -78,7 +78,7 @@ module _ (result : Result (Option Note) Fault) (host : List ℕ) (moment : ℕ) 
       let kind : was.urls.settings.kind ≢ CrawlKind = subst (λ (r : Rest). HoldsOpen old.images was.urls.settings r state.urls state.pairs state.events) e holds.open_rest in
       let none = no_events was.urls.settings.kind was.urls.settings state.urls state.pairs state.events kind holds.urls.legal in
       let no_note : last_note host (events_of state.events) ≡ None = ap (λ (es : List Happened). last_note host (events_of es)) none in
-      let both : Ok found ≡ Ok None = sym is ∙ reads.plain e in
+      let both : Ok found ≡ Ok None = sym is ∙ (reads.plain e).0 in
       let same : found ≡ None = cc in
       subst (IsUsedOf moment (last_note host (events_of state.events))) (sym same) (λ note last used. let no : None ≡ Some note = sym no_note ∙ last in absurd (cc))
   value_by found is files told state holds (Crawl ledger) e =
@@ -88,20 +88,32 @@ module _ (result : Result (Option Note) Fault) (host : List ℕ) (moment : ℕ) 
 
   spoilt_by : (f at : ℕ) → IsErrOf result (Damaged f at) → (r : Rest) → was.rest ≡ r → (ledger : Ledger) × (was.rest ≡ Crawl ledger) × (f ≡ crawl_file) × (get ledger.notes host ≡ Some at)
       × ForSome old.files (λ files. (note : Note) → NoteStandsAt ledger.log (files crawl_file) at note → ⊥)
-  spoilt_by f at is Plain e = let no : Ok None ≡ Err (Damaged f at) = sym (reads.plain e) ∙ is in absurd (cc)
+  spoilt_by f at is Plain e = let no : Ok None ≡ Err (Damaged f at) = sym ((reads.plain e).0) ∙ is in absurd (cc)
   spoilt_by f at is (Crawl ledger) e = let why = (reads.crawl ledger e).spoilt f at is in (ledger, e, why.0, why.1, why.2)
 
   whole_by : (f at : ℕ) → IsErrOf result (Damaged f at) → (files : Files) → old.files ≡ Some files → (state : State) → HoldsState old.images was state → (r : Rest) → was.rest ≡ r → ⊥
-  whole_by f at is files told state holds Plain e = let no : Ok None ≡ Err (Damaged f at) = sym (reads.plain e) ∙ is in cc
+  whole_by f at is files told state holds Plain e = let no : Ok None ≡ Err (Damaged f at) = sym ((reads.plain e).0) ∙ is in cc
   whole_by f at is files told state holds (Crawl ledger) e = (reads.crawl ledger e).whole f at is files told (events_of state.events) (notes_held ledger state e holds)
 
   full_by : (n : ℕ) → IsErrOf result (Full n) → (r : Rest) → was.rest ≡ r → ⊥
-  full_by n is Plain e = let no : Ok None ≡ Err (Full n) = sym (reads.plain e) ∙ is in cc
+  full_by n is Plain e = let no : Ok None ≡ Err (Full n) = sym ((reads.plain e).0) ∙ is in cc
   full_by n is (Crawl ledger) e = (reads.crawl ledger e).full n is
+
+  sane_by : (found : Option Note) → result ≡ Ok found → (ledger : Ledger) → was.rest ≡ Crawl ledger → (at : ℕ) → get ledger.notes host ≡ Some at
+      → ForSome old.files (λ files. (note : Note) × NoteStandsAt ledger.log (files crawl_file) at note × IsUsedOf moment (Some note) found)
+  sane_by found is ledger e =
+      subst (λ (r : Result (Option Note) Fault). IfOk r (λ found. (at : ℕ) → get ledger.notes host ≡ Some at
+      → ForSome old.files (λ files. (note : Note) × NoteStandsAt ledger.log (files crawl_file) at note × IsUsedOf moment (Some note) found))) is (reads.crawl ledger e).sane
+
+  idle_by : (r : Rest) → was.rest ≡ r → HasNoPlace r host → (result ≡ Ok None) × (new.taken ≡ old.taken)
+  idle_by Plain e none = reads.plain e
+  idle_by (Crawl ledger) e none = (reads.crawl ledger e).idle none
 
   pub note_state : ReadsLastNote result host moment was now old new
   note_state = record {
     value = ok_each result _ (λ found is files told state holds. value_by found is files told state holds was.rest refl);
+    sane = ok_each result _ sane_by;
+    idle = idle_by was.rest refl;
     spoilt = λ f at is. spoilt_by f at is was.rest refl;
     whole = λ f at is files told state holds. whole_by f at is files told state holds was.rest refl;
     full = λ n is. full_by n is was.rest refl;

@@ -35,7 +35,8 @@ use Rattle.irl_yard.specs.Adding.{with_event}
 use Rattle.irl_yard.specs.Holding.{HasOneOf, HoldsOpen, HoldsState, HoldsUrls, IsOpenRest}
 use Rattle.irl_yard.specs.Merges.{ReadsState}
 use Rattle.irl_yard.specs.Passing.{AddsPass, AreFresh, IsDue, with_pass}
-use Rattle.irl_yard.proofs.Adding.{IsNext, IsNextIn, from_ok, legal_as, log_changes, on_err_then, same_crawl, state_next, still_open, stops_next, urls_long}
+use Rattle.irl_yard.proofs.Adding.{IsNext, IsNextIn, log_changes, state_next, still_open, stops_next, urls_long}
+use Rattle.irl_yard.proofs.Appended.{from_ok, legal_as, on_err_then, same_crawl}
 use Rattle.irl_yard.proofs.Beside.{state_same}
 use Rattle.irl_yard.proofs.Holding.{stops_same}
 

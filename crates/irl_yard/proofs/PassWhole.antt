@@ -30,7 +30,7 @@ use Rattle.irl_yard.specs.Holding.{HasOneOf, HoldsOpen, HoldsState, HoldsUrls}
 use Rattle.irl_yard.specs.Merges.{ReadsState}
 use Rattle.irl_yard.specs.Passing.{AddsPass, AreFresh, PassesState, come, front_in, with_pass}
 use Rattle.irl_yard.specs.Standing.{HasState, IsRest}
-use Rattle.irl_yard.proofs.Adding.{same_crawl}
+use Rattle.irl_yard.proofs.Appended.{same_crawl}
 
 -- ---- answers
 err_ok : {A : Type 0} (result : Result A Fault) (P : Type 0) → IsErr result → OnOk result P
@@ -123,6 +123,7 @@ module _ {S : Type 0} (tells : S → Told) (law : (s : S) → IsConsistent (tell
         record { told = changes.told; stops = changes.stops; taken = changes.taken; cause = record { later = changes.cause.later; rose = λ e. changes.cause.rose (same Failed e) } };
     memory = λ e state holds. states.holds state holds;
     damaged = λ f at e state holds. states.holds state holds;
+    still = λ not. on_err result _ (λ state holds. states.stops state holds);
     spoilt = λ f at e. reads.spoilt f at (same (Damaged f at) e);
     whole = λ f at e. states.whole f at (same (Damaged f at) e);
     full = λ n e. reads.full n (same (Full n) e);
@@ -162,6 +163,16 @@ module _ {S : Type 0} (tells : S → Told) (law : (s : S) → IsConsistent (tell
         (subst (λ (s : Settings). Leaves (tells between) (tells after) (HasOneOf state (with_pass s state))) settings_same
         (adds.stops state (read_holds state holds) (then_fresh state (found files told state holds))))
 
+    -- without memory nothing was added
+    still_by : (error : Result ℕ Fault) → ((e : Fault) → IsErrOf error e → IsErrOf added e) → (IsErrOf error Failed → ⊥)
+        → OnErr error ((state : State) → HoldsState (tells before).images was state → Leaves (tells before) (tells after) (HasState state))
+    still_by (Ok n) is not = tt
+    still_by (Err Failed) is not = absurd (not refl)
+    still_by (Err Memory) is not = λ state holds.
+        subst (λ (s : S). Leaves (tells before) (tells s) (HasState state)) (sym (adds.memory (is Memory refl)).0) (read_stops state holds)
+    still_by (Err (Full n)) is not = absurd (adds.full n (is (Full n) refl))
+    still_by (Err (Damaged f at)) is not = absurd (adds.damaged f at (is (Damaged f at) refl))
+
     pub pass_added : PassesState tells result was now before after
     pass_added = record {
       holds = on_ok result _ (λ ok files told state holds. pass_after (done ok) files told state holds);
@@ -175,6 +186,7 @@ module _ {S : Type 0} (tells : S → Told) (law : (s : S) → IsConsistent (tell
           let none = adds.memory (same Memory e) in
           subst (λ (s : S). HoldsState (tells s).images now state) (sym none.0) (subst (λ (p : Parts). HoldsState (tells between).images p state) (sym none.1) (read_holds state holds));
       damaged = λ f at e. absurd (adds.damaged f at (same (Damaged f at) e));
+      still = still_by result same;
       spoilt = λ f at e. absurd (adds.damaged f at (same (Damaged f at) e));
       whole = λ f at e. absurd (adds.damaged f at (same (Damaged f at) e));
       full = λ n e. adds.full n (same (Full n) e);

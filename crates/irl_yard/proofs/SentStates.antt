@@ -8,7 +8,8 @@ use Rattle.irl_offer.specs.declared.settings.Kind.{Kind}
 use Rattle.irl_offer.specs.declared.settings.Kind.TheVariants.{Crawl as CrawlKind}
 use Rattle.irl_offer.specs.declared.settings.Settings.{Settings}
 use Rattle.irl_offer.specs.Tuple.{Tuple}
-use Rattle.irl_model.specs.Book.{Book, IsPrefixOf}
+use Rattle.irl_model.specs.Book.{Book, IsFront, IsPrefixOf}
+use Rattle.irl_model.proofs.FrontLaws.{front_both, front_same}
 use Rattle.irl_events.specs.Events.{Progress}
 use Rattle.irl_events.specs.State.{State}
 use Rattle.irl_core.specs.States.{begun_with}
@@ -24,7 +25,8 @@ use Rattle.irl_bay.proofs.Apart.{files_of_both, files_within, holds_beside, long
 use Rattle.irl_bay.specs.JudgedSpoilt.{IsJudgedSpoiltAt}
 use Rattle.irl_bay.proofs.Staying.{leaves_same, tells_same}
 use Rattle.irl_bay.proofs.Standing.{holds_stands}
-use Rattle.irl_schedule.specs.Feeding.{HasBetween, Moment, Stays, TakesWaiting, moment}
+use Rattle.irl_schedule.specs.Schedule.{one_more}
+use Rattle.irl_schedule.specs.Feeding.{Fed, HasBetween, Moment, Stays, TakesWaiting, moment}
 use Rattle.irl_schedule.proofs.Chains.{tells_on}
 use Rattle.irl_schedule.proofs.Outcomes.{ok_gives}
 use Rattle.irl_schedule.proofs.Journals.{leaves_pair}
@@ -41,11 +43,13 @@ use Rattle.irl_yard.specs.declared.parts.Parts.{Parts}
 use Rattle.irl_yard.specs.declared.parts.Rest.{Rest}
 use Rattle.irl_yard.specs.declared.parts.Rest.TheVariants.{Crawl}
 use Rattle.irl_yard.specs.Holding.{HoldsOpen, HoldsState, HoldsUrls, IsSoundRest, StaysSound}
-use Rattle.irl_yard.specs.Sending.{ArePairsSent, HasBegun, HasToldAll, HasSentAll, HasSomeSent, MayHaveSent, TellsState, links_in, OffersState, counted_behind, with_pairs}
+use Rattle.irl_yard.specs.Leading.{FailsAt, HasOneBetween, LeadsTo}
+use Rattle.irl_yard.specs.Sending.{ArePairsSent, HasBegun, HasToldAll, HasSentAll, HasSomeSent, IsSomeSent, MayHaveSent, TellsState, links_in, OffersState, counted_behind, with_pairs}
 use Rattle.irl_yard.specs.Standing.{HasRest, HasState, IsRest}
-use Rattle.irl_yard.proofs.Adding.{legal_as}
+use Rattle.irl_yard.proofs.Appended.{legal_as}
 use Rattle.irl_yard.proofs.Holding.{holds_same, stops_same}
 use Rattle.irl_yard.proofs.RestFiles.{few}
+use Rattle.irl_yard.proofs.States.{pairs_front}
 
 -- ---- a state with a longer book of pairs
 module _ (s t : Told) (urls : Drum) (state : State) (law : IsDrum urls) (consistent : IsConsistent t) (kind : urls.settings.kind ≡ CrawlKind) (holds : HoldsUrls s.images urls state)
@@ -178,6 +182,9 @@ module _ (result : Result Unit Fault) (was now : Parts) (old new : Ledger) (s t 
   still : Stays before after
   still = offers.runs.stays
 
+  abbrev among_pairs : ℕ → Type 0
+  among_pairs = IsFileOf pairs_base settings.buckets
+
   pairs_leave : LeavesBy (ChangesOnly (IsFileOf pairs_base settings.buckets)) s t
   pairs_leave = subst (λ (n : ℕ). LeavesBy (ChangesOnly (IsFileOf n settings.buckets)) s t) opened.base
       (subst (λ (p : Settings). LeavesBy (ChangesOnly (IsFileOf old.pairs.base p.buckets)) s t) opened.settings still.others_stop)
@@ -224,13 +231,68 @@ module _ (result : Result Unit Fault) (was now : Parts) (old new : Ledger) (s t 
               (subst (λ (r : Rest). HoldsOpen t.images settings r state.urls book state.events) (sym now_rest) beside);
         }
 
-    kept : IsDrum new.pairs → (IsErrOf result Failed → ⊥) → (book : Book) × MayHaveSent settings state book × HoldsState t.images now (with_pairs book state)
+    was_is : IsBookOf (pair_settings settings) state.pairs
+    was_is = subst (λ (p : Settings). IsBookOf p state.pairs) opened.settings held.pairs_hold.book_is
+
+    -- files that stand for a book between two, of which the second has only new links behind
+    has_between : (x most : Book) → IsFront state.pairs x → TakesWaiting (pair_settings settings) state.pairs no_waiting most offers.news → (image : Files) → Follows (ChangesOnly among_pairs) s.images image
+        → HasBetween old.pairs.base old.pairs.settings x most image → HasOneBetween (with_pairs x state) (with_pairs most state) image
+    has_between x most first takes image from both =
+        let stands = subst (λ (n : ℕ). Stands n (pair_settings settings) both.0 image) opened.base
+        (subst (λ (p : Settings). Stands old.pairs.base p both.0 image) opened.settings both.1) in
+        let may = may_between settings state.urls state.pairs state.events both.0 most offers.news was_is stands.book_is (front_both state.pairs x both.0 first both.2) both.3 front takes in (
+          with_pairs both.0 state,
+          has_pairs s t was.urls state law lawful kind holds.urls begun_events both.0 image may from stands,
+          pairs_front (with_pairs x state) both.0 both.2,
+          pairs_front (with_pairs both.0 state) most both.3,
+        )
+
+    -- and so a stop leaves one
+    stops_between : (most : Book) → TakesWaiting (pair_settings settings) state.pairs no_waiting most offers.news
+        → Leaves s t (HasBetween old.pairs.base old.pairs.settings state.pairs most) → Leaves s t (HasOneBetween state (with_pairs most state))
+    stops_between most takes leaves = widens s t _ _ (leaves_pair s t _ _ pairs_leave leaves) (λ image both. has_between state.pairs most (front_same state.pairs) takes image both.0 both.1)
+
+    leads : (fed : Fed 1 one_more offers.news before after state.pairs) → IsDrum new.pairs → MayHaveSent settings state fed.book → LeadsTo state (with_pairs fed.book state) now s t
+    leads fed pairs_law may = record {
+      holds = ended fed.book pairs_law may fed.holds;
+      front = pairs_front state fed.book may.front;
+      stops = stops_between fed.book (fed_takes settings state.urls state.pairs state.events offers.news before after refl opened.settings fed) fed.stops;
+    }
+
+    kept : IsDrum new.pairs → (IsErrOf result Failed → ⊥) → (book : Book) × MayHaveSent settings state book × LeadsTo state (with_pairs book state) now s t
     kept pairs_law not =
         let fed = offers.runs.fed not files told state.pairs held.pairs_hold in
         let may = fed_may settings state.urls state.pairs state.events offers.news before after refl opened.settings fed still front in
-        (fed.book, may, ended fed.book pairs_law may fed.holds)
+        (fed.book, may, leads fed pairs_law may)
 
-    done : IsDrum new.pairs → (value : Unit) → result ≡ Ok value → (book : Book) × HasSentAll settings state book × HoldsState t.images now (with_pairs book state)
+    -- where the store failed
+    fails : IsErrOf result Failed → FailsAt (IsSomeSent settings state) state s t
+    fails failed =
+        let strands = offers.runs.stranded failed files told state.pairs held.pairs_hold in
+        let takes = subst (λ (p : Settings). TakesWaiting p state.pairs no_waiting strands.most offers.news) opened.settings strands.takes in
+        let may : (x : Book) → IsBookOf old.pairs.settings x → IsFront state.pairs x → IsFront x strands.most → MayHaveSent settings state x = λ x is first later.
+        may_between settings state.urls state.pairs state.events x strands.most offers.news was_is (subst (λ (p : Settings). IsBookOf p x) opened.settings is) first later front takes in
+        let up : IsFront strands.kept strands.most = front_both strands.kept strands.book strands.most strands.kept_front strands.front in
+        let follows : (image : Files) → t.images image → Follows (ChangesOnly among_pairs) s.images image = λ image left. left_now s t _ lawful pairs_leave image left in
+        record {
+          kept = with_pairs strands.kept state;
+          state = with_pairs strands.book state;
+          most = with_pairs strands.most state;
+          may_kept = (strands.kept, may strands.kept strands.kept_legal strands.kept_grows.front up, refl);
+          may_most = (strands.most, may strands.most strands.legal strands.may_grow.front (front_same strands.most), refl);
+          told = λ image is.
+              let stands = strands.told image is in
+              let moved = subst (λ (n : ℕ). Stands n (pair_settings settings) strands.book image) opened.base
+              (subst (λ (p : Settings). Stands old.pairs.base p strands.book image) opened.settings stands) in
+              has_pairs s t was.urls state law lawful kind holds.urls begun_events strands.book image (may strands.book stands.book_is strands.grows.front strands.front)
+              (follows image (lawful.told image is)) moved;
+          first = pairs_front state strands.kept strands.kept_grows.front;
+          fronts = (pairs_front (with_pairs strands.kept state) strands.book strands.kept_front, pairs_front (with_pairs strands.book state) strands.most strands.front);
+          stops = stops_between strands.most takes strands.stops;
+          now = λ image left. has_between strands.kept strands.most strands.kept_grows.front takes image (follows image left) (strands.now image left);
+        }
+
+    done : IsDrum new.pairs → (value : Unit) → result ≡ Ok value → (book : Book) × HasSentAll settings state book × LeadsTo state (with_pairs book state) now s t
         × ArePairsSent (with_pairs book state)
     done pairs_law value is =
         let fed = offers.runs.fed (λ failed. let both = sym is ∙ failed in let no : ⊥ = cc in absurd no) files told state.pairs held.pairs_hold in
@@ -238,7 +300,7 @@ module _ (result : Result Unit Fault) (was now : Parts) (old new : Ledger) (s t 
         let sent = fed_all settings state.urls state.pairs state.events offers.news before after refl opened.settings fed still pairs_law all (ok_gives result value offers.emptied is)
         (ok_gives result value offers.judged_all is) in
         let crawl = legal_as settings kind state.pairs state.urls state.events holds.urls.legal in
-        (fed.book, sent, ended fed.book pairs_law sent.may fed.holds, sent_event settings state.urls state.pairs state.events fed.book holds.urls.urls_hold.book_is crawl begun_events sent)
+        (fed.book, sent, leads fed pairs_law sent.may, sent_event settings state.urls state.pairs state.events fed.book holds.urls.urls_hold.book_is crawl begun_events sent)
 
     -- a stop on the way
     between : (most : Book) → TakesWaiting (pair_settings settings) state.pairs no_waiting most offers.news → Leaves s t (HasBetween old.pairs.base old.pairs.settings state.pairs most)
@@ -291,6 +353,7 @@ module _ (result : Result Unit Fault) (was now : Parts) (old new : Ledger) (s t 
   offers_state = record {
     holds = λ not files told state holds. kept state holds files told offers.goes_on.drum (λ failed. not (failed_behind result failed));
     all = behind_ok result _ (on_ok result _ (λ value is files told state holds. done state holds files told offers.goes_on.drum value is));
+    failed = λ is files told state holds. fails state holds files told (behind_failed result is);
     stops = λ files told state holds. stops state holds files told;
     full = λ n is files told state holds.
         let why = behind_full result n is in

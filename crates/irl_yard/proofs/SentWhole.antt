@@ -1,11 +1,11 @@
 -- Sending pairs: its three steps one after the other, over states.
-use Rattle.std.proofs.Common.{◌≡◌, ◌∙◌, inl, inr, ℕ, Bool, true, cond, List, [], Option, Some, Result, Ok, Err, OnOk, OnErr, IsErrOf, refl, sym, ap, subst, arith}
+use Rattle.std.proofs.Common.{◌≡◌, ◌∙◌, inl, inr, ℕ, Bool, true, false, cond, List, [], Option, Some, Result, Ok, Err, OnOk, OnErr, IsErrOf, refl, sym, ap, subst, arith}
 use Rattle.std.specs.Option.{ForSome}
 use Rattle.irl_base.specs.declared.fault.Fault.{Fault}
 use Rattle.irl_base.specs.declared.fault.Fault.TheVariants.{Damaged, Failed, Full, Memory}
 use Rattle.irl_offer.specs.declared.settings.Settings.{Settings}
 use Rattle.irl_model.specs.Book.{Book}
-use Rattle.irl_events.specs.State.{State}
+use Rattle.irl_events.specs.State.{State, IsFrontState}
 use Rattle.irl_disk.specs.Disk.{Files}
 use Rattle.irl_disk.specs.Images.{Told, IsConsistent, Leaves}
 use Rattle.irl_layout.specs.BayFiles.{IsFileOf}
@@ -17,7 +17,7 @@ use Rattle.irl_bay.specs.Drum.{Drum}
 use Rattle.irl_schedule.proofs.Outcomes.{ok_gives}
 use Rattle.irl_events.specs.Events.{progress}
 use Rattle.irl_core.specs.States.{begun_with, cut_count}
-use Rattle.std.specs.Prelude.{is_some}
+use Rattle.std.specs.Prelude.{is_some, nat_eq}
 use Rattle.std.proofs.lemmas.Bool.{eq-eqb}
 use Rattle.irl_ledger.specs.declared.ledger.Ledger.{Ledger}
 use Rattle.irl_ledger.proofs.SentAlready.{none_new, same_book}
@@ -25,11 +25,15 @@ use Rattle.irl_yard.specs.declared.parts.Parts.{Parts}
 use Rattle.irl_yard.specs.declared.parts.Rest.{Rest}
 use Rattle.irl_yard.specs.declared.parts.Rest.TheVariants.{Plain, Crawl}
 use Rattle.irl_yard.specs.Adding.{with_event}
-use Rattle.irl_yard.proofs.Adding.{is_open, legal_as}
+use Rattle.irl_yard.proofs.Adding.{is_open}
+use Rattle.irl_yard.proofs.Appended.{legal_as}
 use Rattle.irl_yard.specs.Holding.{HasOneOf, HoldsOpen, HoldsState, IsOpenRest}
-use Rattle.irl_yard.specs.Sending.{ArePairsSent, HasSent, HasSentAll, HasBegun, IsSentFile, LogsPairs, MayHaveSent, OffersState, OnlyThese, SendsPairs, TellsState, AreSentAlready, sent_of, sent_state, with_pairs}
+use Rattle.irl_yard.specs.Leading.{LeadsTo}
+use Rattle.irl_yard.specs.Sending.{ArePairsSent, IsOnTheWay, IsSomeSent, HasSent, HasSentAll, HasBegun, IsSentFile, LogsPairs, MayHaveSent, OffersState, OnlyThese, SendsPairs, TellsState, AreSentAlready, sent_of, sent_state, with_pairs}
 use Rattle.irl_yard.specs.Standing.{HasState}
+use Rattle.irl_yard.proofs.Leading.{fails_one, fails_same, fails_then, fails_wider, leads_both, leads_one, leads_same}
 use Rattle.irl_yard.proofs.SentStates.{begun_of, on_ok}
+use Rattle.irl_yard.proofs.States.{event_front, state_same}
 
 on_err : (result : Result Unit Fault) (fault : Fault) (P : Type 0) → result ≡ Err fault → P → OnErr result P
 on_err (Ok value) fault P is has = absurd (cc)
@@ -59,11 +63,20 @@ these_both among s t u consistent first second = record {
   stops = leaves_both among s t u consistent first.stops second.stops;
 }
 
+-- the event comes behind
+sent_front : (settings : Settings) (state : State) → IsFrontState state (sent_state settings state)
+sent_front settings state = by_count (nat_eq (progress settings.queues settings.buckets state.events).cuts (cut_count state.urls))
+  where
+    by_count : (is_sent : Bool) → IsFrontState state (cond is_sent state (with_event (sent_of state) [] state))
+    by_count true = state_same state
+    by_count false = event_front (sent_of state) [] state
+
 -- ---- where the offers are refused
 pub offers_alone : (result : Result Unit Fault) (fault : Fault) (was now : Parts) (s t : Told) → result ≡ Err fault → OffersState result was now s t → SendsPairs result was now s t
 offers_alone result fault was now s t is offers = record {
   done = on_ok_none result fault _ is;
   kept = on_err result fault _ is offers.holds;
+  failed = λ failed files told state holds. fails_wider (IsSomeSent was.urls.settings state) (IsOnTheWay was.urls.settings state) state s t (λ later some. inl some) (offers.failed failed files told state holds);
   stops = λ files told state holds. widens s t _ _ (offers.stops files told state holds) (λ image has. (has.0, has.1, inl has.2));
   full = offers.full;
   damaged = offers.damaged;
@@ -74,11 +87,11 @@ offers_alone result fault was now s t is offers = record {
 }
 
 -- ---- where the tables are told then
-module _ (offered told : Result Unit Fault) (value : Unit) (was mid now : Parts) (s t u : Told) (lawful : IsConsistent t) (was_ok : offered ≡ Ok value) (offers : OffersState offered was mid s t)
+module _ (offered told : Result Unit Fault) (value : Unit) (was mid now : Parts) (s t u : Told) (lawful : IsConsistent t) (lawful_u : IsConsistent u) (was_ok : offered ≡ Ok value) (offers : OffersState offered was mid s t)
     (tells : TellsState told mid now t u) where
   -- what the offers left
   pub sent_first : (files : Files) → s.files ≡ Some files → (state : State) → HoldsState s.images was state
-      → (book : Book) × HasSentAll was.urls.settings state book × HoldsState t.images mid (with_pairs book state) × ArePairsSent (with_pairs book state)
+      → (book : Book) × HasSentAll was.urls.settings state book × LeadsTo state (with_pairs book state) mid s t × ArePairsSent (with_pairs book state)
   sent_first files here state holds = ok_gives offered value offers.all was_ok files here state holds
 
   pub stops_first : (files : Files) → s.files ≡ Some files → (state : State) → HoldsState s.images was state → Leaves s u (HasSent was.urls.settings state)
@@ -86,7 +99,21 @@ module _ (offered told : Result Unit Fault) (value : Unit) (was mid now : Parts)
       let first = sent_first files here state holds in
       let later = offers.told files here in
       joins s t u (HasSent was.urls.settings state) (widens s t _ _ (offers.stops files here state holds) (λ image has. (has.0, has.1, inl has.2)))
-      (widens t u _ _ (tells.stops later.0 later.1 (with_pairs first.0 state) first.2) (λ image has. (first.0, first.1.may, inl has)))
+      (widens t u _ _ (tells.stops later.0 later.1 (with_pairs first.0 state) first.2.holds) (λ image has. (first.0, first.1.may, inl has)))
+
+  -- and what the tables' being told leaves of it
+  leads_first : (files : Files) → s.files ≡ Some files → (state : State) → HoldsState s.images was state
+      → (book : Book) × HasSentAll was.urls.settings state book × LeadsTo state (with_pairs book state) now s u × ArePairsSent (with_pairs book state)
+  leads_first files here state holds =
+      let first = sent_first files here state holds in
+      let later = offers.told files here in
+      let held = tells.holds later.0 later.1 (with_pairs first.0 state) first.2.holds in
+      let stops = tells.stops later.0 later.1 (with_pairs first.0 state) first.2.holds in (
+        first.0,
+        first.1,
+        leads_both state (with_pairs first.0 state) (with_pairs first.0 state) mid now s t u first.2 (leads_same (with_pairs first.0 state) now t u held stops),
+        first.3,
+      )
 
   these_first : OnlyThese (IsSentFile was.urls.settings.buckets) s u
   these_first = these_both (IsSentFile was.urls.settings.buckets) s t u lawful
@@ -96,16 +123,19 @@ module _ (offered told : Result Unit Fault) (value : Unit) (was mid now : Parts)
   pub told_alone : (fault : Fault) → told ≡ Err fault → SendsPairs told was now s u
   told_alone fault is = record {
     done = on_ok_none told fault _ is;
-    kept = on_err told fault _ is (λ not files here state holds.
+    kept = on_err told fault _ is (λ not files here state holds. let first = leads_first files here state holds in (first.0, first.1.may, first.2));
+    failed = λ failed files here state holds.
         let first = sent_first files here state holds in
         let later = offers.told files here in
-        (first.0, first.1.may, tells.holds later.0 later.1 (with_pairs first.0 state) first.2));
+        let some : IsOnTheWay was.urls.settings state (with_pairs first.0 state) = inl (first.0, first.1.may, refl) in
+        fails_then (IsOnTheWay was.urls.settings state) state (with_pairs first.0 state) mid s t u first.2
+        (fails_same (IsOnTheWay was.urls.settings state) (with_pairs first.0 state) t u lawful_u (tells.stops later.0 later.1 (with_pairs first.0 state) first.2.holds) some);
     stops = stops_first;
     full = λ n full. absurd (tells.full n full);
     damaged = λ f at damaged files here state holds.
         let first = sent_first files here state holds in
         let later = offers.told files here in
-        tells.damaged f at damaged later.0 later.1 (with_pairs first.0 state) first.2;
+        tells.damaged f at damaged later.0 later.1 (with_pairs first.0 state) first.2.holds;
     spoilt = λ f at is. inr (tells.spoilt f at is);
     others = these_first;
     cause = record { later = omega (arith, offers.cause.later, tells.cause.later); rose = λ failed. let r = tells.cause.rose failed in omega (arith, offers.cause.later, r) };
@@ -113,15 +143,14 @@ module _ (offered told : Result Unit Fault) (value : Unit) (was mid now : Parts)
   }
 
   -- ---- and then the event
-  module _ {S : Type 0} (tell : S → Told) (result : Result Unit Fault) (last : Parts) (before after : S) (lawful_u : IsConsistent (tell before)) (is_u : tell before ≡ u) (told_value : Unit)
+  module _ {S : Type 0} (tell : S → Told) (result : Result Unit Fault) (last : Parts) (before after : S) (lawful_after : IsConsistent (tell after)) (is_u : tell before ≡ u) (told_value : Unit)
       (told_ok : told ≡ Ok told_value)
       (logs : LogsPairs tell result now last before after) where
     held : (files : Files) → s.files ≡ Some files → (state : State) → HoldsState s.images was state
-        → (book : Book) × HasSentAll was.urls.settings state book × HoldsState (tell before).images now (with_pairs book state) × ArePairsSent (with_pairs book state)
+        → (book : Book) × HasSentAll was.urls.settings state book × LeadsTo state (with_pairs book state) now s (tell before) × ArePairsSent (with_pairs book state)
     held files here state holds =
-        let first = sent_first files here state holds in
-        let later = offers.told files here in
-        (first.0, first.1, subst (λ (x : Told). HoldsState x.images now (with_pairs first.0 state)) (sym is_u) (tells.holds later.0 later.1 (with_pairs first.0 state) first.2), first.3)
+        let first = leads_first files here state holds in
+        (first.0, first.1, subst (λ (x : Told). LeadsTo state (with_pairs first.0 state) now s x) (sym is_u) first.2, first.3)
 
     same_settings : now.urls.settings ≡ was.urls.settings
     same_settings = ap (λ (d : Drum). d.settings) (tells.urls ∙ offers.urls)
@@ -136,25 +165,35 @@ module _ (offered told : Result Unit Fault) (value : Unit) (was mid now : Parts)
     sends_whole = record {
       done = on_ok result _ (λ v is files here state holds.
           let has = held files here state holds in
-          let gives = ok_gives result v logs.holds is (with_pairs has.0 state) has.2 has.3 in
-          (has.0, has.1, subst (λ (p : Settings). HoldsState (tell after).images last (sent_state p (with_pairs has.0 state))) same_settings gives));
+          let x = with_pairs has.0 state in
+          let y = sent_state now.urls.settings x in
+          let gives = leads_one x y last (tell before) (tell after) (ok_gives result v logs.holds is x has.2.holds has.3) (sent_front now.urls.settings x) (logs.stops x has.2.holds has.3) in
+          let whole = leads_both state x y now last s (tell before) (tell after) has.2 gives in
+          (has.0, has.1, subst (λ (p : Settings). LeadsTo state (sent_state p x) last s (tell after)) same_settings whole));
       kept = on_err_by result _ (λ fault is not files here state holds.
           let has = held files here state holds in
           let none = logs.memory (only_memory fault is not) in (
             has.0,
             has.1.may,
-            subst (λ (p : Parts). HoldsState (tell after).images p (with_pairs has.0 state)) (sym none.1)
-                (subst (λ (x : S). HoldsState (tell x).images now (with_pairs has.0 state)) (sym none.0) has.2),
+            subst (λ (p : Parts). LeadsTo state (with_pairs has.0 state) p s (tell after)) (sym none.1)
+                (subst (λ (x : S). LeadsTo state (with_pairs has.0 state) now s (tell x)) (sym none.0) has.2),
           ));
+      failed = λ failed files here state holds.
+          let has = held files here state holds in
+          let x = with_pairs has.0 state in
+          let way : State → Type 0 = IsOnTheWay was.urls.settings state in
+          let end : way (sent_state now.urls.settings x) = inr (has.0, has.1, ap (λ (p : Settings). sent_state p x) same_settings) in
+          fails_then way state x now s (tell before) (tell after) has.2
+          (fails_one way x (sent_state now.urls.settings x) (tell before) (tell after) lawful_after (sent_front now.urls.settings x) (logs.stops x has.2.holds has.3) (inl (has.0, has.1.may, refl)) end);
       stops = λ files here state holds.
           let has = held files here state holds in
           joins s (tell before) (tell after) (HasSent was.urls.settings state)
           (subst (λ (x : Told). Leaves s x (HasSent was.urls.settings state)) (sym is_u) (stops_first files here state holds))
-          (widens (tell before) (tell after) _ _ (logs.stops (with_pairs has.0 state) has.2 has.3) (λ image one. on_the_way has.0 state image has.1 one));
+          (widens (tell before) (tell after) _ _ (logs.stops (with_pairs has.0 state) has.2.holds has.3) (λ image one. on_the_way has.0 state image has.1 one));
       full = λ n full. absurd (logs.full n full);
       damaged = λ f at damaged. absurd (logs.damaged f at damaged);
       spoilt = λ f at damaged. absurd (logs.damaged f at damaged);
-      others = these_both (IsSentFile was.urls.settings.buckets) s (tell before) (tell after) lawful_u
+      others = these_both (IsSentFile was.urls.settings.buckets) s (tell before) (tell after) (subst (λ (x : Told). IsConsistent x) (sym is_u) lawful_u)
           (subst (λ (x : Told). OnlyThese (IsSentFile was.urls.settings.buckets) s x) (sym is_u) these_first)
           (these_wider (λ f. f ≡ crawl_file) (IsSentFile was.urls.settings.buckets) (tell before) (tell after) (λ f is. inr is) logs.others);
       cause = record {
@@ -197,8 +236,8 @@ sent_again result was now s t open_rest has_begun sends not = λ files told stat
     ap (λ (t : Bool). cond t state (with_event (sent_of state) [] state)) (eq-eqb (progress settings.queues settings.buckets state.events).cuts (cut_count state.urls) already.0) in
     by_result result sends.done sends.kept
     (λ done. let has = done files told state holds in
-    subst (λ (x : State). HoldsState t.images now x) (ap (λ (x : State). sent_state settings x) (same has.0 has.1.may) ∙ sent) has.2)
-    (λ kept. let has = kept not files told state holds in subst (λ (x : State). HoldsState t.images now x) (same has.0 has.1) has.2)
+    subst (λ (x : State). HoldsState t.images now x) (ap (λ (x : State). sent_state settings x) (same has.0 has.1.may) ∙ sent) has.2.holds)
+    (λ kept. let has = kept not files told state holds in subst (λ (x : State). HoldsState t.images now x) (same has.0 has.1) has.2.holds)
   where
     by_result : {P Q R : Type 0} (result : Result Unit Fault) → OnOk result P → OnErr result Q → (P → R) → (Q → R) → R
     by_result (Ok value) ok err one other = one ok

@@ -27,7 +27,7 @@ use Rattle.irl_yard.proofs.ByKind.{one_rest}
 one_payload : (p q : List ℕ) → p ∷ [] ≡ q ∷ [] → p ≡ q
 one_payload p q same = cc
 
-no_payload : (p : List ℕ) → [] ≡ p ∷ [] → ⊥
+pub no_payload : (p : List ℕ) → [] ≡ p ∷ [] → ⊥
 no_payload p same = cc
 
 same_parts : (settings : Option Settings) (urls pairs : Book) (events : List Happened) (state : State) → settings ≡ state.settings → urls ≡ state.urls → pairs ≡ state.pairs → events ≡ state.events

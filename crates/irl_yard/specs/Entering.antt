@@ -28,7 +28,9 @@ use Rattle.irl_head.specs.Asking.{Agrees, IsBadAsked}
 use Rattle.irl_head.specs.Writing.{GainsFirst}
 use Rattle.irl_yard.specs.declared.parts.Parts.{Parts}
 use Rattle.irl_yard.specs.Holding.{IsOpenRest, IsSound, HoldsState, HasOneOf}
-use Rattle.irl_yard.specs.Opening.{IsDamageAt, IsStoreDamagedAt, entered_state}
+use Rattle.irl_ledger.specs.declared.ledger.Ledger.{Ledger}
+use Rattle.irl_yard.specs.declared.parts.Rest.TheVariants.{Crawl as CrawlRest}
+use Rattle.irl_yard.specs.Opening.{IsDamageAt, IsOfItsLog, IsStoreDamagedAt, entered_state}
 use Rattle.irl_yard.specs.Standing.{ArePlainFiles, HasState}
 
 -- the files of a state beside the head and the bay of URLs; the bay of pairs has its buckets' files on two sides
@@ -126,6 +128,8 @@ pub record OpensYard (asked : Asked) (parts : Parts) (told : Option Files) (afte
   -- it has the settings that were kept, or those of a new store, which are as was asked
   pub settings : ForSome told (λ files. HasSettings asked files parts.urls.settings)
   pub agrees : Agrees asked parts.urls.settings
+  -- a crawl is that of its log's events, whatever the store tells: none that breaks a rule is passed over
+  pub legal : (ledger : Ledger) → parts.rest ≡ CrawlRest ledger → IsOfItsLog told parts.urls ledger
   -- what is of another make or damaged is refused
   pub ours : ForSome told (λ files. (at : ℕ) → IsNotOursAt files at → ⊥)
   pub undamaged : ForSome told (λ files. (f at : ℕ) → IsStoreDamagedAt asked files f at → ⊥)

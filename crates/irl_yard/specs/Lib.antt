@@ -3,6 +3,7 @@ pub mod Core
 pub mod Entering
 pub mod Flushing
 pub mod Holding
+pub mod Leading
 pub mod Lifting
 pub mod Looking
 pub mod Making

@@ -1,6 +1,8 @@
 -- From books to states: what calls over the bay of URLs make of the state that an open store holds. No file changes
 -- but the bay's, so the rest of the state stays.
 use Rattle.std.specs.Option.{ForSome}
+use Rattle.std.specs.Prelude.{◌≡◌}
+use Rattle.irl_offer.specs.declared.settings.Kind.{Kind}
 use Rattle.irl_offer.specs.declared.settings.Settings.{Settings}
 use Rattle.irl_model.specs.Book.{Book, IsFront}
 use Rattle.irl_events.specs.State.{State, IsFrontState}
@@ -17,6 +19,10 @@ use Rattle.irl_yard.specs.Standing.{HasState, IsStateOf, with_urls}
 abbrev pub HasStateBetween : Settings → State → Book → Book → Files → Type 0
 HasStateBetween settings state x y image = (z : Book) × HasState (with_urls z state) image × IsFront x z × IsFront z y
     × FewUnjudged settings x z
+
+-- a state with a book that may follow another's in a store of this kind
+abbrev pub IsWithBook : Kind → State → State → Type 0
+IsWithBook kind state later = (book : Book) × MayFollow kind state.urls book × (later ≡ with_urls book state)
 
 -- From a moment at which the store held this state to a later one: a book stands for the state with it, where it may
 -- follow the state's in a store of this kind.

@@ -24,10 +24,15 @@ abbrev pub MayReadNoteIn : Rest → List ℕ → Type 0
 MayReadNoteIn Plain host = ⊤
 MayReadNoteIn (Crawl ledger) host = MayReadNote ledger.log (get ledger.notes host)
 
+-- no note of the host is known
+abbrev pub HasNoPlace : Rest → List ℕ → Type 0
+HasNoPlace Plain host = ⊤
+HasNoPlace (Crawl ledger) host = get ledger.notes host ≡ None
+
 -- A crawl's ledger reads it, and a store of lines or of tuples has none.
 pub record ReadsNoteIn (result : Result (Option Note) Fault) (host : List ℕ) (moment : ℕ) (rest : Rest)
     (before after : Told) : Type 0 where
-  pub plain : rest ≡ Plain → result ≡ Ok None
+  pub plain : rest ≡ Plain → (result ≡ Ok None) × (after.taken ≡ before.taken)
   pub crawl : (ledger : Ledger) → rest ≡ Crawl ledger
       → ReadsNote result host moment ledger.log ledger.notes before after
   -- nothing changes, and only the log is read
@@ -39,6 +44,12 @@ pub record ReadsLastNote (result : Result (Option Note) Fault) (host : List ℕ)
   -- it is the last one of the state's events, where it is in use at the moment, and none exactly where that has none
   pub value : IfOk result (λ found. ForSome before.files (λ _. (state : State) → HoldsState before.images was state
       → IsUsedOf moment (last_note host (events_of state.events)) found))
+  -- whatever the log has, where a place is known of the host a note's record stands there, which is used or isn't
+  pub sane : IfOk result (λ found. (ledger : Ledger) → was.rest ≡ Crawl ledger → (at : ℕ)
+      → get ledger.notes host ≡ Some at → ForSome before.files (λ files. (note : Note)
+      × NoteStandsAt ledger.log (files crawl_file) at note × IsUsedOf moment (Some note) found))
+  -- and where none is known, or there is no crawl, there is no note, and no byte is read for that, nor memory taken
+  pub idle : HasNoPlace was.rest host → (result ≡ Ok None) × (after.taken ≡ before.taken)
   -- damage is named in the log, where the host's last note should be and no note's record stands, and never where a
   -- state is held
   pub spoilt : (f at : ℕ) → IsErrOf result (Damaged f at) → (ledger : Ledger) × (was.rest ≡ Crawl ledger)

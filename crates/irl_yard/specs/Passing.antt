@@ -34,6 +34,7 @@ use Rattle.irl_yard.specs.declared.parts.Rest.{Rest}
 use Rattle.irl_yard.specs.declared.parts.Rest.TheVariants.{Plain, Crawl}
 use Rattle.irl_yard.specs.Adding.{with_event}
 use Rattle.irl_yard.specs.Holding.{HoldsState, HasOneOf}
+use Rattle.irl_yard.specs.Standing.{HasState}
 
 -- ---- the state
 -- how far the crawl of a state has come, where the store has these settings
@@ -118,6 +119,9 @@ pub record PassesState {S : Type 0} (told : S → Told) (result : Result ℕ Fau
       → HoldsState (told after).images now state
   pub damaged : (f at : ℕ) → IsErrOf result (Damaged f at) → (state : State)
       → HoldsState (told before).images was state → HoldsState (told after).images now state
+  -- at each moment, so that a stop leaves it too,
+  pub still : (IsErrOf result Failed → ⊥) → OnErr result ((state : State) → HoldsState (told before).images was state
+      → Leaves (told before) (told after) (HasState state))
   -- and damage is named only where it is, and never where a state is held
   pub spoilt : (f at : ℕ) → IsErrOf result (Damaged f at) → ForSome (told before).files (λ files.
       IsJudgedSpoiltAt was.urls files f at ⊎ IsStrangeTextAt (told before).images was.urls f at)

@@ -26,6 +26,7 @@ use Rattle.irl_yard.specs.declared.parts.Parts.{Parts}
 use Rattle.irl_yard.specs.declared.parts.Rest.{Rest}
 use Rattle.irl_yard.specs.declared.parts.Rest.TheVariants.{Plain, Crawl}
 use Rattle.irl_yard.specs.Adding.{with_event}
+use Rattle.irl_yard.specs.Leading.{FailsAt, LeadsTo}
 use Rattle.irl_yard.specs.Holding.{HasOneOf, HoldsState}
 use Rattle.irl_yard.specs.Standing.{HasState}
 
@@ -81,6 +82,15 @@ sent_state settings state =
     if nat_eq (progress settings.queues settings.buckets state.events).cuts (cut_count state.urls) then state
     else with_event (sent_of state) [] state
 
+-- a state with such a book
+abbrev pub IsSomeSent : Settings → State → State → Type 0
+IsSomeSent settings state later = (book : Book) × MayHaveSent settings state book × (later ≡ with_pairs book state)
+
+-- or one with a book that has all of them, and with the event
+abbrev pub IsOnTheWay : Settings → State → State → Type 0
+IsOnTheWay settings state later = IsSomeSent settings state later
+    ⊎ ((book : Book) × HasSentAll settings state book × (later ≡ sent_state settings (with_pairs book state)))
+
 -- a joint image stands for the state with such a book
 abbrev pub HasSomeSent : Settings → State → Files → Type 0
 HasSomeSent settings state image = (book : Book) × MayHaveSent settings state book × HasState (with_pairs book state)
@@ -108,14 +118,17 @@ IsSpoiltFor was now before after f at =
 
 -- Offering the bay of pairs the new links, by the answer.
 pub record OffersState (result : Result Unit Fault) (was now : Parts) (before after : Told) : Type 0 where
-  -- the store holds the state with a longer book of pairs,
+  -- it leads to the state with a longer book of pairs,
   pub holds : (IsErrOf result Failed → ⊥) → ForSome before.files (λ _. (state : State) → HoldsState before.images was
-      state → (book : Book) × MayHaveSent was.urls.settings state book × HoldsState after.images now (with_pairs book
-      state))
+      state → (book : Book) × MayHaveSent was.urls.settings state book × LeadsTo state (with_pairs book state) now before
+      after)
   -- which has all of them where it isn't refused
   pub all : OnOk result (ForSome before.files (λ _. (state : State) → HoldsState before.images was state → (book : Book)
-      × HasSentAll was.urls.settings state book × HoldsState after.images now (with_pairs book state)
+      × HasSentAll was.urls.settings state book × LeadsTo state (with_pairs book state) now before after
       × ArePairsSent (with_pairs book state)))
+  -- where the store fails a state with such a book is left
+  pub failed : IsErrOf result Failed → ForSome before.files (λ _. (state : State) → HoldsState before.images was state
+      → FailsAt (IsSomeSent was.urls.settings state) state before after)
   -- a stop at any moment leaves files that stand for the state with some of them
   pub stops : ForSome before.files (λ _. (state : State) → HoldsState before.images was state
       → Leaves before after (HasSomeSent was.urls.settings state))
@@ -181,11 +194,14 @@ pub record SendsPairs (result : Result Unit Fault) (was now : Parts) (before aft
   -- the book of pairs has all new links, judged, and the events say that the pairs of all cuts are sent
   pub done : OnOk result (ForSome before.files (λ _. (state : State) → HoldsState before.images was state
       → (book : Book) × HasSentAll was.urls.settings state book
-      × HoldsState after.images now (sent_state was.urls.settings (with_pairs book state))))
+      × LeadsTo state (sent_state was.urls.settings (with_pairs book state)) now before after))
   -- where it is refused, and not by the store, it may have some, and no event is added
   pub kept : OnErr result ((IsErrOf result Failed → ⊥) → ForSome before.files (λ _. (state : State)
       → HoldsState before.images was state → (book : Book) × MayHaveSent was.urls.settings state book
-      × HoldsState after.images now (with_pairs book state)))
+      × LeadsTo state (with_pairs book state) now before after))
+  -- where the store fails a state on the way is left
+  pub failed : IsErrOf result Failed → ForSome before.files (λ _. (state : State) → HoldsState before.images was state
+      → FailsAt (IsOnTheWay was.urls.settings state) state before after)
   -- a stop at any moment leaves files that stand for the state on the way
   pub stops : ForSome before.files (λ _. (state : State) → HoldsState before.images was state
       → Leaves before after (HasSent was.urls.settings state))

@@ -36,7 +36,7 @@ impl<S: Store> Yard<S> {
 
     /// Whether a URL is in front, by its number. It takes no memory.
     pub fn is_in_front(&self, number: u64) -> bool
-        ensures { result ≡ true → has_number (front_in self.now.parts.rest) number ≡ true }
+        ensures { (result ≡ true) ↔ (has_number (front_in self.now.parts.rest) number ≡ true) }
     {
         matches!(self.fate(number), Fate::Front)
     }

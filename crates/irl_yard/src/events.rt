@@ -3,7 +3,7 @@
 ghost use Rattle.std.specs.Prelude.{[], IsErrOf};
 ghost use Rattle.irl_base.specs.declared.fault.Fault.TheVariants.{Failed as FailedFault};
 ghost use Rattle.irl_events.specs.Events.{Begin as SeenBegin, Robots as SeenRobots};
-ghost use Rattle.irl_yard.specs.Adding.{AddsEvent, MayBegin, MayNote};
+ghost use Rattle.irl_yard.specs.Adding.{AddsEvent, AddsNotes, MayBegin, MayNote, MayNoteAll};
 ghost use Rattle.irl_yard.specs.Holding.{IsSound, StaysSound};
 ghost use Rattle.irl_yard.specs.Settling.{KeepsLinks, MaySettle, settle_of};
 
@@ -44,6 +44,21 @@ impl<S: Store> Yard<S> {
         match &mut self.parts.rest {
             Rest::Plain => unreachable!(),
             Rest::Crawl(ledger) => ledger.note_robots(&mut self.store, note),
+        }
+    }
+
+    /// Notes what is known of several hosts' robots files, in order, by two syncs in all. A stop leaves all of it or
+    /// nothing. Want of memory changes nothing, and neither do no notes; `Failed` ends the soundness.
+    pub fn note_all(&mut self, notes: &[Note]) -> Result<(), Fault>
+        requires sound { IsSound self.old.parts }
+        requires notes { MayNoteAll self.old.parts.rest notes.now }
+        ensures adds { AddsNotes S.told result notes.now self.old.parts self.new.parts self.old.store self.new.store }
+        ensures goes_on { StaysSound (IsErrOf result Fault.Failed) self.new.parts }
+    {
+        let _is_sound = self.parts.urls.is_sound();
+        match &mut self.parts.rest {
+            Rest::Plain => unreachable!(),
+            Rest::Crawl(ledger) => ledger.note_all(&mut self.store, notes),
         }
     }
 

@@ -13,8 +13,8 @@ use irl_offer::Fault;
 impl<S: Store> Yard<S> {
     /// Sends the pairs of domains that the judged URLs link: each new link is offered to the bay of pairs, all that it
     /// has is judged and told to the tables, and one event says that the pairs of all cuts are sent, where none said so
-    /// before. After want of memory, damage or a full bucket some pairs may be sent, and no event was added; the same
-    /// call goes on from there. A bucket of pairs is named by its number and 64. `Failed` ends the soundness.
+    /// before. After want of memory, damage or a full bucket some pairs may be sent, and no event was added; a later call
+    /// offers all new links again. A bucket of pairs is named by its number and 64. `Failed` ends the soundness.
     pub fn send_pairs(&mut self) -> Result<(), Fault>
         requires sound { IsSound self.old.parts }
         requires begun { HasBegun self.old.parts.rest }

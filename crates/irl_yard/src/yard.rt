@@ -131,6 +131,7 @@ impl<S: Store> Yard<S> {
             self.old.parts.urls (S.told self.old.store) (S.told self.new.store) }
         ensures states { ReadsState result (λ found book. slice_get (judged_of book) (i - gone book) ≡ Some found)
             self.old.parts self.new.parts (S.told self.old.store) (S.told self.new.store) }
+        ensures rest { self.new.parts.rest ≡ self.old.parts.rest }
         ensures goes_on { StaysSound (IsErrOf result Fault.Failed) self.new.parts }
     {
         let _is_sound = self.parts.urls.is_sound();
@@ -151,6 +152,7 @@ impl<S: Store> Yard<S> {
             self.old.parts.urls (S.told self.old.store) (S.told self.new.store) }
         ensures states { ReadsState result (λ found book. found ≡ take most (drop (i - gone book) (judged_of book)))
             self.old.parts self.new.parts (S.told self.old.store) (S.told self.new.store) }
+        ensures rest { self.new.parts.rest ≡ self.old.parts.rest }
         ensures goes_on { StaysSound (IsErrOf result Fault.Failed) self.new.parts }
     {
         let _is_sound = self.parts.urls.is_sound();

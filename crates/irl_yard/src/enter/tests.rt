@@ -1,6 +1,3 @@
-ghost use Rattle.std.specs.Prelude.{◌≢◌};
-ghost use Rattle.irl_offer.specs.declared.settings.Kind.TheVariants.{Crawl};
-
 use super::*;
 use irl_disk::{MemStore, Part};
 use irl_head::{FILES, HEAD, encode};
@@ -8,9 +5,7 @@ use irl_offer::{Kind, Rule};
 use std::test::Fail;
 
 // What is asked of a store of tuples with so many buckets.
-fn asked_of(buckets: Option<u32>) -> Asked
-    ensures { result.kind ≢ Crawl }
-{
+fn asked_of(buckets: Option<u32>) -> Asked {
     Asked {
         kind: Kind::Tuples,
         rule: Some(Rule::Add),

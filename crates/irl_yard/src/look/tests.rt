@@ -50,7 +50,7 @@ fn looked_over(
 fn made(alloc: Global, kind: Kind) -> Result<MemStore, OpenFault> {
     let asked = Asked {
         kind,
-        ..asked_of(Some(4), None, None)
+        ..asked_of(Some(4), None)
     };
     match Yard::enter(alloc, MemStore::new(alloc, Vec::new(alloc)), &asked) {
         Ok(yard) => Ok(yard.into_store()),
@@ -71,7 +71,7 @@ fn a_new_store_of_each_kind_is_open(rt: HostRuntime) -> Result<(), Fail> {
 #[test]
 fn a_store_that_was_made_is_open_as_it_is(rt: HostRuntime) -> Result<(), Fail> {
     let alloc = rt.alloc();
-    let asked = asked_of(Some(1), Some(2), None);
+    let asked = asked_of(Some(1), Some(2));
     let steps = [Step::Flush(0, &ROW[..2]), Step::Merge];
     let (store, _made, _ends) = built(alloc, &asked, &steps)?;
     let (found, _store) = looked(alloc, store);

@@ -1,31 +1,21 @@
-ghost use Rattle.std.specs.Prelude.{◌≡◌, ⊤, IsTrue, IfOk};
-ghost use Rattle.std.specs.List.{AllByRecursion};
-ghost use Rattle.irl_bay.specs.Flushing.{MayFlush};
-ghost use Rattle.irl_bay.specs.Drum.{SomePending};
-ghost use Rattle.irl_key.specs.Links.{IsCanonicalText};
-ghost use Rattle.irl_ledger.specs.Crawling.{AreTaken};
+ghost use Rattle.std.specs.Prelude.{IsTrue};
 ghost use Rattle.irl_log.specs.Form.{IsSuffixText};
-ghost use Rattle.irl_offer.specs.Offering.{IsTakenBy};
-ghost use Rattle.irl_offer.specs.declared.settings.Kind.TheVariants.{Crawl as CrawlKind};
-ghost use Rattle.irl_events.specs.Events.{Event as SeenEvent};
 ghost use Rattle.irl_yard.specs.Adding.{MayBegin};
 ghost use Rattle.irl_yard.specs.Holding.{IsSound};
-ghost use Rattle.irl_yard.specs.Passing.{MayPass};
-ghost use Rattle.irl_yard.specs.Sending.{HasBegun};
 ghost use Rattle.irl_yard.specs.Settling.{MaySettle};
 
 use super::*;
+use crate::yard::tests::rows::copied;
+use crate::yard::tests::{failing, flush, judged_at, merge, offer_of, opened, put};
 use irl_array::Array;
 use irl_disk::{MemStore, Part};
-use irl_events::Event;
-use irl_head::CRAWL;
-use irl_key::{Canon, canonical, key_of};
-use irl_log::{Log, VisitEvents};
-use irl_offer::{Asked, Done, Kind, MAX_TEXT, Offer, Op, Outcome, Receipts, Text, bucket_of};
+use irl_key::key_of;
+use irl_offer::{Asked, Done, Kind, Outcome, Receipts, Text, Verdict};
 use std::alloc::AllocError;
 use std::test::Fail;
 
 mod entered;
+mod links;
 mod noted;
 
 // What is asked of a crawl with one bucket and arrays of two offers.
@@ -45,10 +35,7 @@ const ASKED: Asked = Asked {
 
 // A new crawl, of whose store the calls of these numbers fail.
 fn made(alloc: Global, failing: Vec<u64>) -> Result<Yard<MemStore>, Fault> {
-    match Yard::enter(alloc, MemStore::new(alloc, failing), &ASKED) {
-        Ok(yard) => Ok(yard),
-        Err(_) => Err(Fault::Memory),
-    }
+    opened(alloc, MemStore::new(alloc, failing), &ASKED)
 }
 
 // Whether a crawl can begin with this text.
@@ -78,77 +65,38 @@ fn begin(alloc: Global, yard: &mut Yard<MemStore>) -> Result<(), Fault> {
     yard.begin(&suffixes)
 }
 
-// An offer of a URL that a page of this domain has.
-fn offer_of(alloc: Global, from: &str, text: &str) -> Result<Offer, AllocError> {
-    let text = text.as_bytes();
-    let text = &text[..text.len().min(MAX_TEXT)];
-    Ok(Offer {
-        op: Op::Both,
-        key: key_of(text),
-        value: 0,
-        from: if from.is_empty() {
-            0
-        } else {
-            key_of(from.as_bytes())
-        },
-        aux: Text::from_bytes(alloc, text)?,
-    })
-}
-
-// Whether an offer is one that a crawl takes.
-fn is_taken(alloc: Global, offer: &Offer) -> bool
-    ensures { IsTrue result → IsTakenBy IsCanonicalText CrawlKind offer.now }
-{
-    let text = offer.aux.bytes();
-    match canonical(alloc, None, text) {
-        Ok(Canon::Web(web)) => web.text() == text && matches!(offer.op, Op::Both),
-        _ => false,
+// The key of a domain, and 0 of none.
+fn key_of_domain(domain: &str) -> u64 {
+    if domain.is_empty() {
+        return 0;
     }
+    key_of(domain.as_bytes())
 }
 
-// Whether the array is of one offer, which can be flushed.
-fn can_flush(alloc: Global, yard: &Yard<MemStore>, array: &Array) -> bool
-    ensures sound { IsTrue result → IsSound yard.now.parts }
-    ensures offers { IsTrue result → MayFlush 0 array.now.items yard.now.parts.urls }
-    ensures taken { IsTrue result → AreTaken yard.now.parts.urls.settings.kind array.now.items }
-{
-    let settings = yard.settings();
-    let can = yard.is_sound()
-        && matches!(settings.kind, Kind::Crawl)
-        && settings.array >= 1
-        && yard.pending(0) < u64::from(settings.trigger);
-    match array.items() {
-        [offer] => can && bucket_of(offer.key, settings.buckets) == 0 && is_taken(alloc, offer),
-        _ => false,
-    }
-}
-
-// Flushes one URL.
-fn flush(alloc: Global, yard: &mut Yard<MemStore>, from: &str, text: &str) -> Result<(), Fault> {
+// An array of URLs that a page of this domain has, two at most.
+fn array_of(alloc: Global, from: &str, texts: &[&[u8]]) -> Result<Array, AllocError> {
     let mut array = Array::with_room(alloc, 2)?;
-    if !array.is_full() {
-        array.push(offer_of(alloc, from, text)?);
+    for text in texts {
+        let offer = offer_of(alloc, key_of(text), key_of_domain(from), text)?;
+        put(&mut array, offer);
     }
-    if !can_flush(alloc, yard, &array) {
-        return Err(Fault::Memory);
-    }
-    yard.flush(0, &mut array)
+    Ok(array)
 }
 
-// Whether offers wait to be judged.
-fn can_merge(yard: &Yard<MemStore>) -> bool
-    ensures sound { IsTrue result → IsSound yard.now.parts }
-    ensures some { IsTrue result → SomePending yard.now.parts.urls }
-{
-    yard.is_sound() && yard.settings().buckets > 0 && yard.pending(0) > 0
+// Flushes URLs that a page of this domain has.
+fn give(
+    alloc: Global,
+    yard: &mut Yard<MemStore>,
+    from: &str,
+    texts: &[&[u8]],
+) -> Result<(), Fault> {
+    flush(alloc, yard, 0, &mut array_of(alloc, from, texts)?)
 }
 
-// Judges what was flushed.
-fn merge(yard: &mut Yard<MemStore>) -> Result<u64, Fault> {
-    if !can_merge(yard) {
-        return Err(Fault::Memory);
-    }
-    yard.merge()
+// Flushes one URL, which no page has, and judges it.
+fn offer(alloc: Global, yard: &mut Yard<MemStore>) -> Result<u64, Fault> {
+    give(alloc, yard, "", &[URL])?;
+    merge(yard)
 }
 
 // Sends the pairs.
@@ -172,7 +120,7 @@ fn first(alloc: Global, yard: &mut Yard<MemStore>) -> Result<Option<Work>, Fault
     if !yard.is_sound() {
         return Err(Fault::Memory);
     }
-    Ok(yard.front(alloc, 10)?.pop())
+    Ok(yard.front(alloc, 1)?.pop())
 }
 
 // Whether this can be settled: one URL of the front, without links.
@@ -201,172 +149,144 @@ fn settle(alloc: Global, yard: &mut Yard<MemStore>, number: u64) -> Result<(), F
     yard.settle(&done)
 }
 
-// Offers one URL and judges it.
-fn offer(alloc: Global, yard: &mut Yard<MemStore>) -> Result<u64, Fault> {
-    flush(alloc, yard, "", "http://a.test/")?;
-    merge(yard)
-}
-
-// The steps of a crawl of one page, each where those before are Ok.
-fn crawl(alloc: Global, yard: &mut Yard<MemStore>) -> Result<(), Fault> {
-    begin(alloc, yard)?;
-    offer(alloc, yard)?;
-    send(yard)?;
-    pass(yard)?;
-    settle(alloc, yard, 0)
-}
-
-// The number of the calls of the store before each of these steps and behind the last.
-fn calls(alloc: Global) -> Result<[u64; 6], Fault> {
-    let mut yard = made(alloc, Vec::new(alloc))?;
-    let first = yard.store.calls();
-    begin(alloc, &mut yard)?;
-    let begun = yard.store.calls();
-    offer(alloc, &mut yard)?;
-    let offered = yard.store.calls();
-    send(&mut yard)?;
-    let sent = yard.store.calls();
-    pass(&mut yard)?;
-    let passed = yard.store.calls();
-    settle(alloc, &mut yard, 0)?;
-    Ok([first, begun, offered, sent, passed, yard.store.calls()])
-}
-
-// How many there are: unique, done, pages, in front and pairs.
-fn numbers(yard: &Yard<MemStore>) -> [u64; 5] {
-    let counts = yard.counts();
-    [
-        counts.unique,
-        counts.done,
-        counts.page,
-        counts.front,
-        counts.pairs,
-    ]
-}
-
-// Whether this is the page with this number and URL.
-fn is_page(work: Option<&Work>, number: u64, text: &[u8]) -> bool {
-    match work {
-        Some(work) => work.number == number && work.web.text() == text,
-        None => false,
+// Settles the first page of the front, where it has this URL.
+fn settle_first(alloc: Global, yard: &mut Yard<MemStore>, text: &[u8]) -> Result<(), Fault> {
+    match first(alloc, yard)? {
+        Some(work) if work.web.text() == text => settle(alloc, yard, work.number),
+        _ => Err(Fault::Memory),
     }
 }
 
+const URL: &[u8] = b"http://a.test/";
+
+// How many steps there are in the crawl of one page.
+const STEPS: usize = 6;
+
+// One of them: two offers of its URL are flushed together, and judged.
+fn take(alloc: Global, yard: &mut Yard<MemStore>, step: usize) -> Result<(), Fault> {
+    match step {
+        0 => begin(alloc, yard),
+        1 => give(alloc, yard, "", &[URL, URL]),
+        2 => done(merge(yard)),
+        3 => send(yard),
+        4 => done(pass(yard)),
+        _ => settle_first(alloc, yard, URL),
+    }
+}
+
+// An answer without its number.
+fn done(answer: Result<u64, Fault>) -> Result<(), Fault> {
+    answer?;
+    Ok(())
+}
+
+// How much there is of a crawl: offers, how many of them are judged, unique, in front, done, and whether it has begun
+// and a pass is due.
+type Numbers = [u64; 7];
+
+fn numbers(yard: &Yard<MemStore>) -> Numbers {
+    let counts = yard.counts();
+    [
+        counts.offers,
+        counts.judged,
+        counts.unique,
+        counts.front,
+        counts.done,
+        u64::from(yard.has_begun()),
+        u64::from(yard.is_pass_due()),
+    ]
+}
+
+// These before the steps, and behind each.
+const LEFT: [Numbers; STEPS + 1] = [
+    [0, 0, 0, 0, 0, 0, 0],
+    [0, 0, 0, 0, 0, 1, 1],
+    [2, 0, 0, 0, 0, 1, 1],
+    [2, 2, 1, 0, 0, 1, 0],
+    [2, 2, 1, 0, 0, 1, 1],
+    [2, 2, 1, 1, 0, 1, 0],
+    [2, 2, 1, 0, 1, 1, 1],
+];
+
+// The number of the calls of the store before each step and behind the last.
+fn calls(alloc: Global) -> Result<[u64; STEPS + 1], Fault> {
+    let mut yard = made(alloc, Vec::new(alloc))?;
+    let mut calls = [yard.store.calls(); STEPS + 1];
+    for step in 0..STEPS {
+        take(alloc, &mut yard, step)?;
+        calls[step + 1] = yard.store.calls();
+    }
+    Ok(calls)
+}
+
+// All steps, each where those before are Ok.
+fn crawl(alloc: Global, yard: &mut Yard<MemStore>) -> Result<(), Fault> {
+    for step in 0..STEPS {
+        take(alloc, yard, step)?;
+    }
+    Ok(())
+}
+
+// The store of a crawl is entered again.
+fn enter_again(alloc: Global, yard: &mut Yard<MemStore>) -> Result<(), Fault> {
+    *yard = opened(alloc, copied(alloc, &yard.store)?, &ASKED)?;
+    Ok(())
+}
+
+// One more URL is flushed, and a stop comes in the first call of that.
+fn lose_one(alloc: Global, yard: &mut Yard<MemStore>) -> Result<(), Fault> {
+    let call = yard.store.calls();
+    give(alloc, yard, "", &[b"http://b.test/"])?;
+    if call >= yard.store.calls() {
+        return Err(Fault::Memory);
+    }
+    *yard = opened(alloc, yard.store.image(alloc, call, Part::New)?, &ASKED)?;
+    Ok(())
+}
+
+// Takes a step, behind the merge once an offer was lost: how much there is then, and once the store is entered again.
+fn taken(alloc: Global, yard: &mut Yard<MemStore>, step: usize) -> Result<[Numbers; 2], Fault> {
+    if step == 3 {
+        lose_one(alloc, yard)?;
+    }
+    take(alloc, yard, step)?;
+    let found = numbers(yard);
+    enter_again(alloc, yard)?;
+    Ok([found, numbers(yard)])
+}
+
+// The verdicts of the first two offers.
+fn verdicts(yard: &mut Yard<MemStore>) -> Result<[Option<Verdict>; 2], Fault> {
+    Ok([judged_at(yard, 0)?.1, judged_at(yard, 1)?.1])
+}
+
 #[test]
-fn a_crawl_of_one_page_ends(rt: HostRuntime) -> Result<(), Fail> {
+fn a_url_is_judged_read_and_settled(rt: HostRuntime) -> Result<(), Fail> {
     let alloc = rt.alloc();
     let mut yard = made(alloc, Vec::new(alloc))?;
-    assert_eq!(rt; begin(alloc, &mut yard), Ok(()));
-    assert_eq!(rt; offer(alloc, &mut yard), Ok(1));
-    assert_eq!(rt; send(&mut yard), Ok(()));
-    assert_eq!(rt; pass(&mut yard), Ok(1));
-    let work = first(alloc, &mut yard)?;
-    assert!(rt; is_page(work.as_ref(), 0, b"http://a.test/"));
-    assert_eq!(rt; numbers(&yard), [1, 0, 0, 1, 0]);
-    assert_eq!(rt; settle(alloc, &mut yard, 0), Ok(()));
+    for step in 0..STEPS {
+        let found = taken(alloc, &mut yard, step)?;
+        assert!(rt; found == [LEFT[step + 1]; 2], "{step}: {found:?}");
+    }
+    let found = verdicts(&mut yard)?;
+    assert!(rt; found == [Some(Verdict::Unique), Some(Verdict::Known(0))]);
     assert!(rt; yard.fate(0) == Fate::Done(Outcome::Page));
-    assert_eq!(rt; numbers(&yard), [1, 1, 1, 0, 0]);
-    assert_eq!(rt; pass(&mut yard), Ok(0));
     Ok(())
+}
+
+// Whether a crawl of whose store this call fails tells that, and isn't sound then.
+fn is_told(alloc: Global, call: u64) -> Result<bool, Fault> {
+    let mut yard = made(alloc, failing(alloc, call)?)?;
+    let answer = crawl(alloc, &mut yard);
+    Ok(answer == Err(Fault::Failed) && !yard.is_sound())
 }
 
 #[test]
 fn a_failed_call_of_a_crawl_ends_the_store(rt: HostRuntime) -> Result<(), Fail> {
     let alloc = rt.alloc();
     let calls = calls(alloc)?;
-    for call in calls[0]..calls[5] {
-        let mut yard = made(alloc, vec![in alloc; call]?)?;
-        assert_eq!(rt; crawl(alloc, &mut yard), Err(Fault::Failed), "at {call}");
-        assert!(rt; !yard.is_sound(), "at {call}");
-    }
-    Ok(())
-}
-
-// Counts events.
-#[derive(Drop)]
-struct Counting {
-    events: u64,
-}
-
-impl VisitEvents for Counting {
-    ghost takes = { λ _ _ _ _. ⊤ };
-
-    ghost refuses = { λ _ _ _ _. ⊤ };
-
-    fn take(&mut self, _at: u64, _event: Event) -> Result<bool, AllocError> {
-        self.events = self.events.saturating_add(1);
-        Ok(true)
-    }
-}
-
-// How many events stand in the log that a stop in this call left.
-fn left(alloc: Global, store: &MemStore, call: u64, part: Part) -> Result<u64, Fail> {
-    let mut counting = Counting { events: 0 };
-    if call < store.calls() {
-        let mut image = store.image(alloc, call, part)?;
-        Log::visit(alloc, &mut image, CRAWL, 1, &mut counting)?;
-    }
-    Ok(counting.events)
-}
-
-// The same of a stop that leaves what the files had before, what they had after, and a torn one.
-fn each_left(alloc: Global, store: &MemStore, call: u64) -> Result<[u64; 3], Fail> {
-    Ok([
-        left(alloc, store, call, Part::Old)?,
-        left(alloc, store, call, Part::New)?,
-        left(alloc, store, call, Part::Torn)?,
-    ])
-}
-
-#[test]
-fn a_stop_leaves_each_event_of_a_crawl_or_none(rt: HostRuntime) -> Result<(), Fail> {
-    let alloc = rt.alloc();
-    let calls = calls(alloc)?;
-    let mut yard = made(alloc, Vec::new(alloc))?;
-    assert_eq!(rt; crawl(alloc, &mut yard), Ok(()));
-    // How many events there are before each step, and how many it adds.
-    for (step, events, more) in [(0, 0, 1), (1, 1, 0), (2, 1, 1), (3, 2, 1), (4, 3, 1)] {
-        for call in calls[step]..calls[step + 1] {
-            for found in each_left(alloc, &yard.store, call)? {
-                assert!(rt;
-                    found == events || found == events + more,
-                    "at {call}: {found}"
-                );
-            }
-        }
-        // What answered Ok is there, whatever a stop of its last call leaves.
-        let last = calls[step + 1].saturating_sub(1);
-        assert_eq!(rt;
-            left(alloc, &yard.store, last, Part::New)?,
-            events + more,
-            "behind {last}"
-        );
-    }
-    Ok(())
-}
-
-// The URLs of three domains, each with the domain whose page has it.
-const LINKS: [(&str, &str); 7] = [
-    ("", "http://a.test/"),
-    ("a.test", "http://b.test/"),
-    ("a.test", "http://c.test/"),
-    ("b.test", "http://c.test/"),
-    ("a.test", "http://b.test/2"),
-    ("b.test", "http://c.test/"),
-    ("a.test", "http://www.a.test/"),
-];
-
-#[test]
-fn the_pairs_of_links_are_counted_once(rt: HostRuntime) -> Result<(), Fail> {
-    let alloc = rt.alloc();
-    let mut yard = made(alloc, Vec::new(alloc))?;
-    assert_eq!(rt; begin(alloc, &mut yard), Ok(()));
-    // How many pairs there are once each was sent: a domain's own links and those sent before count for nothing.
-    for (i, (from, text)) in LINKS.into_iter().enumerate() {
-        assert_eq!(rt; flush(alloc, &mut yard, from, text), Ok(()), "{i}");
-        assert!(rt; merge(&mut yard).is_ok(), "{i}");
-        assert_eq!(rt; send(&mut yard), Ok(()), "{i}");
-        assert_eq!(rt; yard.counts().pairs, [0, 1, 2, 3, 3, 3, 3][i], "{i}");
+    for call in calls[0]..calls[STEPS] {
+        assert!(rt; is_told(alloc, call)?, "at {call}");
     }
     Ok(())
 }

@@ -1,10 +1,12 @@
-ghost use Rattle.std.specs.Prelude.{◌≡◌, ◌≢◌, ◌<◌, ◌≤◌, length, IsTrue, IfOk};
+ghost use Rattle.std.specs.Prelude.{◌≡◌, IsTrue};
 ghost use Rattle.std.specs.List.{AllByRecursion};
-ghost use Rattle.irl_offer.specs.Buckets.{bucket_of as bucket_of_key, IsBucketCount};
-ghost use Rattle.irl_offer.specs.declared.settings.Kind.TheVariants.{Crawl};
 ghost use Rattle.irl_bay.specs.Flushing.{MayFlush};
-ghost use Rattle.irl_bay.specs.Drum.{pending_at, SomePending};
+ghost use Rattle.irl_bay.specs.Drum.{SomePending};
+ghost use Rattle.irl_key.specs.Links.{IsCanonicalText};
 ghost use Rattle.irl_ledger.specs.Crawling.{AreTaken};
+ghost use Rattle.irl_offer.specs.Buckets.{bucket_of as bucket_of_key, IsBucketCount};
+ghost use Rattle.irl_offer.specs.Offering.{IsTakenBy};
+ghost use Rattle.irl_offer.specs.declared.settings.Kind.TheVariants.{Crawl};
 ghost use Rattle.irl_yard.specs.Holding.{IsSound};
 
 mod damage;
@@ -12,61 +14,77 @@ pub(crate) mod rows;
 
 use super::*;
 use irl_disk::MemStore;
+use irl_key::{Canon, canonical};
 use irl_offer::{Asked, Kind, MAX_TEXT, Offer, Op, Rule, Text, Verdict, bucket_of};
 use std::alloc::AllocError;
 use std::test::Fail;
 
 // What is asked of a store of tuples with two buckets and arrays of two offers.
-fn asked_of(cap: Option<u64>) -> Asked
-    ensures { result.kind ≢ Crawl }
-{
-    Asked {
-        kind: Kind::Tuples,
-        rule: Some(Rule::Keep),
-        buckets: Some(2),
-        array: Some(2),
-        trigger: Some(4),
-        block: None,
-        cap,
-        queues: None,
-        base: None,
-        most: None,
-        ranks: None,
-    }
-}
+const ASKED: Asked = Asked {
+    kind: Kind::Tuples,
+    rule: Some(Rule::Keep),
+    buckets: Some(2),
+    array: Some(2),
+    trigger: Some(4),
+    block: None,
+    cap: None,
+    queues: None,
+    base: None,
+    most: None,
+    ranks: None,
+};
 
-// Opens a store, or makes one with this cap.
-fn opened(alloc: Global, store: MemStore, cap: Option<u64>) -> Result<Yard<MemStore>, Fault> {
-    match Yard::enter(alloc, store, &asked_of(cap)) {
+// Opens a store, or makes one.
+pub(crate) fn opened(
+    alloc: Global,
+    store: MemStore,
+    asked: &Asked,
+) -> Result<Yard<MemStore>, Fault> {
+    match Yard::enter(alloc, store, asked) {
         Ok(yard) => Ok(yard),
         Err(_) => Err(Fault::Memory),
     }
 }
 
-// A new store, of which the calls of these numbers fail.
-fn made(alloc: Global, failing: Vec<u64>) -> Result<Yard<MemStore>, Fault> {
-    opened(alloc, MemStore::new(alloc, failing), None)
+// The number of a call that is to fail.
+pub(crate) fn failing(alloc: Global, call: u64) -> Result<Vec<u64>, AllocError> {
+    Ok(vec![in alloc; call]?)
 }
 
-// An offer of value 0.
-fn offer_of(alloc: Global, key: u64, text: &[u8]) -> Result<Offer, AllocError> {
+// A new store, of which the calls of these numbers fail.
+fn made(alloc: Global, failing: Vec<u64>) -> Result<Yard<MemStore>, Fault> {
+    opened(alloc, MemStore::new(alloc, failing), &ASKED)
+}
+
+// An offer of value 0 that a page of the domain with this key has.
+pub(crate) fn offer_of(
+    alloc: Global,
+    key: u64,
+    from: u64,
+    text: &[u8],
+) -> Result<Offer, AllocError> {
     let text = &text[..text.len().min(MAX_TEXT)];
     Ok(Offer {
         op: Op::Both,
         key,
         value: 0,
-        from: 0,
+        from,
         aux: Text::from_bytes(alloc, text)?,
     })
+}
+
+// One offer more, where there is room for it.
+pub(crate) fn put(array: &mut Array, offer: Offer) {
+    if !array.is_full() {
+        array.push(offer);
+    }
 }
 
 // An array of these offers, as many as there is room for.
 fn array_of(alloc: Global, room: u32, offers: &[(u64, &[u8])]) -> Result<Array, AllocError> {
     let mut array = Array::with_room(alloc, room)?;
     for (key, text) in offers {
-        if !array.is_full() {
-            array.push(offer_of(alloc, *key, text)?);
-        }
+        put(&mut array, offer_of(alloc, *key, 0, text)?);
     }
     Ok(array)
 }
@@ -84,15 +102,45 @@ fn are_of(offers: &[Offer], buckets: u32, b: u32) -> bool
     true
 }
 
+// Whether an offer is one that a crawl takes.
+fn is_page(alloc: Global, offer: &Offer) -> bool
+    ensures { IsTrue result → IsTakenBy IsCanonicalText Crawl offer.now }
+{
+    let text = offer.aux.bytes();
+    match canonical(alloc, None, text) {
+        Ok(Canon::Web(web)) => web.text() == text && matches!(offer.op, Op::Both),
+        _ => false,
+    }
+}
+
+// Whether there are one or two offers, and all are so.
+fn are_pages(alloc: Global, offers: &[Offer]) -> bool
+    ensures { IsTrue result → AllByRecursion (IsTakenBy IsCanonicalText Crawl) offers.now }
+{
+    match offers {
+        [one] => is_page(alloc, one),
+        [one, other] => is_page(alloc, one) && is_page(alloc, other),
+        _ => false,
+    }
+}
+
+// Whether a store of this kind takes the offers.
+fn are_taken(alloc: Global, kind: Kind, offers: &[Offer]) -> bool
+    ensures { IsTrue result → AreTaken kind offers.now }
+{
+    match kind {
+        Kind::Lines | Kind::Tuples => true,
+        Kind::Crawl => are_pages(alloc, offers),
+    }
+}
+
 // Whether the array can be flushed to this bucket.
 fn can_flush(yard: &Yard<MemStore>, b: u32, array: &Array) -> bool
     ensures sound { IsTrue result → IsSound yard.now.parts }
     ensures offers { IsTrue result → MayFlush b array.now.items yard.now.parts.urls }
-    ensures taken { IsTrue result → AreTaken yard.now.parts.urls.settings.kind array.now.items }
 {
     let settings = yard.settings();
     yard.is_sound()
-        && matches!(settings.kind, Kind::Lines | Kind::Tuples)
         && b < settings.buckets
         && array.len() >= 1
         && array.len() <= settings.array
@@ -101,8 +149,13 @@ fn can_flush(yard: &Yard<MemStore>, b: u32, array: &Array) -> bool
 }
 
 // Flushes an array to a bucket.
-fn flush(yard: &mut Yard<MemStore>, b: u32, array: &mut Array) -> Result<(), Fault> {
-    if !can_flush(yard, b, array) {
+pub(crate) fn flush(
+    alloc: Global,
+    yard: &mut Yard<MemStore>,
+    b: u32,
+    array: &mut Array,
+) -> Result<(), Fault> {
+    if !are_taken(alloc, yard.settings().kind, array.items()) || !can_flush(yard, b, array) {
         return Err(Fault::Memory);
     }
     yard.flush(b, array)
@@ -115,8 +168,8 @@ fn waits_in(yard: &Yard<MemStore>, b: u32) -> bool
     b < yard.settings().buckets && yard.pending(b) > 0
 }
 
-// Whether offers wait to be judged.
-fn can_merge(yard: &Yard<MemStore>) -> bool
+// Whether offers of one of the first two buckets wait to be judged.
+pub(crate) fn can_merge(yard: &Yard<MemStore>) -> bool
     ensures sound { IsTrue result → IsSound yard.now.parts }
     ensures some { IsTrue result → SomePending yard.now.parts.urls }
 {
@@ -124,7 +177,7 @@ fn can_merge(yard: &Yard<MemStore>) -> bool
 }
 
 // Judges what was flushed.
-fn merge(yard: &mut Yard<MemStore>) -> Result<u64, Fault> {
+pub(crate) fn merge(yard: &mut Yard<MemStore>) -> Result<u64, Fault> {
     if !can_merge(yard) {
         return Err(Fault::Memory);
     }
@@ -137,13 +190,15 @@ const LOW_ONE: [(u64, &[u8]); 1] = [(1, b"y")];
 
 // Flushes two offers of one key to bucket 1, and another to bucket 0, and judges them.
 fn fill(alloc: Global, yard: &mut Yard<MemStore>) -> Result<u64, Fault> {
-    flush(yard, 1, &mut array_of(alloc, 2, &HIGH_TWO)?)?;
-    flush(yard, 0, &mut array_of(alloc, 2, &LOW_ONE)?)?;
+    flush(alloc, yard, 1, &mut array_of(alloc, 2, &HIGH_TWO)?)?;
+    flush(alloc, yard, 0, &mut array_of(alloc, 2, &LOW_ONE)?)?;
     merge(yard)
 }
 
 // The bucket, the verdict and the text of a judged offer.
-fn seen_of(found: &Judged) -> (u32, Option<Verdict>, Option<u8>) {
+pub(crate) type Seen = (u32, Option<Verdict>, Option<u8>);
+
+fn seen_of(found: &Judged) -> Seen {
     (
         found.bucket,
         found.verdict,
@@ -152,10 +207,7 @@ fn seen_of(found: &Judged) -> (u32, Option<Verdict>, Option<u8>) {
 }
 
 // One judged offer, where there is one.
-fn judged_at(
-    yard: &mut Yard<MemStore>,
-    i: u64,
-) -> Result<(u32, Option<Verdict>, Option<u8>), Fault> {
+pub(crate) fn judged_at(yard: &mut Yard<MemStore>, i: u64) -> Result<Seen, Fault> {
     if !yard.is_sound() || i >= yard.judged_len() {
         return Err(Fault::Memory);
     }
@@ -168,7 +220,7 @@ fn last_from(
     yard: &mut Yard<MemStore>,
     i: u64,
     most: u32,
-) -> Result<(usize, Option<(u32, Option<Verdict>, Option<u8>)>), Fault> {
+) -> Result<(usize, Option<Seen>), Fault> {
     if !yard.is_sound() || i >= yard.judged_len() {
         return Err(Fault::Memory);
     }
@@ -218,31 +270,57 @@ fn calls(alloc: Global) -> Result<(u64, u64), Fault> {
     Ok((first, yard.store.calls()))
 }
 
+// A store that was filled, once it is opened again.
+fn filled(alloc: Global) -> Result<Yard<MemStore>, Fault> {
+    let mut yard = made(alloc, Vec::new(alloc))?;
+    fill(alloc, &mut yard)?;
+    opened(alloc, yard.into_store(), &ASKED)
+}
+
+// One judged offer, how many come in one piece from it on, and the last of them.
+fn told_from(
+    alloc: Global,
+    yard: &mut Yard<MemStore>,
+    i: u64,
+    most: u32,
+) -> Result<(Seen, usize, Option<Seen>), Fault> {
+    let one = judged_at(yard, i)?;
+    let (count, last) = last_from(alloc, yard, i, most)?;
+    Ok((one, count, last))
+}
+
 #[test]
 fn what_was_judged_is_told_again(rt: HostRuntime) -> Result<(), Fail> {
     let alloc = rt.alloc();
-    let mut yard = made(alloc, Vec::new(alloc))?;
-    assert_eq!(rt; fill(alloc, &mut yard), Ok(1));
-    let mut yard = opened(alloc, yard.into_store(), None)?;
-    assert_eq!(rt; numbers(&yard), Some([1, 2, 0, 0, 3, 1]));
-    let told = [
-        (0, 0, Verdict::Unique, b'y'),
-        (1, 1, Verdict::Unique, b'x'),
-        (2, 1, Verdict::Known(0), b'z'),
+    let mut yard = filled(alloc)?;
+    let [y, x, z] = [
+        (0, Some(Verdict::Unique), Some(b'y')),
+        (1, Some(Verdict::Unique), Some(b'x')),
+        (1, Some(Verdict::Known(0)), Some(b'z')),
     ];
-    for (i, bucket, verdict, text) in told {
-        let one = (bucket, Some(verdict), Some(text));
-        assert_eq!(rt; judged_at(&mut yard, i), Ok(one), "{i}");
-        assert_eq!(rt;
-            last_from(alloc, &mut yard, i, 1),
-            Ok((1, Some(one))),
-            "{i}"
-        );
+    // A piece from an offer on has as many as there are, or fewer where that is asked.
+    for (i, most, told) in [
+        (0, 1, (y, 1, Some(y))),
+        (1, 9, (x, 2, Some(z))),
+        (2, 1, (z, 1, Some(z))),
+    ] {
+        let found = told_from(alloc, &mut yard, i, most)?;
+        assert!(rt; found == told, "{i}: {found:?}");
     }
-    let last = Some((1, Some(Verdict::Known(0)), Some(b'z')));
-    assert_eq!(rt; last_from(alloc, &mut yard, 1, 9), Ok((2, last)));
-    assert!(rt; yard.is_sound());
+    assert_eq!(rt; numbers(&yard), Some([1, 2, 0, 0, 3, 1]));
     Ok(())
+}
+
+// Whether filling a store of which this call fails tells the fault and ends the soundness, and leaves to be opened what
+// answered Ok before and of the failed call all or nothing.
+fn is_kept_at(alloc: Global, call: u64) -> Result<bool, Fault> {
+    let mut yard = made(alloc, failing(alloc, call)?)?;
+    if fill(alloc, &mut yard) != Err(Fault::Failed) || yard.is_sound() {
+        return Ok(false);
+    }
+    let kept = total(&yard);
+    let found = total(&opened(alloc, yard.into_store(), &ASKED)?);
+    Ok(found == kept || found == next_of(kept))
 }
 
 #[test]
@@ -250,19 +328,29 @@ fn a_failed_call_ends_the_store_and_loses_no_flush(rt: HostRuntime) -> Result<()
     let alloc = rt.alloc();
     let (first, end) = calls(alloc)?;
     for call in first..end {
-        let mut yard = made(alloc, vec![in alloc; call]?)?;
-        assert_eq!(rt; fill(alloc, &mut yard), Err(Fault::Failed), "at {call}");
-        assert!(rt; !yard.is_sound(), "at {call}");
-        // What answered Ok before is there, and of the failed call all or nothing.
-        let kept = total(&yard);
-        let yard = opened(alloc, yard.into_store(), None)?;
-        let found = total(&yard);
-        assert!(rt;
-            found == kept || found == next_of(kept),
-            "at {call}: {kept}, then {found}"
-        );
+        assert!(rt; is_kept_at(alloc, call)?, "at {call}");
     }
     Ok(())
+}
+
+// Reads a judged offer, or all of them, of a store that was filled, where that call fails: the fault, and the numbers
+// where the yard isn't sound any more.
+fn failed_read(
+    alloc: Global,
+    call: u64,
+    is_one: bool,
+) -> Result<(Option<Fault>, Option<[u64; 6]>), Fault> {
+    let mut yard = made(alloc, failing(alloc, call)?)?;
+    fill(alloc, &mut yard)?;
+    let fault = if is_one {
+        judged_at(&mut yard, 0).err()
+    } else {
+        last_from(alloc, &mut yard, 0, 9).err()
+    };
+    if yard.is_sound() {
+        return Ok((fault, None));
+    }
+    Ok((fault, numbers(&yard)))
 }
 
 #[test]
@@ -270,16 +358,8 @@ fn a_failed_read_ends_the_store(rt: HostRuntime) -> Result<(), Fail> {
     let alloc = rt.alloc();
     let (_first, end) = calls(alloc)?;
     for is_one in [false, true] {
-        let mut yard = made(alloc, vec![in alloc; end]?)?;
-        assert_eq!(rt; fill(alloc, &mut yard), Ok(1));
-        let found = if is_one {
-            judged_at(&mut yard, 0).err()
-        } else {
-            last_from(alloc, &mut yard, 0, 9).err()
-        };
-        assert_eq!(rt; found, Some(Fault::Failed));
-        assert!(rt; !yard.is_sound());
-        assert_eq!(rt; numbers(&yard), Some([1, 2, 0, 0, 3, 1]));
+        let found = failed_read(alloc, end, is_one)?;
+        assert_eq!(rt; found, (Some(Fault::Failed), Some([1, 2, 0, 0, 3, 1])));
     }
     Ok(())
 }

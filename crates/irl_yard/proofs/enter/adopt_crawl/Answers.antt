@@ -100,7 +100,7 @@ returns-in-Ok-open-clause-opened g c = λ asked agrees.
     let call = rest_call asked old.files settings valid agrees head kind c.in-Ok-adopt.urls adopts.drum adopts.base _ _ _ old mid late new (law c.read.new.store) (law c.adopt.new.store)
     c.read.ensures.changes c.adopt.ensures.leaves c.open.ensures.changes in
     crawl_opened asked settings valid agrees kind old mid late (law c.adopt.new.store) head c.in-Ok.read.0 c.in-Ok.read.1 c.in-Ok.ensures c.in-Ok-adopt.urls adopts _ c.adopt.ensures.leaves
-    c.in-Ok-open.ledger c.in-Ok.read.1.events new c.in-Ok-open.ensures (law c.open.new.store) call.stops c.requires.kept
+    c.in-Ok-open.ledger new c.in-Ok-open.ensures (law c.open.new.store) call.stops c.requires.kept
 
 pub returns-in-Ok-open-clause-entered : goal.returns-in-Ok-open-clause-entered
 returns-in-Ok-open-clause-entered g c = λ asked agrees.
@@ -138,7 +138,7 @@ returns-in-Err-open-clause-refused g c = λ asked agrees.
     subst (λ (fault : OpenFault). OpeningRefused asked fault old new) (sym c.bay_fault-in-Err-open.ensures)
     (part_refused asked settings valid agrees kind old (law c.args.store.now) head c.open.result c.in-Err-open.fault new c.in-Err-open.is
     (damage_ground asked settings valid agrees kind old mid late (law c.adopt.new.store) head c.in-Ok.read.0 c.in-Ok.read.1 c.in-Ok.ensures c.in-Ok-adopt.urls adopts _ c.adopt.ensures.leaves
-    c.open.result c.in-Ok.read.1.events new c.open.ensures) call)
+    c.open.result c.in-Ok.read.1 new c.open.ensures) call)
 
 pub returns-in-Err-open-clause-wanted : goal.returns-in-Err-open-clause-wanted
 returns-in-Err-open-clause-wanted g c = λ unwanted. bay_wanted c.in-Err-open.fault (subst IsUnwanted c.bay_fault-in-Err-open.ensures unwanted)

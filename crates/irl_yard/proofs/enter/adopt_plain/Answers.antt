@@ -85,6 +85,7 @@ returns-in-Ok-clause-opened g c = λ asked agrees.
       long = adopts.long;
       settings = λ files told. inl (subst (λ (s : Settings). HasHead s files) (sym same) (head files told));
       agrees = subst (Agrees asked) (sym same) agrees;
+      legal = λ ledger is. let no : ⊥ = cc in absurd no;
       ours = λ files told at. settings_ours asked files settings at (inl (head files told));
       undamaged = λ files told f at. head_undamaged asked settings files f at (head files told) (adopts.sane files (c.sync_rest.ensures.same ∙ told) f at)
           (plain_whole settings.kind settings files f at c.requires.kind);

@@ -31,6 +31,7 @@ use Rattle.irl_yard.proofs.RestFiles.{few}
 use Rattle.irl_yard.proofs.RestMade.{no_ground, rest_unwanted}
 use Rattle.irl_yard.proofs.Making.{blank_both, head_no_urls, if_err, of_err, only_memory, open_fault_of, same_err, told_on, urls_other, was_err}
 use Rattle.irl_yard.proofs.Grounds.{bay_failed, bay_wanted, blank_undamaged, entered_new, found_ground, not_unwanted, unmade_ground}
+use Rattle.irl_yard.proofs.OfItsLog.{made_log}
 use Rattle.irl_yard.proofs.enter.make.Goals as goal
 
 -- ---- nothing is made yet
@@ -391,6 +392,7 @@ returns-clause-opened g c =
       long = λ files told. holds_long new urls (blank_book settings.buckets settings.rule) files (law c.write_head.new.store) held told;
       settings = λ files is. inr (blank files is, as_asked);
       agrees = subst (Agrees asked) (sym as_asked) (new_agrees asked);
+      legal = λ ledger is. made_log old.files blank rest.images settings urls c.in_ok-rest.rest (blank_book settings.buckets settings.rule) pairs same (besides.holds (blank_book settings.buckets settings.rule)) ledger is;
       ours = λ files is at. settings_ours asked files urls.settings at (inr (blank files is, as_asked));
       undamaged = λ files is f at. blank_undamaged asked files f at (blank files is);
     }

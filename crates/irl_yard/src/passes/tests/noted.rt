@@ -1,12 +1,13 @@
 //! Notes of robots files in a crawl that is entered again.
 
-ghost use Rattle.std.specs.Prelude.{IsTrue};
+ghost use Rattle.std.specs.List.{AllByRecursion};
+ghost use Rattle.std.specs.Prelude.{IfOk, IsTrue};
 ghost use Rattle.irl_log.specs.Form.{IsNote};
-ghost use Rattle.irl_yard.specs.Adding.{MayNote};
+ghost use Rattle.irl_yard.specs.Adding.{MayNote, MayNoteAll};
 ghost use Rattle.irl_yard.specs.Holding.{IsSound};
 
 use super::*;
-use irl_offer::{Note, NoteState};
+use irl_offer::{MAX_TEXT, Note, NoteState};
 
 // Whether the crawl can take a note that a host has no robots file.
 fn can_note(yard: &Yard<MemStore>, note: &Note) -> bool
@@ -32,6 +33,48 @@ fn is_note(note: &Note) -> bool
         return false;
     }
     matches!(note.state, NoteState::Free)
+}
+
+// Whether the crawl can take notes.
+fn can_note_all(yard: &Yard<MemStore>, notes: &[Note]) -> bool
+    requires { AllByRecursion IsNote notes.now }
+    ensures sound { IsTrue result → IsSound yard.now.parts }
+    ensures notes { IsTrue result → MayNoteAll yard.now.parts.rest notes.now }
+{
+    if !yard.is_sound() {
+        return false;
+    }
+    yard.has_begun()
+}
+
+// Notes that hosts have no robots file, each with its moment.
+fn free(alloc: Global, hosts: &[(&[u8], u64)]) -> Result<Vec<Note>, Fault>
+    ensures { IfOk result (λ notes. AllByRecursion IsNote notes.items) }
+{
+    let mut notes = Vec::new(alloc);
+    for (host, when) in hosts {
+        let note = Note {
+            host: Text::from_bytes(alloc, host)?,
+            when: *when,
+            state: NoteState::Free,
+        };
+        if !is_note(&note) {
+            return Err(Fault::Memory);
+        }
+        if let Err(error) = notes.push(note) {
+            return Err(AllocError::from(error).into());
+        }
+    }
+    Ok(notes)
+}
+
+// Notes at once that hosts have no robots file.
+fn note_all(alloc: Global, yard: &mut Yard<MemStore>, hosts: &[(&[u8], u64)]) -> Result<(), Fault> {
+    let notes = free(alloc, hosts)?;
+    if !can_note_all(yard, &notes) {
+        return Err(Fault::Memory);
+    }
+    yard.note_all(&notes)
 }
 
 // Notes at this moment that a host has no robots file.
@@ -73,28 +116,37 @@ fn all_noted(
     ])
 }
 
+// Makes notes, the first three at once, and the last behind a URL that is offered.
+fn note_some(alloc: Global, yard: &mut Yard<MemStore>) -> Result<(), Fault> {
+    begin(alloc, yard)?;
+    let three: [(&[u8], u64); 3] = [(b"b.test", 2), (b"a.test", 3), (b"b.test", 5)];
+    note_all(alloc, yard, &three)?;
+    offer(alloc, yard)?;
+    note(alloc, yard, b"a.test", 9)
+}
+
 #[test]
 fn the_last_notes_are_found_once_it_is_entered_again(rt: HostRuntime) -> Result<(), Fail> {
     let alloc = rt.alloc();
     let mut yard = made(alloc, Vec::new(alloc))?;
-    assert_eq!(rt; begin(alloc, &mut yard), Ok(()));
-    assert_eq!(rt; all_noted(alloc, &mut yard, 20)?, [None, None, None]);
-    assert_eq!(rt; note(alloc, &mut yard, b"a.test", 3), Ok(()));
-    assert_eq!(rt; note(alloc, &mut yard, b"b.test", 5), Ok(()));
-    assert_eq!(rt; offer(alloc, &mut yard), Ok(1));
-    assert_eq!(rt; note(alloc, &mut yard, b"a.test", 9), Ok(()));
+    note_some(alloc, &mut yard)?;
     for i in 0..2 {
-        assert_eq!(rt;
-            all_noted(alloc, &mut yard, 20)?,
-            [Some(9), Some(5), None],
-            "{i}"
-        );
+        let found = all_noted(alloc, &mut yard, 20)?;
+        assert!(rt; found == [Some(9), Some(5), None], "{i}: {found:?}");
         // A day behind the second note its host has none.
-        let later = all_noted(alloc, &mut yard, 86_400_005)?;
-        assert_eq!(rt; later, [Some(9), None, None], "{i}");
-        yard = entered::entered(alloc, yard.into_store())?;
+        let found = all_noted(alloc, &mut yard, 86_400_005)?;
+        assert!(rt; found == [Some(9), None, None], "{i}: {found:?}");
+        enter_again(alloc, &mut yard)?;
     }
     Ok(())
+}
+
+// Whether a note of which this call fails is answered so, and ends the soundness.
+fn is_refused(alloc: Global, call: u64) -> Result<bool, Fault> {
+    let mut yard = made(alloc, failing(alloc, call)?)?;
+    begin(alloc, &mut yard)?;
+    let answer = note(alloc, &mut yard, b"a.test", 3);
+    Ok(answer == Err(Fault::Failed) && !yard.is_sound())
 }
 
 #[test]
@@ -102,14 +154,7 @@ fn a_failed_note_is_none(rt: HostRuntime) -> Result<(), Fail> {
     let alloc = rt.alloc();
     let calls = calls(alloc)?;
     for call in calls[1]..calls[1].saturating_add(4) {
-        let mut yard = made(alloc, vec![in alloc; call]?)?;
-        assert_eq!(rt; begin(alloc, &mut yard), Ok(()));
-        assert_eq!(rt;
-            note(alloc, &mut yard, b"a.test", 3),
-            Err(Fault::Failed),
-            "at {call}"
-        );
-        assert!(rt; !yard.is_sound(), "at {call}");
+        assert!(rt; is_refused(alloc, call)?, "at {call}");
     }
     Ok(())
 }

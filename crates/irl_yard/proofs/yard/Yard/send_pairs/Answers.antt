@@ -24,7 +24,7 @@ returns-in_err-tell_pairs-clause-sends g c =
     let out = err_from_is_err_and c.from_residual-in_err-tell_pairs.result c.from_residual-in_err-tell_pairs.ensures.1 in
     let is = out.1 ∙ ap (λ e. Err e) out.2 in
     subst (λ (r : Result Unit Fault). SendsPairs r was.parts next.parts (tells was.store) (tells next.store)) (c.in_err-tell_pairs.was ∙ sym is)
-    (told_alone c.offer_pairs.result c.tell_pairs.result _ was.parts mid.parts next.parts (tells was.store) (tells mid.store) (tells next.store) (g.met.S.Store.is_consistent mid.store)
+    (told_alone c.offer_pairs.result c.tell_pairs.result _ was.parts mid.parts next.parts (tells was.store) (tells mid.store) (tells next.store) (g.met.S.Store.is_consistent mid.store) (g.met.S.Store.is_consistent next.store)
     c.in_ok-offer_pairs.was c.offer_pairs.ensures.offers
     c.tell_pairs.ensures.tells _ c.in_err-tell_pairs.was)
 
@@ -35,9 +35,9 @@ returns-clause-sends g c =
     let mid = c.offer_pairs.new.self in
     let next = c.tell_pairs.new.self in
     let last = c.log_pairs.new.self in
-    sends_whole c.offer_pairs.result c.tell_pairs.result _ was.parts mid.parts next.parts (tells was.store) (tells mid.store) (tells next.store) (g.met.S.Store.is_consistent mid.store)
+    sends_whole c.offer_pairs.result c.tell_pairs.result _ was.parts mid.parts next.parts (tells was.store) (tells mid.store) (tells next.store) (g.met.S.Store.is_consistent mid.store) (g.met.S.Store.is_consistent next.store)
     c.in_ok-offer_pairs.was c.offer_pairs.ensures.offers
-    c.tell_pairs.ensures.tells tells c.log_pairs.result last.parts next.store last.store (g.met.S.Store.is_consistent next.store) refl _ c.in_ok-tell_pairs.was c.log_pairs.ensures.logs
+    c.tell_pairs.ensures.tells tells c.log_pairs.result last.parts next.store last.store (g.met.S.Store.is_consistent last.store) refl _ c.in_ok-tell_pairs.was c.log_pairs.ensures.logs
 
 pub returns-in_err-offer_pairs-clause-idle : goal.returns-in_err-offer_pairs-clause-idle
 returns-in_err-offer_pairs-clause-idle g c =
