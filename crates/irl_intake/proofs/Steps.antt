@@ -1,19 +1,23 @@
 -- What a step before an offer, or at the end of an input, is, by the way in which it comes to its answer.
-use Rattle.std.proofs.Common.{◌≡◌, ◌≢◌, ◌∙◌, ℕ, suc, ◌<◌, ◌≤◌, List, [], length, None, Some, Result, Ok, Err, IfOk, OnErr, IsErrOf, refl, sym, ap, subst, arith}
+use Rattle.std.proofs.Common.{◌≡◌, ◌≢◌, ◌∙◌, ℕ, suc, ◌<◌, ◌≤◌, List, [], ◌∷◌, length, None, Some, Result, Ok, Err, IfOk, OnErr, IsErrOf, refl, sym, ap, subst, arith}
 use Rattle.irl_base.specs.declared.fault.Fault.{Fault}
 use Rattle.irl_base.specs.declared.fault.Fault.TheVariants.{Failed, Full}
+use Rattle.irl_array.specs.Waiting.{Waiting}
 use Rattle.irl_offer.specs.Tuple.{Tuple}
+use Rattle.irl_offer.specs.declared.settings.Settings.{Settings}
 use Rattle.irl_disk.specs.Images.{Told}
 use Rattle.irl_bay.specs.Drum.{Drum, IsDrum, pending_at}
+use Rattle.irl_schedule.specs.Arrays.{AreArrays, SomeWaiting, waiting_at}
 use Rattle.irl_schedule.specs.Feeding.{Moment, moment, Waits}
 use Rattle.irl_schedule.specs.Schedule.{IsDue, none_more, one_more}
 use Rattle.irl_schedule.specs.Scheduling.{Schedules}
 use Rattle.irl_schedule.proofs.Finishing.{SoFar}
 use Rattle.irl_schedule.proofs.Outcomes.{err_gives, same_refusal}
 use Rattle.irl_schedule.proofs.Schedules.{answers_err, schedules_more}
+use Rattle.irl_schedule.proofs.Waits.{none_waits}
 use Rattle.irl_yard.specs.declared.parts.Parts.{Parts}
 use Rattle.irl_yard.specs.Holding.{StaysSound}
-use Rattle.irl_intake.specs.Advancing.{Advances, IsWaiting, MergesAlone, StopsAt, early_at, uneven_at}
+use Rattle.irl_intake.specs.Advancing.{Advances, FlushesWaiting, IsWaiting, MergesAlone, StopsAt, early_at, uneven_at}
 use Rattle.irl_intake.specs.declared.next.Next.{Next}
 use Rattle.irl_intake.specs.declared.next.Next.TheVariants.{Merged, Ready}
 use Rattle.irl_intake.proofs.Falling.{falls}
@@ -196,3 +200,63 @@ pub last_at_end : (result : Result Next Fault) (old new : Moment) → IfOk resul
 last_at_end (Ok Merged) old new is one = let no : ⊥ = cc in absurd no
 last_at_end (Ok Ready) old new is one = one
 last_at_end (Err fault) old new is one = one
+
+-- ---- a flush of all that waits
+no_length : (xs : List Tuple) → (1 ≤ length xs → ⊥) → xs ≡ []
+no_length [] none = refl
+no_length (x ∷ xs) none = absurd (none (omega arith))
+
+pub none_wait : (settings : Settings) (arrays : List Waiting) → AreArrays settings arrays → (SomeWaiting settings.buckets arrays → ⊥) → (b : ℕ) → waiting_at arrays b ≡ []
+none_wait settings arrays are none b =
+    none_waits arrays settings.buckets b (omega (arith, are.count)) (λ c within. no_length (waiting_at arrays c) (λ some. none (c, within, some)))
+
+pub flush_merged : (old new : Moment) → IsDrum old.drum → IsDue old.drum → IsWaiting None old → ((c : ℕ) → pending_at new.drum c ≡ 0) → (IsDue new.drum → ⊥)
+    → ((c : ℕ) → new.waits c ≡ old.waits c) → Schedules (Ok Merged) 0 none_more [] old new → FlushesWaiting (Ok Merged) old new
+flush_merged old new law due some judged none same schedules = record {
+  ready = λ is. let no : ⊥ = cc in absurd no;
+  merged = (λ is. (due, some), λ both. refl);
+  alone = λ one two. record { schedules = schedules; waits = same; full = λ n is. let no : ⊥ = cc in absurd no; settled = none };
+  falls = λ is. falls old.drum new.drum law due judged;
+  waiting = λ is. same;
+  ordered = tt;
+}
+
+pub flush_done : (old new : Moment) → (IsWaiting None old → IsDue old.drum → ⊥) → ((b : ℕ) → new.waits b ≡ []) → FlushesWaiting (Ok Ready) old new
+flush_done old new before empty = record {
+  ready = λ is. empty;
+  merged = (λ is. let no : ⊥ = cc in absurd no, λ both. absurd (before both.1 both.0));
+  alone = λ due some. absurd (before some due);
+  falls = λ is. let no : ⊥ = cc in absurd no;
+  waiting = λ is. let no : ⊥ = cc in absurd no;
+  ordered = tt;
+}
+
+pub flush_idle : (old : Moment) → ((b : ℕ) → old.waits b ≡ []) → FlushesWaiting (Ok Ready) old old
+flush_idle old none = flush_done old old (λ some due. let le = some.2 in absurd (omega (arith, le, ap (λ (l : List Tuple). length l) (none some.0)))) none
+
+pub flush_refused : (result : Result Next Fault) (fault : Fault) (n : ℕ) (old new : Moment) → result ≡ Err fault → StopsAt n old new → ((m : ℕ) → IsErrOf result (Full m) → m ≡ n)
+    → (IsDue old.drum → IsWaiting None old → MergesAlone (Err fault) old new) → FlushesWaiting result old new
+flush_refused result fault n old new is stops full alone =
+    subst (λ (r : Result Next Fault). FlushesWaiting r old new) (sym is) (record {
+      ready = tt;
+      merged = tt;
+      alone = alone;
+      falls = tt;
+      waiting = tt;
+      ordered = (n, stops, λ m named. full m (is ∙ named));
+    })
+
+-- by what was refused
+pub flush_refused_by : {A : Type 0} (result : Result A Fault) (answered : Result Next Fault) (fault : Fault) (old new : Moment) → result ≡ Err fault → answered ≡ Err fault
+    → OnErr result ((n : ℕ) × StopsAt n old new × ((m : ℕ) → IsErrOf result (Full m) → m ≡ n))
+    → (IsWaiting None old → IsDue old.drum → ⊥) → FlushesWaiting answered old new
+flush_refused_by result answered fault old new was is ordered before =
+    let why = err_gives result fault ordered was in
+    flush_refused answered fault why.0 old new is why.1 (λ m named. why.2 m (same_answer result answered fault (Full m) was is named)) (λ due some. absurd (before some due))
+
+-- a refusal adds at most what the last step may
+pub refused_uneven : {A : Type 0} (result : Result A Fault) (answered : Result Next Fault) (fault : Fault) (u : ℕ → ℕ) (old new : Moment) → result ≡ Err fault → answered ≡ Err fault
+    → ((b : ℕ) → u b ≤ one_more b) → Schedules result 0 u [] old new → Schedules answered 0 (uneven_at None answered) [] old new
+refused_uneven {A = A} result answered fault u old new was is few one =
+    subst (λ (r : Result Next Fault). Schedules r 0 (uneven_at None r) [] old new) (sym is)
+    (schedules_more (Err fault) 0 0 u one_more [] old new (omega arith) few (answers_err {A = A} {B = Next} result fault 0 u [] old new was one))

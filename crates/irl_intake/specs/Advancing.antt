@@ -88,3 +88,15 @@ pub record Advances (result : Result Next Fault) (bucket : Option ℕ) (old new 
   -- at the end the arrays are flushed in the order of the buckets, and none behind one that is refused: `Full` names it
   pub ordered : bucket ≡ None → OnErr result ((n : ℕ) × StopsAt n old new
       × ((m : ℕ) → IsErrOf result (Full m) → m ≡ n))
+
+-- A step of a flush of all that waits, by its answer: nothing merges behind the flushes.
+pub record FlushesWaiting (result : Result Next Fault) (old new : Moment) : Type 0 where
+  pub ready : IfOk result (λ next. next ≡ Ready → (b : ℕ) → new.waits b ≡ [])
+  -- where a merge is due and an offer waits, it runs alone
+  pub merged : IfOk result (λ next. (next ≡ Merged) ↔ (IsDue old.drum × IsWaiting None old))
+  pub alone : IsDue old.drum → IsWaiting None old → MergesAlone result old new
+  -- fewer offers are unjudged in all then, and all waits as it did
+  pub falls : IfOk result (λ next. next ≡ Merged → pending_in new.drum < pending_in old.drum)
+  pub waiting : IfOk result (λ next. next ≡ Merged → (c : ℕ) → new.waits c ≡ old.waits c)
+  -- the arrays are flushed in the order of the buckets, and none behind one that is refused: `Full` names it
+  pub ordered : OnErr result ((n : ℕ) × StopsAt n old new × ((m : ℕ) → IsErrOf result (Full m) → m ≡ n))

@@ -7,7 +7,7 @@ ghost use Rattle.irl_schedule.specs.Feeding.{Keeps, Stays, Feeds};
 ghost use Rattle.irl_schedule.specs.Schedule.{IsDue, none_more, one_more};
 ghost use Rattle.irl_schedule.specs.Scheduling.{Schedules};
 ghost use Rattle.irl_yard.specs.Holding.{IsSound, StaysSound};
-ghost use Rattle.irl_intake.specs.Advancing.{moment_of, Advances, StopsAt, early_at, uneven_at};
+ghost use Rattle.irl_intake.specs.Advancing.{moment_of, Advances, FlushesWaiting, StopsAt, early_at, uneven_at};
 ghost use Rattle.irl_schedule.specs.Arrays.{waiting_at, SomeWaiting};
 ghost use Rattle.irl_intake.specs.declared.next.Next.TheVariants.{Ready as ReadyNext};
 
@@ -50,12 +50,35 @@ impl<S: Store> Intake<S> {
         ensures idle { IfSome bucket (λ b. length (waiting_at self.old.arrays.items b)
             < self.old.yard.parts.urls.settings.array → (result ≡ Ok Next.Ready)
             × (self.new.yard ≡ self.old.yard) × (self.new.arrays ≡ self.old.arrays)) }
+        ensures rest { self.new.yard.parts.rest ≡ self.old.yard.parts.rest }
         ensures goes_on { StaysSound (IsErrOf result Fault.Failed) self.new.yard.parts }
     {
         match bucket {
             Some(b) => self.before_offer(b),
             None => self.at_end(),
         }
+    }
+
+    /// The next step of a flush of all that waits, with no merge at its end. After `Merged` the same is asked again.
+    ///
+    /// Where an offer waits, a merge that is due runs alone; else every array that isn't empty is flushed, bucket 0
+    /// first.
+    pub fn flush_waiting(&mut self) -> Result<Next, Fault>
+        requires sound { IsSound self.old.yard.parts }
+        ensures schedules { Schedules result 0 (uneven_at None result) [] (moment_of self.old) (moment_of self.new) }
+        ensures flushes { FlushesWaiting result (moment_of self.old) (moment_of self.new) }
+        ensures rest { self.new.yard.parts.rest ≡ self.old.yard.parts.rest }
+        ensures goes_on { StaysSound (IsErrOf result Fault.Failed) self.new.yard.parts }
+    {
+        let _is_sound = self.yard.is_sound();
+        if !self.has_waiting() {
+            return Ok(Next::Ready);
+        }
+        if self.yard.merge_if_due()? {
+            return Ok(Next::Merged);
+        }
+        self.flush_all()?;
+        Ok(Next::Ready)
     }
 
     // The next step before an offer of a bucket.
@@ -66,6 +89,7 @@ impl<S: Store> Intake<S> {
         ensures advances { Advances result (Some b) (moment_of self.old) (moment_of self.new) }
         ensures idle { length (waiting_at self.old.arrays.items b) < self.old.yard.parts.urls.settings.array →
             (result ≡ Ok Next.Ready) × (self.new.yard ≡ self.old.yard) × (self.new.arrays ≡ self.old.arrays) }
+        ensures rest { self.new.yard.parts.rest ≡ self.old.yard.parts.rest }
         ensures goes_on { StaysSound (IsErrOf result Fault.Failed) self.new.yard.parts }
     {
         let _is_sound = self.yard.is_sound();
@@ -85,6 +109,7 @@ impl<S: Store> Intake<S> {
         ensures schedules { Schedules result (early_at None result) (uneven_at None result) []
             (moment_of self.old) (moment_of self.new) }
         ensures advances { Advances result None (moment_of self.old) (moment_of self.new) }
+        ensures rest { self.new.yard.parts.rest ≡ self.old.yard.parts.rest }
         ensures goes_on { StaysSound (IsErrOf result Fault.Failed) self.new.yard.parts }
     {
         let _is_sound = self.yard.is_sound();
@@ -105,6 +130,7 @@ impl<S: Store> Intake<S> {
         ensures schedules { Schedules result 1 one_more [] (moment_of self.old) (moment_of self.new) }
         ensures advances { Advances result None (moment_of self.old) (moment_of self.new) }
         ensures ready { IfOk result (λ next. next ≡ Next.Ready) }
+        ensures rest { self.new.yard.parts.rest ≡ self.old.yard.parts.rest }
         ensures goes_on { StaysSound (IsErrOf result Fault.Failed) self.new.yard.parts }
     {
         self.flush_all()?;
@@ -123,6 +149,7 @@ impl<S: Store> Intake<S> {
         ensures emptied { OnOk result ((b : ℕ) → waiting_at self.new.arrays.items b ≡ []) }
         ensures ordered { OnErr result ((n : ℕ) × StopsAt n (moment_of self.old) (moment_of self.new)
             × ((m : ℕ) → IsErrOf result (Fault.Full m) → m ≡ n)) }
+        ensures rest { self.new.yard.parts.rest ≡ self.old.yard.parts.rest }
         ensures goes_on { StaysSound (IsErrOf result Fault.Failed) self.new.yard.parts }
     {
         let _is_sound = self.yard.is_sound();

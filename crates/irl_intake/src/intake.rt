@@ -1,12 +1,13 @@
-ghost use Rattle.std.specs.Prelude.{◌≡◌, ◌↔◌, ◌≤◌, ◌<◌, ℕ, [], true, length, IfErr, IfOk};
+ghost use Rattle.std.specs.Prelude.{◌≡◌, ◌↔◌, ◌+◌, ◌≤◌, ◌<◌, ℕ, [], true, length, Err, IfErr, IfOk, OnErr};
+ghost use Rattle.irl_base.specs.declared.fault.Fault.TheVariants.{Full as FullFault};
 ghost use Rattle.irl_offer.specs.Settings.{AreValid};
-ghost use Rattle.irl_bay.specs.Drum.{IsDrum};
+ghost use Rattle.irl_bay.specs.Drum.{IsDrum, durable_at};
 ghost use Rattle.irl_yard.specs.Holding.{IsSound};
 ghost use Rattle.irl_schedule.specs.Arrays.{AreArrays, array_at, waiting_at, SomeWaiting};
 
 use irl_array::Array;
 use irl_disk::Store;
-use irl_offer::Settings;
+use irl_offer::{Fault, Settings};
 use irl_schedule::arrays_of;
 use irl_yard::Yard;
 use std::alloc::Global;
@@ -65,6 +66,23 @@ impl<S: Store> Intake<S> {
         self.arrays[b as usize].is_full()
     }
 
+    /// The number that a bucket's next offer gets: how many it has and how many wait. `Full` where no number is left.
+    pub fn next_number(&self, b: u32) -> Result<u64, Fault>
+        requires { b < self.now.yard.parts.urls.settings.buckets }
+        ensures number { IfOk result (λ n. n ≡ durable_at self.now.yard.parts.urls b
+            + length (waiting_at self.now.arrays.items b)) }
+        ensures full { OnErr result ((result ≡ Err (Fault.Full b)) × (1 ≤ length (waiting_at self.now.arrays.items b))
+            × (self.now.yard.parts.urls.settings.cap < durable_at self.now.yard.parts.urls b
+            + length (waiting_at self.now.arrays.items b))) }
+    {
+        let _is_sound = self.yard.is_sound();
+        let waiting = u64::from(self.arrays[b as usize].len());
+        match self.yard.durable(b).checked_add(waiting) {
+            Some(number) => Ok(number),
+            None => Err(Fault::Full(b)),
+        }
+    }
+
     // Whether an offer waits.
     pub(crate) fn has_waiting(&self) -> bool
         ensures { (result ≡ true) ↔ SomeWaiting self.now.yard.parts.urls.settings.buckets self.now.arrays.items }
@@ -75,6 +93,14 @@ impl<S: Store> Intake<S> {
             }
         }
         false
+    }
+
+    /// Hands the open store back, without what waits. It takes no memory.
+    pub fn into_yard(self) -> Yard<S>
+        ensures { result ≡ self.yard }
+    {
+        let Intake { yard, arrays: _ } = self;
+        yard
     }
 
     /// Hands the store back, without what waits. It takes no memory.

@@ -1,17 +1,12 @@
-ghost use Rattle.std.specs.Prelude.{◌≡◌, ◌≢◌};
-ghost use Rattle.irl_offer.specs.declared.settings.Kind.TheVariants.{Crawl};
-
 use crate::{Intake, Next};
-use irl_disk::MemStore;
+use irl_disk::{MemStore, Part};
 use irl_offer::{Asked, Fault, Judged, Kind, Offer, Op, Rule, Text, Verdict, bucket_of};
 use irl_yard::Yard;
 use std::alloc::{AllocError, Global};
 use std::test::Fail;
 
 // What is asked of a store of tuples.
-fn asked_of(buckets: u32, array: u32, trigger: u32, cap: Option<u64>) -> Asked
-    ensures { result.kind ≢ Crawl }
-{
+fn asked_of(buckets: u32, array: u32, trigger: u32, cap: Option<u64>) -> Asked {
     Asked {
         kind: Kind::Tuples,
         rule: Some(Rule::Keep),
@@ -28,9 +23,7 @@ fn asked_of(buckets: u32, array: u32, trigger: u32, cap: Option<u64>) -> Asked
 }
 
 // Opens a store, or makes one.
-fn entered(alloc: Global, store: MemStore, asked: &Asked) -> Result<Yard<MemStore>, Fault>
-    requires { asked.now.kind ≢ Crawl }
-{
+fn entered(alloc: Global, store: MemStore, asked: &Asked) -> Result<Yard<MemStore>, Fault> {
     match Yard::enter(alloc, store, asked) {
         Ok(yard) => Ok(yard),
         Err(_) => Err(Fault::Memory),
@@ -38,9 +31,7 @@ fn entered(alloc: Global, store: MemStore, asked: &Asked) -> Result<Yard<MemStor
 }
 
 // Arrays in front of it.
-fn opened(alloc: Global, store: MemStore, asked: &Asked) -> Result<Intake<MemStore>, Fault>
-    requires { asked.now.kind ≢ Crawl }
-{
+fn opened(alloc: Global, store: MemStore, asked: &Asked) -> Result<Intake<MemStore>, Fault> {
     match Intake::new(alloc, entered(alloc, store, asked)?) {
         Ok(intake) => Ok(intake),
         Err(_) => Err(Fault::Memory),
@@ -153,6 +144,34 @@ fn feed_all(
     Ok(counts)
 }
 
+// How many offers were judged after each that was handed in, and at the end what is told and how many cuts there are.
+#[derive(Drop)]
+struct Run {
+    counts: Vec<u64>,
+    told: Vec<u8>,
+    cuts: u64,
+}
+
+// Hands offers in up to the end of the input, over this store.
+fn fed_to_the_end(
+    alloc: Global,
+    store: MemStore,
+    asked: &Asked,
+    offers: &[(u64, &[u8; 1])],
+) -> Result<Run, Fault> {
+    let mut intake = opened(alloc, store, asked)?;
+    let counts = feed_all(alloc, &mut intake, offers)?;
+    end(&mut intake)?;
+    let told = told(alloc, &mut intake)?;
+    let cuts = entered(alloc, intake.into_store(), asked)?.cuts();
+    Ok(Run { counts, told, cuts })
+}
+
+// A store whose files are empty.
+fn blank(alloc: Global) -> MemStore {
+    MemStore::new(alloc, Vec::new(alloc))
+}
+
 const HIGH: u64 = 1 << 63;
 
 #[test]
@@ -171,44 +190,43 @@ fn merges_run_as_the_trigger_says(rt: HostRuntime) -> Result<(), Fail> {
         (4, 2, [0, 0, 0, 2], b"xuzkyuwu".as_slice()),
     ] {
         let asked = asked_of(2, 2, trigger, None);
-        let mut intake = opened(alloc, MemStore::new(alloc, Vec::new(alloc)), &asked)?;
-        let found = feed_all(alloc, &mut intake, &offers[..count])?;
-        assert_eq!(rt; found.as_slice(), &counts[..count], "trigger {trigger}");
-        assert_eq!(rt; end(&mut intake), Ok(()));
-        assert_eq!(rt;
-            told(alloc, &mut intake)?.as_slice(),
-            texts,
+        let found = fed_to_the_end(alloc, blank(alloc), &asked, &offers[..count])?;
+        assert!(rt;
+            found.counts.as_slice() == &counts[..count],
             "trigger {trigger}"
         );
+        assert!(rt; found.told.as_slice() == texts, "trigger {trigger}");
     }
     Ok(())
+}
+
+// Three offers, of which each bucket has room for two: what the end of the input answers, and the store.
+fn overfull(alloc: Global, asked: &Asked) -> Result<(Result<(), Fault>, MemStore), Fault> {
+    let mut intake = opened(alloc, blank(alloc), asked)?;
+    feed_all(alloc, &mut intake, &[(1, b"p"), (2, b"q"), (3, b"r")])?;
+    let answer = end(&mut intake);
+    Ok((answer, intake.into_store()))
 }
 
 #[test]
 fn a_full_bucket_is_refused_and_keeps_what_it_has(rt: HostRuntime) -> Result<(), Fail> {
     let alloc = rt.alloc();
     let asked = asked_of(1, 1, 16_384, Some(2));
-    let mut intake = opened(alloc, MemStore::new(alloc, Vec::new(alloc)), &asked)?;
-    let offers = [(1, b"p"), (2, b"q"), (3, b"r")];
-    let counts = feed_all(alloc, &mut intake, &offers)?;
-    assert_eq!(rt; counts.as_slice(), [0; 3].as_slice());
-    assert_eq!(rt; end(&mut intake), Err(Fault::Full(0)));
-    assert_eq!(rt; intake.judged_len(), 0);
+    let (answer, store) = overfull(alloc, &asked)?;
+    assert!(rt; answer == Err(Fault::Full(0)));
     // Opened again, it has the two that fitted.
-    let mut intake = opened(alloc, intake.into_store(), &asked)?;
-    assert_eq!(rt; end(&mut intake), Ok(()));
-    assert_eq!(rt; told(alloc, &mut intake)?.as_slice(), b"puqu".as_slice());
+    let found = fed_to_the_end(alloc, store, &asked, &[])?;
+    assert!(rt; found.told.as_slice() == b"puqu".as_slice());
     Ok(())
 }
 
-// A store of which the call of this number fails, once as many offers wait in bucket 1 as let a merge run and two more came;
-// or nothing where it fails at another moment.
-fn left_due(alloc: Global, asked: &Asked, call: u64) -> Result<Option<MemStore>, Fault>
-    requires { asked.now.kind ≢ Crawl }
-{
+// Three offers of bucket 1, of which the first two let a merge run.
+const DUE: [(u64, &[u8; 1]); 3] = [(HIGH | 1, b"x"), (HIGH | 2, b"z"), (HIGH | 3, b"w")];
+
+// A store of which the call of this number fails, where as many offers wait in bucket 1 then as let a merge run.
+fn left_due(alloc: Global, asked: &Asked, call: u64) -> Result<Option<MemStore>, Fault> {
     let mut intake = opened(alloc, failing(alloc, call)?, asked)?;
-    let offers = [(HIGH | 1, b"x"), (HIGH | 2, b"z"), (HIGH | 3, b"w")];
-    let _counts = feed_all(alloc, &mut intake, &offers);
+    let _counts = feed_all(alloc, &mut intake, &DUE);
     let yard = entered(alloc, intake.into_store(), asked)?;
     if yard.settings().buckets == 2 && yard.pending(1) >= 2 {
         return Ok(Some(yard.into_store()));
@@ -216,16 +234,44 @@ fn left_due(alloc: Global, asked: &Asked, call: u64) -> Result<Option<MemStore>,
     Ok(None)
 }
 
-// How many calls there are once a store was made, and once three offers came.
-fn calls(alloc: Global, asked: &Asked) -> Result<(u64, u64), Fault>
-    requires { asked.now.kind ≢ Crawl }
-{
-    let intake = opened(alloc, MemStore::new(alloc, Vec::new(alloc)), asked)?;
-    let first = intake.into_store().calls();
-    let mut intake = opened(alloc, MemStore::new(alloc, Vec::new(alloc)), asked)?;
-    let offers = [(HIGH | 1, b"x"), (HIGH | 2, b"z"), (HIGH | 3, b"w")];
-    feed_all(alloc, &mut intake, &offers)?;
+// How many calls there are once a store was made, and once those offers came.
+fn calls(alloc: Global, asked: &Asked) -> Result<(u64, u64), Fault> {
+    let first = opened(alloc, blank(alloc), asked)?.into_store().calls();
+    let mut intake = opened(alloc, blank(alloc), asked)?;
+    feed_all(alloc, &mut intake, &DUE)?;
     Ok((first, intake.into_store().calls()))
+}
+
+// How many offers come to such a store, how many are judged after each, and what is told and how many cuts there are at
+// the end: where no offer comes, or one, the merge runs at the end before the first flush.
+const THEN: [(usize, [u64; 3], &[u8], u64); 3] = [
+    (0, [0; 3], b"xuzu", 1),
+    (1, [0; 3], b"xuzuau", 2),
+    (3, [0, 2, 4], b"xuzuaubucu", 3),
+];
+
+// The same store once more, of which no call was made.
+fn copied(alloc: Global, store: &MemStore) -> Result<MemStore, AllocError> {
+    let calls = store.calls();
+    if calls == 0 {
+        return Err(AllocError);
+    }
+    store.image(alloc, calls - 1, Part::New)
+}
+
+// Whether these come of such a store.
+fn is_so(alloc: Global, asked: &Asked, store: &MemStore) -> Result<bool, Fault> {
+    let offers = [(1, b"a"), (2, b"b"), (3, b"c")];
+    for (count, counts, told, cuts) in THEN {
+        let found = fed_to_the_end(alloc, copied(alloc, store)?, asked, &offers[..count])?;
+        if found.counts.as_slice() != &counts[..count]
+            || found.told.as_slice() != told
+            || found.cuts != cuts
+        {
+            return Ok(false);
+        }
+    }
+    Ok(true)
 }
 
 #[test]
@@ -233,61 +279,27 @@ fn a_merge_that_failed_runs_before_the_next_flush(rt: HostRuntime) -> Result<(),
     let alloc = rt.alloc();
     let asked = asked_of(2, 1, 2, None);
     let (first, last) = calls(alloc, &asked)?;
-    let mut found = 0u32;
+    let mut found = 0_u32;
     for call in first..last {
-        let Some(store) = left_due(alloc, &asked, call)? else {
-            continue;
-        };
-        found = found.saturating_add(1);
-        let mut intake = opened(alloc, store, &asked)?;
-        let offers = [(1, b"a"), (2, b"b"), (3, b"c")];
-        let counts = feed_all(alloc, &mut intake, &offers)?;
-        assert_eq!(rt; counts.as_slice(), [0, 2, 4].as_slice(), "at {call}");
-        assert_eq!(rt; end(&mut intake), Ok(()), "at {call}");
-        assert_eq!(rt;
-            told(alloc, &mut intake)?.as_slice(),
-            b"xuzuaubucu".as_slice(),
-            "at {call}"
-        );
-        let yard = entered(alloc, intake.into_store(), &asked)?;
-        assert_eq!(rt; yard.cuts(), 3, "at {call}");
+        if let Some(store) = left_due(alloc, &asked, call)? {
+            found = found.saturating_add(1);
+            assert!(rt; is_so(alloc, &asked, &store)?, "at {call}");
+        }
     }
     assert!(rt; found > 3, "{found}");
     Ok(())
 }
 
-#[test]
-fn the_end_merges_before_its_first_flush_alone(rt: HostRuntime) -> Result<(), Fail> {
-    let alloc = rt.alloc();
-    let asked = asked_of(2, 1, 2, None);
-    let (first, last) = calls(alloc, &asked)?;
-    // How many offers wait at the end, and how many cuts there are then.
-    for (count, cuts) in [(0, 1), (1, 2)] {
-        for call in first..last {
-            let Some(store) = left_due(alloc, &asked, call)? else {
-                continue;
-            };
-            let mut intake = opened(alloc, store, &asked)?;
-            let offers = [(1, b"a")];
-            feed_all(alloc, &mut intake, &offers[..count])?;
-            assert_eq!(rt; end(&mut intake), Ok(()), "at {call}");
-            let yard = entered(alloc, intake.into_store(), &asked)?;
-            assert_eq!(rt; yard.cuts(), cuts, "at {call}");
-        }
-    }
-    Ok(())
-}
-
-// So many offers over 4 buckets, of 601 keys that come again.
+// Hands in so many offers over 4 buckets, of 601 keys that come again.
 fn feed_many(alloc: Global, intake: &mut Intake<MemStore>, count: u64) -> Result<(), Fault> {
     for i in 0..count {
         let key = (i.wrapping_mul(7_919) % 601) << 54;
         feed(intake, offer_of(alloc, key, b"t")?)?;
     }
-    Ok(())
+    end(intake)
 }
 
-// How many of them are unique.
+// How many of these are unique.
 fn count_unique(judged: &[Judged]) -> usize {
     let mut count: usize = 0;
     for one in judged {
@@ -298,17 +310,21 @@ fn count_unique(judged: &[Judged]) -> usize {
     count
 }
 
+// How many of so many offers are judged at the end, and how many of them unique.
+fn judged_of(alloc: Global, asked: &Asked, count: u64) -> Result<(u64, usize), Fault> {
+    let mut intake = opened(alloc, blank(alloc), asked)?;
+    feed_many(alloc, &mut intake, count)?;
+    let found = all_judged(alloc, &mut intake)?;
+    Ok((intake.judged_len(), count_unique(&found)))
+}
+
 #[test]
 fn each_key_of_many_offers_is_unique_once(rt: HostRuntime) -> Result<(), Fail> {
     let alloc = rt.alloc();
     for (count, array, trigger, keys) in [(1_500, 16, 100, 601), (200, 3, 5, 200), (40, 1, 1, 40)] {
         let asked = asked_of(4, array, trigger, None);
-        let mut intake = opened(alloc, MemStore::new(alloc, Vec::new(alloc)), &asked)?;
-        feed_many(alloc, &mut intake, count)?;
-        assert_eq!(rt; end(&mut intake), Ok(()));
-        assert_eq!(rt; intake.judged_len(), count);
-        let found = all_judged(alloc, &mut intake)?;
-        assert_eq!(rt; count_unique(&found), keys, "array {array}");
+        let found = judged_of(alloc, &asked, count)?;
+        assert!(rt; found == (count, keys), "array {array}: {found:?}");
     }
     Ok(())
 }

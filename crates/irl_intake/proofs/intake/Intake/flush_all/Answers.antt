@@ -1,4 +1,4 @@
-use Rattle.std.proofs.Common.{◌≡◌, ◌∙◌, ◌<◌, List, [], length, Err, ap, set, arith}
+use Rattle.std.proofs.Common.{◌≡◌, ◌∙◌, ◌<◌, List, [], length, Err, refl, ap, set, arith}
 use Rattle.std.proofs.lemmas.List.{get_or_read}
 use Rattle.std.proofs.lemmas.Result.{err_from_is_err_and}
 use Rattle.irl_offer.specs.declared.settings.Settings.{Settings}
@@ -17,7 +17,7 @@ pub loop-b-init : goal.loop-b-init
 loop-b-init g c =
     let was = c.args.self.now in
     let now : Moment = moment (g.S.Store.told was.yard.store) was.yard.parts.urls (waiting_at was.arrays.items) in
-    (begins now (g.met.S.Store.is_consistent was.yard.store) c.is_sound-is_sound.ensures.drum, c.requires.sound, c.is_sound-is_sound.ensures.drum)
+    (begins now (g.met.S.Store.is_consistent was.yard.store) c.is_sound-is_sound.ensures.drum, c.requires.sound, c.is_sound-is_sound.ensures.drum, refl)
 
 pub invariant_of-self-in-loop-b : goal.invariant_of-self-in-loop-b
 invariant_of-self-in-loop-b g c =
@@ -124,6 +124,7 @@ loop-b-preserved g c =
           (λ n other. ap (λ (a : Waiting). a.items) (array_elsewhere arrays b n flushed other)),
       c.in_ok-flush_some.ensures.goes_on.sound (λ failed. let no : ⊥ = cc in absurd no),
       c.flush_some.ensures.goes_on.drum,
+      c.flush_some.ensures.rest ∙ c.loop-b.invariant.3,
     )
 
 pub returns-clause-schedules : goal.returns-clause-schedules
