@@ -42,7 +42,7 @@ few_at class.Free asked followed reply web step = cc
 few_at class.Shut asked followed reply web step = cc
 
 -- a redirect is followed only after fewer than five
-followed_few : (asked : List ℕ) (followed : ℕ) (a : Answer) (web : List ℕ) → step_of asked followed a ≡ Follow web → followed < 5
+pub followed_few : (asked : List ℕ) (followed : ℕ) (a : Answer) (web : List ℕ) → step_of asked followed a ≡ Follow web → followed < 5
 followed_few asked followed (answer.Reply reply) web step = few_at (class_of reply.status) asked followed reply web step
 followed_few asked followed answer.NoReply web step = cc
 followed_few asked followed (answer.Short n) web step = cc

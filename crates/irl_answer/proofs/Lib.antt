@@ -1,2 +1,2 @@
 mod Giving
-mod Chains
+pub mod Chains

@@ -1,0 +1,12 @@
+pub mod Chains
+pub mod Ending
+pub mod Finds
+pub mod Growing
+pub mod Joining
+pub mod Judged
+pub mod Members
+pub mod Reaching
+pub mod Settled
+pub mod Staying
+pub mod Turns
+pub mod Waits

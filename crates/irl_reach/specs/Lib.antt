@@ -1,0 +1,4 @@
+pub mod Tapes
+pub mod Reached
+pub mod Along
+pub mod Crawls
