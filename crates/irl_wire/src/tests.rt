@@ -1,0 +1,193 @@
+use crate::limits::Limits;
+use crate::wire::Wire;
+use irl_http::Link;
+use irl_io::Clock;
+use std::io;
+use std::io::{Read, Write};
+use std::net::{TcpListener, TcpStream};
+use std::test::Fail;
+use std::thread::{Threads, join};
+use std::time::{Duration, Instant};
+
+/// What a server does with the one connection that it takes.
+#[derive(Clone, Copy, Debug, PartialEq, Eq)]
+enum Server {
+    /// It never answers.
+    Silent,
+    /// It gives a byte each tenth of a second, for as long as it may.
+    Dripping,
+    /// It gives a part of an answer, and closes.
+    Closing,
+    /// It gives more than was asked for, and closes.
+    Generous,
+    /// It closes without having read what came, so that the connection is reset.
+    Resetting,
+}
+
+fn short() -> Limits {
+    Limits {
+        call: Duration::from_millis(200),
+        whole: Duration::from_millis(1_000),
+    }
+}
+
+// How many bytes the generous server gives.
+const MUCH: usize = 100_000;
+
+// Reads the end of a request.
+fn read_request(stream: &TcpStream) -> io::Result<()> {
+    let mut peer = stream;
+    let mut request = [0u8; 64];
+    peer.read(&mut request)?;
+    Ok(())
+}
+
+fn pause<R: std::time::Clock>(rt: &R, millis: u64) {
+    rt.sleep(Duration::from_millis(millis));
+}
+
+fn drip<R: std::time::Clock>(rt: &R, stream: &TcpStream) -> io::Result<()> {
+    let mut peer = stream;
+    for _ in 0..30 {
+        peer.write_all(b"x")?;
+        pause(rt, 100);
+    }
+    Ok(())
+}
+
+fn give<R: std::time::Clock>(rt: &R, stream: &TcpStream, server: Server) -> io::Result<()> {
+    let mut peer = stream;
+    match server {
+        Server::Silent => {
+            read_request(stream)?;
+            pause(rt, 600);
+        }
+        Server::Dripping => drip(rt, stream)?,
+        Server::Closing => {
+            read_request(stream)?;
+            peer.write_all(b"HTTP/1.1 200")?;
+        }
+        Server::Generous => {
+            read_request(stream)?;
+            for _ in 0..MUCH / 100 {
+                peer.write_all(&[b'a'; 100])?;
+            }
+        }
+        Server::Resetting => pause(rt, 100),
+    }
+    Ok(())
+}
+
+fn serve<R: std::time::Clock>(rt: &R, listener: &TcpListener, server: Server) -> bool {
+    match listener.accept() {
+        Ok((stream, _)) => give(rt, &stream, server).is_ok(),
+        Err(_) => false,
+    }
+}
+
+/// What a fetch came to.
+#[derive(Drop)]
+struct Came {
+    bytes: u64,
+    faults: bool,
+    millis: u128,
+}
+
+// One fetch: all that the peer gives, up to a fault.
+fn fetch<R: std::time::Clock, L: Link>(rt: &R, link: &mut L, port: u16) -> io::Result<Came> {
+    let start = Instant::now(rt)?;
+    let mut bytes = 0u64;
+    let mut faults = link.connect(port).is_err() || link.write(b"GET / HTTP/1.1\r\n\r\n").is_err();
+    let mut into = [0u8; 4096];
+    for _ in 0..100_000 {
+        if faults {
+            break;
+        }
+        match link.read(&mut into) {
+            Ok(0) => break,
+            Ok(count) => bytes = bytes.saturating_add(count as u64),
+            Err(_) => faults = true,
+        }
+    }
+    Ok(Came {
+        bytes,
+        faults,
+        millis: start.elapsed(rt)?.as_millis(),
+    })
+}
+
+// The server in one thread, and the fetch in another.
+fn both<R: Threads + std::time::Clock + Sync, W: Link + Drop + Send>(
+    rt: &R,
+    listener: &TcpListener,
+    mut wire: W,
+    port: u16,
+    server: Server,
+) -> (bool, io::Result<Came>) {
+    join(
+        rt,
+        || serve(rt, listener, server),
+        move || fetch(rt, &mut wire, port),
+    )
+}
+
+// What servers do, the least and the most bytes that come of each, whether a fault does, and within which milliseconds.
+const SERVERS: [(Server, u64, u64, bool, u128, u128); 5] = [
+    (Server::Silent, 0, 0, true, 200, 900),
+    (Server::Dripping, 5, 11, true, 1_000, 1_900),
+    (Server::Closing, 12, 12, false, 0, 900),
+    (Server::Generous, 100_000, 100_000, false, 0, 900),
+    (Server::Resetting, 0, 0, true, 50, 900),
+];
+
+#[test]
+fn no_server_holds_a_fetch(rt: HostRuntime) -> Result<(), Fail> {
+    for (server, least, most, faults, from, till) in SERVERS {
+        let listener = TcpListener::bind(&rt, "127.0.0.1:0")?;
+        let port = listener.local_addr()?.port();
+        let wire = Wire::with_limits(&rt, short());
+        let (_, came) = both(&rt, &listener, wire, port, server);
+        let came = came?;
+        assert!(rt;
+            came.bytes >= least && came.bytes <= most,
+            "{server:?}: {} bytes",
+            came.bytes
+        );
+        assert_eq!(rt; came.faults, faults, "{server:?}");
+        assert!(rt;
+            came.millis >= from && came.millis < till,
+            "{server:?}: {} ms",
+            came.millis
+        );
+    }
+    Ok(())
+}
+
+#[test]
+fn a_refused_connection_is_a_fault_at_once(rt: HostRuntime) -> Result<(), Fail> {
+    let port = TcpListener::bind(&rt, "127.0.0.1:0")?.local_addr()?.port();
+    let mut wire = Wire::new(&rt);
+    let came = fetch(&rt, &mut wire, port)?;
+    assert!(rt; came.faults && came.bytes == 0 && came.millis < 900);
+    // Without a connection nothing is read and nothing written.
+    assert!(rt; wire.read(&mut [0u8; 8]).is_err());
+    assert!(rt; wire.write(b"x").is_err());
+    Ok(())
+}
+
+#[test]
+fn its_moments_are_those_of_the_system(rt: HostRuntime) -> Result<(), Fail> {
+    let mut wire = Wire::new(&rt);
+    let before = wire.now();
+    // The year 2025 has begun.
+    assert!(rt; before > 1_735_689_600_000);
+    wire.wait_till(before.saturating_add(50));
+    let after = wire.now();
+    assert!(rt;
+        after >= before.saturating_add(50),
+        "{before} and then {after}"
+    );
+    wire.wait_till(before);
+    assert!(rt; wire.now() >= after);
+    Ok(())
+}
