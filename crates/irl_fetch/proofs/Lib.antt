@@ -1,0 +1,9 @@
+pub mod Chaining
+pub mod Handling
+pub mod Jobs
+pub mod Joining
+pub mod Notes
+pub mod Paging
+pub mod Pieces
+pub mod Results
+pub mod Telling

@@ -1,0 +1,5 @@
+pub mod Handling
+pub mod Pages
+pub mod Robots
+pub mod Telling
+pub mod Working

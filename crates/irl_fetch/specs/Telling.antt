@@ -1,0 +1,61 @@
+-- What a fetcher, and the way into a store, tell at one moment, and what goes on from one moment to a later one.
+use Rattle.std.specs.Prelude.{◌≡◌, ◌↔◌, ℕ, ◌+◌, ◌-◌, ◌^◌, ◌≤◌, min, List, ◌++◌, Option}
+use Rattle.std.specs.Option.{option_map}
+use Rattle.irl_base.specs.declared.fault.Fault.{Fault}
+use Rattle.irl_offer.specs.Offering.{Entered}
+use Rattle.irl_offer.specs.Tuple.{Tuple}
+use Rattle.irl_answer.specs.Found.{IsTaken}
+use Rattle.irl_record.specs.Widening.{Answers, WidensSince}
+
+-- ---- a fetcher
+pub record Fetcher : Type 1 where
+  -- how much it did to get answers, and those that it gives since such a count
+  pub asked : ℕ
+  pub gives : ℕ → Answers
+  -- how often nothing came
+  pub faults : ℕ
+  -- no moment that is told later is before this one
+  pub last : ℕ
+
+-- that of a value, by what is told of it
+abbrev pub fetcher : {F : Type 0} → (F → ℕ) → (F → ℕ → Answers) → (F → ℕ) → (F → ℕ) → F → Fetcher
+fetcher asked gives faults last x =
+    record { asked = asked x; gives = gives x; faults = faults x; last = last x }
+
+-- the answers since one moment, told at a later one
+abbrev pub given_since : Fetcher → Fetcher → Answers
+given_since old new = new.gives old.asked
+
+-- What it gave it still gives, and neither its counts nor its moment fall.
+pub record GoesOn (old new : Fetcher) : Type 0 where
+  pub asked : old.asked ≤ new.asked
+  pub wider : WidensSince old.gives new.gives
+  pub faults : old.faults ≤ new.faults
+  pub last : old.last ≤ new.last
+
+-- a count has risen by so many at least; one that stands at its last value counts as risen by any number
+abbrev pub RoseBy : ℕ → ℕ → ℕ → Type 0
+RoseBy n before now = min (before + n) (2 ^ 64 - 1) ≤ now
+
+-- ---- the way into a store
+pub record Offering : Type 1 where
+  -- the receipts that were given, each with its offer
+  pub entries : Option (List Entered)
+  -- the last fault but want of memory that was answered
+  pub last_fault : Option Fault
+  -- which offers are taken
+  pub takes : Tuple → Type 0
+
+abbrev pub offering : {O : Type 0} → (O → Option (List Entered)) → (O → Option Fault) → (O → Tuple → Type 0) → O
+    → Offering
+offering entries last_fault takes x =
+    record { entries = entries x; last_fault = last_fault x; takes = takes x }
+
+-- it takes what a crawl offers: each offer that checks and enters a page by its canonical text
+abbrev pub TakesPages : (Tuple → Type 0) → Type 0
+TakesPages takes = (offer : Tuple) → IsTaken offer → takes offer
+
+-- These were entered behind the others, and it takes what it took.
+pub record Enters (news : List Entered) (old new : Offering) : Type 0 where
+  pub entries : new.entries ≡ option_map (λ list. list ++ news) old.entries
+  pub takes : (offer : Tuple) → new.takes offer ↔ old.takes offer
