@@ -65,13 +65,32 @@ has out ''
 tells_fault file/below 20
 right
 
+# A look makes no folder, and leaves one without a store as it is.
+try 'a look at no store' ''
+nothing=$("$program" unmade show 2>err | tr '\n' '|')
+[ "$nothing" = "$(printf '%s 0|' offers judged unique pairs fresh queued last front done page moved status denied shut lost bad large coded)" ] || fail "it printed '$nothing'"
+"$program" unmade list >out 2>err
+gives 0 '' ''
+is_absent unmade
+mkdir empty
+"$program" empty list >out 2>err
+gives 0 '' ''
+[ -z "$(ls -A empty)" ] || fail 'the folder has files'
+"$program" other show >out 2>err
+gives 3 '' 'not a store: byte 0 of file 0000|'
+"$program" damaged list >out 2>err
+gives 0 '0 fresh a|2 fresh b|' ''
+right
+
 try 'a folder that may not be read' 'a|'
 if [ "$(id -u)" -ne 0 ]; then
     mkdir shut && chmod 0 shut
-    "$program" shut seen <in >out 2>err
-    status=$?
-    has out ''
-    tells_fault shut 13
+    for command in seen show list; do
+        "$program" shut "$command" <in >out 2>err
+        status=$?
+        has out ''
+        tells_fault shut 13
+    done
     chmod 700 shut
     rmdir shut || fail 'a file was made in it'
     right

@@ -99,6 +99,48 @@ reads_again broken "a|" 'a|'
 gives 0 '' ''
 right
 
+# What is kept is shown, and stays: a look reads no input, and a failed one of many leaves all to the next.
+try 'a look at what is kept' 'a|b|a|'
+"$program" looked seen --buckets 1 <in >out 2>err
+gives 0 'a|b|' ''
+"$program" looked show <in >out 2>err
+gives 0 'offers 3|judged 3|unique 2|pairs 0|fresh 2|queued 0|last 0|front 0|done 0|page 0|moved 0|status 0|denied 0|shut 0|lost 0|bad 0|large 0|coded 0|' ''
+"$program" looked list <&- >out 2>err
+gives 0 '0 fresh a|1 fresh b|' ''
+: >out
+"$program" looked show >&- 2>err
+gives 6 '' 'output fault|'
+if [ -c /dev/full ]; then
+    for command in show list; do
+        "$program" looked "$command" >/dev/full 2>err
+        gives 6 '' 'output fault|'
+    done
+fi
+reads_again looked 'a|b|c|' 'c|'
+right
+
+try 'a list that is read no further' ''
+i=0
+while [ "$i" -lt 4000 ]; do
+    printf 'http://%s.test/a/page/of/which/the/name/is/long\n' "$i"
+    i=$((i + 1))
+done >in
+"$program" long seen --buckets 1 <in >out 2>err
+status=$?
+[ "$status" -eq 0 ] || fail "status $status, and not 0"
+{
+    "$program" long list 2>err
+    printf '%s\n' "$?" >status
+} | head -n 1 >out
+has out '0 fresh http://0.test/a/page/of/which/the/name/is/long|'
+has status '6|'
+has err 'output fault|'
+"$program" long list >out 2>err
+status=$?
+[ "$status" -eq 0 ] || fail "status $status, and not 0"
+cut -d ' ' -f 3 out | cmp -s - in || fail 'the list has other lines'
+right
+
 # The promise that the program is used for: it is killed while it waits for more, so that it can do nothing at its end. What it
 # has printed by then is remembered, and what it had only read is new again.
 try 'a program that is killed' ''

@@ -21,6 +21,28 @@ grep -qF 'irl DIR seen [OPTIONS]' out || fail 'the help has no usage'
 mv out help
 "$program" unmade seen -h >out 2>err
 gives 0 "$(tr '\n' '|' <help)" ''
+for command in show list; do
+    "$program" unmade "$command" --help >out 2>err
+    grep -qxF "Usage: irl DIR $command" out || fail "the help of $command has no usage"
+    [ "$(grep -c '^ *\$ ' out)" -ge 2 ] || fail "the help of $command has no examples"
+    if awk 'length > 100' out | grep -q .; then fail "the help of $command has long lines"; fi
+done
+is_absent unmade
+right
+
+# What looks at a store has no options, and is refused where one is given.
+try 'words that a look does not take' ''
+for command in show list; do
+    for word in --buckets=4 --rule x "$command" --help; do
+        "$program" unmade "$command" -- "$word" >out 2>err
+        gives 1 '' "words refused: $command|"
+    done
+    "$program" unmade "$command" --buckets 4 >out 2>err
+    gives 1 '' "words refused: $command|"
+    "$program" unmade "$command" -- >out 2>err
+    status=$?
+    [ "$status" -eq 0 ] || fail "status $status, and not 0"
+done
 is_absent unmade
 right
 

@@ -35,10 +35,14 @@ A name that begins with - is written with its place, as ./-DIR. One program at
 a time may use a folder: another ends with status 4. What a run judged and was
 stopped or failed before it printed is printed by no later run.
 
-Commands:
+Commands that keep what standard input gives:
   seen  prints each line of standard input that was not given before
   drum  checks and updates keys by the lines of standard input, and prints each
         verdict
+
+Commands that look at what is kept, and change nothing:
+  show  prints how much there is
+  list  prints a line for each line, key or URL that was judged unique
 
 irl DIR COMMAND --help prints the options of a command.
 

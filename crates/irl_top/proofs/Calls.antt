@@ -15,7 +15,7 @@ use Rattle.irl_offer.specs.declared.receipt.Judged.{Judged}
 use Rattle.irl_base.specs.declared.fault.Fault.{Fault}
 use Rattle.irl_base.specs.declared.fault.Fault.TheVariants.{Failed as StoreFailed, Memory as StoreMemory, Full as StoreFull, Damaged as StoreDamaged}
 use Rattle.irl_model.specs.Book.{Book, gone, judged, judged_cut, lengths_of}
-use Rattle.irl_disk.specs.Images.{Told, IsConsistent}
+use Rattle.irl_disk.specs.Images.{IsConsistent}
 use Rattle.irl_bay.specs.Standing.{IsBookOf}
 use Rattle.irl_bay.specs.declared.bucket.Bucket.{Bucket}
 use Rattle.irl_layout.specs.Commits.{Commit}
@@ -25,9 +25,9 @@ use Rattle.irl_bay.specs.Spoilt.{IsSpoiltAt}
 use Rattle.irl_bay.specs.JudgedSpoilt.{IsJudgedSpoiltAt}
 use Rattle.irl_bay.proofs.Merged.{durable_is}
 use Rattle.irl_schedule.specs.Schedule.{none_more, one_more}
-use Rattle.irl_schedule.specs.Feeding.{Moment, Stays, Fed, Feeds, Strands, HeldNone, length_at}
+use Rattle.irl_schedule.specs.Feeding.{Stays, Fed, Feeds, HeldNone, length_at}
 use Rattle.irl_schedule.specs.Scheduling.{Schedules}
-use Rattle.irl_schedule.proofs.Chains.{stays_same, fed_still, keeps_same, feeds_more, feeds_none}
+use Rattle.irl_schedule.proofs.Chains.{stays_same, feeds_more, feeds_none}
 use Rattle.irl_schedule.proofs.Schedules.{cut_few, cuts_few}
 use Rattle.irl_schedule.proofs.Steps.{durable_held}
 use Rattle.irl_schedule.specs.Arrays.{AreArrays, waiting_at}

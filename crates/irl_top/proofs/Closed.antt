@@ -8,7 +8,7 @@ use Rattle.irl_offer.specs.Settings.{AreValid, settings_of}
 use Rattle.irl_offer.specs.declared.settings.Asked.{Asked}
 use Rattle.irl_offer.specs.declared.settings.Kind.TheVariants.{Crawl}
 use Rattle.irl_offer.specs.declared.settings.Settings.{Settings}
-use Rattle.irl_model.specs.Book.{IsPrefixOf, blank_book, part}
+use Rattle.irl_model.specs.Book.{IsPrefixOf, part}
 use Rattle.irl_events.specs.State.{State, IsFrontState, blank_state}
 use Rattle.irl_disk.specs.Disk.{Files, ChangesFile, TellsBy}
 use Rattle.irl_disk.specs.Images.{IsConsistent, Leaves, LeavesBy}
@@ -109,7 +109,7 @@ open_bad (OpenBadSettings m) n is = let one : m ≡ n = cc in cc
 open_bad OpenFailed n is = let no : ⊥ = cc in absurd no
 open_bad OpenMemory n is = let no : ⊥ = cc in absurd no
 
-open_ours : (fault : OpenFault) (n : ℕ) → ending_of_open fault ≡ NotOurs n → fault ≡ OpenNotOurs n
+pub open_ours : (fault : OpenFault) (n : ℕ) → ending_of_open fault ≡ NotOurs n → fault ≡ OpenNotOurs n
 open_ours (OpenNotOurs at) n is = let one : at ≡ n = cc in cc
 open_ours (OpenDamaged g at) n is = let no : ⊥ = cc in absurd no
 open_ours (OpenOtherSettings m k w) n is = let no : ⊥ = cc in absurd no
@@ -117,7 +117,7 @@ open_ours (OpenBadSettings m) n is = let no : ⊥ = cc in absurd no
 open_ours OpenFailed n is = let no : ⊥ = cc in absurd no
 open_ours OpenMemory n is = let no : ⊥ = cc in absurd no
 
-open_damaged : (fault : OpenFault) (f n : ℕ) → ending_of_open fault ≡ Damaged f n → fault ≡ OpenDamaged f n
+pub open_damaged : (fault : OpenFault) (f n : ℕ) → ending_of_open fault ≡ Damaged f n → fault ≡ OpenDamaged f n
 open_damaged (OpenNotOurs at) f n is = let no : ⊥ = cc in absurd no
 open_damaged (OpenDamaged g at) f n is = let one : g ≡ f = cc in let two : at ≡ n = cc in cc
 open_damaged (OpenOtherSettings m k w) f n is = let no : ⊥ = cc in absurd no

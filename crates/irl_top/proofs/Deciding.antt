@@ -14,7 +14,7 @@ use Rattle.irl_disk.specs.Disk.{Files}
 use Rattle.irl_io.specs.Written.{AppendsPrefix}
 use Rattle.irl_words.specs.Words.{IsInRange}
 use Rattle.irl_words.specs.declared.command.Command.{Command}
-use Rattle.irl_words.specs.declared.command.Command.TheVariants.{Seen, Drum as DrumOf}
+use Rattle.irl_words.specs.declared.command.Command.TheVariants.{Seen, Drum as DrumOf, Show, List as Listing}
 use Rattle.irl_yard.specs.Standing.{HasState}
 use Rattle.irl_head.specs.Asking.{Agrees, IsBadAsked}
 use Rattle.irl_head.specs.Opening.{IsBadStore, IsKeptOtherwise}
@@ -25,6 +25,7 @@ use Rattle.irl_schedule.specs.Feeding.{list_at, length_at}
 use Rattle.irl_top.specs.Message.{Says, status_of, refused_status}
 use Rattle.irl_top.specs.Outside.{Lent}
 use Rattle.irl_top.specs.Run.{Task, line_task, settings_in, Reaches, TakesIn, Ran, Completes, Filtered, Does}
+use Rattle.irl_top.specs.Shown.{IsListingOf, IsReportOf, IsShowEnding, Shown}
 use Rattle.irl_top.specs.Stream.{Stream}
 use Rattle.irl_top.specs.declared.line.LineKind.TheVariants.{Text as TextLine, Tuple as TupleLine}
 use Rattle.irl_top.specs.declared.ending.Ending.{Ending}
@@ -131,7 +132,29 @@ pub does_drum : (command : Command) (asked : Asked) (before after : Lent) (endin
     → Does command before after ending
 does_drum command asked before after ending is ran = subst (λ (c : Command). Does c before after ending) (sym is) (filtered (line_task TupleLine asked) before after ending ran)
 
+pub does_show : (command : Command) (before after : Lent) (ending : Ending) → command ≡ Show → Shown IsReportOf before after ending → Does command before after ending
+does_show command before after ending is shown = subst (λ (c : Command). Does c before after ending) (sym is) shown
+
+pub does_list : (command : Command) (before after : Lent) (ending : Ending) → command ≡ Listing → Shown IsListingOf before after ending → Does command before after ending
+does_list command before after ending is shown = subst (λ (c : Command). Does c before after ending) (sym is) shown
+
+-- one that only looks is refused no setting
+look_accepted : (ending : Ending) → IsShowEnding ending → status_of ending ≢ refused_status
+look_accepted Done kind = λ is. omega (arith, is)
+look_accepted (BadSettings n) kind = absurd kind
+look_accepted (LineRefused n) kind = absurd kind
+look_accepted (NotOurs at) kind = λ is. omega (arith, is)
+look_accepted (Damaged f at) kind = λ is. omega (arith, is)
+look_accepted (OtherSettings n kept wanted) kind = absurd kind
+look_accepted DiskFault kind = λ is. omega (arith, is)
+look_accepted InputFault kind = absurd kind
+look_accepted OutputFault kind = λ is. omega (arith, is)
+look_accepted NoMemory kind = λ is. omega (arith, is)
+look_accepted (Full b) kind = absurd kind
+
 -- one that is in range is never refused as words are
 pub accepted : (command : Command) (before after : Lent) (ending : Ending) → Does command before after ending → IsInRange command → status_of ending ≢ refused_status
 accepted (Seen asked) before after ending does range = not_refused (line_task TextLine asked) before after ending does.ran range.valid
 accepted (DrumOf asked) before after ending does range = not_refused (line_task TupleLine asked) before after ending does.ran range.valid
+accepted Show before after ending does range = look_accepted ending does.kinds
+accepted Listing before after ending does range = look_accepted ending does.kinds

@@ -1,5 +1,5 @@
 -- A part of a run after another.
-use Rattle.std.proofs.Common.{◌≡◌, ◌≢◌, ◌∙◌, ◌⊎◌, inl, inr, ⊎_elim, ℕ, zero, suc, ◌+◌, ◌-◌, ◌<◌, ◌≤◌, List, [], ◌++◌, length, sum, replicate, Option, refl, sym, ap, subst, arith}
+use Rattle.std.proofs.Common.{◌≡◌, ◌∙◌, ◌⊎◌, inl, inr, ⊎_elim, ℕ, zero, suc, ◌+◌, ◌<◌, ◌≤◌, List, [], ◌++◌, length, sum, replicate, Option, refl, sym, ap, subst, arith}
 use Rattle.std.proofs.KnownBytes.{Appends-nil}
 use Rattle.std.specs.Io.KnownBytes.{Appends}
 use Rattle.irl_offer.specs.declared.settings.Settings.{Settings}
@@ -12,7 +12,7 @@ use Rattle.irl_bay.specs.Drum.{IsDrum}
 use Rattle.irl_bay.specs.Holding.{Holds}
 use Rattle.irl_bay.specs.Standing.{Stands, IsBookOf}
 use Rattle.irl_bay.proofs.Standing.{holds_stands}
-use Rattle.irl_schedule.specs.Feeding.{Waits, Moment, Stays, Fed, Stranded, Grows, Keeps, HasBetween, length_at}
+use Rattle.irl_schedule.specs.Feeding.{Moment, Stays, Fed, Stranded, Grows, Keeps, HasBetween, length_at}
 use Rattle.irl_schedule.proofs.Chains.{few_same, grows_both, keeps_both, fed_both, stranded_after, tells_on, stays_both}
 use Rattle.irl_top.specs.Message.{IsAllPrinted, IsEndOfInput}
 use Rattle.irl_top.specs.Printed.{before_last, judged_count}

@@ -4,8 +4,10 @@ pub mod Deciding
 pub mod Going
 pub mod Growing
 pub mod InputLines
+pub mod Listed
 pub mod Opened
 pub mod Ranges
+pub mod Shows
 pub mod Sinks
 pub mod Stepping
 pub mod Unprinted

@@ -19,7 +19,6 @@ use Rattle.irl_layout.specs.declared.files.BayFile.TheVariants.{Manifest, Cache,
 use Rattle.irl_layout.specs.declared.files.BayFile.{BayFile}
 use Rattle.irl_layout.specs.Commits.{HasLiveRecords}
 use Rattle.irl_bay.specs.Drum.{IsDrum}
-use Rattle.irl_bay.specs.Holding.{Holds}
 use Rattle.irl_bay.specs.Making.{IsJournalOf}
 use Rattle.irl_bay.proofs.BatchWrites.{tells_wide, tells_only}
 use Rattle.irl_bay.proofs.Staying.{tells_both, leaves_both, only_wider}

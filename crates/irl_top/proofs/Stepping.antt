@@ -1,14 +1,13 @@
 -- A step of a run: the intake goes on, and what was judged is printed.
-use Rattle.std.proofs.Common.{◌≡◌, ◌∙◌, ◌⊎◌, inl, inr, ℕ, ◌+◌, ◌<◌, ◌≤◌, List, [], ◌∷◌, ◌++◌, length, Option, None, Some, refl, sym, ap, subst, arith}
+use Rattle.std.proofs.Common.{◌≡◌, ◌∙◌, inl, inr, ℕ, ◌+◌, ◌≤◌, List, [], ◌∷◌, Option, None, Some, refl, sym, ap, subst, arith}
 use Rattle.std.specs.Prelude.{Result, Ok, Err, OnOk}
 use Rattle.std.specs.Option.{ForSome}
 use Rattle.irl_base.specs.declared.fault.Fault.{Fault}
-use Rattle.irl_base.specs.declared.fault.Fault.TheVariants.{Failed as StoreFailed, Damaged as StoreDamaged}
-use Rattle.irl_offer.specs.declared.receipt.Judged.{Judged}
+use Rattle.irl_base.specs.declared.fault.Fault.TheVariants.{Failed as StoreFailed}
 use Rattle.irl_offer.specs.Tuple.{Tuple}
 use Rattle.irl_model.specs.Book.{Book}
 use Rattle.irl_disk.specs.Images.{IsConsistent}
-use Rattle.irl_bay.specs.Drum.{Drum, IsDrum, pending_at, SomePending}
+use Rattle.irl_bay.specs.Drum.{Drum, IsDrum}
 use Rattle.irl_bay.specs.Holding.{IsLong}
 use Rattle.irl_bay.specs.Merges.{ReadsJudged}
 use Rattle.irl_bay.specs.JudgedSpoilt.{IsJudgedSpoiltAt}
@@ -26,7 +25,7 @@ use Rattle.irl_top.specs.declared.line.LineKind.{LineKind}
 use Rattle.irl_top.specs.declared.ending.Ending.{Ending}
 use Rattle.irl_top.specs.declared.ending.Ending.TheVariants.{Done}
 use Rattle.irl_top.proofs.Going.{goes_on_both, goes_on_ends, reason_then}
-use Rattle.irl_top.proofs.Calls.{Last, goes_call, goes_same, ends_call, ends_on, last_finished, reason_call, reason_same, reason_went, store_input}
+use Rattle.irl_top.proofs.Calls.{goes_call, goes_same, ends_call, ends_on, last_finished, reason_call, reason_same, reason_went, store_input}
 
 -- ---- so far
 -- A run has gone from one place to another, at which all that was judged is printed, and these offers were handed in.

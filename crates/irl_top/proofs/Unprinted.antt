@@ -1,5 +1,5 @@
 -- What is printed of a book's judged offers, and what is left of them to print.
-use Rattle.std.proofs.Common.{◌≡◌, ◌∙◌, ⊎_elim, ℕ, ◌+◌, ◌-◌, ◌<◌, ◌≤◌, List, [], ◌++◌, length, sum, take, drop, refl, sym, ap, subst, append_assoc, length-append, length-drop, arith}
+use Rattle.std.proofs.Common.{◌≡◌, ◌∙◌, ⊎_elim, ℕ, ◌+◌, ◌-◌, ◌≤◌, List, ◌++◌, length, sum, take, drop, refl, sym, ap, subst, append_assoc, length-append, length-drop, arith}
 use Rattle.std.proofs.lemmas.Bool.{cases_lt}
 use Rattle.std.proofs.lemmas.List.{take-append-drop, take-append-le, drop-append-le, drop-drop, drop_all, append_cancel_right}
 use Rattle.std.proofs.lemmas.Grind.{flat_map-append}

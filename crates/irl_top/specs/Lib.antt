@@ -1,4 +1,5 @@
 pub mod Input
+pub mod Listing
 pub mod Message
 pub mod Outside
 pub mod Printed
@@ -6,4 +7,5 @@ pub mod Reading
 pub mod Records
 pub mod Run
 pub mod Session
+pub mod Shown
 pub mod Stream

@@ -15,6 +15,15 @@ pub record Outside : Type 1 where
   pub lent : Lent
   pub errors : Stream
 
+-- what a sink tells
+abbrev pub stream : {O : Type 0} → (O → Option (List ℕ)) → (O → ℕ) → O → Stream
+stream written faults output = record { bytes = written output; faults = faults output }
+
+-- what a store and a sink tell beside an input that isn't handed on
+abbrev pub lent_beside : {S O : Type 0} → Stream → (S → Told) → (O → Option (List ℕ)) → (O → ℕ) → S → O → Lent
+lent_beside input told written output_faults store output =
+    record { store = told store; input = input; output = stream written output_faults output }
+
 -- what these objects tell
 abbrev pub lent : {S I O : Type 0} → (S → Told) → (I → Option (List ℕ)) → (I → ℕ) → (O → Option (List ℕ)) → (O → ℕ) → S
     → I → O → Lent

@@ -27,7 +27,7 @@ use Rattle.irl_yard.specs.Opening.{entered_state, IsStoreDamagedAt}
 use Rattle.irl_schedule.specs.Feeding.{Grows, list_at, length_at}
 use Rattle.irl_words.specs.Words.{command_of}
 use Rattle.irl_words.specs.declared.command.Command.{Command}
-use Rattle.irl_words.specs.declared.command.Command.TheVariants.{Seen, Drum as DrumOf}
+use Rattle.irl_words.specs.declared.command.Command.TheVariants.{Seen, Drum as DrumOf, Show, List as Listing}
 use Rattle.irl_top.specs.declared.line.LineKind.{LineKind}
 use Rattle.irl_top.specs.declared.line.LineKind.TheVariants.{Text as TextLine, Tuple as TupleLine}
 use Rattle.irl_top.specs.declared.ending.Ending.{Ending}
@@ -37,6 +37,7 @@ use Rattle.irl_top.specs.Message.{Says, message, refusal, status_of, refused_sta
 use Rattle.irl_top.specs.Outside.{Lent, Outside, IsUntouched}
 use Rattle.irl_top.specs.Printed.{before_last, added}
 use Rattle.irl_top.specs.Records.{AddsUnevenRecords}
+use Rattle.irl_top.specs.Shown.{Shown, IsReportOf, IsListingOf}
 
 -- ---- what a command over lines does
 pub record Task : Type 0 where
@@ -252,6 +253,8 @@ pub record Filtered (task : Task) (before after : Lent) (ending : Ending) : Type
 abbrev pub Does : Command → Lent → Lent → Ending → Type 0
 Does (Seen asked) before after ending = Filtered (line_task TextLine asked) before after ending
 Does (DrumOf asked) before after ending = Filtered (line_task TupleLine asked) before after ending
+Does Show before after ending = Shown IsReportOf before after ending
+Does Listing before after ending = Shown IsListingOf before after ending
 
 -- a command was carried out
 pub record Obeys (command : Command) (before after : Outside) (status : ℕ) : Type 0 where

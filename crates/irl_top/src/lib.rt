@@ -8,6 +8,7 @@ mod printing;
 mod program;
 mod reading;
 mod session;
+mod showing;
 mod telling;
 
 pub use ending::Ending;

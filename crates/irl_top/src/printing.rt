@@ -8,6 +8,9 @@ use irl_offer::Verdict;
 use irl_tuple::push_verdict;
 use std::alloc::{AllocError, Global};
 
+/// How many judged offers are printed at once.
+pub const PIECE: u32 = 2_048;
+
 /// What is printed of judged offers, which lines of a kind were read as.
 pub fn judged_text(
     alloc: Global,

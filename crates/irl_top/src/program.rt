@@ -8,6 +8,7 @@ use crate::Ending;
 use crate::ending::REFUSED;
 use crate::filter::filter;
 use crate::line::LineKind;
+use crate::showing::{list, show};
 use crate::telling::{tell, tell_refused};
 use irl_disk::Store;
 use irl_io::{Sink, Source};
@@ -56,6 +57,7 @@ where
 ///
 /// `seen` keeps the lines of the input that aren't empty, and writes those that no line before them, in this run or an
 /// earlier one, has the key of. `drum` keeps the offers that the lines are, and writes the verdict on each that asks for one.
+/// `show` writes the report of the store, and `list` a line for each of its unique numbers; both only look.
 pub fn plain<I: Source, O: Sink, E: Sink, S: Store>(
     alloc: Global,
     command: &Command,
@@ -90,5 +92,7 @@ fn carry_out<I: Source, O: Sink, S: Store>(
     match command {
         Command::Seen(asked) => filter(alloc, LineKind::Text, asked, input, output, store),
         Command::Drum(asked) => filter(alloc, LineKind::Tuple, asked, input, output, store),
+        Command::Show => show(alloc, output, store),
+        Command::List => list(alloc, output, store),
     }
 }

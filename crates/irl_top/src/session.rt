@@ -13,16 +13,13 @@ ghost use Rattle.irl_top.specs.declared.ending.Ending.TheVariants.{NoMemory as N
 
 use crate::Ending;
 use crate::line::LineKind;
-use crate::printing::judged_text;
+use crate::printing::{PIECE, judged_text};
 use irl_bay::JudgedPart;
 use irl_disk::Store;
 use irl_intake::{Intake, Next};
 use irl_io::Sink;
 use irl_offer::{Offer, bucket_of};
 use std::alloc::Global;
-
-/// How many judged offers are printed at once.
-const PIECE: u32 = 2_048;
 
 /// Takes in one offer, and prints what is judged before it; so many judged offers were printed.
 pub fn take_offer<O: Sink, S: Store>(

@@ -1,3 +1,4 @@
+mod shown;
 mod sides;
 mod spoilt;
 

@@ -1,5 +1,5 @@
 -- What a parse that takes a command's words gives, and what one that refuses them shows.
-use Rattle.std.proofs.Common.{◌≡◌, ◌∙◌, ◌<◌, ◌&&◌, ℕ, Bool, not, nat_lt, true, false, List, [], ◌∷◌, length, Option, Some, None, IfSome, refl, sym, ap, subst, arith, inl, inr, codes, suc, ne_eqb}
+use Rattle.std.proofs.Common.{◌≡◌, ◌∙◌, ◌<◌, ◌&&◌, ℕ, Bool, not, nat_lt, true, false, List, [], ◌∷◌, length, Option, Some, None, IfSome, option_map, refl, sym, ap, subst, arith, inl, inr, codes, suc, ne_eqb}
 use Rattle.std.specs.List.{list_all}
 use Rattle.std.specs.Str.{bytes_eq}
 use Rattle.std.proofs.lemmas.Bool.{ltb-true, not-true}
@@ -16,7 +16,7 @@ use Rattle.clap.specs.declared.error.kind.ErrorKind.TheVariants.{OutOfMemory}
 use Rattle.clap.specs.declared.parser.matches.ArgMatches.{ArgMatches}
 use Rattle.clap.proofs.WalkLemmas.{both, one_text-rows}
 use Rattle.irl_offer.specs.Buckets.{IsBucketCount}
-use Rattle.irl_offer.specs.Settings.{AreValidBudgets, AreValidSizes, settings_of}
+use Rattle.irl_offer.specs.Settings.{AreValid, AreValidBudgets, AreValidSizes, settings_of}
 use Rattle.irl_offer.specs.declared.offer.Rule.{Rule as ValueRule}
 use Rattle.irl_offer.specs.declared.settings.Asked.{Asked}
 use Rattle.irl_offer.specs.declared.settings.Kind.{Kind}
@@ -25,7 +25,7 @@ use Rattle.irl_words.specs.Rows.{AreInRange, AreMatches, IsInParser}
 use Rattle.irl_words.specs.Words.{HasNoRule, IsInRange, asked_for, asked_of, kind_of, with_settings}
 use Rattle.irl_words.specs.declared.command.Command.{Command as Asking}
 use Rattle.irl_words.specs.declared.name.Name.{Name}
-use Rattle.irl_words.specs.declared.name.Name.TheVariants.{Seen, Drum}
+use Rattle.irl_words.specs.declared.name.Name.TheVariants.{Seen, Drum, Show, List as Listing}
 use Rattle.irl_words.proofs.Ranges.{takes_between, value_in_range}
 
 -- ---- the rows
@@ -48,6 +48,8 @@ record IsRow (name : Name) : Type 0 where
 row : (name : Name) → IsRow name
 row Seen = record { simple = refl; free = refl; rules = refl; own = refl }
 row Drum = record { simple = refl; free = refl; rules = refl; own = refl }
+row Show = record { simple = refl; free = refl; rules = refl; own = refl }
+row Listing = record { simple = refl; free = refl; rules = refl; own = refl }
 
 -- ---- the values of options
 any_value : (text : Option (List ℕ)) → IfSome text (λ t. Unit {0})
@@ -101,9 +103,10 @@ refused name words command e is faults other =
 
 -- ---- what a command asks
 -- a command that asks for the sizes of a store of its kind is in range
-pub sizes_in_range : (command : Asking) (kind : Kind) (rule : Option ValueRule) (rows : List Row) → asked_of command ≡ with_settings rows (asked_for kind rule)
-    → kind ≡ kind_of command → HasNoRule command → IsBucketCount (settings_of (asked_of command)).buckets → AreValidSizes (settings_of (asked_of command)) → IsInRange command
-sizes_in_range command kind rule rows is same none buckets sizes =
+pub sizes_in_range : (command : Asking) (asked : Asked) (kind : Kind) (rule : Option ValueRule) (rows : List Row) → asked_of command ≡ Some asked
+    → asked ≡ with_settings rows (asked_for kind rule) → Some kind ≡ kind_of command → HasNoRule command → IsBucketCount (settings_of asked).buckets
+    → AreValidSizes (settings_of asked) → IsInRange command
+sizes_in_range command asked kind rule rows asks is same none buckets sizes =
     let budgets : AreValidBudgets (settings_of (with_settings rows (asked_for kind rule))) = record {
       queues = (omega arith, omega arith);
       base = (omega arith, omega arith);
@@ -111,7 +114,8 @@ sizes_in_range command kind rule rows is same none buckets sizes =
       ranks = (omega arith, omega arith);
     } in
     record {
-      kind = ap (λ (a : Asked). a.kind) is ∙ same;
+      kind = ap (option_map (λ (a : Asked). a.kind)) asks ∙ ap (λ (a : Asked). Some a.kind) is ∙ same;
       rule = none;
-      valid = record { buckets = buckets; sizes = sizes; budgets = subst (λ (a : Asked). AreValidBudgets (settings_of a)) (sym is) budgets };
+      valid = subst (λ (o : Option Asked). IfSome o (λ a. AreValid (settings_of a))) (sym asks)
+          (record { buckets = buckets; sizes = sizes; budgets = subst (λ (a : Asked). AreValidBudgets (settings_of a)) (sym is) budgets });
     }

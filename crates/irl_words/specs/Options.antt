@@ -5,7 +5,7 @@ use Rattle.std.specs.List.{fold}
 use Rattle.clap.specs.Words.{App, Rule, new_app, new_rule, with_rule}
 use Rattle.clap.specs.declared.builder.value_parser.ValueParser.TheVariants.{Unsigned}
 use Rattle.irl_words.specs.declared.name.Name.{Name}
-use Rattle.irl_words.specs.declared.name.Name.TheVariants.{Seen, Drum}
+use Rattle.irl_words.specs.declared.name.Name.TheVariants.{Seen, Drum, Show, List as Listing}
 
 -- an option `--name` with one value, a number from `least` to `most`
 abbrev pub number_option : List ℕ → ℕ → ℕ → Rule
@@ -29,17 +29,21 @@ settings_options =
 
 -- ---- a row for each command
 abbrev pub names : List Name
-names = Seen ∷ Drum ∷ []
+names = Seen ∷ Drum ∷ Show ∷ Listing ∷ []
 
 -- the word that names it
 abbrev pub word_of : Name → List ℕ
 word_of Seen = codes "seen"
 word_of Drum = codes "drum"
+word_of Show = codes "show"
+word_of Listing = codes "list"
 
 -- its options: those that it has in common with others, and then its own
 abbrev pub rules_of : Name → List Rule
 rules_of Seen = settings_options
 rules_of Drum = settings_options ++ word_option (codes "rule") ∷ []
+rules_of Show = []
+rules_of Listing = []
 
 -- ---- what a reader is told of a row
 -- the command that a word names

@@ -1,5 +1,5 @@
 -- The command that the words of a command line are, and why words are refused.
-use Rattle.std.specs.Prelude.{◌≡◌, ℕ, nat_lt, Bool, true, false, not, List, [], ◌∷◌, Option, Some, None, Result, Ok, Err, ⊤, codes, if◌then◌else◌, option_map}
+use Rattle.std.specs.Prelude.{◌≡◌, ℕ, nat_lt, Bool, true, false, not, List, [], ◌∷◌, Option, Some, None, Result, Ok, Err, ⊤, codes, if◌then◌else◌, option_map, IfSome}
 use Rattle.std.specs.Str.{bytes_eq}
 use Rattle.std.specs.Option.{option_map_or}
 use Rattle.std.specs.Str.Parse.{digits_value, without_leading_plus}
@@ -16,7 +16,7 @@ use Rattle.irl_words.specs.Options.{name_of, options_of}
 use Rattle.irl_words.specs.declared.name.Name.{Name}
 use Rattle.irl_words.specs.declared.name.Name.TheVariants as name
 use Rattle.irl_words.specs.declared.command.Command.{Command}
-use Rattle.irl_words.specs.declared.command.Command.TheVariants.{Seen, Drum}
+use Rattle.irl_words.specs.declared.command.Command.TheVariants.{Seen, Drum, Show, List as Listing}
 use Rattle.irl_words.specs.declared.command.WordFault.{WordFault}
 use Rattle.irl_words.specs.declared.command.WordFault.TheVariants.{Refused, Memory}
 
@@ -99,6 +99,8 @@ decided name.Seen word rows = asking Seen (checked (with_settings rows (asked_fo
 decided name.Drum word rows =
     option_map_or (λ rule. asking Drum (checked (with_settings rows (asked_for Tuples rule))))
     (rule_in (first_of (codes "rule") rows)) (Err word)
+decided name.Show word rows = Ok Show
+decided name.List word rows = Ok Listing
 
 -- the same for the words of a command: they are refused with the first where its options don't take the others
 abbrev pub command_named : Name → List ℕ → List (List ℕ) → Result Command (List ℕ)
@@ -124,21 +126,28 @@ IsCause words fault = IsRefusedBy (command_of words) fault
 
 -- ---- what a command asks for
 
-abbrev pub asked_of : Command → Asked
-asked_of (Seen asked) = asked
-asked_of (Drum asked) = asked
+-- what it asks of a store, where it asks for anything: one that only looks asks for nothing
+abbrev pub asked_of : Command → Option Asked
+asked_of (Seen asked) = Some asked
+asked_of (Drum asked) = Some asked
+asked_of Show = None
+asked_of Listing = None
 
-abbrev pub kind_of : Command → Kind
-kind_of (Seen asked) = Lines
-kind_of (Drum asked) = Tuples
+abbrev pub kind_of : Command → Option Kind
+kind_of (Seen asked) = Some Lines
+kind_of (Drum asked) = Some Tuples
+kind_of Show = None
+kind_of Listing = None
 
 -- `seen` keeps the rule of its store
 abbrev pub HasNoRule : Command → Type 0
 HasNoRule (Seen asked) = asked.rule ≡ None
 HasNoRule (Drum asked) = ⊤
+HasNoRule Show = ⊤
+HasNoRule Listing = ⊤
 
 -- What a command asks is in range: it asks for a store of its own kind, and a store can be made as it asks.
 pub record IsInRange (command : Command) : Type 0 where
-  pub kind : (asked_of command).kind ≡ kind_of command
+  pub kind : option_map (λ asked. asked.kind) (asked_of command) ≡ kind_of command
   pub rule : HasNoRule command
-  pub valid : AreValid (settings_of (asked_of command))
+  pub valid : IfSome (asked_of command) (λ asked. AreValid (settings_of asked))

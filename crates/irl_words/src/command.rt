@@ -1,6 +1,3 @@
-ghost use Rattle.std.specs.Prelude.{◌≡◌};
-ghost use Rattle.irl_words.specs.Words.{asked_of};
-
 use irl_offer::{Asked, Text};
 use std::alloc::{AllocError, AllocFailed};
 
@@ -11,18 +8,10 @@ pub enum Command {
     Seen(Asked),
     /// Checks and updates the keys of the input's tuples, and prints each verdict. It asks this of the store.
     Drum(Asked),
-}
-
-impl Command {
-    /// What it asks of a store.
-    pub fn asked(&self) -> &Asked
-        ensures { result.now ≡ asked_of self.now }
-    {
-        match self {
-            Command::Seen(asked) => asked,
-            Command::Drum(asked) => asked,
-        }
-    }
+    /// Prints the report of the store.
+    Show,
+    /// Prints a line for each URL or line of the store that was judged Unique.
+    List,
 }
 
 /// Why words are no command.

@@ -19,6 +19,8 @@ pub(crate) struct Row {
     usage: &'static str,
     /// What it does.
     about: &'static str,
+    /// What stands below the options.
+    notes: &'static str,
 }
 
 // `seen` keeps lines.
@@ -32,6 +34,7 @@ Keeps the lines of standard input in the folder DIR, and prints each line that i
 new. A line has at most 2,048 bytes, and empty lines are passed over. Lines are
 judged many at once, bucket by bucket, and synced to the disk before they are
 printed.",
+    notes: NOTES_OF_LINES,
 };
 
 // `drum` keeps keys. Its help has an example.
@@ -50,16 +53,73 @@ line of standard input, and prints each verdict. A line is `c KEY` to check,
     unique 000000000000001f first
     known 000000000000001f 7
     absent 0000000000000002",
+    notes: NOTES_OF_LINES,
 };
 
-// What stands below the options.
-const NOTES: &str = "\
+// `show` reports what a store has.
+const SHOW: Row = Row {
+    word: "show",
+    groups: &[],
+    own: &[],
+    usage: "irl DIR show",
+    about: "\
+Prints the report of the store in the folder DIR, whatever kind it is of: 18 lines
+`NAME N`. It changes nothing, reads no input and has no options. Where there is no
+store, each number is 0.
+
+offers is how many lines or links were given, judged how many of them are judged,
+and unique how many distinct ones that makes; pairs is how many distinct pairs of
+domains link to one another. fresh, queued, last, front and done count the unique
+ones by what became of them, and the last nine those that are done by outcome.
+
+    $ printf 'a\\nb\\na\\n' | irl DIR seen >new
+    $ irl DIR show | head -n 3
+    offers 3
+    judged 3
+    unique 2
+    $ irl DIR show | grep fresh
+    fresh 2",
+    notes: NOTES_OF_A_LOOK,
+};
+
+// `list` tells what became of each URL.
+const LIST: Row = Row {
+    word: "list",
+    groups: &[],
+    own: &[],
+    usage: "irl DIR list",
+    about: "\
+Prints a line `NUMBER FATE TEXT` for each line, key or URL that was judged unique
+in the store in the folder DIR, by rising number. It changes nothing, reads no
+input and has no options. Where there is no store, it prints nothing.
+
+A number is the place in the order in which all were judged, from 0 on. A fate is
+fresh, queue:I, last or front where the URL waits, and else what came of it: page,
+moved, status:N, denied:N, shut, lost, bad, large or coded.
+
+    $ printf 'a\\na\\nb\\n' | irl DIR seen --buckets 1 >new
+    $ irl DIR list
+    0 fresh a
+    2 fresh b
+    $ irl DIR list | cut -d ' ' -f 3-
+    a
+    b",
+    notes: NOTES_OF_A_LOOK,
+};
+
+// What stands below the options of a command that takes in lines.
+const NOTES_OF_LINES: &str = "\
 In brackets stands what a new store gets. A store keeps what it was made with: an
 option that isn't named takes that, and another value is refused.
 
 Exit status: 0 done, 1 words refused, 2 a line refused, 3 not a store, damaged or
 made with other settings, 4 disk fault, 5 input fault, 6 output fault,
 7 no memory, 8 a bucket full.";
+
+// The same of one that only looks at a store.
+const NOTES_OF_A_LOOK: &str = "\
+Exit status: 0 done, 1 words refused, 3 not a store or damaged, 4 disk fault,
+6 output fault, 7 no memory.";
 
 /// A command with its options and its help.
 pub(crate) fn command<'a>(alloc: Global, name: Name) -> Result<Command<'a>, AllocError>
@@ -68,6 +128,8 @@ pub(crate) fn command<'a>(alloc: Global, name: Name) -> Result<Command<'a>, Allo
     match name {
         Name::Seen => command_of_row(alloc, &SEEN),
         Name::Drum => command_of_row(alloc, &DRUM),
+        Name::Show => command_of_row(alloc, &SHOW),
+        Name::List => command_of_row(alloc, &LIST),
     }
 }
 
@@ -80,7 +142,7 @@ fn command_of_row<'a>(alloc: Global, row: &Row) -> Result<Command<'a>, AllocErro
     let mut command = Command::new(alloc, row.word)
         .override_usage(row.usage)
         .about(row.about)
-        .after_help(NOTES);
+        .after_help(row.notes);
     for group in row.groups {
         command = with_options(alloc, command, group)?;
     }

@@ -6,6 +6,8 @@ ghost use Rattle.irl_words.specs.Options.{name_of, word_of};
 pub(crate) enum Name {
     Seen,
     Drum,
+    Show,
+    List,
 }
 
 impl Name {
@@ -16,6 +18,8 @@ impl Name {
         match word {
             "seen" => Some(Name::Seen),
             "drum" => Some(Name::Drum),
+            "show" => Some(Name::Show),
+            "list" => Some(Name::List),
             _ => None,
         }
     }

@@ -42,11 +42,18 @@ fn are(alloc: Global, words: &[&str], command: &Command) -> Result<bool, AllocEr
 }
 
 // The word with which words are refused, and the words.
-const REFUSED: [(&str, &[&str]); 47] = [
+const REFUSED: [(&str, &[&str]); 54] = [
     ("-", &[]),
     ("", &[""]),
     ("Seen", &["Seen"]),
     ("show", &["show", "--buckets", "4"]),
+    ("show", &["show", "list"]),
+    ("show", &["show", ""]),
+    ("show", &["show", "--help"]),
+    ("list", &["list", "--port", "80"]),
+    ("list", &["list", "list"]),
+    ("list", &["list", "-h"]),
+    ("List", &["List"]),
     ("--buckets", &["--buckets", "4", "seen"]),
     ("--help", &["--help"]),
     ("seen", &["seen", "x"]),
@@ -101,9 +108,12 @@ fn words_are_refused_with_one_of_them(rt: HostRuntime) -> Result<(), Fail> {
 }
 
 // Words, and the command that they are.
-const READ: [(&[&str], Command); 13] = [
+const READ: [(&[&str], Command); 16] = [
     (&["seen"], Command::Seen(LINES)),
     (&["drum"], Command::Drum(TUPLES)),
+    (&["show"], Command::Show),
+    (&["list"], Command::List),
+    (&["list", "--"], Command::List),
     (&["seen", "--"], Command::Seen(LINES)),
     (
         &["seen", "--array", "+5"],
@@ -257,7 +267,7 @@ fn a_thousand_words_are_refused(rt: HostRuntime) -> Result<(), Fail> {
 }
 
 // Words, what the help that they ask for has, and what it doesn't have; nothing where they ask for none.
-const HELPS: [(&[&str], &[&str], &str); 6] = [
+const HELPS: [(&[&str], &[&str], &str); 8] = [
     (
         &["seen", "--help"],
         &["irl DIR seen [OPTIONS]", "--cap <N>", "Exit status: 0 done"],
@@ -273,9 +283,19 @@ const HELPS: [(&[&str], &[&str], &str); 6] = [
         ],
         "DIR seen",
     ),
+    (
+        &["show", "--help"],
+        &["irl DIR show\n", "fresh 2", "Exit status: 0 done"],
+        "2 a line refused",
+    ),
+    (
+        &["list", "-h"],
+        &["irl DIR list\n", "2 fresh b", "Exit status: 0 done"],
+        "a new store gets",
+    ),
     (&[], &[], ""),
     (&["seen"], &[], ""),
-    (&["show", "--help"], &[], ""),
+    (&["list", "list", "--help"], &[], ""),
     (&["seen", "--array", "1", "--help"], &[], ""),
 ];
 

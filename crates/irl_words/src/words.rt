@@ -96,6 +96,8 @@ fn decide<'a>(name: Name, word: &'a str, matches: &ArgMatches) -> Result<Command
             }
             None => Err(word),
         },
+        Name::Show => Ok(Command::Show),
+        Name::List => Ok(Command::List),
     }
 }
 

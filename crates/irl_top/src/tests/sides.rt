@@ -71,6 +71,16 @@ fn the_live_side_is_opened_or_refused(rt: HostRuntime) -> Result<(), Fail> {
             refusal(SEEN, 3, b"damaged: byte 0 of file 0600\n"),
         ),
         (600, BROKEN, refusal(&["drum"], 3, kept)),
+        (
+            600,
+            BROKEN,
+            refusal(&["show"], 3, b"damaged: byte 0 of file 0600\n"),
+        ),
+        (
+            600,
+            BROKEN,
+            refusal(&["list"], 3, b"damaged: byte 0 of file 0600\n"),
+        ),
         (600, b"\xA5", writes(SEEN, ROW, b"")),
         (110, BROKEN, writes(SEEN, ROW, b"")),
     ] {

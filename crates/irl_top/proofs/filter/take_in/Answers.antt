@@ -8,7 +8,6 @@ use Rattle.irl_top.proofs.InputLines.{start, told_none, told_both, read_some, re
 use Rattle.irl_top.proofs.Going.{goes_on_both, goes_on_ends, reason_then}
 use Rattle.irl_top.proofs.Calls.{few_wait, stop_here, ends_lifted, input_done, input_full, memory_plain, no_line_of, err_is}
 use Rattle.irl_top.proofs.Stepping.{went_none}
-use Rattle.irl_top.proofs.filter.take_in.Given.{Over}
 use Rattle.irl_top.proofs.filter.take_in.Goals as goal
 
 pub offers-init : goal.offers-init

@@ -1,4 +1,4 @@
-use Rattle.irl_top.proofs.Deciding.{does_drum, does_seen}
+use Rattle.irl_top.proofs.Deciding.{does_drum, does_list, does_seen, does_show}
 use Rattle.irl_top.proofs.program.carry_out.Goals as goal
 
 pub returns-in-Seen : goal.returns-in-Seen
@@ -6,3 +6,9 @@ returns-in-Seen g c = does_seen c.args.command.now _ _ _ _ c.in-Seen.is c.filter
 
 pub returns-in-Drum : goal.returns-in-Drum
 returns-in-Drum g c = does_drum c.args.command.now _ _ _ _ c.in-Drum.is c.filter-in-Drum.ensures
+
+pub returns-in-Show : goal.returns-in-Show
+returns-in-Show g c = does_show c.args.command.now _ _ _ c.in-Show.is (c.show.ensures (record { bytes = g.I.Source.left c.args.input.now; faults = g.I.Source.faults c.args.input.now }))
+
+pub returns-in-List : goal.returns-in-List
+returns-in-List g c = does_list c.args.command.now _ _ _ c.in-List.is (c.list.ensures (record { bytes = g.I.Source.left c.args.input.now; faults = g.I.Source.faults c.args.input.now }))

@@ -1,5 +1,4 @@
 use Rattle.std.proofs.Common.{[], Ok, refl, ap, subst}
-use Rattle.irl_layout.specs.Commits.{Commit}
 use Rattle.irl_intake.specs.Advancing.{moment_of, early_at, uneven_at}
 use Rattle.irl_schedule.specs.Arrays.{waiting_at}
 use Rattle.irl_intake.specs.declared.next.Next.{Next}

@@ -1,4 +1,4 @@
-use Rattle.std.proofs.Common.{◌∙◌, ◌+◌, [], inl, refl, sym, ap, arith}
+use Rattle.std.proofs.Common.{◌∙◌, ◌+◌, [], inl, refl, ap, arith}
 use Rattle.std.specs.Io.KnownBytes.{Appends}
 use Rattle.irl_io.specs.Written.{AppendsPrefix}
 use Rattle.irl_bay.specs.Drum.{Drum}
