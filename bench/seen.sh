@@ -32,14 +32,7 @@ cc -O2 -o "$work/floor" "$here/floor.c"
 cc -O2 -o "$work/measure" "$here/measure.c"
 cc -O2 -o "$work/lmdb" "$here/lmdb.c" -llmdb 2>/dev/null || true
 
-awk -v lines="$lines" 'BEGIN {
-  state = 20080421
-  for (i = 0; i < lines; i++) {
-    state = (state * 16807) % 2147483647
-    page = state % (2 * lines)
-    printf "http://www%d.example/path/%d/index.html\n", page % 997, page
-  }
-}' >"$work/lines"
+"$here/lines.sh" "$lines" >"$work/lines"
 sync "$work/lines"
 
 measure() { # runs the command behind $1, and keeps what it took under that name
