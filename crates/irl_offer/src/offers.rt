@@ -18,6 +18,10 @@ pub trait Offers {
     /// Which offers are taken, as `IsTakenBy` says for the store's kind. They stay the same.
     ghost takes: { Self → Tuple → Type 0 };
 
+    /// Which values calls make of one. Who is generic over offers hands it on, and so tells a caller who knows them all that
+    /// the calls did.
+    ghost follows: { Self → Self → Type 0 };
+
     /// Puts an offer into the store, and answers where it stands. A refusal hands it back, and nothing was put in. It may
     /// wait for other fetchers.
     fn offer<R: Wait>(&mut self, rt: &R, offer: Offer) -> Result<Receipt, (Fault, Offer)>
@@ -25,7 +29,14 @@ pub trait Offers {
         ensures entries { entries self.new ≡ entries_after result offer (entries self.old) }
         ensures back { IfErr result (λ refusal. refusal.1 ≡ offer) }
         ensures fault { last_fault self.new ≡ fault_after result (last_fault self.old) }
-        ensures takes { (one : Tuple) → takes self.new one ↔ takes self.old one };
+        ensures takes { (one : Tuple) → takes self.new one ↔ takes self.old one }
+        ensures follows { follows self.old self.new };
+
+    /// It is so of no call.
+    ghost follows_none: { (x : Self) → follows x x };
+
+    /// It is so of some calls behind others.
+    ghost follows_both: { (x y z : Self) → follows x y → follows y z → follows x z };
 }
 
 #[cfg(test)]

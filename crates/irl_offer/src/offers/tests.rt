@@ -1,4 +1,5 @@
-ghost use Rattle.std.specs.Prelude.{◌≡◌, ◌↔◌, Some, None, map, ⊤};
+ghost use Rattle.std.specs.Prelude.{◌≡◌, ◌↔◌, ◌≤◌, Some, None, length, map, ⊤};
+ghost use Rattle.std.proofs.Common.{arith};
 ghost use Rattle.irl_offer.specs.Offering.{Entered, IsTakenBy, entries_after, fault_after};
 ghost use Rattle.irl_offer.specs.declared.settings.Kind.TheVariants.{Crawl};
 
@@ -22,6 +23,9 @@ impl Offers for Few {
 
     ghost takes = { λ few offer. IsTakenBy (λ text. Unit {0}) Crawl offer };
 
+    // None of its receipts is taken back.
+    ghost follows = { λ old new. length old.taken.items ≤ length new.taken.items };
+
     fn offer<R: Wait>(&mut self, _rt: &R, offer: Offer) -> Result<Receipt, (Fault, Offer)> {
         let number = self.taken.len();
         if number == self.room {
@@ -38,6 +42,10 @@ impl Offers for Few {
         self.taken.push_reserved((receipt, offer));
         Ok(receipt)
     }
+
+    ghost follows_none = { λ _. Prim.omega arith };
+
+    ghost follows_both = { λ _ _ _ one two. Prim.omega (arith, one, two) };
 }
 
 #[test]
