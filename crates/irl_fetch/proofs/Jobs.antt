@@ -83,7 +83,8 @@ taken_shut s t now work takes =
 
 -- ## Jobs that were done
 
-pub does_one : (first last : WorkLog) (suffixes : List ℕ) (a b c : Fetcher) (s t : Schedule) (o p : Offering) (handled : Handled) → IsEarlier c.gives → GoesOn a b → GoesOn b c → IsReady s
+pub does_one : {O : Type 0} (first last : WorkLog) (suffixes : List ℕ) (a b c : Fetcher) (s t : Schedule) (o p : Offering O) (handled : Handled) → IsEarlier c.gives → GoesOn a b → GoesOn b c
+    → IsReady s
     → IsTaken s t handled.work (leave_for handled.treated) → IsGiven (given_since b c) suffixes handled.work.web handled.treated
     → last.done.items ≡ first.done.items ++ done_of handled ∷ [] → last.notes.items ≡ first.notes.items → Enters (entered_of handled) o p
     → RoseBy (missing (answers_of handled)) b.faults c.faults → DoesSome first last suffixes a c s t o p
@@ -104,7 +105,8 @@ does_one first last suffixes a b c s t o p handled earlier ab bc ready taken giv
   ready = λ name. ap (λ (f : List ℕ → Bool). f name) taken.awaited ∙ ready name;
 }
 
-pub does_none : (log : WorkLog) (suffixes : List ℕ) (a c : Fetcher) (s t : Schedule) (now : ℕ) (o : Offering) → GoesOn a c → IsReady s → t ≡ raised s now → DoesSome log log suffixes a c s t o o
+pub does_none : {O : Type 0} (log : WorkLog) (suffixes : List ℕ) (a c : Fetcher) (s t : Schedule) (now : ℕ) (o : Offering O) → GoesOn a c → IsReady s → t ≡ raised s now
+    → DoesSome log log suffixes a c s t o o
 does_none log suffixes a c s t now o on ready is = record {
   handled = [];
   noted = [];
@@ -121,7 +123,8 @@ ready_again s t u name ready one two at = ap (λ (f : List ℕ → Bool). f at) 
   | inr (differs, other) ↦ changed_other t.awaited name false at other ∙ ap (λ (f : List ℕ → Bool). f at) one ∙ changed_other s.awaited name true at other ∙ ready at
 ]
 
-pub does_noted : (first last : WorkLog) (suffixes : List ℕ) (a b c : Fetcher) (s t u : Schedule) (o : Offering) (now : ℕ) (name : List ℕ) (note : Note) → IsEarlier c.gives → GoesOn a b → GoesOn b c
+pub does_noted : {O : Type 0} (first last : WorkLog) (suffixes : List ℕ) (a b c : Fetcher) (s t u : Schedule) (o : Offering O) (now : ℕ) (name : List ℕ) (note : Note) → IsEarlier c.gives → GoesOn a b
+    → GoesOn b c
     → b.last ≡ now → IsReady s → t ≡ asked (raised s now) name → FindsNote name now note b c → u ≡ handed_in t name (host_state note.state t.agent) now
     → last.done.items ≡ first.done.items → last.notes.items ≡ first.notes.items ++ note ∷ [] → DoesSome first last suffixes a c s u o o
 does_noted first last suffixes a b c s t u o now name note earlier ab bc moment ready took finds handed done notes =
@@ -158,7 +161,7 @@ part_wider gives more wider suffixes url entered part = elim part [
   | inr some ↦ inr (some.0, wider url _ some.0 some.1, some.2, some.3)
 ]
 
-pub stops_page : (suffixes : List ℕ) (a b c : Fetcher) (s t : Schedule) (o p : Offering) (work : Work) (entered : List Entered) → IsEarlier c.gives → GoesOn a b → GoesOn b c
+pub stops_page : {O : Type 0} (suffixes : List ℕ) (a b c : Fetcher) (s t : Schedule) (o p : Offering O) (work : Work) (entered : List Entered) → IsEarlier c.gives → GoesOn a b → GoesOn b c
     → IsTaken s t work leave.Allowed → IsPart (given_since b c) suffixes work.web entered → Enters entered o p → StopsWork suffixes a c s t o p
 stops_page suffixes a b c s t o p work entered earlier ab bc taken part enters = record {
   handled = [];
@@ -178,7 +181,7 @@ stops_page suffixes a b c s t o p work entered earlier ab bc taken part enters =
   entered = enters;
 }
 
-pub stops_none : (suffixes : List ℕ) (a c : Fetcher) (s t : Schedule) (o : Offering) → GoesOn a c → t.known ≡ s.known → StopsWork suffixes a c s t o o
+pub stops_none : {O : Type 0} (suffixes : List ℕ) (a c : Fetcher) (s t : Schedule) (o : Offering O) → GoesOn a c → t.known ≡ s.known → StopsWork suffixes a c s t o o
 stops_none suffixes a c s t o on known = record {
   handled = [];
   noted = [];
@@ -195,7 +198,7 @@ stops_none suffixes a c s t o on known = record {
 pub goes_now : (a b : Fetcher) (now : ℕ) → b.asked ≡ a.asked → ((since : ℕ) → Widens (a.gives since) (b.gives since)) → a.faults ≤ b.faults → a.last ≤ now → b.last ≡ now → GoesOn a b
 goes_now a b now asked wider faults later told = record { asked = omega (arith, asked); wider = wider; faults = faults; last = omega (arith, later, told) }
 
-pub next_does : (more : Bool) (first last : WorkLog) (suffixes : List ℕ) (a c : Fetcher) (s t : Schedule) (o p : Offering) → DoesSome first last suffixes a c s t o p
+pub next_does : {O : Type 0} (more : Bool) (first last : WorkLog) (suffixes : List ℕ) (a c : Fetcher) (s t : Schedule) (o p : Offering O) → DoesSome first last suffixes a c s t o p
     → (more ≡ false → t.items ≡ []) → p.last_fault ≡ o.last_fault → GoesOn a c → t.agent ≡ s.agent → t.delay ≡ s.delay → DoesNext (Ok more) first last suffixes a c s t o p
 next_does more first last suffixes a c s t o p does idle calm on agent delay = record {
   does = does;
@@ -207,7 +210,7 @@ next_does more first last suffixes a c s t o p does idle calm on agent delay = r
   delay = delay;
 }
 
-pub next_stops : (result : Result Bool Fault) (y : Fault) (first last : WorkLog) (suffixes : List ℕ) (a c : Fetcher) (s t : Schedule) (o p : Offering) → result ≡ Err y
+pub next_stops : {O : Type 0} (result : Result Bool Fault) (y : Fault) (first last : WorkLog) (suffixes : List ℕ) (a c : Fetcher) (s t : Schedule) (o p : Offering O) → result ≡ Err y
     → StopsWork suffixes a c s t o p → p.last_fault ≡ fault_or o.last_fault y → GoesOn a c → t.agent ≡ s.agent → t.delay ≡ s.delay → DoesNext result first last suffixes a c s t o p
 next_stops result y first last suffixes a c s t o p is stops fault on agent delay = record {
   does = refused_ok _ result y is;
@@ -227,20 +230,21 @@ pub true_is_more : {P : Type 0} → true ≡ false → P
 true_is_more is = let no : ⊥ = cc in absurd no
 
 -- it was waited
-pub next_waits : (log : WorkLog) (suffixes : List ℕ) (a c : Fetcher) (s t : Schedule) (now : ℕ) (o : Offering) → GoesOn a c → IsReady s → t ≡ raised s now
+pub next_waits : {O : Type 0} (log : WorkLog) (suffixes : List ℕ) (a c : Fetcher) (s t : Schedule) (now : ℕ) (o : Offering O) → GoesOn a c → IsReady s → t ≡ raised s now
     → DoesNext (Ok true) log log suffixes a c s t o o
 next_waits log suffixes a c s t now o on ready same =
     next_does true log log suffixes a c s t o o (does_none log suffixes a c s t now o on ready same) true_is_more refl on (ap (λ (x : Schedule). x.agent) same) (ap (λ (x : Schedule). x.delay) same)
 
 -- nothing is left
-pub next_ends : (log : WorkLog) (suffixes : List ℕ) (a c : Fetcher) (s t : Schedule) (now : ℕ) (o : Offering) → GoesOn a c → IsReady s → AllAwaited (raised s now) → t ≡ raised s now
+pub next_ends : {O : Type 0} (log : WorkLog) (suffixes : List ℕ) (a c : Fetcher) (s t : Schedule) (now : ℕ) (o : Offering O) → GoesOn a c → IsReady s → AllAwaited (raised s now) → t ≡ raised s now
     → DoesNext (Ok false) log log suffixes a c s t o o
 next_ends log suffixes a c s t now o on ready all same =
     next_does false log log suffixes a c s t o o (does_none log suffixes a c s t now o on ready same) (λ is. ap (λ (x : Schedule). x.items) same ∙ none_left s.awaited s.items ready all) refl on
     (ap (λ (x : Schedule). x.agent) same) (ap (λ (x : Schedule). x.delay) same)
 
 -- a robots file was noted
-pub next_notes : (first last : WorkLog) (suffixes : List ℕ) (a b c : Fetcher) (s t u : Schedule) (o : Offering) (now : ℕ) (name : List ℕ) (note : Note) → IsEarlier c.gives → GoesOn a b → GoesOn b c
+pub next_notes : {O : Type 0} (first last : WorkLog) (suffixes : List ℕ) (a b c : Fetcher) (s t u : Schedule) (o : Offering O) (now : ℕ) (name : List ℕ) (note : Note) → IsEarlier c.gives → GoesOn a b
+    → GoesOn b c
     → b.last ≡ now → IsReady s → t ≡ asked (raised s now) name → FindsNote name now note b c → u ≡ handed_in t name (host_state note.state t.agent) now
     → last.done.items ≡ first.done.items → last.notes.items ≡ first.notes.items ++ note ∷ [] → DoesNext (Ok true) first last suffixes a c s u o o
 next_notes first last suffixes a b c s t u o now name note earlier ab bc moment ready took finds handed done notes =
@@ -248,20 +252,22 @@ next_notes first last suffixes a b c s t u o now name note earlier ab bc moment 
     (goes_then a b c ab bc) (ap (λ (x : Schedule). x.agent) handed ∙ ap (λ (x : Schedule). x.agent) took) (ap (λ (x : Schedule). x.delay) handed ∙ ap (λ (x : Schedule). x.delay) took)
 
 -- a robots file could not be noted
-pub next_lacks : (result : Result Bool Fault) (y : Fault) (first last : WorkLog) (suffixes : List ℕ) (a c : Fetcher) (s t u : Schedule) (o : Offering) (now : ℕ) (name : List ℕ) → result ≡ Err y
+pub next_lacks : {O : Type 0} (result : Result Bool Fault) (y : Fault) (first last : WorkLog) (suffixes : List ℕ) (a c : Fetcher) (s t u : Schedule) (o : Offering O) (now : ℕ) (name : List ℕ)
+    → result ≡ Err y
     → y ≡ Memory → GoesOn a c → t ≡ asked (raised s now) name → u ≡ t → DoesNext result first last suffixes a c s u o o
 next_lacks result y first last suffixes a c s t u o now name is memory on took same =
     next_stops result y first last suffixes a c s u o o is (stops_none suffixes a c s u o on (ap (λ (x : Schedule). x.known) same ∙ ap (λ (x : Schedule). x.known) took))
     (ap (fault_or o.last_fault) (sym memory)) on (ap (λ (x : Schedule). x.agent) same ∙ ap (λ (x : Schedule). x.agent) took) (ap (λ (x : Schedule). x.delay) same ∙ ap (λ (x : Schedule). x.delay) took)
 
 -- an item that may not be fetched could not be kept
-pub next_drops : (result : Result Bool Fault) (y : Fault) (first last : WorkLog) (suffixes : List ℕ) (a c : Fetcher) (s t : Schedule) (o : Offering) (work : Work) (says : Leave) → result ≡ Err y
+pub next_drops : {O : Type 0} (result : Result Bool Fault) (y : Fault) (first last : WorkLog) (suffixes : List ℕ) (a c : Fetcher) (s t : Schedule) (o : Offering O) (work : Work) (says : Leave)
+    → result ≡ Err y
     → y ≡ Memory → GoesOn a c → IsTaken s t work says → DoesNext result first last suffixes a c s t o o
 next_drops result y first last suffixes a c s t o work says is memory on taken =
     next_stops result y first last suffixes a c s t o o is (stops_none suffixes a c s t o on taken.known) (ap (fault_or o.last_fault) (sym memory)) on taken.agent taken.delay
 
 -- an item that may not be fetched was kept
-pub next_refuses : (first last : WorkLog) (suffixes : List ℕ) (a c : Fetcher) (s t : Schedule) (o : Offering) (handled : Handled) → IsEarlier c.gives → GoesOn a c → IsReady s
+pub next_refuses : {O : Type 0} (first last : WorkLog) (suffixes : List ℕ) (a c : Fetcher) (s t : Schedule) (o : Offering O) (handled : Handled) → IsEarlier c.gives → GoesOn a c → IsReady s
     → IsTaken s t handled.work (leave_for handled.treated) → IsGiven (given_since c c) suffixes handled.work.web handled.treated → answers_of handled ≡ [] → entered_of handled ≡ []
     → last.done.items ≡ first.done.items ++ done_of handled ∷ [] → last.notes.items ≡ first.notes.items → DoesNext (Ok true) first last suffixes a c s t o o
 next_refuses first last suffixes a c s t o handled earlier on ready taken given answers entered done notes =

@@ -17,7 +17,7 @@ use Rattle.irl_fetch.proofs.Jobs.{IsReady, part_wider}
 use Rattle.irl_fetch.proofs.Results.{refused_if, refused_err, refused_fault}
 
 -- All jobs so far were done, and their results are the log.
-pub record SoFar (log : WorkLog) (suffixes : List ℕ) (a b : Fetcher) (s t : Schedule) (o p : Offering) : Type 0 where
+pub record SoFar {O : Type 0} (log : WorkLog) (suffixes : List ℕ) (a b : Fetcher) (s t : Schedule) (o p : Offering O) : Type 0 where
   pub handled : List Handled
   pub noted : List Noted
   pub done : log.done.items ≡ map done_of handled
@@ -30,7 +30,7 @@ pub record SoFar (log : WorkLog) (suffixes : List ℕ) (a b : Fetcher) (s t : Sc
   pub agent : t.agent ≡ s.agent
   pub delay : t.delay ≡ s.delay
 
-pub far_first : (log : WorkLog) (suffixes : List ℕ) (a : Fetcher) (s : Schedule) (o : Offering) → log.done.items ≡ [] → log.notes.items ≡ [] → IsReady s → SoFar log suffixes a a s s o o
+pub far_first : {O : Type 0} (log : WorkLog) (suffixes : List ℕ) (a : Fetcher) (s : Schedule) (o : Offering O) → log.done.items ≡ [] → log.notes.items ≡ [] → IsReady s → SoFar log suffixes a a s s o o
 far_first log suffixes a s o done notes ready = record {
   handled = [];
   noted = [];
@@ -45,7 +45,7 @@ far_first log suffixes a s o done notes ready = record {
   delay = refl;
 }
 
-pub far_next : (first last : WorkLog) (suffixes : List ℕ) (a b c : Fetcher) (s t u : Schedule) (o p q : Offering) → IsEarlier c.gives → SoFar first suffixes a b s t o p
+pub far_next : {O : Type 0} (first last : WorkLog) (suffixes : List ℕ) (a b c : Fetcher) (s t u : Schedule) (o p q : Offering O) → IsEarlier c.gives → SoFar first suffixes a b s t o p
     → DoesSome first last suffixes b c t u p q → GoesOn b c → q.last_fault ≡ p.last_fault → u.agent ≡ t.agent → u.delay ≡ t.delay → SoFar last suffixes a c s u o q
 far_next first last suffixes a b c s t u o p q earlier far does on calm agent delay = record {
   handled = far.handled ++ does.handled;
@@ -62,7 +62,8 @@ far_next first last suffixes a b c s t u o p q earlier far does on calm agent de
   delay = delay ∙ far.delay;
 }
 
-pub far_finishes : (log : WorkLog) (suffixes : List ℕ) (a b : Fetcher) (s t : Schedule) (o p : Offering) → SoFar log suffixes a b s t o p → t.items ≡ [] → FinishesWork log suffixes a b s t o p
+pub far_finishes : {O : Type 0} (log : WorkLog) (suffixes : List ℕ) (a b : Fetcher) (s t : Schedule) (o p : Offering O) → SoFar log suffixes a b s t o p → t.items ≡ []
+    → FinishesWork log suffixes a b s t o p
 far_finishes log suffixes a b s t o p far none = record {
   handled = far.handled;
   noted = far.noted;
@@ -77,7 +78,7 @@ entered_then : (h1 h2 : List Handled) (part : List Entered) → flat_map entered
 entered_then h1 h2 part =
     sym (append_assoc (flat_map entered_of h1) (flat_map entered_of h2) part) ∙ ap (λ xs. xs ++ part) (sym (flat_map-append entered_of h1 h2))
 
-pub far_stops : (log : WorkLog) (suffixes : List ℕ) (a b c : Fetcher) (s t u : Schedule) (o p q : Offering) → IsEarlier c.gives → SoFar log suffixes a b s t o p → GoesOn b c
+pub far_stops : {O : Type 0} (log : WorkLog) (suffixes : List ℕ) (a b c : Fetcher) (s t u : Schedule) (o p q : Offering O) → IsEarlier c.gives → SoFar log suffixes a b s t o p → GoesOn b c
     → StopsWork suffixes b c t u p q → StopsWork suffixes a c s u o q
 far_stops log suffixes a b c s t u o p q earlier far on stops = record {
   handled = far.handled ++ stops.handled;
@@ -103,7 +104,8 @@ far_stops log suffixes a b c s t u o p q earlier far on stops = record {
 
 -- ## All of it
 
-pub works_done : (log : WorkLog) (suffixes : List ℕ) (a b : Fetcher) (s t : Schedule) (o p : Offering) → SoFar log suffixes a b s t o p → t.items ≡ [] → Works (Ok log) suffixes a b s t o p
+pub works_done : {O : Type 0} (log : WorkLog) (suffixes : List ℕ) (a b : Fetcher) (s t : Schedule) (o p : Offering O) → SoFar log suffixes a b s t o p → t.items ≡ []
+    → Works (Ok log) suffixes a b s t o p
 works_done log suffixes a b s t o p far none = record {
   finishes = far_finishes log suffixes a b s t o p far none;
   stops = tt;
@@ -113,7 +115,7 @@ works_done log suffixes a b s t o p far none = record {
   delay = far.delay;
 }
 
-pub works_stopped : (result : Result WorkLog Fault) (y z : Fault) (log : WorkLog) (suffixes : List ℕ) (a b c : Fetcher) (s t u : Schedule) (o p q : Offering) → result ≡ Err y → y ≡ z
+pub works_stopped : {O : Type 0} (result : Result WorkLog Fault) (y z : Fault) (log : WorkLog) (suffixes : List ℕ) (a b c : Fetcher) (s t u : Schedule) (o p q : Offering O) → result ≡ Err y → y ≡ z
     → IsEarlier c.gives → SoFar log suffixes a b s t o p → GoesOn b c → StopsWork suffixes b c t u p q → q.last_fault ≡ fault_or p.last_fault z → u.agent ≡ t.agent → u.delay ≡ t.delay
     → Works result suffixes a c s u o q
 works_stopped result y z log suffixes a b c s t u o p q is same earlier far on stops fault agent delay = record {

@@ -29,22 +29,24 @@ memory_kept last now y is same = same ∙ ap (fault_or last) (sym is)
 -- ## Offers
 
 -- the first of the offers were entered, and these are left
-pub record Offered (offers left : List Tuple) (given : List Receipt) (o p : Offering) : Type 0 where
+pub record Offered {O : Type 0} (offers left : List Tuple) (given : List Receipt) (o p : Offering O) : Type 0 where
   pub entered : List Entered
   pub split : map (λ one. one.offer) entered ++ left ≡ offers
   pub receipts : given ≡ receipts_of entered
   pub enters : Enters entered o p
 
-pub offered_first : (offers : List Tuple) (receipts : List Receipt) (o : Offering) → receipts ≡ [] → Offered offers offers receipts o o
+pub offered_first : {O : Type 0} (offers : List Tuple) (receipts : List Receipt) (o : Offering O) → receipts ≡ [] → Offered offers offers receipts o o
 offered_first offers receipts o none = record { entered = []; split = refl; receipts = none; enters = enters_none o }
 
 abbrev entry : Receipt → Tuple → Entered
 entry receipt offer = record { receipt = receipt; offer = offer }
 
-pub offered_more : (offers left rest : List Tuple) (first : Tuple) (before after : List Receipt) (receipt : Receipt) (o p q : Offering) → Offered offers left before o p → left ≡ first ∷ rest
+pub offered_more : {O : Type 0} (offers left rest : List Tuple) (first : Tuple) (before after : List Receipt) (receipt : Receipt) (o p q : Offering O) → Offered offers left before o p
+    → left ≡ first ∷ rest
     → q.entries ≡ option_map (λ list. list ++ record { receipt = receipt; offer = first } ∷ []) p.entries → ((offer : Tuple) → q.takes offer ↔ p.takes offer)
+    → ((value : O) → p.follows value → q.follows value)
     → after ≡ before ++ receipt ∷ [] → Offered offers rest after o q
-offered_more offers left rest first before after receipt o p q far is entries takes more =
+offered_more offers left rest first before after receipt o p q far is entries takes follows more =
     let one = entry receipt first in
     let offer_of = λ (one : Entered). one.offer in
     let receipt_of = λ (one : Entered). one.receipt in
@@ -53,22 +55,24 @@ offered_more offers left rest first before after receipt o p q far is entries ta
       split = ap (λ xs. xs ++ rest) (map-append offer_of far.entered (one ∷ [])) ∙ append_assoc (map offer_of far.entered) (first ∷ []) rest
           ∙ ap (λ xs. map offer_of far.entered ++ xs) (sym is) ∙ far.split;
       receipts = more ∙ ap (λ xs. xs ++ receipt ∷ []) far.receipts ∙ sym (map-append receipt_of far.entered (one ∷ []));
-      enters = enters_then far.entered (one ∷ []) o p q far.enters (record { entries = entries; takes = takes });
+      enters = enters_then far.entered (one ∷ []) o p q far.enters (record { entries = entries; takes = takes; follows = follows });
     }
 
-pub offered_same : (offers left more : List Tuple) (receipts : List Receipt) (o p q : Offering) → Offered offers left receipts o p → more ≡ left → q.entries ≡ p.entries
-    → ((offer : Tuple) → q.takes offer ↔ p.takes offer) → Offered offers more receipts o q
-offered_same offers left more receipts o p q far same entries takes = record {
+pub offered_same : {O : Type 0} (offers left more : List Tuple) (receipts : List Receipt) (o p q : Offering O) → Offered offers left receipts o p → more ≡ left → q.entries ≡ p.entries
+    → ((offer : Tuple) → q.takes offer ↔ p.takes offer) → ((value : O) → p.follows value → q.follows value) → Offered offers more receipts o q
+offered_same offers left more receipts o p q far same entries takes follows = record {
   entered = far.entered;
   split = ap (λ xs. map (λ (one : Entered). one.offer) far.entered ++ xs) same ∙ far.split;
   receipts = far.receipts;
   enters = record {
     entries = entries ∙ far.enters.entries;
     takes = λ offer. (λ taken. (far.enters.takes offer).0 ((takes offer).0 taken), λ taken. (takes offer).1 ((far.enters.takes offer).1 taken));
+    follows = λ value did. follows value (far.enters.follows value did);
   };
 }
 
-pub offers_stop : (result : Result (List Receipt) Fault) (y : Fault) (offers left : List Tuple) (receipts : List Receipt) (o p : Offering) → result ≡ Err y → Offered offers left receipts o p
+pub offers_stop : {O : Type 0} (result : Result (List Receipt) Fault) (y : Fault) (offers left : List Tuple) (receipts : List Receipt) (o p : Offering O) → result ≡ Err y
+    → Offered offers left receipts o p
     → p.last_fault ≡ fault_or o.last_fault y → OffersAll result offers o p
 offers_stop result y offers left receipts o p is far fault = record {
   ok = refused_if _ result y is;
@@ -76,7 +80,7 @@ offers_stop result y offers left receipts o p is far fault = record {
   fault = refused_fault result y o p is fault;
 }
 
-pub offers_end : (offers left : List Tuple) (receipts : List Receipt) (o p : Offering) → Offered offers left receipts o p → left ≡ [] → p.last_fault ≡ o.last_fault
+pub offers_end : {O : Type 0} (offers left : List Tuple) (receipts : List Receipt) (o p : Offering O) → Offered offers left receipts o p → left ≡ [] → p.last_fault ≡ o.last_fault
     → OffersAll (Ok receipts) offers o p
 offers_end offers left receipts o p far none calm = record {
   ok = (far.entered, sym (append-nil _) ∙ ap (λ xs. map (λ (one : Entered). one.offer) far.entered ++ xs) (sym none) ∙ far.split, far.receipts, far.enters);
@@ -86,7 +90,8 @@ offers_end offers left receipts o p far none calm = record {
 
 -- ## What came of a page
 
-pub settles_stop : (result : Result Unit Fault) (y : Fault) (suffixes : List ℕ) (work : Work) (answer : Answer) (o p : Offering) (was now : List Done) (entered : List Entered) (more : List Tuple)
+pub settles_stop : {O : Type 0} (result : Result Unit Fault) (y : Fault) (suffixes : List ℕ) (work : Work) (answer : Answer) (o p : Offering O) (was now : List Done) (entered : List Entered)
+    (more : List Tuple)
     → result ≡ Err y → map (λ one. one.offer) entered ++ more ≡ offers_of suffixes work.web answer → Enters entered o p → p.last_fault ≡ fault_or o.last_fault y
     → Settles result suffixes work answer o p was now
 settles_stop result y suffixes work answer o p was now entered more is split enters fault = record {
@@ -96,7 +101,8 @@ settles_stop result y suffixes work answer o p was now entered more is split ent
 }
 
 -- all was offered, and then it was refused
-pub settles_late : (result : Result Unit Fault) (y : Fault) (suffixes : List ℕ) (work : Work) (answer : Answer) (o p : Offering) (was now : List Done) (entered : List Entered) (found : List Tuple)
+pub settles_late : {O : Type 0} (result : Result Unit Fault) (y : Fault) (suffixes : List ℕ) (work : Work) (answer : Answer) (o p : Offering O) (was now : List Done) (entered : List Entered)
+    (found : List Tuple)
     → result ≡ Err y → map (λ one. one.offer) entered ≡ found → found ≡ offers_of suffixes work.web answer → Enters entered o p → p.last_fault ≡ fault_or o.last_fault y
     → Settles result suffixes work answer o p was now
 settles_late result y suffixes work answer o p was now entered found is whole same enters fault =
@@ -110,7 +116,7 @@ fetched_err : (A B : Type 0) (result : Result Unit Fault) → OnErr result A →
 fetched_err A B (Ok x) holds gives = tt
 fetched_err A B (Err y) holds gives = gives holds
 
-pub fetches_settled : {E : Type 0} (result : Result Unit Fault) (suffixes : List ℕ) (work : Work) (answer : Answer) (a b : Fetcher) (o p : Offering) (was now : List Done)
+pub fetches_settled : {O E : Type 0} (result : Result Unit Fault) (suffixes : List ℕ) (work : Work) (answer : Answer) (a b : Fetcher) (o p : Offering O) (was now : List Done)
     → given_since a b work.web Page answer → GoesOn a b → HasCause (◌≡◌ {A = Result Answer E} (Ok answer) (Ok NoReply)) a.faults b.faults → Settles result suffixes work answer o p was now
     → FetchesPage result suffixes work a b o p was now
 fetches_settled result suffixes work answer a b o p was now given on cause settles = record {
@@ -120,7 +126,8 @@ fetches_settled result suffixes work answer a b o p was now given on cause settl
   goes_on = on;
 }
 
-pub fetches_none : (result : Result Unit Fault) (y : Fault) (suffixes : List ℕ) (work : Work) (a b : Fetcher) (o : Offering) (was now : List Done) → result ≡ Err y → y ≡ Memory → GoesOn a b
+pub fetches_none : {O : Type 0} (result : Result Unit Fault) (y : Fault) (suffixes : List ℕ) (work : Work) (a b : Fetcher) (o : Offering O) (was now : List Done) → result ≡ Err y → y ≡ Memory
+    → GoesOn a b
     → FetchesPage result suffixes work a b o o was now
 fetches_none result y suffixes work a b o was now is memory on = record {
   ok = refused_ok _ result y is;

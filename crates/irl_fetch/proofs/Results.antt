@@ -15,5 +15,5 @@ refused_if P result y is = subst (λ r. IfOk r P) (sym is) tt
 pub refused_err : {A E : Type 0} (B : Type 0) (result : Result A E) (y : E) → result ≡ Err y → B → OnErr result B
 refused_err B result y is holds = subst (λ r. OnErr r B) (sym is) holds
 
-pub refused_fault : {A : Type 0} (result : Result A Fault) (y : Fault) (o p : Offering) → result ≡ Err y → p.last_fault ≡ fault_or o.last_fault y → FaultIs result o p
+pub refused_fault : {O A : Type 0} (result : Result A Fault) (y : Fault) (o p : Offering O) → result ≡ Err y → p.last_fault ≡ fault_or o.last_fault y → FaultIs result o p
 refused_fault result y o p is fault = subst (λ r. FaultIs r o p) (sym is) (tt, fault)

@@ -58,22 +58,24 @@ none_entered : (entries : Option (List Entered)) → entries ≡ option_map (λ 
 none_entered None = refl
 none_entered (Some list) = ap (λ (l : List Entered). Some l) (sym (append-nil list))
 
-pub enters_none : (a : Offering) → Enters [] a a
-enters_none a = record { entries = none_entered a.entries; takes = λ offer. (λ taken. taken, λ taken. taken) }
+pub enters_none : {O : Type 0} (a : Offering O) → Enters [] a a
+enters_none a = record { entries = none_entered a.entries; takes = λ offer. (λ taken. taken, λ taken. taken); follows = λ value did. did }
 
 both_entered : (entries : Option (List Entered)) (one two : List Entered)
     → option_map (λ list. list ++ two) (option_map (λ list. list ++ one) entries) ≡ option_map (λ list. list ++ (one ++ two)) entries
 both_entered None one two = refl
 both_entered (Some list) one two = ap (λ (l : List Entered). Some l) (append_assoc list one two)
 
-pub enters_then : (one two : List Entered) (a b c : Offering) → Enters one a b → Enters two b c → Enters (one ++ two) a c
+pub enters_then : {O : Type 0} (one two : List Entered) (a b c : Offering O) → Enters one a b → Enters two b c → Enters (one ++ two) a c
 enters_then one two a b c first second = record {
   entries = second.entries ∙ ap (option_map (λ list. list ++ two)) first.entries ∙ both_entered a.entries one two;
   takes = λ offer. (λ taken. (first.takes offer).0 ((second.takes offer).0 taken), λ taken. (second.takes offer).1 ((first.takes offer).1 taken));
+  follows = λ value did. second.follows value (first.follows value did);
 }
 
-pub enters_as : (one two : List Entered) (a b : Offering) → one ≡ two → Enters one a b → Enters two a b
+pub enters_as : {O : Type 0} (one two : List Entered) (a b : Offering O) → one ≡ two → Enters one a b → Enters two a b
 enters_as one two a b is enters = record {
   entries = enters.entries ∙ ap (λ (news : List Entered). option_map (λ list. list ++ news) a.entries) is;
   takes = enters.takes;
+  follows = enters.follows;
 }

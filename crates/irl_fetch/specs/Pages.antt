@@ -14,12 +14,13 @@ use Rattle.irl_fetch.specs.Handling.{Fetched, done_of, missing, answers_of, rece
 use Rattle.irl_fetch.specs.Telling.{Fetcher, Offering, GoesOn, Enters, RoseBy, given_since}
 
 -- the last fault of the offers after an answer: want of memory is none
-abbrev pub FaultIs : {A : Type 0} → Result A Fault → Offering → Offering → Type 0
+abbrev pub FaultIs : {O A : Type 0} → Result A Fault → Offering O → Offering O → Type 0
 FaultIs result old new = OnOk result (new.last_fault ≡ old.last_fault)
     × IfErr result (λ fault. new.last_fault ≡ fault_or old.last_fault fault)
 
 -- All of these were offered, in order, or the first of them up to one that was refused.
-pub record OffersAll (result : Result (List Receipt) Fault) (offers : List Tuple) (old new : Offering) : Type 0 where
+pub record OffersAll {O : Type 0} (result : Result (List Receipt) Fault) (offers : List Tuple)
+    (old new : Offering O) : Type 0 where
   pub ok : IfOk result (λ receipts. (entered : List Entered) × (map (λ one. one.offer) entered ≡ offers)
       × (receipts ≡ receipts_of entered) × Enters entered old new)
   pub err : OnErr result ((entered : List Entered) × (more : List Tuple)
@@ -32,8 +33,8 @@ IsPart gives suffixes url entered = (entered ≡ []) ⊎ ((answer : Answer) × g
     × (map (λ one. one.offer) entered ++ more ≡ offers_of suffixes url answer))
 
 -- What the answer to a page names was offered, and what came of the page is put behind the others.
-pub record Settles (result : Result Unit Fault) (suffixes : List ℕ) (work : Work) (answer : Answer)
-    (old new : Offering) (was now : List Done) : Type 0 where
+pub record Settles {O : Type 0} (result : Result Unit Fault) (suffixes : List ℕ) (work : Work) (answer : Answer)
+    (old new : Offering O) (was now : List Done) : Type 0 where
   pub ok : OnOk result ((entered : List Entered)
       × (map (λ one. one.offer) entered ≡ offers_of suffixes work.web answer)
       × (now ≡ was ++ done_of (record { work = work; treated = Fetched answer entered }) ∷ [])
@@ -43,8 +44,8 @@ pub record Settles (result : Result Unit Fault) (suffixes : List ℕ) (work : Wo
   pub fault : FaultIs result old new
 
 -- The page was fetched, what its answer names was offered, and what came of it is put behind the others.
-pub record FetchesPage (result : Result Unit Fault) (suffixes : List ℕ) (work : Work) (old new : Fetcher)
-    (before after : Offering) (was now : List Done) : Type 0 where
+pub record FetchesPage {O : Type 0} (result : Result Unit Fault) (suffixes : List ℕ) (work : Work) (old new : Fetcher)
+    (before after : Offering O) (was now : List Done) : Type 0 where
   pub ok : OnOk result ((answer : Answer) × (entered : List Entered)
       × IsGiven (given_since old new) suffixes work.web (Fetched answer entered)
       × (now ≡ was ++ done_of (record { work = work; treated = Fetched answer entered }) ∷ [])

@@ -38,24 +38,33 @@ abbrev pub RoseBy : ℕ → ℕ → ℕ → Type 0
 RoseBy n before now = min (before + n) (2 ^ 64 - 1) ≤ now
 
 -- ---- the way into a store
-pub record Offering : Type 1 where
+pub record Offering (O : Type 0) : Type 1 where
   -- the receipts that were given, each with its offer
   pub entries : Option (List Entered)
   -- the last fault but want of memory that was answered
   pub last_fault : Option Fault
   -- which offers are taken
   pub takes : Tuple → Type 0
+  -- the values of which calls made it
+  pub follows : O → Type 0
 
-abbrev pub offering : {O : Type 0} → (O → Option (List Entered)) → (O → Option Fault) → (O → Tuple → Type 0) → O
-    → Offering
-offering entries last_fault takes x =
-    record { entries = entries x; last_fault = last_fault x; takes = takes x }
+abbrev pub offering : {O : Type 0} → (O → Option (List Entered)) → (O → Option Fault) → (O → Tuple → Type 0)
+    → (O → O → Type 0) → O → Offering O
+offering entries last_fault takes follows x =
+    record {
+      entries = entries x;
+      last_fault = last_fault x;
+      takes = takes x;
+      follows = λ value. follows value x;
+    }
 
 -- it takes what a crawl offers: each offer that checks and enters a page by its canonical text
 abbrev pub TakesPages : (Tuple → Type 0) → Type 0
 TakesPages takes = (offer : Tuple) → IsTaken offer → takes offer
 
--- These were entered behind the others, and it takes what it took.
-pub record Enters (news : List Entered) (old new : Offering) : Type 0 where
+-- These were entered behind the others. It takes what it took, and follows each value that it followed, and so the one
+-- that it was.
+pub record Enters {O : Type 0} (news : List Entered) (old new : Offering O) : Type 0 where
   pub entries : new.entries ≡ option_map (λ list. list ++ news) old.entries
   pub takes : (offer : Tuple) → new.takes offer ↔ old.takes offer
+  pub follows : (value : O) → old.follows value → new.follows value

@@ -44,8 +44,8 @@ pub record HasWorked (suffixes : List ℕ) (handled : List Handled) (noted : Lis
       new.faults
 
 -- All of the front was done.
-pub record FinishesWork (log : WorkLog) (suffixes : List ℕ) (old new : Fetcher) (before after : Schedule)
-    (was now : Offering) : Type 0 where
+pub record FinishesWork {O : Type 0} (log : WorkLog) (suffixes : List ℕ) (old new : Fetcher) (before after : Schedule)
+    (was now : Offering O) : Type 0 where
   pub handled : List Handled
   pub noted : List Noted
   pub done : log.done.items ≡ map done_of handled
@@ -67,8 +67,8 @@ pub record IsBegun (suffixes : List ℕ) (noted : List Noted) (left : List Work)
   pub some : IsPart (given_since old new) suffixes work.web part
 
 -- Some of it was done, and of one item more a part of what it names may be entered.
-pub record StopsWork (suffixes : List ℕ) (old new : Fetcher) (before after : Schedule) (was now : Offering)
-    : Type 0 where
+pub record StopsWork {O : Type 0} (suffixes : List ℕ) (old new : Fetcher) (before after : Schedule)
+    (was now : Offering O) : Type 0 where
   pub handled : List Handled
   pub noted : List Noted
   pub left : List Work
@@ -78,8 +78,8 @@ pub record StopsWork (suffixes : List ℕ) (old new : Fetcher) (before after : S
   pub entered : Enters (flat_map entered_of handled ++ part) was now
 
 -- What doing all that a front says leaves, by the answer.
-pub record Works (result : Result WorkLog Fault) (suffixes : List ℕ) (old new : Fetcher) (before after : Schedule)
-    (was now : Offering) : Type 0 where
+pub record Works {O : Type 0} (result : Result WorkLog Fault) (suffixes : List ℕ) (old new : Fetcher)
+    (before after : Schedule) (was now : Offering O) : Type 0 where
   pub finishes : IfOk result (λ log. FinishesWork log suffixes old new before after was now)
   pub stops : OnErr result (StopsWork suffixes old new before after was now)
   -- a fault is want of memory, or then the last one of the offers
@@ -91,8 +91,8 @@ pub record Works (result : Result WorkLog Fault) (suffixes : List ℕ) (old new 
 
 -- ---- one job after another
 -- Some of the front was done, and what came of it is put behind what was there.
-pub record DoesSome (first last : WorkLog) (suffixes : List ℕ) (old new : Fetcher) (before after : Schedule)
-    (was now : Offering) : Type 0 where
+pub record DoesSome {O : Type 0} (first last : WorkLog) (suffixes : List ℕ) (old new : Fetcher)
+    (before after : Schedule) (was now : Offering O) : Type 0 where
   pub handled : List Handled
   pub noted : List Noted
   pub done : last.done.items ≡ first.done.items ++ map done_of handled
@@ -103,8 +103,8 @@ pub record DoesSome (first last : WorkLog) (suffixes : List ℕ) (old new : Fetc
   pub ready : (name : List ℕ) → after.awaited name ≡ false
 
 -- The next job was done, or nothing is left.
-pub record DoesNext (result : Result Bool Fault) (first last : WorkLog) (suffixes : List ℕ) (old new : Fetcher)
-    (before after : Schedule) (was now : Offering) : Type 0 where
+pub record DoesNext {O : Type 0} (result : Result Bool Fault) (first last : WorkLog) (suffixes : List ℕ)
+    (old new : Fetcher) (before after : Schedule) (was now : Offering O) : Type 0 where
   pub does : OnOk result (DoesSome first last suffixes old new before after was now)
   pub idle : IfOk result (λ more. more ≡ false → after.items ≡ [])
   pub stops : OnErr result (StopsWork suffixes old new before after was now)

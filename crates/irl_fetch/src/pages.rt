@@ -26,7 +26,8 @@ pub fn fetch_page<R: Wait, F: Fetch, O: Offers, G: Gate>(
     requires takes { TakesPages (O.takes sink.old) }
     ensures { FetchesPage result suffixes.now work.now
         (fetcher F.asked F.gives F.faults F.last fetch.old) (fetcher F.asked F.gives F.faults F.last fetch.new)
-        (offering O.entries O.last_fault O.takes sink.old) (offering O.entries O.last_fault O.takes sink.new)
+        (offering O.entries O.last_fault O.takes O.follows sink.old)
+        (offering O.entries O.last_fault O.takes O.follows sink.new)
         done.old.items done.new.items }
 {
     gate.before(work.number);
@@ -47,7 +48,8 @@ fn settle<R: Wait, O: Offers>(
 ) -> Result<(), Fault>
     requires takes { TakesPages (O.takes sink.old) }
     ensures { Settles result suffixes.now work.now answer.now
-        (offering O.entries O.last_fault O.takes sink.old) (offering O.entries O.last_fault O.takes sink.new)
+        (offering O.entries O.last_fault O.takes O.follows sink.old)
+        (offering O.entries O.last_fault O.takes O.follows sink.new)
         done.old.items done.new.items }
 {
     let outcome = outcome(alloc, &work.web, answer)?;
@@ -71,7 +73,8 @@ fn offer_all<R: Wait, O: Offers>(
 ) -> Result<Receipts, Fault>
     requires takes { TakesPages (O.takes sink.old) }
     ensures { OffersAll result found.old
-        (offering O.entries O.last_fault O.takes sink.old) (offering O.entries O.last_fault O.takes sink.new) }
+        (offering O.entries O.last_fault O.takes O.follows sink.old)
+        (offering O.entries O.last_fault O.takes O.follows sink.new) }
 {
     let mut receipts = Receipts::new(alloc);
     while let Some(offer) = found.next(alloc)? {

@@ -1,4 +1,5 @@
-ghost use Rattle.std.specs.Prelude.{◌≡◌, ◌≤◌, None, Some, map, IfOk, Ok};
+ghost use Rattle.std.specs.Prelude.{◌≡◌, ◌≤◌, None, Some, length, map, IfOk, Ok};
+ghost use Rattle.std.proofs.Common.{arith};
 ghost use Rattle.irl_base.specs.Faults.{HasCause};
 ghost use Rattle.irl_answer.specs.Found.{IsTaken};
 ghost use Rattle.irl_offer.specs.Offering.{Entered};
@@ -32,6 +33,9 @@ impl Offers for Shelf {
 
     ghost takes = { λ _ offer. IsTaken offer };
 
+    // What it took it keeps.
+    ghost follows = { λ old new. length old.taken.items ≤ length new.taken.items };
+
     fn offer<R: Wait>(&mut self, _rt: &R, offer: Offer) -> Result<Receipt, (Fault, Offer)> {
         let number = self.taken.len();
         if number == self.room && self.is_full {
@@ -48,6 +52,10 @@ impl Offers for Shelf {
         self.taken.push_reserved((receipt, offer));
         Ok(receipt)
     }
+
+    ghost follows_none = { λ _. Prim.omega arith };
+
+    ghost follows_both = { λ _ _ _ one two. Prim.omega (arith, one, two) };
 }
 
 // A shelf with room for more than a test offers.

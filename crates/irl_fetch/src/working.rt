@@ -44,7 +44,8 @@ pub fn work<R: Wait, F: Fetch, O: Offers, G: Gate>(
     ensures { Works result suffixes.now
         (fetcher F.asked F.gives F.faults F.last fetch.old) (fetcher F.asked F.gives F.faults F.last fetch.new)
         (schedule front.old) (schedule front.new)
-        (offering O.entries O.last_fault O.takes offers.old) (offering O.entries O.last_fault O.takes offers.new) }
+        (offering O.entries O.last_fault O.takes O.follows offers.old)
+        (offering O.entries O.last_fault O.takes O.follows offers.new) }
 {
     let mut log = WorkLog {
         done: Vec::new(alloc),
@@ -74,7 +75,8 @@ fn do_next<R: Wait, F: Fetch, O: Offers, G: Gate>(
     ensures { DoesNext result log.old log.new suffixes.now
         (fetcher F.asked F.gives F.faults F.last fetch.old) (fetcher F.asked F.gives F.faults F.last fetch.new)
         (schedule front.old) (schedule front.new)
-        (offering O.entries O.last_fault O.takes offers.old) (offering O.entries O.last_fault O.takes offers.new) }
+        (offering O.entries O.last_fault O.takes O.follows offers.old)
+        (offering O.entries O.last_fault O.takes O.follows offers.new) }
 {
     let now = fetch.now();
     match front.take(now) {
