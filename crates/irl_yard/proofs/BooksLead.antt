@@ -1,23 +1,21 @@
 -- What the schedule makes of a book leads the state that has it.
-use Rattle.std.proofs.Common.{◌≡◌, ℕ, List, refl, sym, ap, subst}
-use Rattle.irl_offer.specs.declared.settings.Kind.{Kind}
+use Rattle.std.proofs.Common.{◌≡◌, ℕ, List, refl, sym, subst}
 use Rattle.irl_offer.specs.declared.settings.Settings.{Settings}
 use Rattle.irl_offer.specs.Tuple.{Tuple}
 use Rattle.irl_model.specs.Book.{Book, IsFront}
-use Rattle.irl_model.proofs.FrontLaws.{front_both, front_same}
-use Rattle.irl_events.specs.State.{State, IsFrontState}
+use Rattle.irl_model.proofs.FrontLaws.{front_both}
+use Rattle.irl_events.specs.State.{State}
 use Rattle.irl_disk.specs.Disk.{Files}
-use Rattle.irl_disk.specs.Images.{IsConsistent, Leaves}
+use Rattle.irl_disk.specs.Images.{IsConsistent}
 use Rattle.irl_disk.proofs.Stretches.{widens}
 use Rattle.irl_bay.specs.Drum.{Drum, IsDrum}
-use Rattle.irl_schedule.specs.Feeding.{Fed, HasBetween, Moment, Stays, Stranded}
+use Rattle.irl_schedule.specs.Feeding.{Fed, Moment, Stays, Stranded}
 use Rattle.irl_ledger.specs.Crawling.{MayFollow}
 use Rattle.irl_yard.specs.declared.parts.Parts.{Parts}
-use Rattle.irl_yard.specs.declared.parts.Rest.{Rest}
 use Rattle.irl_yard.specs.Holding.{HoldsOpen, HoldsState, HoldsUrls, IsOpenRest}
 use Rattle.irl_yard.specs.Leading.{FailsAt, HasOneBetween, LeadsTo}
 use Rattle.irl_yard.specs.Lifting.{HasStateBetween, IsWithBook, LiftsBooks}
-use Rattle.irl_yard.specs.Standing.{HasState, with_urls}
+use Rattle.irl_yard.specs.Standing.{with_urls}
 use Rattle.irl_yard.proofs.Beside.{open_after}
 use Rattle.irl_yard.proofs.ByKind.{follows_between, follows_same}
 use Rattle.irl_yard.proofs.Lifting.{fronts_lifted, lifts_books}

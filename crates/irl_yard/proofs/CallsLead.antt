@@ -1,5 +1,5 @@
 -- Where a call of a crawl leads the state that an open store held.
-use Rattle.std.proofs.Common.{◌≡◌, ℕ, [], List, Option, Some, Result, Ok, Err, OnErr, OnOk, IsErrOf, inl, inr, refl, sym, subst}
+use Rattle.std.proofs.Common.{◌≡◌, ℕ, [], List, Some, Result, Ok, Err, OnErr, OnOk, IsErrOf, inl, inr, refl, sym, subst}
 use Rattle.irl_base.specs.declared.fault.Fault.{Fault}
 use Rattle.irl_base.specs.declared.fault.Fault.TheVariants.{Damaged, Failed, Full, Memory}
 use Rattle.irl_offer.specs.declared.note.Note.{Note}
@@ -13,12 +13,12 @@ use Rattle.irl_bay.specs.Drum.{IsDrum}
 use Rattle.irl_yard.specs.declared.parts.Parts.{Parts}
 use Rattle.irl_yard.specs.Adding.{AddsEvent, AddsNotes, notes_happened, with_event, with_notes}
 use Rattle.irl_yard.specs.Holding.{HasOneOf, HoldsState}
-use Rattle.irl_yard.specs.Leading.{FailsAt, IsEither, LeadsOrStays, LeadsTo}
+use Rattle.irl_yard.specs.Leading.{IsEither, LeadsOrStays, LeadsTo}
 use Rattle.irl_yard.specs.Passing.{PassesState, with_pass}
 use Rattle.irl_yard.specs.Standing.{HasState}
 use Rattle.irl_yard.proofs.Holding.{held_has}
 use Rattle.irl_yard.proofs.Leading.{fails_one, leads_one, leads_same}
-use Rattle.irl_yard.proofs.States.{event_front, state_same}
+use Rattle.irl_yard.proofs.States.{event_front}
 
 -- notes come behind
 notes_front : (notes : List Note) (state : State) → IsFrontState state (with_notes notes state)

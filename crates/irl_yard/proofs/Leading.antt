@@ -1,15 +1,13 @@
 -- What calls make of a state, one behind the other.
-use Rattle.std.proofs.Common.{◌≡◌, ◌∙◌, ◌⊎◌, inl, inr, Option, None, Some, refl, sym, subst}
+use Rattle.std.proofs.Common.{◌≡◌, ◌∙◌, inl, inr, Option, None, Some, refl, sym, subst}
 use Rattle.irl_disk.specs.Disk.{Files}
 use Rattle.irl_disk.specs.Images.{Told, IsConsistent, Leaves}
 use Rattle.irl_disk.proofs.Stretches.{joins, left_now, widens}
-use Rattle.irl_bay.specs.Drum.{IsDrum}
 use Rattle.irl_events.specs.State.{State, IsFrontState}
 use Rattle.irl_yard.specs.declared.parts.Parts.{Parts}
 use Rattle.irl_yard.specs.Holding.{HasOneOf, HoldsState}
 use Rattle.irl_yard.specs.Leading.{FailsAt, HasOneBetween, LeadsTo}
 use Rattle.irl_yard.specs.Standing.{HasState}
-use Rattle.irl_yard.proofs.Holding.{held_has}
 use Rattle.irl_yard.proofs.States.{state_both, state_same}
 
 -- ---- what lies between

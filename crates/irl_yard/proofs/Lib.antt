@@ -1,6 +1,7 @@
 pub mod Adding
 pub mod Appended
 pub mod Answered
+pub mod Begun
 pub mod Beside
 pub mod BooksLead
 pub mod ByKind
@@ -35,3 +36,4 @@ pub mod SentWhole
 pub mod SettleSteps
 pub mod Settling
 pub mod States
+pub mod StoreOfCrawl

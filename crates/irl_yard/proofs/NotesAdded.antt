@@ -1,9 +1,8 @@
 -- Several notes more in the log of a crawl: what they make of the state that an open store holds.
-use Rattle.std.proofs.Common.{◌≡◌, ◌∙◌, inr, true, List, [], ◌∷◌, ◌++◌, map, append-nil, append_assoc, Option, Result, Ok, Err, IsErrOf, OnOk, OnErr, IsOk, refl, sym, ap, subst}
+use Rattle.std.proofs.Common.{◌≡◌, ◌∙◌, inr, true, List, [], ◌∷◌, ◌++◌, map, append-nil, append_assoc, Result, Ok, Err, OnOk, OnErr, refl, sym, ap, subst}
 use Rattle.std.specs.List.{AllByRecursion}
 use Rattle.std.specs.Option.{ForSome}
 use Rattle.irl_base.specs.declared.fault.Fault.{Fault}
-use Rattle.irl_base.specs.declared.fault.Fault.TheVariants.{Memory}
 use Rattle.irl_offer.specs.declared.note.Note.{Note}
 use Rattle.irl_offer.specs.declared.settings.Settings.{Settings}
 use Rattle.irl_model.specs.Book.{Book}

@@ -34,8 +34,9 @@ use Rattle.irl_yard.specs.declared.parts.Rest.TheVariants.{Crawl}
 use Rattle.irl_yard.specs.Adding.{with_event}
 use Rattle.irl_yard.specs.Holding.{HasOneOf, HoldsOpen, HoldsState, HoldsUrls, IsOpenRest}
 use Rattle.irl_yard.specs.Merges.{ReadsState}
-use Rattle.irl_yard.specs.Passing.{AddsPass, AreFresh, IsDue, with_pass}
+use Rattle.irl_yard.specs.Passing.{AddsPass, AreFresh, IsDue, suffixes_in, with_pass}
 use Rattle.irl_yard.proofs.Adding.{IsNext, IsNextIn, log_changes, state_next, still_open, stops_next, urls_long}
+use Rattle.irl_schedule.proofs.Outcomes.{by_answer}
 use Rattle.irl_yard.proofs.Appended.{from_ok, legal_as, on_err_then, same_crawl}
 use Rattle.irl_yard.proofs.Beside.{state_same}
 use Rattle.irl_yard.proofs.Holding.{stops_same}
@@ -221,4 +222,5 @@ module _ {S : Type 0} (tells : S → Told) (law : (s : S) → IsConsistent (tell
               )),
               on_err_then result (λ kept. ap (λ (p : Ledger). p.frontier) (sym new_is) ∙ kept.0 ∙ ap (λ (p : Ledger). p.frontier) old_is) some_call.kept,
             );
+        suffixes = ap suffixes_in now_rest ∙ by_answer result some_call.done some_call.kept (λ done. done.1) (λ kept. kept.1) ∙ sym (ap suffixes_in was_rest);
       }

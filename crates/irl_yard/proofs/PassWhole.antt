@@ -28,7 +28,7 @@ use Rattle.irl_yard.specs.declared.parts.Rest.{Rest}
 use Rattle.irl_yard.specs.declared.parts.Rest.TheVariants.{Plain, Crawl}
 use Rattle.irl_yard.specs.Holding.{HasOneOf, HoldsOpen, HoldsState, HoldsUrls}
 use Rattle.irl_yard.specs.Merges.{ReadsState}
-use Rattle.irl_yard.specs.Passing.{AddsPass, AreFresh, PassesState, come, front_in, with_pass}
+use Rattle.irl_yard.specs.Passing.{AddsPass, AreFresh, PassesState, come, front_in, suffixes_in, with_pass}
 use Rattle.irl_yard.specs.Standing.{HasState, IsRest}
 use Rattle.irl_yard.proofs.Appended.{same_crawl}
 
@@ -129,6 +129,7 @@ module _ {S : Type 0} (tells : S → Told) (law : (s : S) → IsConsistent (tell
     full = λ n e. reads.full n (same (Full n) e);
     urls = states.same;
     tables = λ c d was_is now_is. (err_ok result _ is, on_err result _ (ap (λ (p : Ledger). p.frontier) (same_crawl d c (sym now_is ∙ rest ∙ was_is))));
+    suffixes = ap suffixes_in rest;
   }
 
   -- ---- it was added, or was to be
@@ -196,4 +197,5 @@ module _ {S : Type 0} (tells : S → Told) (law : (s : S) → IsConsistent (tell
             on_ok result _ (λ ok. let one = on_ok_of added _ (done ok) told.0 in (one.0, fresh, one.1)),
             err_of result added _ not_done told.1,
           );
+      suffixes = adds.suffixes ∙ ap suffixes_in mid_rest;
     }

@@ -36,11 +36,12 @@ use Rattle.irl_yard.specs.declared.parts.Rest.{Rest}
 use Rattle.irl_yard.specs.declared.parts.Rest.TheVariants.{Crawl}
 use Rattle.irl_yard.specs.Adding.{with_event}
 use Rattle.irl_yard.specs.Holding.{HasOneOf, HoldsOpen, HoldsState, HoldsUrls}
-use Rattle.irl_yard.specs.Sending.{ArePairsSent, LogsPairs, OnlyThese, sent_of, sent_state}
+use Rattle.irl_yard.specs.Sending.{ArePairsSent, HasSentCuts, KeepsCrawl, LogsPairs, OnlyThese, sent_of, sent_state}
 use Rattle.irl_yard.proofs.Adding.{IsNext, IsNextIn, begun_more, log_changes, only_log, state_next, still_open, stops_next, told_log, urls_long}
-use Rattle.irl_schedule.proofs.Outcomes.{ok_gives}
+use Rattle.irl_schedule.proofs.Outcomes.{by_answer, ok_gives, ok_weaker}
 use Rattle.irl_yard.proofs.Holding.{held_has}
-use Rattle.irl_yard.proofs.SentStates.{on_ok}
+use Rattle.irl_yard.proofs.Appended.{same_crawl}
+use Rattle.irl_yard.proofs.SentStates.{keeps_crawl, on_ok}
 
 -- ---- the numbers of the event
 whole_judged : (settings : Settings) (book : Book) → IsBookOf settings book → length (judged book) ≡ judged_by book (cut_count book)
@@ -116,6 +117,13 @@ module _ {S : Type 0} (tells : S → Told) (law : (s : S) → IsConsistent (tell
       subst (λ (r : Rest). HoldsOpen (tells before).images was.urls.settings r state.urls state.pairs state.events) was_rest holds.open_rest in
       both.1
 
+  -- a ledger that keeps the crawl, and one that knows of all cuts
+  keeps : KeepsCrawl old new → (first second : Ledger) → was.rest ≡ Crawl first → now.rest ≡ Crawl second → KeepsCrawl first second
+  keeps = keeps_crawl was now old new was_rest now_rest
+
+  knows : new.frontier.progress.cuts ≡ was.urls.cuts → HasSentCuts now
+  knows cuts ledger is = ap (λ (l : Ledger). l.frontier.progress.cuts) (same_crawl ledger new (sym is ∙ now_rest)) ∙ cuts ∙ ap (λ (d : Drum). d.cuts) (sym now_urls)
+
   module _ (differ : old.frontier.progress.cuts ≡ was.urls.cuts → ⊥) (adds : AddsToLog tells result event then old.suffixes old new before after) where
     next_in : (state : State) → HoldsState (tells before).images was state → ArePairsSent state
         → IsNextIn tells law result event [] then old.suffixes before after was.urls old new drum opened sound adds state
@@ -129,6 +137,19 @@ module _ {S : Type 0} (tells : S → Told) (law : (s : S) → IsConsistent (tell
         let held = held_in state holds in
         cuts_known (tells before).images was.urls old state holds.urls held false (ne_eqb old.frontier.progress.cuts was.urls.cuts differ)
         ∙ ap (λ (e : Event). with_event e [] state) (sym (event_same (tells before).images was.urls old state holds.urls held))
+
+    kept_crawl : KeepsCrawl old new
+    kept_crawl = by_answer result adds.done adds.kept
+        (λ done. record {
+          suffixes = done.1;
+          front = ap (λ (x : Frontier). x.progress.front) done.0;
+          begun = ap (λ (x : Frontier). x.progress.begun) done.0 ∙ sym begun;
+        })
+        (λ kept. record {
+          suffixes = kept.1;
+          front = ap (λ (x : Frontier). x.progress.front) kept.0;
+          begun = ap (λ (x : Frontier). x.progress.begun) kept.0;
+        })
 
     added : LogsPairs tells result was now before after
     added = record {
@@ -150,6 +171,8 @@ module _ {S : Type 0} (tells : S → Told) (law : (s : S) → IsConsistent (tell
         stops = only_log tells law result event [] then old.suffixes before after was.urls old new drum opened sound adds;
       };
       urls = now_urls;
+      tables = keeps kept_crawl;
+      sent = ok_weaker result adds.done (λ done. knows (ap (λ (x : Frontier). x.progress.cuts) done.0));
     }
 
   idle : old.frontier.progress.cuts ≡ was.urls.cuts → IsOk result × (new ≡ old) × (after ≡ before) → LogsPairs tells result was now before after
@@ -174,6 +197,12 @@ module _ {S : Type 0} (tells : S → Told) (law : (s : S) → IsConsistent (tell
           stops = leaves_same (λ f. f ≡ crawl_file) (tells before) (tells before) (stays (tells before) (tells before).images (law before) (λ image left. left));
         });
         urls = now_urls;
+        tables = keeps (record {
+          suffixes = ap (λ (l : Ledger). l.suffixes) none.1;
+          front = ap (λ (l : Ledger). l.frontier.progress.front) none.1;
+          begun = ap (λ (l : Ledger). l.frontier.progress.begun) none.1;
+        });
+        sent = on_ok result _ (λ value is. knows (ap (λ (l : Ledger). l.frontier.progress.cuts) none.1 ∙ same));
       }
 
   pub logs_pairs : (old.frontier.progress.cuts ≡ was.urls.cuts → IsOk result × (new ≡ old) × (after ≡ before))

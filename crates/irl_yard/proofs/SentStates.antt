@@ -44,9 +44,9 @@ use Rattle.irl_yard.specs.declared.parts.Rest.{Rest}
 use Rattle.irl_yard.specs.declared.parts.Rest.TheVariants.{Crawl}
 use Rattle.irl_yard.specs.Holding.{HoldsOpen, HoldsState, HoldsUrls, IsSoundRest, StaysSound}
 use Rattle.irl_yard.specs.Leading.{FailsAt, HasOneBetween, LeadsTo}
-use Rattle.irl_yard.specs.Sending.{ArePairsSent, HasBegun, HasToldAll, HasSentAll, HasSomeSent, IsSomeSent, MayHaveSent, TellsState, links_in, OffersState, counted_behind, with_pairs}
+use Rattle.irl_yard.specs.Sending.{ArePairsSent, HasBegun, HasToldAll, HasSentAll, HasSomeSent, IsSomeSent, KeepsCrawl, MayHaveSent, TellsState, links_in, OffersState, counted_behind, with_pairs}
 use Rattle.irl_yard.specs.Standing.{HasRest, HasState, IsRest}
-use Rattle.irl_yard.proofs.Appended.{legal_as}
+use Rattle.irl_yard.proofs.Appended.{legal_as, same_crawl}
 use Rattle.irl_yard.proofs.Holding.{holds_same, stops_same}
 use Rattle.irl_yard.proofs.RestFiles.{few}
 use Rattle.irl_yard.proofs.States.{pairs_front}
@@ -164,6 +164,13 @@ behind_ok (Err Failed) P has = tt
 behind_ok (Err Memory) P has = tt
 behind_ok (Err (Full b)) P has = tt
 behind_ok (Err (Damaged f at)) P has = tt
+
+-- ---- what is kept in memory
+-- parts that keep a crawl, whichever their ledgers are called
+pub keeps_crawl : (was now : Parts) (old new : Ledger) → was.rest ≡ Crawl old → now.rest ≡ Crawl new → KeepsCrawl old new → (first second : Ledger) → was.rest ≡ Crawl first → now.rest ≡ Crawl second
+    → KeepsCrawl first second
+keeps_crawl was now old new was_rest now_rest keeps first second was_is now_is =
+    subst (λ (x : Ledger). KeepsCrawl x second) (same_crawl old first (sym was_rest ∙ was_is)) (subst (KeepsCrawl old) (same_crawl new second (sym now_rest ∙ now_is)) keeps)
 
 -- ---- the links are offered
 module _ (result : Result Unit Fault) (was now : Parts) (old new : Ledger) (s t : Told) (law : IsDrum was.urls) (lawful : IsConsistent t) (was_rest : was.rest ≡ Crawl old)
@@ -368,6 +375,11 @@ module _ (result : Result Unit Fault) (was now : Parts) (old new : Ledger) (s t 
         (offers.runs.damaged f at (behind_damaged result f at is));
     others = record { told = pairs_tell; stops = pairs_leave };
     told = λ files told. tells_on _ s.files t.files files still.others told;
+    tables = keeps_crawl was now old new was_rest now_rest (record {
+      suffixes = ap (λ (l : Ledger). l.suffixes) others;
+      front = ap (λ (l : Ledger). l.frontier.progress.front) others;
+      begun = ap (λ (l : Ledger). l.frontier.progress.begun) others;
+    });
   }
 
 -- ---- soundness
@@ -427,6 +439,11 @@ module _ (result : Result Unit Fault) (was now : Parts) (old new : Ledger) (s t 
     );
     others = record { told = tells_same (λ f. ⊥) s.files t.files tells.reads.reads.same; stops = leaves_same (λ f. ⊥) s t tells.reads.reads.stops };
     told = λ files told. tells.reads.reads.same ∙ told;
+    tables = keeps_crawl was now old new was_rest now_rest (record {
+      suffixes = ap (λ (l : Ledger). l.suffixes) tells.others;
+      front = ap (λ (x : Progress). x.front) tells.tells.progress;
+      begun = ap (λ (x : Progress). x.begun) tells.tells.progress;
+    });
   }
 
 pub told_of : (rest : Rest) (crawl : Ledger) → rest ≡ Crawl crawl → HasToldAll rest → crawl.frontier.told ≡ crawl.pairs.last.judged

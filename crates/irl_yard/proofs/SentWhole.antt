@@ -27,9 +27,9 @@ use Rattle.irl_yard.specs.declared.parts.Rest.TheVariants.{Plain, Crawl}
 use Rattle.irl_yard.specs.Adding.{with_event}
 use Rattle.irl_yard.proofs.Adding.{is_open}
 use Rattle.irl_yard.proofs.Appended.{legal_as}
-use Rattle.irl_yard.specs.Holding.{HasOneOf, HoldsOpen, HoldsState, IsOpenRest}
+use Rattle.irl_yard.specs.Holding.{HasLedger, HasOneOf, HoldsOpen, HoldsState, IsOpenRest}
 use Rattle.irl_yard.specs.Leading.{LeadsTo}
-use Rattle.irl_yard.specs.Sending.{ArePairsSent, IsOnTheWay, IsSomeSent, HasSent, HasSentAll, HasBegun, IsSentFile, LogsPairs, MayHaveSent, OffersState, OnlyThese, SendsPairs, TellsState, AreSentAlready, sent_of, sent_state, with_pairs}
+use Rattle.irl_yard.specs.Sending.{ArePairsSent, IsOnTheWay, IsSomeSent, HasSent, HasSentAll, HasBegun, IsSentFile, KeepsCrawl, LogsPairs, MayHaveSent, OffersState, OnlyThese, SendsPairs, TellsState, AreSentAlready, sent_of, sent_state, with_pairs}
 use Rattle.irl_yard.specs.Standing.{HasState}
 use Rattle.irl_yard.proofs.Leading.{fails_one, fails_same, fails_then, fails_wider, leads_both, leads_one, leads_same}
 use Rattle.irl_yard.proofs.SentStates.{begun_of, on_ok}
@@ -71,9 +71,22 @@ sent_front settings state = by_count (nat_eq (progress settings.queues settings.
     by_count true = state_same state
     by_count false = event_front (sent_of state) [] state
 
+-- ---- what is kept in memory
+-- one that has begun is a crawl
+pub crawl_in : (rest : Rest) → HasBegun rest → HasLedger rest
+crawl_in Plain begun = absurd begun
+crawl_in (Crawl ledger) begun = (ledger, refl)
+
+keeps_both : (first second third : Ledger) → KeepsCrawl first second → KeepsCrawl second third → KeepsCrawl first third
+keeps_both first second third one two = record {
+  suffixes = two.suffixes ∙ one.suffixes;
+  front = two.front ∙ one.front;
+  begun = two.begun ∙ one.begun;
+}
+
 -- ---- where the offers are refused
-pub offers_alone : (result : Result Unit Fault) (fault : Fault) (was now : Parts) (s t : Told) → result ≡ Err fault → OffersState result was now s t → SendsPairs result was now s t
-offers_alone result fault was now s t is offers = record {
+pub offers_alone : (result : Result Unit Fault) (fault : Fault) (was now : Parts) (s t : Told) → result ≡ Err fault → OffersState result was now s t → HasBegun now.rest → SendsPairs result was now s t
+offers_alone result fault was now s t is offers begun = record {
   done = on_ok_none result fault _ is;
   kept = on_err result fault _ is offers.holds;
   failed = λ failed files told state holds. fails_wider (IsSomeSent was.urls.settings state) (IsOnTheWay was.urls.settings state) state s t (λ later some. inl some) (offers.failed failed files told state holds);
@@ -84,11 +97,14 @@ offers_alone result fault was now s t is offers = record {
   others = these_wider (IsFileOf pairs_base was.urls.settings.buckets) (IsSentFile was.urls.settings.buckets) s t (λ f is. inl is) offers.others;
   cause = offers.cause;
   urls = offers.urls;
+  tables = offers.tables;
+  begun = begun;
+  sent = on_ok_none result fault _ is;
 }
 
 -- ---- where the tables are told then
 module _ (offered told : Result Unit Fault) (value : Unit) (was mid now : Parts) (s t u : Told) (lawful : IsConsistent t) (lawful_u : IsConsistent u) (was_ok : offered ≡ Ok value) (offers : OffersState offered was mid s t)
-    (tells : TellsState told mid now t u) where
+    (mid_begun : HasBegun mid.rest) (tells : TellsState told mid now t u) (now_begun : HasBegun now.rest) where
   -- what the offers left
   pub sent_first : (files : Files) → s.files ≡ Some files → (state : State) → HoldsState s.images was state
       → (book : Book) × HasSentAll was.urls.settings state book × LeadsTo state (with_pairs book state) mid s t × ArePairsSent (with_pairs book state)
@@ -120,6 +136,11 @@ module _ (offered told : Result Unit Fault) (value : Unit) (was mid now : Parts)
       (these_wider (IsFileOf pairs_base was.urls.settings.buckets) (IsSentFile was.urls.settings.buckets) s t (λ f is. inl is) offers.others)
       (these_wider (λ f. ⊥) (IsSentFile was.urls.settings.buckets) t u (λ f is. absurd is) tells.others)
 
+  keeps_first : (old new : Ledger) → was.rest ≡ Crawl old → now.rest ≡ Crawl new → KeepsCrawl old new
+  keeps_first old new was_is now_is =
+      let between = crawl_in mid.rest mid_begun in
+      keeps_both old between.0 new (offers.tables old between.0 was_is between.1) (tells.tables between.0 new between.1 now_is)
+
   pub told_alone : (fault : Fault) → told ≡ Err fault → SendsPairs told was now s u
   told_alone fault is = record {
     done = on_ok_none told fault _ is;
@@ -140,12 +161,15 @@ module _ (offered told : Result Unit Fault) (value : Unit) (was mid now : Parts)
     others = these_first;
     cause = record { later = omega (arith, offers.cause.later, tells.cause.later); rose = λ failed. let r = tells.cause.rose failed in omega (arith, offers.cause.later, r) };
     urls = tells.urls ∙ offers.urls;
+    tables = keeps_first;
+    begun = now_begun;
+    sent = on_ok_none told fault _ is;
   }
 
   -- ---- and then the event
   module _ {S : Type 0} (tell : S → Told) (result : Result Unit Fault) (last : Parts) (before after : S) (lawful_after : IsConsistent (tell after)) (is_u : tell before ≡ u) (told_value : Unit)
       (told_ok : told ≡ Ok told_value)
-      (logs : LogsPairs tell result now last before after) where
+      (logs : LogsPairs tell result now last before after) (last_begun : HasBegun last.rest) where
     held : (files : Files) → s.files ≡ Some files → (state : State) → HoldsState s.images was state
         → (book : Book) × HasSentAll was.urls.settings state book × LeadsTo state (with_pairs book state) now s (tell before) × ArePairsSent (with_pairs book state)
     held files here state holds =
@@ -201,6 +225,11 @@ module _ (offered told : Result Unit Fault) (value : Unit) (was mid now : Parts)
         rose = λ failed. let r = logs.cause.rose failed in omega (arith, offers.cause.later, tells.cause.later, r, ap (λ (x : Told). x.faults) is_u);
       };
       urls = logs.urls ∙ tells.urls ∙ offers.urls;
+      tables = λ old new was_is now_is.
+          let between = crawl_in now.rest now_begun in
+          keeps_both old between.0 new (keeps_first old between.0 was_is between.1) (logs.tables between.0 new between.1 now_is);
+      begun = last_begun;
+      sent = logs.sent;
     }
       where
         on_the_way : (book : Book) (state : State) (image : Files) → HasSentAll was.urls.settings state book
@@ -210,10 +239,6 @@ module _ (offered told : Result Unit Fault) (value : Unit) (was mid now : Parts)
 
 -- ---- where they were sent
 -- sending again leaves the state
-crawl_in : (rest : Rest) → HasBegun rest → (ledger : Ledger) × (rest ≡ Crawl ledger)
-crawl_in Plain begun = absurd begun
-crawl_in (Crawl ledger) begun = (ledger, refl)
-
 pub sent_again : (result : Result Unit Fault) (was now : Parts) (s t : Told) → IsOpenRest was.urls was.rest s.files → HasBegun was.rest → SendsPairs result was now s t → (IsErrOf result Failed → ⊥)
     → ForSome s.files (λ _. (state : State) → HoldsState s.images was state → AreSentAlready was.urls.settings state → HoldsState t.images now state)
 sent_again result was now s t open_rest has_begun sends not = λ files told state holds already.

@@ -37,6 +37,10 @@ abbrev pub IsOpenRest : Drum → Rest → Option Files → Type 0
 IsOpenRest urls rest told = (rest ≡ Plain → urls.settings.kind ≢ CrawlKind)
     × ((ledger : Ledger) → rest ≡ Crawl ledger → (urls.settings.kind ≡ CrawlKind) × IsOpenLedger urls ledger told)
 
+-- a crawl is open there
+abbrev pub HasLedger : Rest → Type 0
+HasLedger rest = (ledger : Ledger) × (rest ≡ Crawl ledger)
+
 -- ---- a store
 -- no call failed
 abbrev pub IsSoundRest : Rest → Type 0

@@ -75,6 +75,11 @@ abbrev pub front_in : Rest → List ℕ
 front_in Plain = []
 front_in (Crawl ledger) = ledger.frontier.progress.front
 
+-- the suffixes that it began with
+abbrev pub suffixes_in : Rest → Option (List ℕ)
+suffixes_in Plain = None
+suffixes_in (Crawl ledger) = ledger.suffixes
+
 -- ---- what is left
 -- What a pass that reads these fresh URLs leaves, by its answer.
 pub record AddsPass {S : Type 0} (told : S → Told) (result : Result Unit Fault) (fresh : List Item) (was now : Parts)
@@ -97,6 +102,8 @@ pub record AddsPass {S : Type 0} (told : S → Told) (result : Result Unit Fault
       → OnOk result ((adds : List (List ℕ))
       × (new.frontier ≡ after_pass adds old.frontier old.frontier.progress.sent fresh))
       × OnErr result (new.frontier ≡ old.frontier)
+  -- and the suffixes stay
+  pub suffixes : suffixes_in now.rest ≡ suffixes_in was.rest
 
 -- What a pass leaves of an open store, by its answer.
 pub record PassesState {S : Type 0} (told : S → Told) (result : Result ℕ Fault) (was now : Parts) (before after : S)
@@ -134,6 +141,8 @@ pub record PassesState {S : Type 0} (told : S → Told) (result : Result ℕ Fau
       → OnOk result ((adds : List (List ℕ)) × (fresh : List Item)
       × (new.frontier ≡ after_pass adds old.frontier old.frontier.progress.sent fresh))
       × OnErr result (new.frontier ≡ old.frontier)
+  -- and the suffixes stay
+  pub suffixes : suffixes_in now.rest ≡ suffixes_in was.rest
 
 -- ---- the front
 -- pages under the numbers of URLs of a book, each at its text
@@ -152,8 +161,3 @@ pub record AreCounts (settings : Settings) (state : State) (counts : Counts) : T
   pub offers : counts.offers ≡ min (sum (lengths_of state.urls)) (2 ^ 64 - 1)
   pub judged : counts.judged ≡ length (judged state.urls)
   pub pairs : counts.pairs ≡ length (uniques state.pairs)
-
--- ---- the suffixes
-abbrev pub suffixes_in : Rest → Option (List ℕ)
-suffixes_in Plain = None
-suffixes_in (Crawl ledger) = ledger.suffixes

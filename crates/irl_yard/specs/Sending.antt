@@ -40,6 +40,17 @@ abbrev pub HasToldAll : Rest → Type 0
 HasToldAll Plain = ⊥
 HasToldAll (Crawl ledger) = ledger.frontier.told ≡ ledger.pairs.last.judged
 
+-- the pairs of all cuts of the URLs are sent, by what is kept in memory
+abbrev pub HasSentCuts : Parts → Type 0
+HasSentCuts parts = (ledger : Ledger) → parts.rest ≡ Crawl ledger → ledger.frontier.progress.cuts ≡ parts.urls.cuts
+
+-- Of what is kept in memory of a crawl, the suffixes, what is in front and whether it has begun stay: no pairs change
+-- them.
+pub record KeepsCrawl (old new : Ledger) : Type 0 where
+  pub suffixes : new.suffixes ≡ old.suffixes
+  pub front : new.frontier.progress.front ≡ old.frontier.progress.front
+  pub begun : new.frontier.progress.begun ≡ old.frontier.progress.begun
+
 -- an answer of the bay of pairs, whose buckets are counted behind those of the URLs
 abbrev pub counted_behind : Result Unit Fault → Result Unit Fault
 counted_behind (Ok value) = Ok value
@@ -145,6 +156,8 @@ pub record OffersState (result : Result Unit Fault) (was now : Parts) (before af
   pub others : OnlyThese (IsFileOf pairs_base was.urls.settings.buckets) before after
   -- what is told is told on
   pub told : (files : Files) → before.files ≡ Some files → (later : Files) × (after.files ≡ Some later)
+  -- what is kept in memory beside the bay of pairs stays
+  pub tables : (old new : Ledger) → was.rest ≡ Crawl old → now.rest ≡ Crawl new → KeepsCrawl old new
 
 -- Telling the tables the judged pairs, by the answer: the state stays.
 pub record TellsState (result : Result Unit Fault) (was now : Parts) (before after : Told) : Type 0 where
@@ -161,6 +174,8 @@ pub record TellsState (result : Result Unit Fault) (was now : Parts) (before aft
   -- no file changes
   pub others : OnlyThese (λ f. ⊥) before after
   pub told : (files : Files) → before.files ≡ Some files → after.files ≡ Some files
+  -- and what is kept in memory stays, but for the degrees
+  pub tables : (old new : Ledger) → was.rest ≡ Crawl old → now.rest ≡ Crawl new → KeepsCrawl old new
 
 -- Adding the event that the pairs are sent, by the answer.
 pub record LogsPairs {S : Type 0} (told : S → Told) (result : Result Unit Fault) (was now : Parts)
@@ -176,6 +191,9 @@ pub record LogsPairs {S : Type 0} (told : S → Told) (result : Result Unit Faul
   pub cause : HasCause (IsErrOf result Failed) (told before).faults (told after).faults
   pub others : OnlyThese (λ f. f ≡ crawl_file) (told before) (told after)
   pub urls : now.urls ≡ was.urls
+  -- the tables are told of the event alone, and after Ok they know of all cuts that their pairs are sent
+  pub tables : (old new : Ledger) → was.rest ≡ Crawl old → now.rest ≡ Crawl new → KeepsCrawl old new
+  pub sent : OnOk result (HasSentCuts now)
 
 -- ---- the whole
 -- a joint image stands for the state with some of the new links, or with all of them and the event
@@ -219,6 +237,11 @@ pub record SendsPairs (result : Result Unit Fault) (was now : Parts) (before aft
   -- a fault is answered only where the store's count of them rose
   pub cause : HasCause (IsErrOf result Failed) before.faults after.faults
   pub urls : now.urls ≡ was.urls
+  -- whatever is answered, the suffixes, what is in front and that the crawl has begun stay in memory;
+  pub tables : (old new : Ledger) → was.rest ≡ Crawl old → now.rest ≡ Crawl new → KeepsCrawl old new
+  pub begun : HasBegun now.rest
+  -- after Ok it is known there that the pairs of all cuts are sent
+  pub sent : OnOk result (HasSentCuts now)
 
 -- Where the pairs of all cuts are sent and none is pending, the state stays, but where the store failed.
 abbrev pub StaysSent : Result Unit Fault → Parts → Parts → Told → Told → Type 0

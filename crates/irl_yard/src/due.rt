@@ -8,6 +8,7 @@ ghost use Rattle.irl_offer.specs.declared.settings.Kind.TheVariants.{Crawl as Cr
 ghost use Rattle.irl_ledger.specs.declared.ledger.Ledger.{Ledger};
 ghost use Rattle.irl_yard.specs.declared.parts.Rest.TheVariants.{Crawl as CrawlRest};
 ghost use Rattle.irl_yard.specs.Adding.{MayBegin};
+ghost use Rattle.irl_yard.specs.Holding.{HasLedger};
 ghost use Rattle.irl_yard.specs.Passing.{MayPass, front_in};
 ghost use Rattle.irl_yard.specs.Sending.{HasBegun};
 
@@ -25,6 +26,11 @@ impl<S: Store> Yard<S> {
     {
         self.suffixes().is_some()
     }
+
+    /// A law: a store of a crawl keeps one in memory beside its URLs. It does nothing.
+    pub fn has_ledger(&self)
+        ensures { self.now.parts.urls.settings.kind ≡ CrawlKind → HasLedger self.now.parts.rest }
+    {}
 
     /// Whether it is a crawl that a pass is due in: one that has begun, the pairs of whose cuts are all sent, and that
     /// has nothing left in front. It takes no memory.

@@ -75,6 +75,7 @@ impl<S: Store> Yard<S> {
         requires begun { HasBegun self.old.parts.rest }
         requires told { HasToldAll self.old.parts.rest }
         ensures logs { LogsPairs S.told result self.old.parts self.new.parts self.old.store self.new.store }
+        ensures begun { HasBegun self.new.parts.rest }
         ensures goes_on { StaysSound (IsErrOf result Fault.Failed) self.new.parts }
     {
         let _is_sound = self.parts.urls.is_sound();

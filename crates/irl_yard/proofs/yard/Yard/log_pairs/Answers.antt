@@ -1,4 +1,4 @@
-use Rattle.std.proofs.Common.{refl, ap}
+use Rattle.std.proofs.Common.{◌∙◌, refl, ap}
 use Rattle.irl_yard.specs.declared.parts.Rest.{Rest}
 use Rattle.irl_yard.specs.declared.parts.Rest.TheVariants.{Crawl}
 use Rattle.irl_yard.proofs.Adding.{is_open, log_place, log_sound}
@@ -50,3 +50,9 @@ returns-clause-logs g c =
     let sound = log_sound parts.rest old c.in-Crawl.is c.requires.sound.2 in
     logs_pairs tells law c.log_pairs.result self.store c.log_pairs.new.store parts (record parts { rest = Crawl new }) old new c.is_sound-is_sound.ensures.drum c.in-Crawl.is refl refl
     (λ same. ap (λ (r : Rest). record parts { rest = r }) same) opened.1 sound (begun_of parts.rest old c.in-Crawl.is c.requires.begun) c.log_pairs.ensures.idle c.log_pairs.ensures.adds
+
+pub returns-clause-begun : goal.returns-clause-begun
+returns-clause-begun g c =
+    let self = c.args.self.now in
+    let logs = returns-clause-logs g c in
+    (logs.tables c.in-Crawl.ledger c.log_pairs.new.self c.in-Crawl.is refl).begun ∙ begun_of self.parts.rest c.in-Crawl.ledger c.in-Crawl.is c.requires.begun

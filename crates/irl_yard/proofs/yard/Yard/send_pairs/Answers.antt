@@ -14,6 +14,7 @@ returns-in_err-offer_pairs-clause-sends g c =
     let is = out.1 ∙ ap (λ e. Err e) out.2 in
     offers_alone c.from_residual.result _ was.parts next.parts (tells was.store) (tells next.store) is
     (subst (λ (r : Result Unit Fault). OffersState r was.parts next.parts (tells was.store) (tells next.store)) (c.in_err-offer_pairs.was ∙ sym is) c.offer_pairs.ensures.offers)
+    c.offer_pairs.ensures.begun
 
 pub returns-in_err-tell_pairs-clause-sends : goal.returns-in_err-tell_pairs-clause-sends
 returns-in_err-tell_pairs-clause-sends g c =
@@ -25,8 +26,8 @@ returns-in_err-tell_pairs-clause-sends g c =
     let is = out.1 ∙ ap (λ e. Err e) out.2 in
     subst (λ (r : Result Unit Fault). SendsPairs r was.parts next.parts (tells was.store) (tells next.store)) (c.in_err-tell_pairs.was ∙ sym is)
     (told_alone c.offer_pairs.result c.tell_pairs.result _ was.parts mid.parts next.parts (tells was.store) (tells mid.store) (tells next.store) (g.met.S.Store.is_consistent mid.store) (g.met.S.Store.is_consistent next.store)
-    c.in_ok-offer_pairs.was c.offer_pairs.ensures.offers
-    c.tell_pairs.ensures.tells _ c.in_err-tell_pairs.was)
+    c.in_ok-offer_pairs.was c.offer_pairs.ensures.offers c.offer_pairs.ensures.begun
+    c.tell_pairs.ensures.tells c.tell_pairs.ensures.begun _ c.in_err-tell_pairs.was)
 
 pub returns-clause-sends : goal.returns-clause-sends
 returns-clause-sends g c =
@@ -36,8 +37,9 @@ returns-clause-sends g c =
     let next = c.tell_pairs.new.self in
     let last = c.log_pairs.new.self in
     sends_whole c.offer_pairs.result c.tell_pairs.result _ was.parts mid.parts next.parts (tells was.store) (tells mid.store) (tells next.store) (g.met.S.Store.is_consistent mid.store) (g.met.S.Store.is_consistent next.store)
-    c.in_ok-offer_pairs.was c.offer_pairs.ensures.offers
-    c.tell_pairs.ensures.tells tells c.log_pairs.result last.parts next.store last.store (g.met.S.Store.is_consistent last.store) refl _ c.in_ok-tell_pairs.was c.log_pairs.ensures.logs
+    c.in_ok-offer_pairs.was c.offer_pairs.ensures.offers c.offer_pairs.ensures.begun
+    c.tell_pairs.ensures.tells c.tell_pairs.ensures.begun tells c.log_pairs.result last.parts next.store last.store (g.met.S.Store.is_consistent last.store) refl _ c.in_ok-tell_pairs.was
+    c.log_pairs.ensures.logs c.log_pairs.ensures.begun
 
 pub returns-in_err-offer_pairs-clause-idle : goal.returns-in_err-offer_pairs-clause-idle
 returns-in_err-offer_pairs-clause-idle g c =
