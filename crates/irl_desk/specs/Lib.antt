@@ -1,0 +1,5 @@
+pub mod Closing
+pub mod Serving
+pub mod ServingLaws
+pub mod Sound
+pub mod Stepping
