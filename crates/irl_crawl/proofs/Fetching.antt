@@ -1,0 +1,204 @@
+-- What the workers did at a desk, and what the desk hands back, together.
+use Rattle.std.proofs.Common.{◌≡◌, ◌∙◌, ◌⊎◌, ⊎_elim, inl, inr, ℕ, List, [], ◌∷◌, ◌++◌, map, Option, Some, Result, Ok, Err, IfOk, IsErrOf, refl, sym, ap, subst}
+use Rattle.std.specs.Prelude.{IfErr}
+use Rattle.std.specs.List.{All, AllByRecursion, flat_map}
+use Rattle.std.specs.Option.{option_map}
+use Rattle.std.proofs.lemmas.List.{append-nil}
+use Rattle.std.proofs.lemmas.List.Elements.{All-nil}
+use Rattle.std.proofs.lemmas.List.Sorted.{IsPermutation-refl}
+use Rattle.irl_base.proofs.Among.{among_none}
+use Rattle.irl_base.specs.Among.{IsAmong}
+use Rattle.irl_base.specs.declared.fault.Fault.{Fault}
+use Rattle.irl_base.specs.declared.fault.Fault.TheVariants.{Failed, Memory}
+use Rattle.irl_bay.specs.Drum.{IsDrum}
+use Rattle.irl_disk.specs.Images.{IsConsistent, Told}
+use Rattle.irl_events.specs.State.{State}
+use Rattle.irl_key.specs.declared.web.Work.{Work}
+use Rattle.irl_ledger.specs.Settling.{IsFlushed}
+use Rattle.irl_offer.specs.Offering.{Entered, fault_or}
+use Rattle.irl_offer.specs.Tuple.{Tuple}
+use Rattle.irl_offer.specs.declared.receipt.Receipt.{Receipt}
+use Rattle.irl_offer.specs.declared.settings.Settings.{Settings}
+use Rattle.irl_polite.specs.Schedule.{Schedule}
+use Rattle.irl_reach.proofs.Turns.{added_same}
+use Rattle.irl_record.specs.Widening.{Answers}
+use Rattle.irl_schedule.proofs.Outcomes.{ok_gives}
+use Rattle.irl_yard.specs.declared.parts.Parts.{Parts}
+use Rattle.irl_yard.specs.Holding.{IsOpenRest, IsSound}
+use Rattle.irl_yard.specs.Sending.{HasBegun}
+use Rattle.irl_fetch.specs.Handling.{Handled, Noted, done_of, entered_of, receipts_of}
+use Rattle.irl_fetch.specs.Telling.{Enters, Offering}
+use Rattle.irl_fetch.specs.declared.working.WorkLog.{WorkLog}
+use Rattle.irl_fetch.proofs.Telling.{enters_as}
+use Rattle.irl_desk.specs.Closing.{Closes, ended}
+use Rattle.irl_desk.specs.Serving.{IsFresh, Serves, Serving}
+use Rattle.irl_crawl.specs.Fetching.{Fetches, FetchesWhole, entries_of}
+use Rattle.irl_crawl.specs.Offering.{OffersSome, OnlyOffers}
+use Rattle.irl_crawl.specs.Workers.{AreFor, loaded}
+use Rattle.irl_crawl.specs.Working.{HasBegunOne, HaveWorked, KnowAsNoted, WorkAll}
+use Rattle.irl_crawl.proofs.Leading.{leads_none}
+use Rattle.irl_crawl.proofs.Lifting.{IsBehind, closed_behind, closed_leads, hands, last_named, rest_kept, served_behind}
+
+-- ---- what was done, whatever is answered
+-- all of it, but for what is flushed
+record IsWhole (log : WorkLog) (agent : List ℕ) (handled : List Handled) (noted : List Noted) (left : List Work) (part : List Entered) (befores afters : List Schedule) : Type 0 where
+  done : log.done.items ≡ map done_of handled
+  notes : log.notes.items ≡ map (λ one. one.note) noted
+  none_left : left ≡ []
+  no_part : part ≡ []
+  known : KnowAsNoted agent noted befores afters
+  items : All (λ s. s.items ≡ []) afters
+
+record WasWorked {O : Type 0} (result : Result WorkLog Fault) (gives : Answers) (agent suffixes : List ℕ) (befores afters : List Schedule) (was now : Offering O) : Type 0 where
+  handled : List Handled
+  noted : List Noted
+  left : List Work
+  part : List Entered
+  worked : HaveWorked gives agent suffixes handled noted left befores
+  begun : (part ≡ []) ⊎ HasBegunOne gives agent suffixes noted left part befores
+  entered : Enters (entries_of handled part) was now
+  whole : IfOk result (λ log. IsWhole log agent handled noted left part befores afters)
+
+was_worked : {O : Type 0} (result : Result WorkLog Fault) (gives : Answers) (agent suffixes : List ℕ) (befores afters : List Schedule) (was now : Offering O)
+    → WorkAll result gives agent suffixes befores afters was now → WasWorked result gives agent suffixes befores afters was now
+was_worked (Ok log) gives agent suffixes befores afters was now all =
+    let f = all.finish in
+    record {
+      handled = f.handled;
+      noted = f.noted;
+      left = [];
+      part = [];
+      worked = f.worked;
+      begun = inl refl;
+      entered = enters_as (flat_map entered_of f.handled) (flat_map entered_of f.handled ++ []) was now (sym (append-nil (flat_map entered_of f.handled))) f.entered;
+      whole = record { done = f.done; notes = f.notes; none_left = refl; no_part = refl; known = f.known; items = f.none_left };
+    }
+was_worked (Err fault) gives agent suffixes befores afters was now all =
+    let s = all.stop in
+    record { handled = s.handled; noted = s.noted; left = s.left; part = s.part; worked = s.worked; begun = s.begun; entered = s.entered; whole = tt }
+
+-- ---- receipts
+flushed_first : (P : Receipt → Type 0) (entries others : List Entered) → AllByRecursion (λ one. P one.receipt) (entries ++ others)
+    → AllByRecursion P (receipts_of entries) × AllByRecursion (λ one. P one.receipt) others
+flushed_first P [] others all = (tt, all)
+flushed_first P (one ∷ entries) others all = let rest = flushed_first P entries others all.1 in ((all.0, rest.0), rest.1)
+
+-- those of what was done are those of what was entered
+flushed_done : (P : Receipt → Type 0) (handled : List Handled) → AllByRecursion (λ one. P one.receipt) (flat_map entered_of handled)
+    → AllByRecursion (λ d. AllByRecursion P d.receipts) (map done_of handled)
+flushed_done P [] all = tt
+flushed_done P (one ∷ handled) all =
+    let parts = flushed_first P (entered_of one) (flat_map entered_of handled) all in
+    (parts.0, flushed_done P handled parts.1)
+
+-- ---- answers
+-- a fault of the work is want of memory, or the last one of the offers
+fault_named : {A : Type 0} (result : Result A Fault) (fault : Fault) (first last : Option Fault) → IfErr result (λ f. last ≡ fault_or first f) → IsErrOf result fault
+    → (fault ≡ Memory) ⊎ (last ≡ Some fault)
+fault_named (Ok value) fault first last is answered = let no : ⊥ = cc in absurd no
+fault_named (Err other) fault first last is answered =
+    let same : other ≡ fault = cc in
+    ⊎_elim (λ memory. inl memory) (λ named. inr (is ∙ ap (fault_or first) same ∙ named)) (last_named first fault)
+
+whole_flushed : (result : Result WorkLog Fault) (agent : List ℕ) (handled : List Handled) (noted : List Noted) (left : List Work) (part : List Entered) (befores afters : List Schedule) (now : Parts)
+    → IfOk result (λ log. IsWhole log agent handled noted left part befores afters) → AllByRecursion (λ one. IsFlushed now.urls one.receipt) (entries_of handled part)
+    → IfOk result (λ log. FetchesWhole log agent handled noted left part befores afters now)
+whole_flushed (Ok log) agent handled noted left part befores afters now whole flushed =
+    let entries : entries_of handled part ≡ flat_map entered_of handled = ap (λ (l : List Entered). flat_map entered_of handled ++ l) whole.no_part ∙ append-nil (flat_map entered_of handled) in
+    let all = subst (AllByRecursion (λ (one : Entered). IsFlushed now.urls one.receipt)) entries flushed in
+    record {
+      done = whole.done;
+      notes = whole.notes;
+      none_left = whole.none_left;
+      no_part = whole.no_part;
+      flushed = subst (AllByRecursion (λ (d : _). AllByRecursion (IsFlushed now.urls) d.receipts)) (sym whole.done) (flushed_done (IsFlushed now.urls) handled all);
+      known = whole.known;
+      items = whole.items;
+    }
+whole_flushed (Err fault) agent handled noted left part befores afters now whole flushed = tt
+
+-- ---- the whole
+module _ {S O : Type 0} (tells : S → Told) (law : (s : S) → IsConsistent (tells s)) (result : Result WorkLog Fault) (gives : Answers) (agent suffixes : List ℕ) (befores afters : List Schedule)
+    (was now : Offering O) (old mid : Serving S) (store : S) (parts : Parts) (all : WorkAll result gives agent suffixes befores afters was now) (fresh : IsFresh old)
+    (served : (news : List Entered) → mid.entries ≡ old.entries ++ news → Serves tells news old mid)
+    (was_entries : was.entries ≡ Some old.entries) (now_entries : now.entries ≡ Some mid.entries) (now_last : now.last_fault ≡ mid.last) (start : S) (first : Parts)
+    (store_is : old.store ≡ start) (parts_are : old.parts ≡ first) (opened : IsOpenRest old.parts.urls old.parts.rest (tells old.store).files) (drum : IsDrum first.urls) (begun : HasBegun first.rest)
+    (closed : Result (Unit {0}) Fault) (closes : Closes tells closed mid store parts) where
+  old_drum : IsDrum old.parts.urls
+  old_drum = subst (λ (p : Parts). IsDrum p.urls) (sym parts_are) drum
+
+  old_begun : HasBegun old.parts.rest
+  old_begun = subst (λ (p : Parts). HasBegun p.rest) (sym parts_are) begun
+
+  it : WasWorked result gives agent suffixes befores afters was now
+  it = was_worked result gives agent suffixes befores afters was now all
+
+  abbrev entries : List Entered
+  entries = entries_of it.handled it.part
+
+  serves : Serves tells entries old mid
+  serves =
+      let told : Some mid.entries ≡ Some (old.entries ++ entries) =
+      sym now_entries ∙ it.entered.entries ∙ ap (option_map (λ (list : List Entered). list ++ entries)) was_entries in
+      served entries (cc)
+
+  -- by the answer, where it is as good as the desk's
+  fetched : (answer : Result WorkLog Fault) → IsBehind answer closed (ended mid closed store parts closes.arrays).last
+      → IfOk answer (λ log. FetchesWhole log agent it.handled it.noted it.left it.part befores afters parts)
+      → Fetches answer gives agent suffixes befores afters first parts (tells start) (tells store)
+  fetched answer behind whole =
+      subst (λ (p : Parts). Fetches answer gives agent suffixes befores afters p parts (tells start) (tells store)) parts_are
+      (subst (λ (s : S). Fetches answer gives agent suffixes befores afters old.parts parts (tells s) (tells store)) store_is (record {
+        handled = it.handled;
+        noted = it.noted;
+        left = it.left;
+        part = it.part;
+        worked = it.worked;
+        begun = it.begun;
+        whole = whole;
+        leads = closed_leads tells entries old mid closed store parts law opened old_drum old_begun fresh serves closes answer behind;
+        rest = rest_kept tells entries old mid closed store parts law opened old_drum old_begun fresh serves closes;
+        count = all.count;
+        agents = all.agents;
+      }))
+
+  -- the desk was closed: what the workers answer,
+  pub fetched_closed : (value : Unit {0}) → closed ≡ Ok value → Fetches result gives agent suffixes befores afters first parts (tells start) (tells store)
+  fetched_closed value is =
+      fetched result
+      (served_behind tells entries old mid closed store parts law opened old_drum old_begun fresh serves closes result value is
+      (λ fault. fault_named result fault was.last_fault mid.last (subst (λ (last : Option Fault). IfErr result (λ f. last ≡ fault_or was.last_fault f)) now_last all.fault.1)))
+      (whole_flushed result agent it.handled it.noted it.left it.part befores afters parts it.whole
+      (ok_gives closed value (hands tells entries old mid closed store parts law opened old_drum old_begun fresh serves closes).flushed is))
+
+  -- or its refusal
+  pub fetched_refused : (fault : Fault) → closed ≡ Err fault → Fetches (Err fault) gives agent suffixes befores afters first parts (tells start) (tells store)
+  fetched_refused fault is = fetched (Err fault) (closed_behind tells entries old mid closed store parts law opened old_drum old_begun fresh serves closes (Err fault) fault is refl) tt
+
+-- there was no memory for a desk
+offers_none : {A : Type 0} (settings : Settings) (x : State) → OffersSome {A = A} (Err Memory) settings [] x x
+offers_none settings x = record {
+  only = record { others = refl; among = subst (λ (l : List Tuple). IsAmong l []) (sym (added_same x.urls.lists)) (among_none []) };
+  all = tt;
+  ground = record {
+    full = λ n is. let no : ⊥ = cc in absurd no;
+    whole = λ f at is. cc;
+  };
+}
+
+pub not_opened : (gives : Answers) (agent suffixes : List ℕ) (befores : List Schedule) (parts : Parts) (now : Told) → IsConsistent now → IsDrum parts.urls → IsSound parts → AreFor agent befores
+    → Fetches (Err Memory) gives agent suffixes befores befores parts parts now now
+not_opened gives agent suffixes befores parts now law drum sound agents = record {
+  handled = [];
+  noted = [];
+  left = loaded befores;
+  part = [];
+  worked = record { items = IsPermutation-refl (loaded befores); each = All-nil _; notes = All-nil _ };
+  begun = inl refl;
+  whole = tt;
+  leads = leads_none (IsErrOf {T = WorkLog} {E = Fault} (Err Memory) Failed) (OnlyOffers []) (OffersSome {A = WorkLog} (Err Memory) parts.urls.settings []) parts now law drum sound
+      (λ is. cc) (λ x held. offers_none parts.urls.settings x);
+  rest = refl;
+  count = refl;
+  agents = agents;
+}

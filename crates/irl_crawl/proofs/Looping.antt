@@ -1,0 +1,199 @@
+-- The steps of a run, over the states that an open store held.
+use Rattle.std.proofs.Common.{◌≡◌, ◌∙◌, ℕ, ◌+◌, ◌-◌, ◌≤◌, List, [], length, Option, Some, Result, Ok, Err, IsErrOf, refl, sym, ap, subst, arith, inl, inr}
+use Rattle.irl_base.specs.declared.fault.Fault.{Fault as FaultValue}
+use Rattle.irl_base.specs.declared.fault.Fault.TheVariants.{Damaged, Failed, Full, Memory}
+use Rattle.irl_bay.specs.Drum.{IsDrum}
+use Rattle.irl_disk.specs.Disk.{Files}
+use Rattle.irl_disk.specs.Images.{IsConsistent, Told}
+use Rattle.irl_events.specs.State.{State, IsFrontState}
+use Rattle.irl_offer.specs.declared.settings.Settings.{Settings}
+use Rattle.irl_polite.specs.Schedule.{Schedule}
+use Rattle.irl_reach.specs.Crawls.{IsCrawlStore, IsStore}
+use Rattle.irl_record.specs.Widening.{Answers, Widens}
+use Rattle.irl_schedule.proofs.Outcomes.{same_refusal}
+use Rattle.irl_yard.specs.declared.parts.Parts.{Parts}
+use Rattle.irl_yard.specs.Holding.{HoldsState, IsSound}
+use Rattle.irl_yard.specs.Passing.{suffixes_in}
+use Rattle.irl_yard.specs.Sending.{HasBegun}
+use Rattle.irl_yard.proofs.States.{state_both}
+use Rattle.irl_crawl.proofs.Giving.{AreEarlier, given_first, given_second}
+use Rattle.irl_crawl.proofs.Going.{all_go_none, all_go_then}
+use Rattle.irl_crawl.proofs.Leading.{leads_more_failed, leads_none, leads_then, leads_wide}
+use Rattle.irl_crawl.proofs.Running.{SoFar, far_more, far_none, far_wider, turn_more, turns_wider}
+use Rattle.irl_crawl.proofs.Stores.{held_is_crawl}
+use Rattle.irl_crawl.specs.declared.plan.Ended.{Ended}
+use Rattle.irl_crawl.specs.declared.plan.Ended.TheVariants.{Done, Fault, Limit}
+use Rattle.irl_crawl.specs.Crawling.{CrawlsTo, NoneWaits, OnlyCrawls, result_of}
+use Rattle.irl_crawl.specs.Judging.{IsJudged}
+use Rattle.irl_crawl.specs.Leading.{HasGround, IsFullAt, IsOpen, IsSent, KeepsBegun, Leads}
+use Rattle.irl_crawl.specs.Running.{MayRun, Runs, Steps}
+use Rattle.irl_crawl.specs.Turning.{MayTurn, OnlyTurns, Turns, TurnsWhole}
+use Rattle.irl_crawl.specs.Workers.{AllGoOn, AreIdle, AreNotedIn, IsGivenBy}
+
+-- ---- grounds
+-- of a later state, and of an earlier one
+full_before : (settings : Settings) (x y z : State) (n : ℕ) → IsFrontState x y → IsFullAt settings y z n → IsFullAt settings x z n
+full_before settings x y z n front (inl urls) = inl urls
+full_before settings x y z n front (inr (b, is, within, w, first, second, full)) = inr (b, is, within, w, state_both x y w front first, second, full)
+
+pub ground_before : {A : Type 0} (result : Result A FaultValue) (settings : Settings) (x y z : State) → IsFrontState x y → HasGround result settings y z → HasGround result settings x z
+ground_before result settings x y z front ground = record { full = λ n is. full_before settings x y z n front (ground.full n is); whole = ground.whole }
+
+-- the same fault, answered otherwise
+pub ground_fault : {A B : Type 0} (fault : FaultValue) (settings : Settings) (x y : State) → HasGround {A = A} (Err fault) settings x y → HasGround {A = B} (Err fault) settings x y
+ground_fault {A} {B} fault settings x y ground = record {
+  full = λ n is. ground.full n (same_refusal {T = B} {U = A} fault (Full n) is);
+  whole = λ f at is. ground.whole f at (same_refusal {T = B} {U = A} fault (Damaged f at) is);
+}
+
+pub ground_memory : {A : Type 0} (settings : Settings) (x y : State) → HasGround {A = A} (Err Memory) settings x y
+ground_memory settings x y = record { full = λ n is. let no : ⊥ = cc in absurd no; whole = λ f at is. let no : ⊥ = cc in absurd no }
+
+pub ground_ok : {A : Type 0} (value : A) (settings : Settings) (x y : State) → HasGround (Ok value) settings x y
+ground_ok value settings x y = record { full = λ n is. let no : ⊥ = cc in absurd no; whole = λ f at is. let no : ⊥ = cc in absurd no }
+
+-- ---- a run
+-- how far it came, in memory and over the states
+pub record RunsOn {F : Type 0} (asked : F → ℕ) (gives : F → ℕ → Answers) (faults last : F → ℕ) (agent suffixes : List ℕ) (pages batch left : ℕ) (fronts : List Schedule) (olds nows : List F)
+    (was now : Parts) (before after : Told) : Type 0 where
+  pub leads : Leads ⊥ (MayRun (IsGivenBy asked gives olds nows) agent suffixes was.urls.settings pages batch)
+      (λ x y. IsJudged was.urls.settings x → SoFar (IsGivenBy asked gives olds nows) agent suffixes was.urls.settings pages batch left fronts x y) was now before after
+  pub drum : IsDrum was.urls
+  pub first : HasBegun was.rest
+  pub begun : HasBegun now.rest
+  pub sent : IsSent now
+  pub same : suffixes_in now.rest ≡ Some suffixes
+  pub idle : AreIdle (length olds) agent fronts
+  pub goes_on : AllGoOn asked gives faults last olds nows
+
+module _ {F : Type 0} {asked : F → ℕ} {gives : F → ℕ → Answers} {faults last : F → ℕ} {agent suffixes : List ℕ} {pages batch : ℕ} where
+  pub runs_first : {fronts : List Schedule} {olds : List F} {was : Parts} {before : Told} → IsConsistent before → IsDrum was.urls → IsOpen was → IsSent was → suffixes_in was.rest ≡ Some suffixes
+      → AreIdle (length olds) agent fronts → ((x : State) → AreNotedIn agent x.events fronts) → RunsOn asked gives faults last agent suffixes pages batch pages fronts olds olds was was before before
+  runs_first {fronts} {olds} {was} {before} law drum opened sent same idle unknown = record {
+    leads = leads_none ⊥ _ _ was before law drum opened.sound (λ no. no)
+        (λ x held judged. far_none (IsGivenBy asked gives olds olds) agent suffixes was.urls.settings pages batch fronts x judged (unknown x));
+    drum = drum;
+    first = opened.begun;
+    begun = opened.begun;
+    sent = sent;
+    same = same;
+    idle = idle;
+    goes_on = all_go_none asked gives faults last olds;
+  }
+
+  module _ {left : ℕ} {fronts : List Schedule} {olds mids : List F} {was mid : Parts} {before between : Told}
+      (far : RunsOn asked gives faults last agent suffixes pages batch left fronts olds mids was mid before between) where
+    abbrev settings : Settings
+    settings = was.urls.settings
+
+    -- ---- the end
+    -- it ends so, where the answers are given from its beginning
+    abbrev EndsAt : List F → Parts → Told → Ended → Type 0
+    EndsAt news now after ended =
+        Leads (ended ≡ Fault Failed) (MayRun (IsGivenBy asked gives olds news) agent suffixes settings pages batch)
+        (Runs ended (IsGivenBy asked gives olds news) agent suffixes settings pages batch) was now before after
+
+    pub runs_done : ((y : State) → HoldsState between.images mid y → NoneWaits mid.urls.settings y) → EndsAt mids mid between Done
+    runs_done none = leads_more_failed ⊥ (Done ≡ Fault Failed) _ _ was mid before between (λ no. absurd no) (λ is. cc)
+        (leads_wide ⊥ _ _ _ _ was mid before between far.leads (λ x y held front may. may) (λ x y held later front did judged.
+        let was_far = did judged in
+        record {
+          only = was_far.only;
+          done = λ is. (was_far.whole, subst (λ (s : Settings). NoneWaits s y) far.leads.settings (none y later));
+          limit = λ is. let no : ⊥ = cc in absurd no;
+          ground = ground_ok tt settings x y;
+        }))
+
+    pub runs_limit : left ≡ 0 → ((y : State) → HoldsState between.images mid y → NoneWaits mid.urls.settings y → ⊥) → EndsAt mids mid between Limit
+    runs_limit zero some = leads_more_failed ⊥ (Limit ≡ Fault Failed) _ _ was mid before between (λ no. absurd no) (λ is. cc)
+        (leads_wide ⊥ _ _ _ _ was mid before between far.leads (λ x y held front may. may) (λ x y held later front did judged.
+        let was_far = did judged in
+        let count = was_far.count in
+        record {
+          only = was_far.only;
+          done = λ is. let no : ⊥ = cc in absurd no;
+          limit = λ is. (was_far.whole, omega (arith, count, zero), λ none. some y later (subst (λ (s : Settings). NoneWaits s y) (sym far.leads.settings) none));
+          ground = ground_ok tt settings x y;
+        }))
+
+    -- ---- a step more
+    -- what it makes of the states, for these workers and under these settings
+    abbrev StepsAt : ℕ → Result ℕ FaultValue → List Schedule → List F → Parts → Told → List ℕ → List ℕ → Settings → Type 0
+    StepsAt most result afters news now after agent suffixes settings =
+        Leads (IsErrOf result Failed) (MayTurn (IsGivenBy asked gives mids news) agent suffixes settings most fronts)
+        (Steps result (IsGivenBy asked gives mids news) agent suffixes settings most fronts afters) mid now between after
+
+    module _ (earlier : AreEarlier gives) (most : ℕ) (result : Result ℕ FaultValue) (afters : List Schedule) (news : List F) (now : Parts) (after : Told) (crew_agent crew_suffixes : List ℕ)
+        (same_agent : crew_agent ≡ agent) (same_suffixes : crew_suffixes ≡ suffixes) (step : StepsAt most result afters news now after crew_agent crew_suffixes mid.urls.settings)
+        (on : AllGoOn asked gives faults last mids news) (within : most ≤ left) (small : most ≤ batch) where
+      abbrev given : Answers
+      given = IsGivenBy asked gives olds news
+
+      step_at : StepsAt most result afters news now after agent suffixes settings
+      step_at =
+          subst (λ (s : Settings). StepsAt most result afters news now after agent suffixes s) far.leads.settings
+          (subst (λ (a : List ℕ). StepsAt most result afters news now after a suffixes mid.urls.settings) same_agent
+          (subst (λ (s : List ℕ). StepsAt most result afters news now after crew_agent s mid.urls.settings) same_suffixes step))
+
+      stood : (x : State) → HoldsState before.images was x → IsStore x
+      stood x held = inr (settings, held_is_crawl before.images was x far.drum far.first held)
+
+      made : (y : State) → HoldsState between.images mid y → IsCrawlStore settings y
+      made y held = subst (λ (s : Settings). IsCrawlStore s y) far.leads.settings (held_is_crawl between.images mid y far.leads.goes_on.drum far.begun held)
+
+      -- how far it came before
+      abbrev Far : State → State → Type 0
+      Far x y = SoFar (IsGivenBy asked gives olds mids) agent suffixes settings pages batch left fronts x y
+
+      wide : (x y : State) → Far x y → SoFar given agent suffixes settings pages batch left fronts x y
+      wide x y = far_wider (IsGivenBy asked gives olds mids) given agent suffixes settings pages batch left fronts x y (given_first asked gives faults last olds mids news far.goes_on on)
+
+      abbrev Turn : State → State → Type 0
+      Turn y z = OnlyTurns (IsGivenBy asked gives mids news) agent suffixes settings most y z
+
+      abbrev turned : (y z : State) → Turn y z → OnlyTurns given agent suffixes settings most y z
+      turned y z = turns_wider (IsGivenBy asked gives mids news) given (given_second asked gives faults last olds mids news far.goes_on on earlier) agent suffixes settings most y z
+
+      more : (x y z : State) → HoldsState before.images was x → HoldsState between.images mid y → IsFrontState x y → IsFrontState y z → Far x y → Turn y z
+          → OnlyCrawls given agent suffixes [] pages batch x z
+      more x y z held later one two far_y turn =
+          turn_more given agent suffixes settings pages batch left most fronts x y z (stood x held) (made y later) one two (wide x y far_y) (turned y z turn) within small
+
+      -- Err
+      pub runs_stop : (fault : FaultValue) → result ≡ Err fault → EndsAt news now after (Fault fault)
+      runs_stop fault is = leads_more_failed (IsErrOf result Failed) (Fault fault ≡ Fault Failed) _ _ was now before after
+          (λ failed. let both = sym is ∙ failed in let same : fault ≡ Failed = cc in ap (λ (f : FaultValue). Fault f) same)
+          (λ failed. let same : fault ≡ Failed = cc in is ∙ ap (λ (f : FaultValue). Err f) same)
+          (leads_then ⊥ (IsErrOf result Failed) _ _ _ _ _ _ was mid now before between after far.leads (λ no. no) step_at
+          (λ x y z held later one two did turns judged.
+          let far_y = did judged in
+          let turn = turns far_y.whole.judged in
+          record {
+            only = more x y z held later one two far_y (turn.turns far_y.known).0;
+            done = λ no. let not : ⊥ = cc in absurd not;
+            limit = λ no. let not : ⊥ = cc in absurd not;
+            ground = ground_before (result_of (Fault fault)) settings x y z one
+                (ground_fault fault settings y z (subst (λ (r : Result ℕ FaultValue). HasGround r settings y z) is turn.ground));
+          })
+          (λ x y z held later one two did may judged. let far_y = did judged in more x y z held later one two far_y (may far_y.known)))
+
+      -- Ok
+      pub runs_next : (count : ℕ) → result ≡ Ok count → KeepsBegun mid now × IsSent now → AreIdle (length mids) agent afters
+          → RunsOn asked gives faults last agent suffixes pages batch (left - count) afters olds news was now before after
+      runs_next count is keeps idle = record {
+        leads = leads_more_failed (IsErrOf result Failed) ⊥ _ _ was now before after (λ failed. let both = sym is ∙ failed in cc) (λ no. absurd no)
+            (leads_then ⊥ (IsErrOf result Failed) _ _ _ _ _ _ was mid now before between after far.leads (λ no. no) step_at
+            (λ x y z held later one two did turns judged.
+            let far_y = did judged in
+            let all = subst (λ (r : Result ℕ FaultValue). Turns r (IsGivenBy asked gives mids news) agent suffixes settings most fronts afters y z) is (turns far_y.whole.judged) in
+            let turn = all.turns far_y.known in
+            far_more given agent suffixes settings pages batch left most fronts x y z (stood x held) (made y later) one two (wide x y far_y) (turned y z turn.0) within small count afters turn.1)
+            (λ x y z held later one two did may judged. let far_y = did judged in more x y z held later one two far_y (may far_y.known)));
+        drum = far.drum;
+        first = far.first;
+        begun = keeps.0.begun;
+        sent = keeps.1;
+        same = keeps.0.suffixes ∙ far.same;
+        idle = subst (λ n. AreIdle n agent afters) far.goes_on.count idle;
+        goes_on = all_go_then asked gives faults last olds mids news far.goes_on on;
+      }

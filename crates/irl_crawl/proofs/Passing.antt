@@ -1,0 +1,80 @@
+-- A pass is a turn that visits nothing.
+use Rattle.std.proofs.Common.{◌≡◌, ◌∙◌, ℕ, ◌≤◌, List, [], ◌∷◌, ◌++◌, length, Result, Ok, Err, IfOk, OnOk, OnErr, refl, sym, ap, subst, arith, inl, inr}
+use Rattle.std.specs.List.{Contains}
+use Rattle.std.specs.List.Sorted.{IsPermutation}
+use Rattle.std.proofs.lemmas.List.Sorted.{IsPermutation-refl}
+use Rattle.irl_base.specs.declared.fault.Fault.{Fault}
+use Rattle.irl_events.proofs.Following.{after_more}
+use Rattle.irl_events.specs.Events.{Pass, Happened, Progress, before_all}
+use Rattle.irl_events.specs.State.{State}
+use Rattle.irl_offer.specs.declared.place.Place.{Place}
+use Rattle.irl_offer.specs.declared.settings.Settings.{Settings}
+use Rattle.irl_polite.specs.Schedule.{Schedule}
+use Rattle.irl_reach.proofs.Members.{flat_left}
+use Rattle.irl_reach.proofs.Turns.{added_same, crawls_event}
+use Rattle.irl_reach.specs.Along.{notes_of, settled_in}
+use Rattle.irl_record.specs.Widening.{Answers}
+use Rattle.irl_yard.specs.Adding.{with_event}
+use Rattle.irl_yard.specs.Leading.{IsEither}
+use Rattle.irl_yard.specs.Passing.{with_pass}
+use Rattle.irl_crawl.proofs.Turning.{since_are, turns_none}
+use Rattle.irl_crawl.specs.Judging.{IsJudged}
+use Rattle.irl_crawl.specs.Leading.{HasGround}
+use Rattle.irl_crawl.specs.Running.{Passes}
+use Rattle.irl_crawl.specs.Turning.{AreBatches, OnlyTurns, Turns, TurnsWhole, events_since, input_of}
+use Rattle.irl_crawl.specs.Workers.{AreNotedIn}
+
+module _ (gives : Answers) (agent suffixes : List ℕ) (settings : Settings) (most : ℕ) (x : State) (judged : ℕ) (places : List Place) where
+  abbrev passed : State
+  passed = with_event (Pass judged) places x
+
+  since : events_since x passed ≡ (Pass judged, places) ∷ []
+  since = since_are x passed ((Pass judged, places) ∷ []) refl
+
+  pub pass_turns : OnlyTurns gives agent suffixes settings most x passed
+  pass_turns = record {
+    visits = [];
+    crawls = crawls_event (input_of suffixes []) gives agent [] x passed (Pass judged) places refl refl tt;
+    front = tt;
+    batch = subst (AreBatches most) (sym since) (omega arith, tt);
+    settled = subst (λ (hs : List Happened). length (settled_in hs) ≤ most) (sym since) (omega arith);
+  }
+
+  still_noted : (fronts : List Schedule) → AreNotedIn agent x.events fronts → AreNotedIn agent passed.events fronts
+  still_noted fronts noted at front there host told is =
+      let was = noted at front there host told is in
+      (was.0, flat_left (λ (h : Happened). notes_of h.0) x.events ((Pass judged, places) ∷ []) was.0 was.1, was.2, was.3)
+
+  still_judged : IsJudged settings x → IsJudged settings passed
+  still_judged is = record {
+    urls = is.urls;
+    sent = (ap (λ (p : Progress). p.cuts) (after_more (before_all settings.queues settings.buckets) x.events (Pass judged, places)) ∙ is.sent.0, is.sent.1);
+  }
+
+  pub pass_whole : (fronts : List Schedule) → IsJudged settings x → AreNotedIn agent x.events fronts → TurnsWhole 0 agent suffixes settings pass_turns.visits fronts x passed
+  unfolding pass_turns
+  pass_whole fronts is noted = record {
+    leaves = record {
+      offers = subst (λ (l : List _). IsPermutation l []) (sym (added_same x.urls.lists)) (IsPermutation-refl []);
+      settled = tt;
+    };
+    count_is = ap (λ (hs : List Happened). length (settled_in hs)) (sym since);
+    judged = still_judged is;
+    known = still_noted fronts noted;
+  }
+
+-- by the answer
+module _ (gives : Answers) (agent suffixes : List ℕ) (settings : Settings) (most : ℕ) (x y : State) (fronts : List Schedule) where
+  pub either_turns : IsEither x (with_pass settings x) y → OnlyTurns gives agent suffixes settings most x y
+  either_turns (inl same) = subst (OnlyTurns gives agent suffixes settings most x) (sym same) (turns_none gives agent suffixes settings most x)
+  either_turns (inr pass) = subst (OnlyTurns gives agent suffixes settings most x) (sym pass) (pass_turns gives agent suffixes settings most x _ _)
+
+  pub pass_step : (result : Result ℕ Fault) → IfOk result (λ count. count ≡ 0) → Passes result settings x y → IsJudged settings x → Turns result gives agent suffixes settings most fronts fronts x y
+  pass_step (Ok count) none passes is = record {
+    turns = λ noted.
+        subst (λ (z : State). (only : OnlyTurns gives agent suffixes settings most x z) × TurnsWhole count agent suffixes settings only.visits fronts x z) (sym passes.done)
+        (subst (λ n. (only : OnlyTurns gives agent suffixes settings most x (with_pass settings x)) × TurnsWhole n agent suffixes settings only.visits fronts x (with_pass settings x)) (sym none)
+        (pass_turns gives agent suffixes settings most x _ _, pass_whole gives agent suffixes settings most x _ _ fronts is noted));
+    ground = passes.ground;
+  }
+  pass_step (Err fault) none passes is = record { turns = λ noted. (either_turns (inl passes.kept), tt); ground = passes.ground }

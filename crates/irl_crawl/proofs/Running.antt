@@ -1,0 +1,261 @@
+-- What turns and passes make of a state, one behind the other, is one crawl.
+use Rattle.std.proofs.Common.{◌≡◌, ◌≢◌, ◌∙◌, ℕ, ◌+◌, ◌-◌, ◌≤◌, List, [], ◌∷◌, ◌++◌, map, length, drop, Result, Ok, Err, append_assoc, refl, sym, ap, subst, arith, inl, inr}
+use Rattle.std.specs.Prelude.{AllPairs}
+use Rattle.std.specs.List.{AllByRecursion, Contains}
+use Rattle.std.specs.List.Sorted.{IsPermutation}
+use Rattle.std.proofs.lemmas.Grind.{flat_map-append}
+use Rattle.std.proofs.lemmas.List.{append-nil, length-append}
+use Rattle.std.proofs.lemmas.List.Sorted.{IsPermutation-refl}
+use Rattle.irl_answer.specs.Found.{offer_from}
+use Rattle.irl_events.specs.Events.{Event, Begin, Pairs, Pass, Robots, Settle, Happened}
+use Rattle.irl_events.specs.State.{State, IsFrontState}
+use Rattle.irl_offer.specs.declared.note.Note.{Note}
+use Rattle.irl_offer.specs.declared.settings.Settings.{Settings}
+use Rattle.irl_polite.specs.Schedule.{Schedule}
+use Rattle.irl_reach.proofs.Growing.{drop_front}
+use Rattle.irl_reach.proofs.Joining.{crawls_join, leaves_join}
+use Rattle.irl_reach.proofs.Members.{all_from, all_member, no_member}
+use Rattle.irl_reach.proofs.Settled.{front_unsettled}
+use Rattle.irl_reach.proofs.Turns.{added_same, crawls_behind, crawls_quiet, crawls_unvisited, crawls_wider, leaves_settled, once_more}
+use Rattle.irl_reach.specs.Along.{notes_in, outcomes_of, settled_in}
+use Rattle.irl_reach.specs.Crawls.{Crawls, IsCrawlStore, IsStore, LeavesNone, Visit, added_to}
+use Rattle.irl_record.specs.Widening.{Answers, Widens}
+use Rattle.irl_yard.specs.Passing.{come}
+use Rattle.irl_crawl.proofs.Turning.{since_are}
+use Rattle.irl_crawl.specs.Crawling.{CrawlsTo, CrawlsWhole, NoneWaits, OnlyCrawls, result_of}
+use Rattle.irl_crawl.specs.declared.plan.Ended.{Ended}
+use Rattle.irl_crawl.specs.declared.plan.Ended.TheVariants.{Done, Fault, Limit}
+use Rattle.irl_crawl.specs.Judging.{IsJudged, IsOfPairs}
+use Rattle.irl_crawl.specs.Leading.{HasGround}
+use Rattle.irl_crawl.specs.Offering.{OnlySeeds}
+use Rattle.irl_crawl.specs.Turning.{AreBatches, OnlyTurns, TurnsWhole, events_since, input_of}
+use Rattle.irl_crawl.specs.Workers.{AreNotedIn}
+
+-- ---- events
+pub since_none : (x : State) → events_since x x ≡ []
+since_none x = since_are x x [] (sym (append-nil x.events))
+
+settled_both : (xs ys : List Happened) → length (settled_in (xs ++ ys)) ≡ length (settled_in xs) + length (settled_in ys)
+settled_both xs ys = ap length (flat_map-append (λ (h : Happened). outcomes_of h.0) xs ys) ∙ length-append (settled_in xs) (settled_in ys)
+
+batches_both : (batch most : ℕ) (xs ys : List Happened) → most ≤ batch → AreBatches batch xs → AreBatches most ys → AreBatches batch (xs ++ ys)
+batches_both batch most [] [] few one two = tt
+batches_both batch most [] (y ∷ ys) few one two = let first : length (outcomes_of y.0) ≤ most = two.0 in (omega (arith, first, few), batches_both batch most [] ys few tt two.1)
+batches_both batch most (x ∷ xs) ys few one two = (one.0, batches_both batch most xs ys few one.1 two)
+
+-- ---- two crawls, the second without seeds
+module _ (gives : Answers) (agent suffixes : List ℕ) (seeds : List (List ℕ)) (first second : List Visit) (x y z : State) (a : Crawls (input_of suffixes seeds) gives agent first x y)
+    (b : Crawls (input_of suffixes []) gives agent second y z) (store : IsStore x) (made : IsStore y) (one : IsFrontState x y) (two : IsFrontState y z) where
+  pub both_since : events_since x z ≡ events_since x y ++ events_since y z
+  both_since =
+      let left = since_are x y a.more a.events in
+      let right = since_are y z b.more b.events in
+      let whole : events_since x z ≡ a.more ++ b.more = since_are x z (a.more ++ b.more) (b.events ∙ ap (λ (hs : List Happened). hs ++ b.more) a.events ∙ append_assoc x.events a.more b.more) in
+      whole ∙ ap (λ (hs : List Happened). hs ++ b.more) (sym left) ∙ ap (λ (hs : List Happened). events_since x y ++ hs) (sym right)
+
+  pub both_crawl : AllPairs (λ m n. m ≢ n) (map (λ (visit : Visit). visit.number) (first ++ second)) → Crawls (input_of suffixes seeds) gives agent (first ++ second) x z
+  both_crawl once = crawls_join (input_of suffixes seeds) gives agent [] first second x y z a (crawls_behind (input_of suffixes []) gives agent first second y z b) once store made one two
+
+  pub both_leave : LeavesNone (input_of suffixes seeds) first x y → LeavesNone (input_of suffixes []) second y z → LeavesNone (input_of suffixes seeds) (first ++ second) x z
+  both_leave g h = leaves_join (input_of suffixes seeds) gives agent [] first second x y z a (crawls_behind (input_of suffixes []) gives agent first second y z b) store made one two g h
+
+-- ---- how far a run came from a state
+pub record SoFar (gives : Answers) (agent suffixes : List ℕ) (settings : Settings) (pages batch left : ℕ) (fronts : List Schedule) (x y : State) : Type 0 where
+  pub only : OnlyCrawls gives agent suffixes [] pages batch x y
+  pub whole : CrawlsWhole suffixes [] settings only.visits x y
+  pub known : AreNotedIn agent y.events fronts
+  pub count : length (settled_in (events_since x y)) + left ≡ pages
+
+-- nothing was done
+pub crawls_none : (gives : Answers) (agent suffixes : List ℕ) (pages batch : ℕ) (x : State) → OnlyCrawls gives agent suffixes [] pages batch x x
+crawls_none gives agent suffixes pages batch x =
+    let none = since_none x in
+    record {
+      visits = [];
+      crawls = crawls_quiet (input_of suffixes []) gives agent [] x x refl refl;
+      batches = subst (AreBatches batch) (sym none) tt;
+      pages_are = subst (λ (hs : List Happened). length (settled_in hs) ≤ pages) (sym none) (omega arith);
+    }
+
+pub far_none : (gives : Answers) (agent suffixes : List ℕ) (settings : Settings) (pages batch : ℕ) (fronts : List Schedule) (x : State) → IsJudged settings x → AreNotedIn agent x.events fronts
+    → SoFar gives agent suffixes settings pages batch pages fronts x x
+unfolding crawls_none
+far_none gives agent suffixes settings pages batch fronts x judged known = record {
+  only = crawls_none gives agent suffixes pages batch x;
+  whole = record {
+    leaves = record {
+      offers = subst (λ (l : List _). IsPermutation l []) (sym (added_same x.urls.lists)) (IsPermutation-refl []);
+      settled = tt;
+    };
+    judged = judged;
+  };
+  known = known;
+  count = subst (λ (hs : List Happened). length (settled_in hs) + pages ≡ pages) (sym (since_none x)) (omega arith);
+}
+
+-- more answers
+abbrev pub only_wider : (old new : Answers) (agent suffixes : List ℕ) (seeds : List (List ℕ)) (pages batch : ℕ) (x y : State) → Widens old new → OnlyCrawls old agent suffixes seeds pages batch x y
+    → OnlyCrawls new agent suffixes seeds pages batch x y
+only_wider old new agent suffixes seeds pages batch x y wider only = record {
+  visits = only.visits;
+  crawls = crawls_wider old new wider (input_of suffixes seeds) agent [] only.visits x y only.crawls;
+  batches = only.batches;
+  pages_are = only.pages_are;
+}
+
+abbrev pub turns_wider : (old new : Answers) → Widens old new → (agent suffixes : List ℕ) (settings : Settings) (most : ℕ) (x y : State) → OnlyTurns old agent suffixes settings most x y
+    → OnlyTurns new agent suffixes settings most x y
+turns_wider old new wider agent suffixes settings most x y only = record {
+  visits = only.visits;
+  crawls = crawls_wider old new wider (input_of suffixes []) agent [] only.visits x y only.crawls;
+  front = only.front;
+  batch = only.batch;
+  settled = only.settled;
+}
+
+pub far_wider : (old new : Answers) (agent suffixes : List ℕ) (settings : Settings) (pages batch left : ℕ) (fronts : List Schedule) (x y : State) → Widens old new
+    → SoFar old agent suffixes settings pages batch left fronts x y → SoFar new agent suffixes settings pages batch left fronts x y
+far_wider old new agent suffixes settings pages batch left fronts x y wider far = record {
+  only = only_wider old new agent suffixes [] pages batch x y wider far.only;
+  whole = far.whole;
+  known = far.known;
+  count = far.count;
+}
+
+-- ---- a turn more
+module _ (gives : Answers) (agent suffixes : List ℕ) (settings : Settings) (pages batch left most : ℕ) (fronts : List Schedule) (x y z : State) (store : IsStore x) (made : IsCrawlStore settings y)
+    (one : IsFrontState x y) (two : IsFrontState y z) (far : SoFar gives agent suffixes settings pages batch left fronts x y) (turn : OnlyTurns gives agent suffixes settings most y z)
+    (within : most ≤ left) (small : most ≤ batch) where
+  stood : IsStore y
+  stood = inr (settings, made)
+
+  -- what is in front wasn't settled
+  new : AllByRecursion (λ (visit : Visit). Contains (map (λ d. d.0) (settled_in y.events)) visit.number → ⊥) turn.visits
+  new = all_from (λ (visit : Visit). Contains (map (λ d. d.0) (settled_in y.events)) visit.number → ⊥) turn.visits (λ visit there.
+      front_unsettled settings y made visit.number (all_member (λ (v : Visit). Contains (come settings y).front v.number) turn.visits visit turn.front there))
+
+  once : AllPairs (λ m n. m ≢ n) (map (λ (visit : Visit). visit.number) (far.only.visits ++ turn.visits))
+  once = once_more y far.only.visits turn.visits far.only.crawls.once turn.crawls.once (leaves_settled (input_of suffixes []) far.only.visits x y far.whole.leaves) new
+
+  since : events_since x z ≡ events_since x y ++ events_since y z
+  since = both_since gives agent suffixes [] far.only.visits turn.visits x y z far.only.crawls turn.crawls store stood one two
+
+  count_both : length (settled_in (events_since x z)) ≡ length (settled_in (events_since x y)) + length (settled_in (events_since y z))
+  count_both = ap (λ (hs : List Happened). length (settled_in hs)) since ∙ settled_both (events_since x y) (events_since y z)
+
+  pub turn_more : OnlyCrawls gives agent suffixes [] pages batch x z
+  turn_more = record {
+    visits = far.only.visits ++ turn.visits;
+    crawls = both_crawl gives agent suffixes [] far.only.visits turn.visits x y z far.only.crawls turn.crawls store stood one two once;
+    batches = subst (AreBatches batch) (sym since) (batches_both batch most (events_since x y) (events_since y z) small far.only.batches turn.batch);
+    pages_are = let few = turn.settled in let many = far.count in let both = count_both in omega (arith, few, many, both, within);
+  }
+
+  -- all that was loaded is settled
+  pub far_more : (count : ℕ) (afters : List Schedule) → TurnsWhole count agent suffixes settings turn.visits afters y z → SoFar gives agent suffixes settings pages batch (left - count) afters x z
+  unfolding turn_more
+  far_more count afters whole = record {
+    only = turn_more;
+    whole = record {
+      leaves = both_leave gives agent suffixes [] far.only.visits turn.visits x y z far.only.crawls turn.crawls store stood one two far.whole.leaves whole.leaves;
+      judged = whole.judged;
+    };
+    known = whole.known;
+    count = let few = turn.settled in let is = whole.count_is in let many = far.count in let both = count_both in omega (arith, few, is, many, both, within);
+  }
+
+-- ---- seeds
+pairs_unsettled : (hs : List Happened) → AllByRecursion (λ h. IsOfPairs h.0) hs → settled_in hs ≡ []
+pairs_unsettled [] all = refl
+pairs_unsettled ((Begin suffixes, places) ∷ hs) all = absurd all.0
+pairs_unsettled ((Pairs cuts judged pairs, places) ∷ hs) all = pairs_unsettled hs all.1
+pairs_unsettled ((Pass judged, places) ∷ hs) all = absurd all.0
+pairs_unsettled ((Robots note, places) ∷ hs) all = absurd all.0
+pairs_unsettled ((Settle fronts outcomes, places) ∷ hs) all = absurd all.0
+
+pairs_unnoted : (hs : List Happened) → AllByRecursion (λ h. IsOfPairs h.0) hs → notes_in hs ≡ []
+pairs_unnoted [] all = refl
+pairs_unnoted ((Begin suffixes, places) ∷ hs) all = absurd all.0
+pairs_unnoted ((Pairs cuts judged pairs, places) ∷ hs) all = pairs_unnoted hs all.1
+pairs_unnoted ((Pass judged, places) ∷ hs) all = absurd all.0
+pairs_unnoted ((Robots note, places) ∷ hs) all = absurd all.0
+pairs_unnoted ((Settle fronts outcomes, places) ∷ hs) all = absurd all.0
+
+pairs_batches : (batch : ℕ) (hs : List Happened) → AllByRecursion (λ h. IsOfPairs h.0) hs → AreBatches batch hs
+pairs_batches batch [] all = tt
+pairs_batches batch ((Begin suffixes, places) ∷ hs) all = absurd all.0
+pairs_batches batch ((Pairs cuts judged pairs, places) ∷ hs) all = (omega arith, pairs_batches batch hs all.1)
+pairs_batches batch ((Pass judged, places) ∷ hs) all = absurd all.0
+pairs_batches batch ((Robots note, places) ∷ hs) all = absurd all.0
+pairs_batches batch ((Settle fronts outcomes, places) ∷ hs) all = absurd all.0
+
+pairs_begin : (event : Event) (suffixes : List ℕ) → IsOfPairs event → event ≡ Begin suffixes → ⊥
+pairs_begin event suffixes of is = subst IsOfPairs is of
+
+-- the seeds of a crawl that visits nothing
+pub seeds_crawl : (gives : Answers) (agent suffixes : List ℕ) (seeds : List (List ℕ)) (pages batch : ℕ) (x y : State) → OnlySeeds seeds x y → OnlyCrawls gives agent suffixes seeds pages batch x y
+seeds_crawl gives agent suffixes seeds pages batch x y only =
+    let since = since_are x y only.more only.events in
+    let none = pairs_unsettled only.more only.pairs in
+    record {
+      visits = [];
+      crawls = crawls_unvisited (input_of suffixes seeds) gives agent [] x y only.more only.among only.events
+          (λ h text there is. absurd (pairs_begin h.0 text (all_member (λ (g : Happened). IsOfPairs g.0) only.more h only.pairs there) is))
+          (λ note there. absurd (no_member note (subst (λ (notes : List Note). Contains notes note) (pairs_unnoted only.more only.pairs) there))) none;
+      batches = subst (AreBatches batch) (sym since) (pairs_batches batch only.more only.pairs);
+      pages_are = subst (λ (hs : List Happened). length (settled_in hs) ≤ pages) (sym since) (subst (λ (ds : List _). length ds ≤ pages) (sym none) (omega arith));
+    }
+
+-- a crawl behind them
+module _ (gives : Answers) (agent suffixes : List ℕ) (seeds : List (List ℕ)) (settings : Settings) (pages batch : ℕ) (x y z : State) (store : IsStore x) (made : IsStore y) (one : IsFrontState x y)
+    (two : IsFrontState y z) (seeded : OnlySeeds seeds x y) (run : OnlyCrawls gives agent suffixes [] pages batch y z) where
+  abbrev first : OnlyCrawls gives agent suffixes seeds pages batch x y
+  first = seeds_crawl gives agent suffixes seeds pages batch x y seeded
+
+  since_seeds : events_since x z ≡ events_since x y ++ events_since y z
+  unfolding seeds_crawl
+  since_seeds = both_since gives agent suffixes seeds [] run.visits x y z first.crawls run.crawls store made one two
+
+  pub seeds_count : length (settled_in (events_since x z)) ≡ length (settled_in (events_since y z))
+  seeds_count =
+      let none : length (settled_in (events_since x y)) ≡ 0 = ap (λ (hs : List Happened). length (settled_in hs)) (since_are x y seeded.more seeded.events) ∙ ap length (pairs_unsettled seeded.more
+      seeded.pairs) in
+      let both = ap (λ (hs : List Happened). length (settled_in hs)) since_seeds ∙ settled_both (events_since x y) (events_since y z) in
+      omega (arith, none, both)
+
+  pub seeds_then : OnlyCrawls gives agent suffixes seeds pages batch x z
+  unfolding seeds_crawl
+  seeds_then = record {
+    visits = run.visits;
+    crawls = both_crawl gives agent suffixes seeds [] run.visits x y z first.crawls run.crawls store made one two run.crawls.once;
+    batches = subst (AreBatches batch) (sym since_seeds) (batches_both batch batch (events_since x y) (events_since y z) (omega arith) first.batches run.batches);
+    pages_are = let most = run.pages_are in let same = seeds_count in omega (arith, most, same);
+  }
+
+  -- and nothing is left over
+  seeds_whole : IsPermutation (added_to x.urls.lists y.urls.lists) (map (offer_from 0) seeds) → CrawlsWhole suffixes [] settings run.visits y z → CrawlsWhole suffixes seeds settings run.visits x z
+  unfolding seeds_crawl
+  seeds_whole all was = record {
+    leaves = both_leave gives agent suffixes seeds [] run.visits x y z first.crawls run.crawls store made one two
+        (record { offers = subst (IsPermutation (added_to x.urls.lists y.urls.lists)) (sym (append-nil (map (offer_from 0) seeds))) all; settled = tt }) was.leaves;
+    judged = was.judged;
+  }
+
+-- and by its answer
+pub seeds_to : (ended : Ended) (gives : Answers) (agent suffixes : List ℕ) (seeds : List (List ℕ)) (settings : Settings) (pages batch : ℕ) (x y z : State) → IsStore x → IsStore y → IsFrontState x y
+    → IsFrontState y z → OnlySeeds seeds x y → CrawlsTo ended gives agent suffixes [] settings pages batch y z → IsPermutation (added_to x.urls.lists y.urls.lists) (map (offer_from 0) seeds)
+    → HasGround (result_of ended) settings x z → CrawlsTo ended gives agent suffixes seeds settings pages batch x z
+unfolding seeds_then
+seeds_to ended gives agent suffixes seeds settings pages batch x y z store made one two seeded to all ground = record {
+  only = seeds_then gives agent suffixes seeds settings pages batch x y z store made one two seeded to.only;
+  done = λ done.
+      let was = to.done done in
+      (seeds_whole gives agent suffixes seeds settings pages batch x y z store made one two seeded to.only all was.0, was.1);
+  limit = λ limit.
+      let was = to.limit limit in (
+        seeds_whole gives agent suffixes seeds settings pages batch x y z store made one two seeded to.only all was.0,
+        seeds_count gives agent suffixes seeds settings pages batch x y z store made one two seeded to.only ∙ was.1,
+        was.2,
+      );
+  ground = ground;
+}

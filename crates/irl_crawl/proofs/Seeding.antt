@@ -1,0 +1,251 @@
+-- Seeds that are handed in at a desk, and then judged, over states.
+use Rattle.std.proofs.Common.{◌≡◌, ◌∙◌, ◌⊎◌, ℕ, ◌+◌, ◌<◌, List, [], ◌∷◌, ◌++◌, map, length, take, drop, get_or, Some, Result, Ok, Err, OnOk, IsErrOf, refl, sym, ap, subst, append-nil}
+use Rattle.std.proofs.lemmas.List.{map-append, take-append-drop, take_more}
+use Rattle.std.proofs.lemmas.List.Sorted.{IsPermutation-refl}
+use Rattle.std.specs.List.Sorted.{IsPermutation}
+use Rattle.irl_answer.specs.Found.{offer_from}
+use Rattle.irl_base.proofs.Among.{among_none, among_trans}
+use Rattle.irl_base.specs.Among.{IsAmong}
+use Rattle.irl_base.specs.declared.fault.Fault.{Fault}
+use Rattle.irl_base.specs.declared.fault.Fault.TheVariants.{Failed, Memory}
+use Rattle.irl_bay.specs.Drum.{IsDrum}
+use Rattle.irl_disk.specs.Images.{IsConsistent, Told}
+use Rattle.irl_events.specs.State.{State}
+use Rattle.irl_model.specs.Book.{IsPrefixOf}
+use Rattle.irl_offer.specs.Offering.{Entered}
+use Rattle.irl_offer.specs.Tuple.{Tuple}
+use Rattle.irl_offer.specs.declared.receipt.Receipt.{Receipt}
+use Rattle.irl_offer.specs.declared.settings.Settings.{Settings}
+use Rattle.irl_reach.specs.Crawls.{added_to}
+use Rattle.irl_reach.proofs.Turns.{added_same}
+use Rattle.irl_schedule.proofs.Outcomes.{ok_weaker}
+use Rattle.irl_yard.specs.declared.parts.Parts.{Parts}
+use Rattle.irl_yard.specs.Holding.{IsOpenRest, IsSound}
+use Rattle.irl_yard.specs.Passing.{front_in, suffixes_in}
+use Rattle.irl_yard.specs.Sending.{HasBegun}
+use Rattle.irl_desk.specs.Closing.{Closes, last_after}
+use Rattle.irl_desk.specs.Serving.{IsFresh, Serves, Serving}
+use Rattle.irl_desk.proofs.Entering.{both_serve}
+use Rattle.irl_crawl.specs.Judging.{IsJudged, Judges, OnlyJudges}
+use Rattle.irl_crawl.specs.Leading.{IsOpen, IsSent, KeepsFront, Leads}
+use Rattle.irl_crawl.specs.Offering.{OffersSome, OnlyOffers, OnlySeeds, Seeds, offers_in}
+use Rattle.irl_crawl.specs.Seeding.{OffersSeeds}
+use Rattle.irl_crawl.proofs.Judging.{ground_then}
+use Rattle.irl_crawl.proofs.Leading.{always, leads_none, leads_then, leads_wide, never}
+use Rattle.irl_crawl.proofs.Lifting.{IsBehind, closed_behind, closed_leads, rest_kept, served_behind}
+
+-- ---- one seed after another
+-- the first seeds were offered, so many as these
+pub record Offered {S : Type 0} (told : S → Told) (seeds : List (List ℕ)) (old now : Serving S) : Type 0 where
+  pub entries : List Entered
+  pub serves : Serves told entries old now
+  pub are : offers_in entries ≡ map (offer_from 0) seeds
+
+pub offered_none : {S : Type 0} (told : S → Told) (x : Serving S) → Serves told [] x x → Offered told [] x x
+offered_none told x serves = record { entries = []; serves = serves; are = refl }
+
+pub offered_more : {S : Type 0} (told : S → Told) → ((s : S) → IsConsistent (told s)) → (seeds : List (List ℕ)) (web : List ℕ) (receipt : Receipt) (offer : Tuple) (old mid now : Serving S)
+    → Offered told seeds old mid → Serves told (record { receipt = receipt; offer = offer } ∷ []) mid now → offer ≡ offer_from 0 web → Offered told (seeds ++ web ∷ []) old now
+offered_more told lawful seeds web receipt offer old mid now one serves is = record {
+  entries = one.entries ++ record { receipt = receipt; offer = offer } ∷ [];
+  serves = both_serve told lawful one.entries (record { receipt = receipt; offer = offer } ∷ []) old mid now one.serves serves;
+  are = map-append (λ (e : Entered). e.offer) one.entries (record { receipt = receipt; offer = offer } ∷ [])
+      ∙ ap (λ (l : List Tuple). l ++ offer ∷ []) one.are ∙ ap (λ (o : Tuple). map (offer_from 0) seeds ++ o ∷ []) is ∙ sym (map-append (offer_from 0) seeds (web ∷ []));
+}
+
+-- the next one of all
+pub offered_next : {S : Type 0} (told : S → Told) → ((s : S) → IsConsistent (told s)) → (seeds : List (List ℕ)) (i : ℕ) (web : List ℕ) (receipt : Receipt) (offer : Tuple) (old mid now : Serving S)
+    → i < length seeds → web ≡ get_or seeds i web → Offered told (take i seeds) old mid → Serves told (record { receipt = receipt; offer = offer } ∷ []) mid now → offer ≡ offer_from 0 web
+    → Offered told (take (i + 1) seeds) old now
+offered_next told lawful seeds i web receipt offer old mid now within at one serves is =
+    let more : take (i + 1) seeds ≡ take i seeds ++ web ∷ [] = take_more seeds i web within ∙ ap (λ (w : List ℕ). take i seeds ++ w ∷ []) (sym at) in
+    subst (λ (l : List (List ℕ)). Offered told l old now) (sym more) (offered_more told lawful (take i seeds) web receipt offer old mid now one serves is)
+
+-- one that is refused
+pub offered_same : {S : Type 0} (told : S → Told) → ((s : S) → IsConsistent (told s)) → (seeds : List (List ℕ)) (old mid now : Serving S) → Offered told seeds old mid → Serves told [] mid now
+    → Offered told seeds old now
+offered_same told lawful seeds old mid now one serves = record {
+  entries = one.entries ++ [];
+  serves = both_serve told lawful one.entries [] old mid now one.serves serves;
+  are = ap offers_in (append-nil one.entries) ∙ one.are;
+}
+
+-- the first ones of all
+front_of : (i : ℕ) (seeds : List (List ℕ)) (offers : List Tuple) → offers ≡ map (offer_from 0) (take i seeds) → IsPrefixOf offers (map (offer_from 0) seeds)
+front_of i seeds offers are = (
+  map (offer_from 0) (drop i seeds),
+  ap (map (offer_from 0)) (sym (take-append-drop i seeds)) ∙ map-append (offer_from 0) (take i seeds) (drop i seeds) ∙ ap (λ (l : List Tuple). l ++ map (offer_from 0) (drop i seeds)) (sym are),
+)
+
+-- a refusal leaves those before it
+pub offers_stop : {S : Type 0} (told : S → Told) (result : Result Unit Fault) (fault : Fault) (i : ℕ) (seeds : List (List ℕ)) (old now : Serving S) → result ≡ Err fault
+    → Offered told (take i seeds) old now → (fault ≡ Memory) ⊎ (now.last ≡ Some fault) → OffersSeeds told result seeds old now
+offers_stop told result fault i seeds old now is one why = record {
+  entries = one.entries;
+  serves = one.serves;
+  some = front_of i seeds (offers_in one.entries) one.are;
+  all = never result fault (offers_in one.entries ≡ map (offer_from 0) seeds) is;
+  fault = λ other answered. same_fault other answered;
+}
+  where
+    same_fault : (other : Fault) → IsErrOf result other → (other ≡ Memory) ⊎ (now.last ≡ Some other)
+    same_fault other answered =
+        let both = sym is ∙ answered in
+        let same : fault ≡ other = cc in
+        subst (λ (f : Fault). (f ≡ Memory) ⊎ (now.last ≡ Some f)) same why
+
+pub offers_all : {S : Type 0} (told : S → Told) (result : Result Unit Fault) (value : Unit) (seeds : List (List ℕ)) (old now : Serving S) → result ≡ Ok value → Offered told seeds old now
+    → OffersSeeds told result seeds old now
+offers_all told result value seeds old now is one = record {
+  entries = one.entries;
+  serves = one.serves;
+  some = ([], ap (map (offer_from 0)) refl ∙ sym one.are ∙ sym (append-nil (offers_in one.entries)));
+  all = always result (offers_in one.entries ≡ map (offer_from 0) seeds) one.are;
+  fault = λ fault answered. let both = sym is ∙ answered in absurd (cc);
+}
+
+-- ---- states
+among_seeds : (seeds : List (List ℕ)) (added offers : List Tuple) → IsAmong added offers → IsPrefixOf offers (map (offer_from 0) seeds) → IsAmong added (map (offer_from 0) seeds)
+among_seeds seeds added offers among some = among_trans among (record { rest = some.0; is = subst (IsPermutation (offers ++ some.0)) (sym some.1) (IsPermutation-refl (offers ++ some.0)) })
+
+only_seeds : (seeds : List (List ℕ)) (entries : List Entered) (x y : State) → IsPrefixOf (offers_in entries) (map (offer_from 0) seeds) → OnlyOffers entries x y → OnlySeeds seeds x y
+only_seeds seeds entries x y some only = record {
+  among = among_seeds seeds (added_to x.urls.lists y.urls.lists) (offers_in entries) only.among some;
+  more = [];
+  events = ap (λ (s : State). s.events) only.others ∙ sym (append-nil x.events);
+  pairs = tt;
+}
+
+-- and then judging
+only_judged : (seeds : List (List ℕ)) (entries : List Entered) (x y z : State) → IsPrefixOf (offers_in entries) (map (offer_from 0) seeds) → OnlyOffers entries x y → OnlyJudges y z
+    → OnlySeeds seeds x z
+only_judged seeds entries x y z some only judges = record {
+  among = among_seeds seeds (added_to x.urls.lists z.urls.lists) (offers_in entries)
+      (subst (λ (l : List (List Tuple)). IsAmong (added_to x.urls.lists l) (offers_in entries)) (sym judges.lists) only.among) some;
+  more = judges.more;
+  events = judges.events ∙ ap (λ (s : State). s.events ++ judges.more) only.others;
+  pairs = judges.pairs;
+}
+
+-- ---- a desk that was closed
+abbrev done_answer : Result Unit Fault
+done_answer = Ok tt
+
+module _ {S : Type 0} (told : S → Told) (lawful : (s : S) → IsConsistent (told s)) (seeds : List (List ℕ)) (old mid : Serving S) (offered closed : Result Unit Fault) (store : S) (parts : Parts)
+    (opened : IsOpenRest old.parts.urls old.parts.rest (told old.store).files) (law : IsDrum old.parts.urls) (begun : HasBegun old.parts.rest) (fresh : IsFresh old)
+    (offers : OffersSeeds told offered seeds old mid) (closes : Closes told closed mid store parts) where
+  abbrev s : Told
+  s = told old.store
+
+  abbrev t : Told
+  t = told store
+
+  abbrev settings : Settings
+  settings = old.parts.urls.settings
+
+  abbrev IsAnswer : Result Unit Fault → Type 0
+  IsAnswer answer = IsBehind answer closed (last_after mid.last closed)
+
+  lead : (answer : Result Unit Fault) → IsAnswer answer → Leads (IsErrOf answer Failed) (OnlyOffers offers.entries) (OffersSome answer settings offers.entries) old.parts parts s t
+  lead answer behind = closed_leads told offers.entries old mid closed store parts lawful opened law begun fresh offers.serves closes answer behind
+
+  behind : (answer : Result Unit Fault) (value : Unit) → closed ≡ Ok value → ((fault : Fault) → IsErrOf answer fault → (fault ≡ Memory) ⊎ (mid.last ≡ Some fault)) → IsAnswer answer
+  behind answer value ok why = served_behind told offers.entries old mid closed store parts lawful opened law begun fresh offers.serves closes answer value ok why
+
+  pub rest_after : parts.rest ≡ old.parts.rest
+  rest_after = rest_kept told offers.entries old mid closed store parts lawful opened law begun fresh offers.serves closes
+
+  -- a refusal
+  abbrev AllSeeds : State → State → Type 0
+  AllSeeds x y = IsPermutation (added_to x.urls.lists y.urls.lists) (map (offer_from 0) seeds) × IsJudged settings y
+
+  refused : (answer : Result Unit Fault) (fault : Fault) → answer ≡ Err fault → IsAnswer answer → Leads (IsErrOf answer Failed) (OnlySeeds seeds) (Seeds answer settings seeds) old.parts parts s t
+  refused answer fault out behind =
+      leads_wide (IsErrOf answer Failed) (OnlyOffers offers.entries) (OffersSome answer settings offers.entries) (OnlySeeds seeds) (Seeds answer settings seeds) old.parts parts s t
+      (lead answer behind)
+      (λ x y held front only. only_seeds seeds offers.entries x y offers.some only)
+      (λ x y held later front some. record { only = only_seeds seeds offers.entries x y offers.some some.only; all = never answer fault (AllSeeds x y) out; ground = some.ground })
+
+  pub close_refused : (answer : Result Unit Fault) (fault : Fault) → closed ≡ Err fault → answer ≡ Err fault
+      → Leads (IsErrOf answer Failed) (OnlySeeds seeds) (Seeds answer settings seeds) old.parts parts s t
+  close_refused answer fault is out = refused answer fault out (closed_behind told offers.entries old mid closed store parts lawful opened law begun fresh offers.serves closes answer fault is out)
+
+  pub offer_refused : (answer : Result Unit Fault) (fault : Fault) (value : Unit) → closed ≡ Ok value → offered ≡ Err fault → answer ≡ Err fault
+      → Leads (IsErrOf answer Failed) (OnlySeeds seeds) (Seeds answer settings seeds) old.parts parts s t
+  offer_refused answer fault value ok is out = refused answer fault out (behind answer value ok (λ other answered. offers.fault other (is ∙ sym out ∙ answered)))
+
+  -- all was offered
+  module _ (value : Unit) (ok : closed ≡ Ok value) (all : offers_in offers.entries ≡ map (offer_from 0) seeds) where
+    first : Leads (IsErrOf done_answer Failed) (OnlyOffers offers.entries) (OffersSome done_answer settings offers.entries) old.parts parts s t
+    first = lead done_answer (behind done_answer value ok (λ fault answered. absurd (cc)))
+
+    not_failed : IsErrOf done_answer Failed → ⊥
+    not_failed is = cc
+
+    pub open_then : IsOpen parts
+    open_then = record { sound = first.goes_on.sound not_failed; begun = subst HasBegun (sym rest_after) begun }
+
+    pub judged_then : (answer : Result Unit Fault) (last : Parts) (u : Told) → Leads (IsErrOf answer Failed) OnlyJudges (Judges answer parts.urls.settings) parts last t u
+        → Leads (IsErrOf answer Failed) (OnlySeeds seeds) (Seeds answer settings seeds) old.parts last s u
+    judged_then answer last u judged =
+        let later = subst (λ (p : Settings). Leads (IsErrOf answer Failed) OnlyJudges (Judges answer p) parts last t u) first.settings judged in
+        leads_then (IsErrOf done_answer Failed) (IsErrOf answer Failed) (OnlyOffers offers.entries) (OffersSome done_answer settings offers.entries) OnlyJudges
+        (Judges answer settings) (OnlySeeds seeds) (Seeds answer settings seeds) old.parts parts last s t u first not_failed later
+        (λ x y z held between front next some judges. record {
+          only = only_judged seeds offers.entries x y z offers.some some.only judges.only;
+          all = ok_weaker answer judges.all (λ is. (
+            subst (λ (l : List (List Tuple)). IsPermutation (added_to x.urls.lists l) (map (offer_from 0) seeds)) (sym judges.only.lists)
+                (subst (IsPermutation (added_to x.urls.lists y.urls.lists)) all some.all.all),
+            is,
+          ));
+          ground = ground_then answer settings x y z front judges.ground;
+        })
+        (λ x y z held between front next some judges. only_judged seeds offers.entries x y z offers.some some.only judges)
+
+-- ---- nothing was done
+abbrev pub no_memory : Result Unit Fault
+no_memory = Err Memory
+
+none_seeded : (seeds : List (List ℕ)) (settings : Settings) (x : State) → Seeds no_memory settings seeds x x
+none_seeded seeds settings x = record {
+  only = record {
+    among = subst (λ (l : List Tuple). IsAmong l (map (offer_from 0) seeds)) (sym (added_same x.urls.lists)) (among_none (map (offer_from 0) seeds));
+    more = [];
+    events = sym (append-nil x.events);
+    pairs = tt;
+  };
+  all = tt;
+  ground = record { full = λ n is. absurd (cc); whole = λ f at is. absurd (cc) };
+}
+
+pub seeds_none : (seeds : List (List ℕ)) (parts : Parts) (now : Told) → IsConsistent now → IsDrum parts.urls → IsSound parts
+    → Leads (IsErrOf no_memory Failed) (OnlySeeds seeds) (Seeds no_memory parts.urls.settings seeds) parts parts now now
+seeds_none seeds parts now law drum sound =
+    leads_none (IsErrOf no_memory Failed) (OnlySeeds seeds) (Seeds no_memory parts.urls.settings seeds) parts now law drum sound (λ is. absurd (cc))
+    (λ x held. none_seeded seeds parts.urls.settings x)
+
+-- ---- from the store that a desk was opened before
+pub seeds_from : {S : Type 0} (told : S → Told) (seeds : List (List ℕ)) (answer : Result Unit Fault) (opened store : S) (old parts now : Parts) (t : Told) → opened ≡ store → old ≡ parts
+    → Leads (IsErrOf answer Failed) (OnlySeeds seeds) (Seeds answer old.urls.settings seeds) old now (told opened) t
+    → Leads (IsErrOf answer Failed) (OnlySeeds seeds) (Seeds answer parts.urls.settings seeds) parts now (told store) t
+seeds_from {S} told seeds answer opened store old parts now t same_store same_parts one =
+    subst (λ (p : Parts). Leads (IsErrOf answer Failed) (OnlySeeds seeds) (Seeds answer p.urls.settings seeds) p now (told store) t) same_parts
+    (subst (λ (x : S). Leads (IsErrOf answer Failed) (OnlySeeds seeds) (Seeds answer old.urls.settings seeds) old now (told x) t) same_store one)
+
+-- where the same store comes back
+pub seeds_back : {S : Type 0} (told : S → Told) (seeds : List (List ℕ)) (answer : Result Unit Fault) (store back : S) (parts last : Parts) → store ≡ back → parts ≡ last
+    → Leads (IsErrOf answer Failed) (OnlySeeds seeds) (Seeds answer parts.urls.settings seeds) parts parts (told store) (told store)
+    → Leads (IsErrOf answer Failed) (OnlySeeds seeds) (Seeds answer parts.urls.settings seeds) parts last (told store) (told back)
+seeds_back {S} told seeds answer store back parts last same_store same_parts one =
+    subst (λ (p : Parts). Leads (IsErrOf answer Failed) (OnlySeeds seeds) (Seeds answer parts.urls.settings seeds) parts p (told store) (told back)) same_parts
+    (subst (λ (x : S). Leads (IsErrOf answer Failed) (OnlySeeds seeds) (Seeds answer parts.urls.settings seeds) parts parts (told store) (told x)) same_store one)
+
+-- ---- what is kept in memory
+pub keeps_behind : (result : Result Unit Fault) (was mid now : Parts) → mid.rest ≡ was.rest → OnOk result (KeepsFront mid now × IsSent now) → OnOk result (KeepsFront was now × IsSent now)
+keeps_behind result was mid now rest keeps = ok_weaker result keeps (λ both. (
+  record {
+    keeps = record { begun = both.0.keeps.begun; suffixes = both.0.keeps.suffixes ∙ ap suffixes_in rest };
+    front = both.0.front ∙ ap front_in rest;
+  },
+  both.1,
+))

@@ -1,0 +1,498 @@
+-- What one turn makes of a state is a crawl: the offers that are entered, the notes that are kept, the outcomes that are settled,
+-- and what is judged then.
+use Rattle.std.proofs.Common.{◌≡◌, ◌∙◌, ℕ, ◌+◌, ◌-◌, ◌≤◌, List, [], ◌∷◌, ◌++◌, map, length, take, drop, refl, sym, ap, subst, arith, append_assoc, ◌⊎◌, inl, inr}
+use Rattle.std.specs.Prelude.{flat_map, ⊤}
+use Rattle.std.specs.List.{AllByRecursion, Contains}
+use Rattle.std.specs.List.Sorted.{IsPermutation}
+use Rattle.std.proofs.lemmas.Grind.{flat_map-append}
+use Rattle.std.proofs.lemmas.List.{append-nil, length-map, take_all}
+use Rattle.std.proofs.lemmas.List.Elements.{All-contains, Contains-append_cases, Contains-append_left, Contains-append_right}
+use Rattle.std.proofs.lemmas.List.Sorted.{Contains-permutation, IsPermutation-sym, length_permutation}
+use Rattle.irl_answer.specs.Found.{offers_of}
+use Rattle.irl_answer.specs.Outcomes.{outcome_of}
+use Rattle.irl_base.proofs.Among.{among_trans}
+use Rattle.irl_base.specs.Among.{IsAmong}
+use Rattle.irl_core.specs.States.{url_text}
+use Rattle.irl_events.specs.Events.{Event, Begin, Pairs, Pass, Robots, Settle, Happened}
+use Rattle.irl_events.specs.State.{State, IsFrontState}
+use Rattle.irl_fetch.specs.Handling.{Fetched, Denied, Handled, IsGiven, IsNoted, Noted, ShutOut, Treated, done_of, entered_of, leave_for, outcome_for}
+use Rattle.irl_key.specs.Web.{host_of, target_of}
+use Rattle.irl_key.specs.declared.web.Work.{Work}
+use Rattle.irl_ledger.specs.Settling.{outcomes_of as outcomes_from}
+use Rattle.irl_model.specs.Book.{ArePrefixes, lengths_of, list_lengths, stretch}
+use Rattle.irl_offer.specs.Offering.{Entered}
+use Rattle.irl_offer.specs.Tuple.{Tuple}
+use Rattle.irl_offer.specs.declared.done.Done.{Done}
+use Rattle.irl_offer.specs.declared.note.Note.{Note}
+use Rattle.irl_offer.specs.declared.outcome.Outcome.{Outcome}
+use Rattle.irl_offer.specs.declared.settings.Settings.{Settings}
+use Rattle.irl_polite.specs.Schedule.{Schedule, host}
+use Rattle.irl_reach.proofs.Growing.{all_of, drop_front, made_fronts}
+use Rattle.irl_reach.proofs.Members.{all_from, all_member, drop_member, first_member, flat_cases, flat_left, flat_member, later_member, map_cases, map_member, member_cases, no_member}
+use Rattle.irl_reach.proofs.Turns.{crawls_quiet}
+use Rattle.irl_reach.specs.Along.{notes_in, notes_of, outcomes_of, settled_in}
+use Rattle.irl_reach.specs.Crawls.{ComesOf, IsSettled, LeavesNone, Visit, added_to, found_by, offers_below}
+use Rattle.irl_reach.specs.Tapes.{IsNoteBy}
+use Rattle.irl_record.specs.Widening.{Answers}
+use Rattle.irl_robots.specs.Leave.{leave, leave_of}
+use Rattle.irl_yard.specs.Adding.{notes_happened, with_event, with_notes}
+use Rattle.irl_crawl.specs.Judging.{IsJudged, IsOfPairs, OnlyJudges}
+use Rattle.irl_crawl.specs.Offering.{HasOffers, OnlyOffers, offers_in}
+use Rattle.irl_crawl.specs.Turning.{AreBatches, OnlyTurns, TurnsWhole, events_since, input_of}
+use Rattle.irl_crawl.specs.Workers.{loaded}
+use Rattle.irl_crawl.specs.Working.{HasBegunOne, KnowAsNoted}
+use Rattle.irl_crawl.proofs.Numbers.{loaded_most}
+use Rattle.irl_crawl.proofs.Visits.{TurnOf, are_visits, begun_visits, found_among, found_handled, handled_loaded, is_handled, leave_read, noted_among, noted_by, notes_from, visits_for, visits_front, visits_in, visits_of, visits_once, work_text}
+
+-- ---- events of a turn
+-- a note that answers give, or sent pairs
+abbrev pub IsPlain : Answers → Event → Type 0
+IsPlain gives (Begin suffixes) = ⊥
+IsPlain gives (Pairs cuts judged pairs) = ⊤
+IsPlain gives (Pass judged) = ⊥
+IsPlain gives (Robots note) = IsNoteBy gives note.host note.state
+IsPlain gives (Settle fronts outcomes) = ⊥
+
+-- or what is settled
+abbrev pub IsOfTurn : Answers → Event → Type 0
+IsOfTurn gives (Begin suffixes) = ⊥
+IsOfTurn gives (Pairs cuts judged pairs) = ⊤
+IsOfTurn gives (Pass judged) = ⊥
+IsOfTurn gives (Robots note) = IsNoteBy gives note.host note.state
+IsOfTurn gives (Settle fronts outcomes) = ⊤
+
+module _ (gives : Answers) where
+  plain_turn : (event : Event) → IsPlain gives event → IsOfTurn gives event
+  plain_turn (Begin suffixes) is = is
+  plain_turn (Pairs cuts judged pairs) is = is
+  plain_turn (Pass judged) is = is
+  plain_turn (Robots note) is = is
+  plain_turn (Settle fronts outcomes) is = tt
+
+  plain_unsettled : (event : Event) → IsPlain gives event → outcomes_of event ≡ []
+  plain_unsettled (Begin suffixes) is = refl
+  plain_unsettled (Pairs cuts judged pairs) is = refl
+  plain_unsettled (Pass judged) is = refl
+  plain_unsettled (Robots note) is = refl
+  plain_unsettled (Settle fronts outcomes) is = absurd is
+
+  pairs_plain : (event : Event) → IsOfPairs event → IsPlain gives event
+  pairs_plain (Begin suffixes) is = is
+  pairs_plain (Pairs cuts judged pairs) is = is
+  pairs_plain (Pass judged) is = is
+  pairs_plain (Robots note) is = absurd is
+  pairs_plain (Settle fronts outcomes) is = is
+
+  note_turn : (event : Event) (note : Note) → IsOfTurn gives event → Contains (notes_of event) note → IsNoteBy gives note.host note.state
+  note_turn (Begin suffixes) note is c = absurd is
+  note_turn (Pairs cuts judged pairs) note is c = absurd (no_member note c)
+  note_turn (Pass judged) note is c = absurd is
+  note_turn (Robots other) note is c = elim (member_cases other [] note c) [
+    | inl same ↦ subst (λ (n : Note). IsNoteBy gives n.host n.state) same is
+    | inr none ↦ absurd (no_member note none)
+  ]
+  note_turn (Settle fronts outcomes) note is c = absurd (no_member note c)
+
+  notes_plain : (noted : List Noted) → ((one : Noted) → Contains noted one → IsNoted gives one) → AllByRecursion (λ (h : Happened). IsPlain gives h.0) (notes_happened (notes_from noted))
+  notes_plain [] each = tt
+  notes_plain (one ∷ noted) each = (noted_by gives one (each one (first_member one noted)), notes_plain noted (λ other c. each other (later_member one noted other c)))
+
+  none_settled : (hs : List Happened) → AllByRecursion (λ (h : Happened). IsPlain gives h.0) hs → settled_in hs ≡ []
+  none_settled [] plain = refl
+  none_settled (h ∷ hs) plain = ap (λ ds. ds ++ settled_in hs) (plain_unsettled h.0 plain.0) ∙ none_settled hs plain.1
+
+  -- the one settle stands where it is
+  record StandsAlone (hs earlier : List Happened) (g h : Happened) : Type 0 where
+    before : earlier ≡ hs
+    same : h ≡ g
+
+  stands_alone : (hs ks : List Happened) (g h : Happened) (earlier later : List Happened) → AllByRecursion (λ (k : Happened). IsPlain gives k.0) hs
+      → AllByRecursion (λ (k : Happened). IsPlain gives k.0) ks → (IsPlain gives h.0 → ⊥) → hs ++ g ∷ ks ≡ earlier ++ h ∷ later → StandsAlone hs earlier g h
+  stands_alone [] ks g h [] later left right settles is =
+      let same : g ≡ h = cc in
+      record { before = refl; same = sym same }
+  stands_alone [] ks g h (e ∷ earlier) later left right settles is =
+      let rest : ks ≡ earlier ++ h ∷ later = ap (drop 1) is in
+      let there : Contains ks h = subst (λ l. Contains l h) (sym rest) (Contains-append_right earlier (h ∷ later) h (first_member h later)) in
+      absurd (settles (all_member (λ (k : Happened). IsPlain gives k.0) ks h right there))
+  stands_alone (k ∷ hs) ks g h [] later left right settles is =
+      let same : k ≡ h = cc in
+      absurd (settles (subst (λ (w : Happened). IsPlain gives w.0) same left.0))
+  stands_alone (k ∷ hs) ks g h (e ∷ earlier) later left right settles is =
+      let same : k ≡ e = cc in
+      let rest : hs ++ g ∷ ks ≡ earlier ++ h ∷ later = ap (drop 1) is in
+      let at = stands_alone hs ks g h earlier later left.1 right settles rest in
+      record { before = ap (λ w. w ∷ earlier) (sym same) ∙ ap (λ l. k ∷ l) at.before; same = at.same }
+
+all_both : {X : Type 0} (P : X → Type 0) (xs ys : List X) → AllByRecursion P xs → AllByRecursion P ys → AllByRecursion P (xs ++ ys)
+all_both P [] ys left right = right
+all_both P (x ∷ xs) ys left right = (left.0, all_both P xs ys left.1 right)
+
+all_weaker : {X : Type 0} (P Q : X → Type 0) (xs : List X) → ((x : X) → P x → Q x) → AllByRecursion P xs → AllByRecursion Q xs
+all_weaker P Q [] weaker all = tt
+all_weaker P Q (x ∷ xs) weaker all = (weaker x all.0, all_weaker P Q xs weaker all.1)
+
+pub since_are : (x y : State) (more : List Happened) → y.events ≡ x.events ++ more → events_since x y ≡ more
+since_are x y more is = ap (drop (length x.events)) is ∙ drop_front x.events more
+
+-- an event settles no more than all do
+pub batches_within : (most : ℕ) (hs : List Happened) → length (settled_in hs) ≤ most → AreBatches most hs
+batches_within most [] le = tt
+batches_within most (h ∷ hs) le =
+    let both : length (outcomes_of h.0 ++ settled_in hs) ≡ length (outcomes_of h.0) + length (settled_in hs) = length_both (outcomes_of h.0) (settled_in hs) in
+    (omega (arith, le, both), batches_within most hs (omega (arith, le, both)))
+  where
+    length_both : {X : Type 0} (xs ys : List X) → length (xs ++ ys) ≡ length xs + length ys
+    length_both [] ys = omega arith
+    length_both (z ∷ xs) ys =
+        let rest = length_both xs ys in
+        omega (arith, rest)
+
+-- ---- lists of offers
+-- all that is listed stands below the lengths of the lists
+below_lengths : (firsts : List ℕ) (lists : List (List Tuple)) (offer : Tuple) → length lists ≤ length firsts → Contains (all_of lists) offer
+    → Contains (stretch firsts firsts (list_lengths firsts lists) lists) offer
+below_lengths [] [] offer le c = c
+below_lengths [] (list ∷ lists) offer le c = absurd (omega arith)
+below_lengths (first ∷ firsts) [] offer le c = absurd (no_member offer c)
+below_lengths (first ∷ firsts) (list ∷ lists) offer le c =
+    let rest = stretch firsts firsts (list_lengths firsts lists) lists in
+    let none : first - first ≡ 0 = omega arith in
+    let long : first + length list - first ≡ length list = omega arith in
+    let whole : drop (first - first) (take (first + length list - first) list) ≡ list =
+    ap (λ n. drop n (take (first + length list - first) list)) none ∙ take_all (first + length list - first) list (omega (arith, long)) in
+    elim (Contains-append_cases list (all_of lists) offer c) [
+      | inl here ↦ Contains-append_left _ rest offer (subst (λ l. Contains l offer) (sym whole) here)
+      | inr there ↦ Contains-append_right _ rest offer (below_lengths firsts lists offer (omega arith) there)
+    ]
+
+-- what is added is listed
+added_listed : (lists more : List (List Tuple)) (offer : Tuple) → Contains (added_to lists more) offer → Contains (all_of more) offer
+added_listed lists [] offer c = c
+added_listed [] (m ∷ more) offer c = elim (Contains-append_cases m (added_to [] more) offer c) [
+  | inl here ↦ Contains-append_left m (all_of more) offer here
+  | inr there ↦ Contains-append_right m (all_of more) offer (added_listed [] more offer there)
+]
+added_listed (list ∷ lists) (m ∷ more) offer c = elim (Contains-append_cases (drop (length list) m) (added_to lists more) offer c) [
+  | inl here ↦ Contains-append_left m (all_of more) offer (drop_member (length list) m offer here)
+  | inr there ↦ Contains-append_right m (all_of more) offer (added_listed lists more offer there)
+]
+
+prefixes_long : (lists more : List (List Tuple)) → ArePrefixes lists more → length more ≡ length lists
+prefixes_long [] [] h = refl
+prefixes_long [] (m ∷ more) h = absurd h
+prefixes_long (list ∷ lists) [] h = absurd h
+prefixes_long (list ∷ lists) (m ∷ more) h =
+    let rest = prefixes_long lists more h.1 in
+    omega (arith, rest)
+
+-- ---- where nothing was done
+pub turns_none : (gives : Answers) (agent suffixes : List ℕ) (settings : Settings) (most : ℕ) (x : State) → OnlyTurns gives agent suffixes settings most x x
+turns_none gives agent suffixes settings most x =
+    let none : events_since x x ≡ [] = since_are x x [] (sym (append-nil x.events)) in
+    record {
+      visits = [];
+      crawls = crawls_quiet (input_of suffixes []) gives agent [] x x refl refl;
+      front = tt;
+      batch = subst (λ hs. AreBatches most hs) (sym none) tt;
+      settled = subst (λ hs. length (settled_in hs) ≤ most) (sym none) (omega arith);
+    }
+
+-- ---- a turn
+module _ {gives : Answers} {agent suffixes : List ℕ} {settings : Settings} {most : ℕ} {x : State} {befores : List Schedule} {handled : List Handled} {noted : List Noted}
+    {left : List Work} {part : List Entered} (it : TurnOf gives agent suffixes settings most x befores handled noted left part) where
+  -- by what it added, its events, and what they settle
+  turns_by : (y : State) (more : List Happened) → IsFrontState x y → IsAmong (added_to x.urls.lists y.urls.lists) (offers_in (flat_map entered_of handled ++ part)) → y.events ≡ x.events ++ more
+      → AllByRecursion (λ (h : Happened). IsOfTurn gives h.0) more → ((earlier later : List Happened) (h : Happened) (fronts : List ℕ) (outcomes : List (ℕ × Outcome)) → more ≡ earlier ++ h ∷ later
+      → h.0 ≡ Settle fronts outcomes → AllByRecursion (λ d. IsSettled suffixes agent (visits_in it) y.urls (x.events ++ earlier) fronts d.0 d.1) outcomes)
+      → length (settled_in more) ≤ most → OnlyTurns gives agent suffixes settings most x y
+  turns_by y more front among events told settled few =
+      let since : events_since x y ≡ more = since_are x y more events in
+      record {
+        visits = visits_in it;
+        crawls = record {
+          once = visits_once it;
+          visited = are_visits it y front;
+          offers = among_trans among (found_among it y front);
+          more = more;
+          events = events;
+          begun = λ h text there is.
+              let no : IsOfTurn gives (Begin text) = subst (λ e. IsOfTurn gives e) is (all_member (λ (g : Happened). IsOfTurn gives g.0) more h told there) in
+              absurd no;
+          notes = λ note there.
+              let from = flat_cases (λ (g : Happened). notes_of g.0) more note there in
+              note_turn gives from.0.0 note (all_member (λ (g : Happened). IsOfTurn gives g.0) more from.0 told from.1) from.2;
+          settled = settled;
+        };
+        front = visits_front it;
+        batch = subst (λ hs. AreBatches most hs) (sym since) (batches_within most more few);
+        settled = subst (λ hs. length (settled_in hs) ≤ most) (sym since) few;
+      }
+
+  -- where nothing is settled
+  turns_plain : (y : State) (more : List Happened) → IsFrontState x y → IsAmong (added_to x.urls.lists y.urls.lists) (offers_in (flat_map entered_of handled ++ part)) → y.events ≡ x.events ++ more
+      → AllByRecursion (λ (h : Happened). IsPlain gives h.0) more → OnlyTurns gives agent suffixes settings most x y
+  turns_plain y more front among events plain =
+      turns_by y more front among events
+      (all_weaker (λ (h : Happened). IsPlain gives h.0) (λ (h : Happened). IsOfTurn gives h.0) more (λ h. plain_turn gives h.0) plain)
+      (λ earlier later h fronts outcomes at is.
+      let there : Contains more h = subst (λ l. Contains l h) (sym at) (Contains-append_right earlier (h ∷ later) h (first_member h later)) in
+      let no : IsPlain gives (Settle fronts outcomes) = subst (λ e. IsPlain gives e) is (all_member (λ (g : Happened). IsPlain gives g.0) more h plain there) in
+      absurd no)
+      (subst (λ ds. length ds ≤ most) (sym (none_settled gives more plain)) (omega arith))
+
+  -- what the workers entered is offered, or some of it
+  pub offers_turn : (b : State) → IsFrontState x b → OnlyOffers (flat_map entered_of handled ++ part) x b → OnlyTurns gives agent suffixes settings most x b
+  offers_turn b front only =
+      let events : b.events ≡ x.events ++ [] = ap (λ (s : State). s.events) only.others ∙ sym (append-nil x.events) in
+      turns_plain b [] front only.among events tt
+
+  -- and the notes are kept
+  pub notes_turn : (b n : State) → IsFrontState x n → OnlyOffers (flat_map entered_of handled ++ part) x b → n ≡ with_notes (notes_from noted) b → OnlyTurns gives agent suffixes settings most x n
+  notes_turn b n front only is =
+      let events : n.events ≡ x.events ++ notes_happened (notes_from noted) =
+      ap (λ (s : State). s.events) is ∙ ap (λ (s : State). s.events ++ notes_happened (notes_from noted)) only.others in
+      let lists : n.urls.lists ≡ b.urls.lists = ap (λ (s : State). s.urls.lists) is in
+      turns_plain n (notes_happened (notes_from noted)) front
+      (subst (λ ls. IsAmong (added_to x.urls.lists ls) (offers_in (flat_map entered_of handled ++ part))) (sym lists) only.among) events
+      (notes_plain gives noted (λ one there. All-contains (IsNoted gives) noted one it.worked.notes there))
+
+-- ---- a turn in which all was done
+module _ {gives : Answers} {agent suffixes : List ℕ} {settings : Settings} {most : ℕ} {x : State} {befores : List Schedule} {handled : List Handled} {noted : List Noted}
+    (it : TurnOf gives agent suffixes settings most x befores handled noted [] []) where
+  abbrev entries : List Entered
+  entries = flat_map entered_of handled
+
+  abbrev settles : List (ℕ × Outcome)
+  settles = outcomes_from (map done_of handled)
+
+  pub whole_offers_turn : (b : State) → IsFrontState x b → OnlyOffers (flat_map entered_of handled) x b → OnlyTurns gives agent suffixes settings most x b
+  whole_offers_turn b front only = offers_turn it b front (subst (λ es. OnlyOffers es x b) (sym (append-nil (flat_map entered_of handled))) only)
+
+  pub whole_notes_turn : (b n : State) → IsFrontState x n → OnlyOffers (flat_map entered_of handled) x b → n ≡ with_notes (notes_from noted) b → OnlyTurns gives agent suffixes settings most x n
+  whole_notes_turn b n front only is = notes_turn it b n front (subst (λ es. OnlyOffers es x b) (sym (append-nil (flat_map entered_of handled))) only) is
+
+  settled_few : length settles ≤ most
+  settled_few =
+      let done : length (outcomes_from (map done_of handled)) ≡ length handled = length-map (map done_of handled) (λ (d : Done). (d.number, d.outcome)) ∙ length-map handled done_of in
+      let works : length (map (λ (one : Handled). one.work) handled ++ []) ≡ length (loaded befores) =
+      length_permutation (loaded befores) (map (λ (one : Handled). one.work) handled ++ []) it.worked.items in
+      let all : length (map (λ (one : Handled). one.work) handled ++ []) ≡ length handled =
+      ap length (append-nil (map (λ (one : Handled). one.work) handled)) ∙ length-map handled (λ (one : Handled). one.work) in
+      let names : length (map (λ (work : Work). work.number) (loaded befores)) ≡ length (loaded befores) = length-map (loaded befores) (λ (work : Work). work.number) in
+      let most_are = loaded_most settings x it.store most it.numbers (map (λ (work : Work). work.number) (loaded befores)) it.first it.each in
+      omega (arith, done, works, all, names, most_are)
+
+  module _ (b : State) (begins : IsFrontState x b) (only : OnlyOffers (flat_map entered_of handled) x b) (offered : HasOffers (flat_map entered_of handled) x b)
+      (y : State) (front : IsFrontState x y) (lists : y.urls.lists ≡ b.urls.lists) where
+    firsts_are : y.urls.firsts ≡ b.urls.firsts
+    firsts_are = (made_fronts settings x y it.store front).urls.firsts ∙ sym (made_fronts settings x b it.store begins).urls.firsts
+
+    -- each offer that was entered stands below the lengths of the lists
+    entered_below : (offer : Tuple) → Contains (offers_in entries) offer → Contains (offers_below (lengths_of b.urls) y.urls) offer
+    entered_below offer there =
+        let added : Contains (added_to x.urls.lists b.urls.lists) offer =
+        Contains-permutation (offers_in entries) (added_to x.urls.lists b.urls.lists) offer (IsPermutation-sym (added_to x.urls.lists b.urls.lists) (offers_in entries) offered.all) there in
+        let fronts = made_fronts settings x b it.store begins in
+        let long : length b.urls.lists ≡ length x.urls.lists = prefixes_long x.urls.lists b.urls.lists fronts.urls.lists in
+        let firsts : length b.urls.firsts ≡ length x.urls.firsts = ap length fronts.urls.firsts in
+        let book = it.store.book in
+        let same : length x.urls.firsts ≡ length x.urls.lists = book.firsts ∙ sym book.lists in
+        let here = below_lengths b.urls.firsts b.urls.lists offer (omega (arith, long, firsts, same)) (added_listed x.urls.lists b.urls.lists offer added) in
+        subst (λ fs. Contains (stretch fs fs (lengths_of b.urls) y.urls.lists) offer) (sym firsts_are)
+        (subst (λ ls. Contains (stretch b.urls.firsts b.urls.firsts (lengths_of b.urls) ls) offer) (sym lists) here)
+
+    -- what came of an item
+    comes : (work : Work) (treated : Treated) → Contains handled (record { work = work; treated = treated }) → work.web ≡ url_text y.urls work.number → IsGiven gives suffixes work.web treated
+        → ComesOf suffixes (visits_in it) y.urls (lengths_of b.urls) (leave_for treated) work.number (outcome_for work.web treated)
+    comes work (Fetched answer entered) there text given =
+        let visit : Visit = record { number = work.number; answer = answer } in
+        let visited : Contains (visits_in it) visit =
+        Contains-append_left (flat_map visits_of handled) _ visit
+        (flat_member visits_of handled (record { work = work; treated = Fetched answer entered }) visit there (first_member visit [])) in (
+          visit,
+          visited,
+          refl,
+          ap (λ t. outcome_of t answer) text,
+          λ offer found.
+              let named : Contains (map (λ (e : Entered). e.offer) entered) offer =
+              subst (λ os. Contains os offer) (sym (given.1 ∙ ap (λ t. offers_of suffixes t answer) text)) found in
+              let from = map_cases (λ (e : Entered). e.offer) entered offer named in
+              let all : Contains entries from.0 = flat_member entered_of handled (record { work = work; treated = Fetched answer entered }) from.0 there from.1 in
+              entered_below offer (subst (λ o. Contains (offers_in entries) o) from.2 (map_member (λ (e : Entered). e.offer) entries from.0 all)),
+        )
+    comes work (Denied line) there text given = refl
+    comes work ShutOut there text given = refl
+
+    settled_one : (one : Handled) → Contains handled one
+        → IsSettled suffixes agent (visits_in it) y.urls (x.events ++ notes_happened (notes_from noted)) (lengths_of b.urls) one.work.number (outcome_for one.work.web one.treated)
+    settled_one one there =
+        let is = is_handled it one there in
+        let text : one.work.web ≡ url_text y.urls one.work.number = work_text it y front one.work (handled_loaded it one there) in
+        let told = noted_among agent x.events befores noted (host one.work) is.state it.known is.noted in
+        let allowed : leave told.0.state agent (target_of one.work.web) ≡ leave_for one.treated =
+        leave_read told.0.state agent (target_of one.work.web) ∙ ap (λ state. leave_of state (target_of one.work.web)) told.3 ∙ is.leave in
+        let came = comes one.work one.treated there text is.given in
+        record {
+          note = told.0;
+          noted = told.1;
+          host = told.2 ∙ ap host_of text;
+          comes = subst (λ t. ComesOf suffixes (visits_in it) y.urls (lengths_of b.urls) (leave told.0.state agent (target_of t)) one.work.number (outcome_for one.work.web one.treated)) text
+              (subst (λ l. ComesOf suffixes (visits_in it) y.urls (lengths_of b.urls) l one.work.number (outcome_for one.work.web one.treated)) (sym allowed) came);
+        }
+
+    settled_each : (d : ℕ × Outcome) → Contains settles d
+        → IsSettled suffixes agent (visits_in it) y.urls (x.events ++ notes_happened (notes_from noted)) (lengths_of b.urls) d.0 d.1
+    settled_each d there =
+        let done = map_cases (λ (e : Done). (e.number, e.outcome)) (map done_of handled) d there in
+        let from = map_cases done_of handled done.0 done.1 in
+        let same : (from.0.work.number, outcome_for from.0.work.web from.0.treated) ≡ d = ap (λ (e : Done). (e.number, e.outcome)) from.2 ∙ done.2 in
+        subst (λ (e : ℕ × Outcome). IsSettled suffixes agent (visits_in it) y.urls (x.events ++ notes_happened (notes_from noted)) (lengths_of b.urls) e.0 e.1) same (settled_one from.0 from.1)
+
+    module _ (pairs : List Happened) (of_pairs : AllByRecursion (λ (h : Happened). IsOfPairs h.0) pairs) where
+      abbrev notes : List Happened
+      notes = notes_happened (notes_from noted)
+
+      abbrev settling : Happened
+      settling = (Settle (lengths_of b.urls) settles, [])
+
+      abbrev more : List Happened
+      more = notes ++ settling ∷ pairs
+
+      plain_notes : AllByRecursion (λ (h : Happened). IsPlain gives h.0) notes
+      plain_notes = notes_plain gives noted (λ one there. All-contains (IsNoted gives) noted one it.worked.notes there)
+
+      plain_pairs : AllByRecursion (λ (h : Happened). IsPlain gives h.0) pairs
+      plain_pairs = all_weaker (λ (h : Happened). IsOfPairs h.0) (λ (h : Happened). IsPlain gives h.0) pairs (λ h. pairs_plain gives h.0) of_pairs
+
+      of_turn : AllByRecursion (λ (h : Happened). IsOfTurn gives h.0) more
+      of_turn =
+          let turned : (hs : List Happened) → AllByRecursion (λ (h : Happened). IsPlain gives h.0) hs → AllByRecursion (λ (h : Happened). IsOfTurn gives h.0) hs =
+          λ hs. all_weaker (λ (h : Happened). IsPlain gives h.0) (λ (h : Happened). IsOfTurn gives h.0) hs (λ h. plain_turn gives h.0) in
+          all_both (λ (h : Happened). IsOfTurn gives h.0) notes (settling ∷ pairs) (turned notes plain_notes) (tt, turned pairs plain_pairs)
+
+      settled_are : settled_in more ≡ settles
+      settled_are =
+          flat_map-append (λ (h : Happened). outcomes_of h.0) notes (settling ∷ pairs) ∙ ap (λ ds. ds ++ (settles ++ settled_in pairs)) (none_settled gives notes plain_notes)
+          ∙ ap (λ ds. settles ++ ds) (none_settled gives pairs plain_pairs) ∙ append-nil settles
+
+      settled_at : (earlier later : List Happened) (h : Happened) (fronts : List ℕ) (outcomes : List (ℕ × Outcome)) → more ≡ earlier ++ h ∷ later → h.0 ≡ Settle fronts outcomes
+          → AllByRecursion (λ d. IsSettled suffixes agent (visits_in it) y.urls (x.events ++ earlier) fronts d.0 d.1) outcomes
+      settled_at earlier later h fronts outcomes at is =
+          let alone = stands_alone gives notes pairs settling h earlier later plain_notes plain_pairs (λ plain. subst (λ e. IsPlain gives e) is plain) at in
+          let event : Settle (lengths_of b.urls) settles ≡ Settle fronts outcomes = ap (λ (g : Happened). g.0) (sym alone.same) ∙ is in
+          let fronts_are : lengths_of b.urls ≡ fronts = cc in
+          let outcomes_are : settles ≡ outcomes = cc in
+          subst (λ fs. AllByRecursion (λ (d : ℕ × Outcome). IsSettled suffixes agent (visits_in it) y.urls (x.events ++ earlier) fs d.0 d.1) outcomes) fronts_are
+          (subst (λ ds. AllByRecursion (λ (d : ℕ × Outcome). IsSettled suffixes agent (visits_in it) y.urls (x.events ++ earlier) (lengths_of b.urls) d.0 d.1) ds) outcomes_are
+          (subst (λ hs. AllByRecursion (λ (d : ℕ × Outcome). IsSettled suffixes agent (visits_in it) y.urls (x.events ++ hs) (lengths_of b.urls) d.0 d.1) settles) (sym alone.before)
+          (all_from (λ (d : ℕ × Outcome). IsSettled suffixes agent (visits_in it) y.urls (x.events ++ notes) (lengths_of b.urls) d.0 d.1) settles settled_each)))
+
+      settled_turn : y.events ≡ x.events ++ more → OnlyTurns gives agent suffixes settings most x y
+      settled_turn events =
+          let among : IsAmong (added_to x.urls.lists y.urls.lists) (offers_in (flat_map entered_of handled ++ [])) =
+          subst (λ es. IsAmong (added_to x.urls.lists y.urls.lists) (offers_in es)) (sym (append-nil (flat_map entered_of handled)))
+          (subst (λ ls. IsAmong (added_to x.urls.lists ls) (offers_in entries)) (sym lists) only.among) in
+          turns_by it y more front among events of_turn settled_at (subst (λ ds. length ds ≤ most) (sym settled_are) settled_few)
+
+      -- ---- nothing is left over
+      begun_none : (begun : ([] ≡ []) ⊎ HasBegunOne gives agent suffixes noted [] [] befores) → flat_map visits_of handled ++ begun_visits begun ≡ flat_map visits_of handled
+      begun_none (inl none) = append-nil (flat_map visits_of handled)
+      begun_none (inr one) =
+          let long : length (one.work ∷ one.others) ≡ 0 = length_permutation [] (one.work ∷ one.others) one.is_left in
+          absurd (omega (arith, long))
+
+      visits_are : visits_in it ≡ flat_map visits_of handled
+      visits_are = begun_none it.one_begun
+
+      visit_settled : (visit : Visit) → Contains (flat_map visits_of handled) visit → Contains (map (λ (d : ℕ × Outcome). d.0) settles) visit.number
+      visit_settled visit there =
+          let from = flat_cases visits_of handled visit there in
+          let one = from.0 in
+          let done : Contains settles (one.work.number, outcome_for one.work.web one.treated) =
+          map_member (λ (e : Done). (e.number, e.outcome)) (map done_of handled) (done_of one) (map_member done_of handled one from.1) in
+          subst (λ n. Contains (map (λ (d : ℕ × Outcome). d.0) settles) n) (by one.work.number one.treated from.2)
+          (map_member (λ (d : ℕ × Outcome). d.0) settles (one.work.number, outcome_for one.work.web one.treated) done)
+        where
+          by : (number : ℕ) (treated : Treated) → Contains (visits_for number treated) visit → number ≡ visit.number
+          by number (Fetched answer entered) c = elim (member_cases (record { number = number; answer = answer }) [] visit c) [
+            | inl same ↦ ap (λ (v : Visit). v.number) same
+            | inr none ↦ absurd (no_member visit none)
+          ]
+          by number (Denied line) c = absurd (no_member visit c)
+          by number ShutOut c = absurd (no_member visit c)
+
+      module _ (events : y.events ≡ x.events ++ more) where
+        since : events_since x y ≡ more
+        since = since_are x y more events
+
+        settled_leaves : LeavesNone (input_of suffixes []) (visits_in it) x y
+        settled_leaves = record {
+          offers =
+              let found : offers_in entries ≡ flat_map (found_by suffixes y.urls) (visits_in it) =
+              found_handled it y front ∙ ap (λ vs. flat_map (found_by suffixes y.urls) vs) (sym visits_are) in
+              subst (λ os. IsPermutation (added_to x.urls.lists y.urls.lists) os) found
+              (subst (λ ls. IsPermutation (added_to x.urls.lists ls) (offers_in entries)) (sym lists) offered.all);
+          settled =
+              all_from (λ (visit : Visit). Contains (map (λ d. d.0) (settled_in (drop (length x.events) y.events))) visit.number) (visits_in it) (λ visit v.
+              subst (λ ds. Contains (map (λ (d : ℕ × Outcome). d.0) ds) visit.number) (sym (ap settled_in since ∙ settled_are))
+              (visit_settled visit (subst (λ vs. Contains vs visit) visits_are v)));
+        }
+
+        settled_whole : (afters : List Schedule) → IsJudged settings y → KnowAsNoted agent noted befores afters
+            → TurnsWhole (length handled) agent suffixes settings (visits_in it) afters x y
+        settled_whole afters judged knows = record {
+          leaves = settled_leaves;
+          count_is = sym (ap length (ap settled_in since ∙ settled_are)
+              ∙ length-map (map done_of handled) (λ (d : Done). (d.number, d.outcome)) ∙ length-map handled done_of);
+          judged = judged;
+          known = λ at front is name known has.
+              let told = noted_among agent x.events befores noted name known.state it.known (knows at front is name known has) in
+              let place : y.events ≡ (x.events ++ notes) ++ settling ∷ pairs = events ∙ sym (append_assoc x.events notes (settling ∷ pairs)) in
+              let wider : Contains (notes_in ((x.events ++ notes) ++ settling ∷ pairs)) told.0 =
+              flat_left (λ (h : Happened). notes_of h.0) (x.events ++ notes) (settling ∷ pairs) told.0 told.1 in
+              (told.0, subst (λ hs. Contains (notes_in hs) told.0) (sym place) wider, told.2, told.3);
+        }
+
+  -- ---- by what the calls leave
+  module _ (b n s : State) (begins : IsFrontState x b) (only : OnlyOffers (flat_map entered_of handled) x b) (offered : HasOffers (flat_map entered_of handled) x b)
+      (kept : n ≡ with_notes (notes_from noted) b) (done : s ≡ with_event (Settle (lengths_of b.urls) (outcomes_from (map done_of handled))) [] n) where
+    settled_events : s.events ≡ (x.events ++ notes_happened (notes_from noted)) ++ (Settle (lengths_of b.urls) (outcomes_from (map done_of handled)), []) ∷ []
+    settled_events =
+        let settling : Happened = (Settle (lengths_of b.urls) (outcomes_from (map done_of handled)), []) in
+        let first : n.events ≡ x.events ++ notes_happened (notes_from noted) =
+        ap (λ (z : State). z.events) kept ∙ ap (λ (z : State). z.events ++ notes_happened (notes_from noted)) only.others in
+        ap (λ (z : State). z.events) done ∙ ap (λ hs. hs ++ settling ∷ []) first
+
+    settled_lists : s.urls.lists ≡ b.urls.lists
+    settled_lists = ap (λ (z : State). z.urls.lists) done ∙ ap (λ (z : State). z.urls.lists) kept
+
+    -- the outcomes are settled
+    pub settles_turn : IsFrontState x s → OnlyTurns gives agent suffixes settings most x s
+    settles_turn front =
+        settled_turn b begins only offered s front settled_lists [] tt
+        (settled_events ∙ append_assoc x.events (notes_happened (notes_from noted)) ((Settle (lengths_of b.urls) (outcomes_from (map done_of handled)), []) ∷ []))
+
+    -- and what is unjudged is judged, or some of it
+    module _ (y : State) (front : IsFrontState x y) (judges : OnlyJudges s y) where
+      judged_lists : y.urls.lists ≡ b.urls.lists
+      judged_lists = judges.lists ∙ settled_lists
+
+      judged_events : y.events
+          ≡ x.events ++ (notes_happened (notes_from noted) ++ (Settle (lengths_of b.urls) (outcomes_from (map done_of handled)), []) ∷ judges.more)
+      judged_events =
+          let notes = notes_happened (notes_from noted) in
+          let settling : Happened = (Settle (lengths_of b.urls) (outcomes_from (map done_of handled)), []) in
+          judges.events ∙ ap (λ hs. hs ++ judges.more) settled_events ∙ append_assoc (x.events ++ notes) (settling ∷ []) judges.more
+          ∙ append_assoc x.events notes (settling ∷ judges.more)
+
+      pub judges_turn : OnlyTurns gives agent suffixes settings most x y
+      judges_turn = settled_turn b begins only offered y front judged_lists judges.more judges.pairs judged_events
+
+      pub whole_turn : (afters : List Schedule) → IsJudged settings y → KnowAsNoted agent noted befores afters
+          → (turns : OnlyTurns gives agent suffixes settings most x y) × TurnsWhole (length handled) agent suffixes settings turns.visits afters x y
+      unfolding judges_turn settled_turn turns_by
+      whole_turn afters judged knows = (
+        judges_turn,
+        settled_whole b begins only offered y front judged_lists judges.more judges.pairs judged_events afters judged knows,
+      )

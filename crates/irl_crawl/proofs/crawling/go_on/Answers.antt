@@ -1,0 +1,64 @@
+use Rattle.std.proofs.Common.{◌≡◌, ◌∙◌, ◌≤◌, ℕ, List, length, refl, sym, subst, arith}
+use Rattle.irl_schedule.proofs.Outcomes.{ok_gives}
+use Rattle.irl_crawl.proofs.Going.{all_go_then}
+use Rattle.irl_crawl.proofs.Looping.{runs_done, runs_first, runs_limit, runs_next, runs_stop}
+use Rattle.irl_crawl.specs.Workers.{AreIdle, schedules}
+use Rattle.irl_crawl.proofs.crawling.go_on.Goals as goal
+
+pub loop-init : goal.loop-init
+loop-init g c = (
+  tt,
+  tt,
+  record {
+    runs = runs_first (g.met.S.Store.is_consistent c.args.yard.store) c.is_sound-is_sound.ensures.drum c.requires.open c.requires.sent c.requires.suffixes c.requires.idle
+        (λ x. c.requires.unknown x.events);
+    agent = refl;
+    suffixes = refl;
+    gates = refl;
+  },
+)
+
+pub returns-then-is_done-clause-leads : goal.returns-then-is_done-clause-leads
+returns-then-is_done-clause-leads g c = runs_done c.loop.invariant.2.runs (λ y held. (c.is_done.ensures y held).0 c.if-is_done.true)
+
+pub returns-then-left-eq0-clause-leads : goal.returns-then-left-eq0-clause-leads
+returns-then-left-eq0-clause-leads g c =
+    runs_limit c.loop.invariant.2.runs c.if-left-eq0.true
+    (λ y held none. let yes = (c.is_done.ensures y held).1 none in let not = c.if-is_done.false in let both = sym not ∙ yes in cc)
+
+pub loop-preserved : goal.loop-preserved
+loop-preserved g c =
+    let far = c.loop.invariant.2 in
+    let step = c.step-settled.ensures in
+    let most = c.min-most.result in
+    let within : most ≤ c.loop.left = omega arith in
+    let small : most ≤ c.args.plan.now.batch = omega arith in
+    let fronts = schedules c.step-settled.new.crew.fronts.items in
+    let agent = step.crew.0 ∙ far.agent in
+    let idle = subst (λ (a : List ℕ). AreIdle (length c.loop.fetchers) a fronts) agent (ok_gives c.step-settled.result.0 c.in-Ok.count step.idle c.in-Ok.is) in
+    let keeps = ok_gives c.step-settled.result.0 c.in-Ok.count step.keeps c.in-Ok.is in (
+      tt,
+      tt,
+      record {
+        runs = runs_next far.runs g.met.F.Fetch.earlier most c.step-settled.result.0 fronts c.step-settled.new.fetchers c.step-settled.result.1.parts (g.S.Store.told c.step-settled.result.1.store)
+            c.loop.crew.agent c.loop.crew.suffixes far.agent far.suffixes step.leads step.fetchers within small c.in-Ok.count c.in-Ok.is keeps idle;
+        agent = agent;
+        suffixes = step.crew.1 ∙ far.suffixes;
+        gates = let same = c.step-settled.auto.gates in let was = far.gates in omega (arith, same, was);
+      },
+    )
+
+pub returns-in-Err-clause-leads : goal.returns-in-Err-clause-leads
+returns-in-Err-clause-leads g c =
+    let far = c.loop.invariant.2 in
+    let step = c.step-settled.ensures in
+    let most = c.min-most.result in
+    let within : most ≤ c.loop.left = omega arith in
+    let small : most ≤ c.args.plan.now.batch = omega arith in
+    runs_stop far.runs g.met.F.Fetch.earlier most c.step-settled.result.0 (schedules c.step-settled.new.crew.fronts.items) c.step-settled.new.fetchers c.step-settled.result.1.parts
+    (g.S.Store.told c.step-settled.result.1.store) c.loop.crew.agent c.loop.crew.suffixes far.agent far.suffixes step.leads step.fetchers within small c.in-Err.fault c.in-Err.is
+
+pub returns-in-Err-clause-fetchers : goal.returns-in-Err-clause-fetchers
+returns-in-Err-clause-fetchers g c =
+    let f = g.F.Fetch in
+    all_go_then f.asked f.gives f.faults f.last c.args.fetchers.now c.loop.fetchers c.step-settled.new.fetchers c.loop.invariant.2.runs.goes_on c.step-settled.ensures.fetchers

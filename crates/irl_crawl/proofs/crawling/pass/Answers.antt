@@ -1,0 +1,37 @@
+use Rattle.std.proofs.Common.{◌≡◌, ◌∙◌, ℕ, Result, Err, IsErrOf, sym, ap, subst}
+use Rattle.std.proofs.lemmas.Result.{err_from_is_err_and}
+use Rattle.irl_base.specs.declared.fault.Fault.{Fault}
+use Rattle.irl_base.specs.declared.fault.Fault.TheVariants.{Failed}
+use Rattle.irl_yard.specs.Leading.{IsEither}
+use Rattle.irl_yard.specs.Passing.{with_pass}
+use Rattle.irl_crawl.proofs.PassLeads.{pass_keeps, pass_ok, pass_part}
+use Rattle.irl_crawl.specs.Leading.{Leads}
+use Rattle.irl_crawl.specs.Running.{Passes}
+use Rattle.irl_crawl.proofs.crawling.pass.Goals as goal
+
+pub returns-in_err-pass-clause-leads : goal.returns-in_err-pass-clause-leads
+returns-in_err-pass-clause-leads g c =
+    let tells = g.S.Store.told in
+    let was = c.args.yard.now in
+    let now = c.pass.new.self in
+    let out = err_from_is_err_and c.from_residual.result c.from_residual.ensures.1 in
+    let same : c.pass.result ≡ c.from_residual.result = c.in_err-pass.was ∙ sym (out.1 ∙ ap (λ (e : Fault). Err e) out.2) in
+    subst (λ (r : Result ℕ Fault). Leads (IsErrOf r Failed) (λ x y. IsEither x (with_pass was.parts.urls.settings x) y) (Passes r was.parts.urls.settings) was.parts now.parts (tells was.store)
+    (tells now.store)) same
+    (pass_part tells c.pass.result was.parts now.parts was.store now.store (g.met.S.Store.is_consistent now.store) c.pass.ensures.passes c.pass.ensures.goes_on)
+
+pub returns-clause-leads : goal.returns-clause-leads
+returns-clause-leads g c =
+    let was = c.args.yard.now in
+    let now = c.pass.new.self in
+    pass_ok g.S.Store.told c.pass.result was.parts now.parts was.store now.store (g.met.S.Store.is_consistent now.store) c.pass.ensures.passes c.pass.ensures.goes_on c.in_ok-pass.field-0 0
+    c.in_ok-pass.was
+
+pub returns-clause-keeps : goal.returns-clause-keeps
+returns-clause-keeps g c =
+    let tells = g.S.Store.told in
+    let was = c.args.yard.now in
+    let now = c.pass.new.self in
+    pass_keeps tells c.pass.result was.parts now.parts was.store now.store (g.met.S.Store.is_consistent now.store) c.pass.ensures.passes c.pass.ensures.goes_on (tells was.store).files (tells
+    now.store).files was.rest_is
+    now.rest_is c.requires.open.begun c.requires.sent

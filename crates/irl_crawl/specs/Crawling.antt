@@ -1,0 +1,66 @@
+-- A crawl over an open store.
+use Rattle.std.specs.Prelude.{◌≡◌, ◌<◌, ◌≤◌, ℕ, List, [], length, map, Result, Ok, Err}
+use Rattle.irl_base.specs.declared.fault.Fault.{Fault as FaultValue}
+use Rattle.irl_base.specs.declared.fault.Fault.TheVariants.{Failed}
+use Rattle.std.specs.List.{AllByRecursion}
+use Rattle.irl_base.specs.Limits.{max_text}
+use Rattle.irl_crawl.specs.declared.plan.Plan.{Plan}
+use Rattle.irl_crawl.specs.declared.plan.Ended.{Ended}
+use Rattle.irl_crawl.specs.declared.plan.Ended.TheVariants.{Done, Limit, Fault}
+use Rattle.irl_events.specs.State.{State}
+use Rattle.irl_fate.specs.Counting.{count_fate, is_fresh, is_last, is_queued}
+use Rattle.irl_fate.specs.Kept.{is_front}
+use Rattle.irl_ledger.specs.Settling.{max_settled}
+use Rattle.irl_offer.specs.declared.settings.Settings.{Settings}
+use Rattle.irl_reach.specs.Along.{settled_in}
+use Rattle.irl_reach.specs.Crawls.{Crawls, LeavesNone, Visit, numbers_in}
+use Rattle.irl_record.specs.Widening.{Answers}
+use Rattle.irl_yard.specs.Passing.{come}
+use Rattle.irl_crawl.specs.Judging.{IsJudged}
+use Rattle.irl_crawl.specs.Leading.{HasGround}
+use Rattle.irl_crawl.specs.Turning.{AreBatches, events_since, input_of}
+
+-- no unique URL is fresh, in front, in a queue or in the last list
+pub record NoneWaits (settings : Settings) (state : State) : Type 0 where
+  pub fresh : count_fate is_fresh (come settings state) (numbers_in state.urls) ≡ 0
+  pub front : count_fate is_front (come settings state) (numbers_in state.urls) ≡ 0
+  pub queued : count_fate is_queued (come settings state) (numbers_in state.urls) ≡ 0
+  pub last : count_fate is_last (come settings state) (numbers_in state.urls) ≡ 0
+
+-- the answer of a crawl as a result
+abbrev pub result_of : Ended → Result Unit FaultValue
+result_of Done = Ok tt
+result_of Limit = Ok tt
+result_of (Fault fault) = Err fault
+
+-- Some URLs were visited, and nothing is offered but the seeds and what the visits name; no more are settled than the
+-- plan says, nor in one turn.
+pub record OnlyCrawls (gives : Answers) (agent suffixes : List ℕ) (seeds : List (List ℕ)) (pages batch : ℕ)
+    (x y : State) : Type 0 where
+  pub visits : List Visit
+  pub crawls : Crawls (input_of suffixes seeds) gives agent visits x y
+  pub batches : AreBatches batch (events_since x y)
+  pub pages_are : length (settled_in (events_since x y)) ≤ pages
+
+-- What came of each visit is settled, and all is judged.
+pub record CrawlsWhole (suffixes : List ℕ) (seeds : List (List ℕ)) (settings : Settings) (visits : List Visit)
+    (x y : State) : Type 0 where
+  pub leaves : LeavesNone (input_of suffixes seeds) visits x y
+  pub judged : IsJudged settings y
+
+-- by the answer
+pub record CrawlsTo (ended : Ended) (gives : Answers) (agent suffixes : List ℕ) (seeds : List (List ℕ))
+    (settings : Settings) (pages batch : ℕ) (x y : State) : Type 0 where
+  pub only : OnlyCrawls gives agent suffixes seeds pages batch x y
+  pub done : ended ≡ Done → CrawlsWhole suffixes seeds settings only.visits x y × NoneWaits settings y
+  pub limit : ended ≡ Limit → CrawlsWhole suffixes seeds settings only.visits x y
+      × (length (settled_in (events_since x y)) ≡ pages) × (NoneWaits settings y → ⊥)
+  pub ground : HasGround (result_of ended) settings x y
+
+-- ---- what is asked
+-- the numbers of a plan are in their ranges, and its seeds are short
+pub record IsPlan (plan : Plan) : Type 0 where
+  pub pages : 1 ≤ plan.pages
+  pub batch : (1 ≤ plan.batch) × (plan.batch ≤ max_settled)
+  pub delay : plan.delay < 86400000
+  pub seeds : AllByRecursion (λ text. length text ≤ max_text) plan.seeds.items

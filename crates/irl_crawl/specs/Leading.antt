@@ -1,0 +1,68 @@
+-- What parts of a crawl ask of an open store, and what they make of the states that it held.
+use Rattle.std.specs.Prelude.{◌≡◌, ◌⊎◌, ◌+◌, ◌<◌, ℕ, Some, Result, IsErrOf, length}
+use Rattle.std.specs.Option.{ForSome}
+use Rattle.irl_base.specs.Faults.{HasCause}
+use Rattle.irl_base.specs.declared.fault.Fault.{Fault}
+use Rattle.irl_base.specs.declared.fault.Fault.TheVariants.{Damaged, Full}
+use Rattle.irl_disk.specs.Disk.{Files}
+use Rattle.irl_disk.specs.Images.{Told}
+use Rattle.irl_events.specs.State.{State, IsFrontState}
+use Rattle.irl_offer.specs.declared.settings.Settings.{Settings}
+use Rattle.irl_schedule.specs.Feeding.{list_at}
+use Rattle.irl_ledger.specs.declared.ledger.Ledger.{Ledger}
+use Rattle.irl_yard.specs.declared.parts.Parts.{Parts}
+use Rattle.irl_yard.specs.declared.parts.Rest.TheVariants.{Crawl}
+use Rattle.irl_yard.specs.Holding.{HoldsState, IsSound, StaysSound}
+use Rattle.irl_yard.specs.Leading.{FailsAt, LeadsTo}
+use Rattle.irl_yard.specs.Passing.{front_in, suffixes_in}
+use Rattle.irl_yard.specs.Sending.{HasBegun, links_in}
+
+-- ---- what is open
+-- a store of a crawl that has begun, in which no call failed
+pub record IsOpen (parts : Parts) : Type 0 where
+  pub sound : IsSound parts
+  pub begun : HasBegun parts.rest
+
+-- the pairs of all cuts are sent
+abbrev pub IsSent : Parts → Type 0
+IsSent parts = (ledger : Ledger) → parts.rest ≡ Crawl ledger → ledger.frontier.progress.cuts ≡ parts.urls.cuts
+
+-- it has begun, with the same suffixes,
+pub record KeepsBegun (was now : Parts) : Type 0 where
+  pub begun : HasBegun now.rest
+  pub suffixes : suffixes_in now.rest ≡ suffixes_in was.rest
+
+-- and the same URLs are to be fetched next
+pub record KeepsFront (was now : Parts) : Type 0 where
+  pub keeps : KeepsBegun was now
+  pub front : front_in now.rest ≡ front_in was.rest
+
+-- ---- the states
+-- What a part of a crawl made of the states that an open store held, where the store tells: each is led to one that it
+-- `did`; where the store failed, those that it left are ones that it `may` have made.
+pub record Leads (failed : Type 0) (may did : State → State → Type 0) (was now : Parts) (before after : Told) : Type 0
+  where
+    pub leads : (failed → ⊥) → ForSome before.files (λ _. (x : State) → HoldsState before.images was x
+        → (y : State) × did x y × LeadsTo x y now before after)
+    pub fails : failed → ForSome before.files (λ _. (x : State) → HoldsState before.images was x
+        → FailsAt (may x) x before after)
+    -- what is told is told on, and the settings stay
+    pub told : (files : Files) → before.files ≡ Some files → (later : Files) × (after.files ≡ Some later)
+    pub settings : now.urls.settings ≡ was.urls.settings
+    -- the store may be asked again, but where it failed, which it did only where its count of faults rose
+    pub goes_on : StaysSound failed now
+    pub cause : HasCause failed before.faults after.faults
+
+-- ---- why a fault is answered
+-- What is handed in doesn't fit: in a bucket of URLs, which has so many offers that not a whole array more fits; or,
+-- counted behind those, in one of pairs, which lacks room for the new links of a state on the way.
+abbrev pub IsFullAt : Settings → State → State → ℕ → Type 0
+IsFullAt settings x y n =
+    ((n < settings.buckets) × (settings.cap < length (list_at y.urls n) + settings.array))
+    ⊎ ((b : ℕ) × (n ≡ 64 + b) × (b < settings.buckets) × (z : State) × IsFrontState x z × IsFrontState z y
+    × (settings.cap < links_in settings z b))
+
+-- The ground of an answer, of the state that was held and the one that it was led to: damage is named of neither.
+pub record HasGround {A : Type 0} (result : Result A Fault) (settings : Settings) (x y : State) : Type 0 where
+  pub full : (n : ℕ) → IsErrOf result (Full n) → IsFullAt settings x y n
+  pub whole : (f at : ℕ) → IsErrOf result (Damaged f at) → ⊥

@@ -1,0 +1,14 @@
+pub mod Crawling
+pub mod Dealing
+pub mod Fetching
+pub mod Judging
+pub mod Leading
+pub mod Loading
+pub mod Offering
+pub mod Running
+pub mod Seeding
+pub mod Serving
+pub mod Settling
+pub mod Turning
+pub mod Workers
+pub mod Working

@@ -1,0 +1,34 @@
+-- A pass of a crawl, a step, which is a pass or a turn, and steps one behind the other.
+use Rattle.std.specs.Prelude.{◌≡◌, ℕ, List, [], Result, OnOk, OnErr}
+use Rattle.irl_base.specs.declared.fault.Fault.{Fault}
+use Rattle.irl_crawl.specs.declared.plan.Ended.{Ended}
+use Rattle.irl_events.specs.State.{State}
+use Rattle.irl_offer.specs.declared.settings.Settings.{Settings}
+use Rattle.irl_polite.specs.Schedule.{Schedule}
+use Rattle.irl_record.specs.Widening.{Answers}
+use Rattle.irl_yard.specs.Passing.{with_pass}
+use Rattle.irl_crawl.specs.Crawling.{CrawlsTo, OnlyCrawls}
+use Rattle.irl_crawl.specs.Judging.{IsJudged}
+use Rattle.irl_crawl.specs.Leading.{HasGround}
+use Rattle.irl_crawl.specs.Turning.{Turns}
+
+-- the state after the pass, or refused the state itself
+pub record Passes {A : Type 0} (result : Result A Fault) (settings : Settings) (x y : State) : Type 0 where
+  pub done : OnOk result (y ≡ with_pass settings x)
+  pub kept : OnErr result (y ≡ x)
+  pub ground : HasGround result settings x y
+
+-- a turn, of a state in which all is judged: a pass is one that visits nothing
+abbrev pub Steps : Result ℕ Fault → Answers → List ℕ → List ℕ → Settings → ℕ → List Schedule → List Schedule
+    → State → State → Type 0
+Steps result gives agent suffixes settings most old new x y =
+    IsJudged settings x → Turns result gives agent suffixes settings most old new x y
+
+-- such steps, where the store failed on the way, and where it didn't, by the answer
+abbrev pub MayRun : Answers → List ℕ → List ℕ → Settings → ℕ → ℕ → State → State → Type 0
+MayRun gives agent suffixes settings pages batch x y =
+    IsJudged settings x → OnlyCrawls gives agent suffixes [] pages batch x y
+
+abbrev pub Runs : Ended → Answers → List ℕ → List ℕ → Settings → ℕ → ℕ → State → State → Type 0
+Runs ended gives agent suffixes settings pages batch x y =
+    IsJudged settings x → CrawlsTo ended gives agent suffixes [] settings pages batch x y

@@ -1,0 +1,85 @@
+-- The workers of a run: fetchers, each with a front of its own.
+use Rattle.std.specs.Prelude.{◌≡◌, ◌⊎◌, ◌≤◌, ℕ, List, [], length, map, false, Some, slice_get}
+use Rattle.std.specs.List.{All, Any, Contains, flat_map}
+use Rattle.irl_events.specs.Events.{Happened}
+use Rattle.irl_key.specs.declared.web.Work.{Work}
+use Rattle.irl_offer.specs.declared.note.Note.{Note}
+use Rattle.irl_offer.specs.declared.reply.Answer.{Answer}
+use Rattle.irl_offer.specs.declared.reply.Want.{Want}
+use Rattle.irl_polite.specs.Inside.{Held, schedule}
+use Rattle.irl_polite.specs.Schedule.{Schedule}
+use Rattle.irl_polite.specs.declared.known.Known.{Known}
+use Rattle.irl_reach.specs.Along.{notes_in}
+use Rattle.irl_record.specs.Widening.{Answers}
+use Rattle.irl_robots.specs.Leave.{host_state}
+use Rattle.irl_robots.specs.declared.host.HostState.{HostState}
+use Rattle.irl_fetch.specs.Handling.{Noted}
+use Rattle.irl_fetch.specs.Telling.{GoesOn, fetcher}
+
+-- ---- fetchers
+-- an answer that one of them gives at a later moment, since an earlier one
+pub record IsGivenBy {F : Type 0} (asked : F → ℕ) (gives : F → ℕ → Answers) (olds news : List F) (url : List ℕ)
+    (want : Want) (answer : Answer) : Type 0 where
+  pub at : ℕ
+  pub old : F
+  pub new : F
+  pub was : slice_get olds at ≡ Some old
+  pub is : slice_get news at ≡ Some new
+  pub given : gives new (asked old) url want answer
+
+-- each goes on, and there are as many
+pub record AllGoOn {F : Type 0} (asked : F → ℕ) (gives : F → ℕ → Answers) (faults last : F → ℕ) (olds news : List F)
+    : Type 0 where
+  pub count : length news ≡ length olds
+  pub each : (at : ℕ) (old new : F) → slice_get olds at ≡ Some old → slice_get news at ≡ Some new
+      → GoesOn (fetcher asked gives faults last old) (fetcher asked gives faults last new)
+
+-- a moment of one of them in this time
+pub record IsMomentBy {F : Type 0} (last : F → ℕ) (olds news : List F) (moment : ℕ) : Type 0 where
+  pub at : ℕ
+  pub old : F
+  pub new : F
+  pub was : slice_get olds at ≡ Some old
+  pub is : slice_get news at ≡ Some new
+  pub from : last old ≤ moment
+  pub till : moment ≤ last new
+
+-- ---- fronts
+abbrev pub schedules : List Held → List Schedule
+schedules fronts = map schedule fronts
+
+-- what is to be fetched by all of them
+abbrev pub loaded : List Schedule → List Work
+loaded fronts = flat_map (λ s. s.items) fronts
+
+-- no robots file is awaited
+abbrev pub AreReady : List Schedule → Type 0
+AreReady fronts = (at : ℕ) (front : Schedule) → slice_get fronts at ≡ Some front → (name : List ℕ)
+    → front.awaited name ≡ false
+
+-- they read robots files for this agent
+abbrev pub AreFor : List ℕ → List Schedule → Type 0
+AreFor agent fronts = All (λ s. s.agent ≡ agent) fronts
+
+-- what one of them knows of a host's robots file, or what was noted since
+abbrev pub IsStateAmong : List ℕ → List Schedule → List Noted → List ℕ → HostState → Type 0
+IsStateAmong agent fronts noted host state =
+    ((at : ℕ) × (front : Schedule) × (known : Known) × (slice_get fronts at ≡ Some front)
+    × (front.known host ≡ Some known) × (known.state ≡ state))
+    ⊎ Any (λ one. (one.note.host ≡ host) × (host_state one.note.state agent ≡ state)) noted
+
+-- a note of events tells of the host that its robots file is so
+abbrev pub IsNotedIn : List ℕ → List Happened → List ℕ → HostState → Type 0
+IsNotedIn agent events host state = (note : Note) × Contains (notes_in events) note × (note.host ≡ host)
+    × (host_state note.state agent ≡ state)
+
+-- they know nothing that no event tells
+abbrev pub AreNotedIn : List ℕ → List Happened → List Schedule → Type 0
+AreNotedIn agent events fronts = (at : ℕ) (front : Schedule) → slice_get fronts at ≡ Some front
+    → (host : List ℕ) (known : Known) → front.known host ≡ Some known → IsNotedIn agent events host known.state
+
+-- Between two turns: as many fronts as fetchers, of one agent, each without items.
+pub record AreIdle (count : ℕ) (agent : List ℕ) (fronts : List Schedule) : Type 0 where
+  pub count_is : length fronts ≡ count
+  pub agents : AreFor agent fronts
+  pub items : All (λ s. s.items ≡ []) fronts

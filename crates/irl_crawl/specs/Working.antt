@@ -1,0 +1,99 @@
+-- What all workers do of what their fronts say.
+use Rattle.std.specs.Prelude.{◌≡◌, ◌⊎◌, ℕ, List, [], ◌∷◌, ◌++◌, map, length, Some, Result, IfOk, OnErr, slice_get}
+use Rattle.std.specs.List.{All, flat_map}
+use Rattle.std.specs.List.Sorted.{IsPermutation}
+use Rattle.irl_base.specs.declared.fault.Fault.{Fault}
+use Rattle.irl_key.specs.Web.{target_of}
+use Rattle.irl_key.specs.declared.web.Work.{Work}
+use Rattle.irl_offer.specs.Offering.{Entered}
+use Rattle.irl_offer.specs.declared.done.Done.{Done}
+use Rattle.irl_polite.specs.Schedule.{Schedule, host}
+use Rattle.irl_polite.specs.declared.known.Known.{Known}
+use Rattle.irl_record.specs.Widening.{Answers}
+use Rattle.irl_robots.specs.Leave.{leave_of}
+use Rattle.irl_robots.specs.declared.host.HostState.{HostState}
+use Rattle.irl_robots.specs.declared.host.Leave.TheVariants.{Allowed}
+use Rattle.irl_fetch.specs.Handling.{Handled, Noted, IsHandled, IsNoted, done_of, entered_of}
+use Rattle.irl_fetch.specs.Pages.{FaultIs, IsPart}
+use Rattle.irl_fetch.specs.Telling.{Enters, Offering}
+use Rattle.irl_fetch.specs.Working.{IsKnownOf}
+use Rattle.irl_fetch.specs.declared.working.WorkLog.{WorkLog}
+use Rattle.irl_crawl.specs.Workers.{AreFor, IsStateAmong, loaded}
+
+-- ---- what was done
+-- The first of it is what came of the items of the first front, then of those of the second, and so on.
+abbrev pub AreByWorker : List Schedule → List Done → Type 0
+AreByWorker [] done = done ≡ []
+AreByWorker (front ∷ fronts) done = (own rest : List Done) × (done ≡ own ++ rest)
+    × IsPermutation (map (λ work. work.number) front.items) (map (λ one. one.number) own) × AreByWorker fronts rest
+
+-- Items were handled, each as a note of its host says that was known or made since, and by an answer that was given,
+-- and robots files noted; these items are left.
+pub record HaveWorked (gives : Answers) (agent suffixes : List ℕ) (handled : List Handled) (noted : List Noted)
+    (left : List Work) (befores : List Schedule) : Type 0 where
+  pub items : IsPermutation (loaded befores) (map (λ one. one.work) handled ++ left)
+  pub each : All (IsHandled gives (IsStateAmong agent befores noted) suffixes) handled
+  pub notes : All (IsNoted gives) noted
+
+-- no front knows more than it did, but what was noted
+abbrev pub KnowAsNoted : List ℕ → List Noted → List Schedule → List Schedule → Type 0
+KnowAsNoted agent noted befores afters = (at : ℕ) (front : Schedule) → slice_get afters at ≡ Some front
+    → (host : List ℕ) (known : Known) → front.known host ≡ Some known
+    → IsStateAmong agent befores noted host known.state
+
+-- each of them knows what it did, or a note with its moment
+abbrev pub KnowByMoment : List Noted → List Schedule → List Schedule → Type 0
+KnowByMoment noted befores afters = (at : ℕ) (old new : Schedule) → slice_get befores at ≡ Some old
+    → slice_get afters at ≡ Some new → (host : List ℕ) (known : Known) → new.known host ≡ Some known
+    → IsKnownOf old noted host known
+
+-- each front is for the same delay
+abbrev pub KeepDelays : List Schedule → List Schedule → Type 0
+KeepDelays befores afters = (at : ℕ) (old new : Schedule) → slice_get befores at ≡ Some old
+    → slice_get afters at ≡ Some new → new.delay ≡ old.delay
+
+-- All was done that the fronts say, and what came of it is entered and told.
+pub record FinishAll {O : Type 0} (log : WorkLog) (gives : Answers) (agent suffixes : List ℕ)
+    (befores afters : List Schedule) (was now : Offering O) : Type 0 where
+  pub handled : List Handled
+  pub noted : List Noted
+  pub done : log.done.items ≡ map done_of handled
+  pub notes : log.notes.items ≡ map (λ one. one.note) noted
+  pub worked : HaveWorked gives agent suffixes handled noted [] befores
+  pub entered : Enters (flat_map entered_of handled) was now
+  pub known : KnowAsNoted agent noted befores afters
+  pub knows : KnowByMoment noted befores afters
+  pub none_left : All (λ s. s.items ≡ []) afters
+
+-- One of the items that are left was fetched, as a note of its host allows it, and these are some of what it names.
+pub record HasBegunOne (gives : Answers) (agent suffixes : List ℕ) (noted : List Noted) (left : List Work)
+    (part : List Entered) (befores : List Schedule) : Type 0 where
+  pub work : Work
+  pub others : List Work
+  pub is_left : IsPermutation left (work ∷ others)
+  pub state : HostState
+  pub known : IsStateAmong agent befores noted (host work) state
+  pub allowed : leave_of state (target_of work.web) ≡ Allowed
+  pub some : IsPart gives suffixes work.web part
+
+-- Some of it was done, and of one item more a part of what it names may be entered.
+pub record StopAll {O : Type 0} (gives : Answers) (agent suffixes : List ℕ) (befores : List Schedule)
+    (was now : Offering O) : Type 0 where
+  pub handled : List Handled
+  pub noted : List Noted
+  pub left : List Work
+  pub worked : HaveWorked gives agent suffixes handled noted left befores
+  pub part : List Entered
+  pub begun : (part ≡ []) ⊎ HasBegunOne gives agent suffixes noted left part befores
+  pub entered : Enters (flat_map entered_of handled ++ part) was now
+
+-- What the workers leave, by the answer.
+pub record WorkAll {O : Type 0} (result : Result WorkLog Fault) (gives : Answers) (agent suffixes : List ℕ)
+    (befores afters : List Schedule) (was now : Offering O) : Type 0 where
+  pub finish : IfOk result (λ log. FinishAll log gives agent suffixes befores afters was now)
+  pub stop : OnErr result (StopAll gives agent suffixes befores was now)
+  -- a fault is want of memory, or then the last one of the offers
+  pub fault : FaultIs result was now
+  pub count : length afters ≡ length befores
+  pub agents : AreFor agent afters
+  pub delays : KeepDelays befores afters

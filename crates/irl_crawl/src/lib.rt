@@ -1,0 +1,18 @@
+//! A crawl: turn after turn, of what is to be fetched, until nothing is left or as many pages are settled as were asked for.
+
+#![tactic(auto)]
+
+mod crawling;
+mod crew;
+mod dealing;
+mod hosts;
+mod plan;
+mod seeds;
+mod turn;
+mod work;
+
+pub use crawling::crawl;
+pub use plan::{Ended, Plan};
+
+#[cfg(test)]
+mod tests;
