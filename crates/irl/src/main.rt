@@ -40,6 +40,9 @@ Commands that keep what standard input gives:
   drum  checks and updates keys by the lines of standard input, and prints each
         verdict
 
+Commands that crawl:
+  replay  crawls the pages of a tape on standard input, and prints a report
+
 Commands that look at what is kept, and change nothing:
   show  prints how much there is
   list  prints a line for each line, key or URL that was judged unique

@@ -101,7 +101,7 @@ open_printed fault is = elim is [
   | inr over ↦ open_late fault (inr (inr (inr (inr over))))
 ]
 
-open_bad : (fault : OpenFault) (n : ℕ) → ending_of_open fault ≡ BadSettings n → fault ≡ OpenBadSettings n
+pub open_bad : (fault : OpenFault) (n : ℕ) → ending_of_open fault ≡ BadSettings n → fault ≡ OpenBadSettings n
 open_bad (OpenNotOurs at) n is = let no : ⊥ = cc in absurd no
 open_bad (OpenDamaged g at) n is = let no : ⊥ = cc in absurd no
 open_bad (OpenOtherSettings m k w) n is = let no : ⊥ = cc in absurd no
@@ -125,7 +125,7 @@ open_damaged (OpenBadSettings m) f n is = let no : ⊥ = cc in absurd no
 open_damaged OpenFailed f n is = let no : ⊥ = cc in absurd no
 open_damaged OpenMemory f n is = let no : ⊥ = cc in absurd no
 
-open_other : (fault : OpenFault) (n kept wanted : ℕ) → ending_of_open fault ≡ OtherSettings n kept wanted → fault ≡ OpenOtherSettings n kept wanted
+pub open_other : (fault : OpenFault) (n kept wanted : ℕ) → ending_of_open fault ≡ OtherSettings n kept wanted → fault ≡ OpenOtherSettings n kept wanted
 open_other (OpenNotOurs at) n kept wanted is = let no : ⊥ = cc in absurd no
 open_other (OpenDamaged g at) n kept wanted is = let no : ⊥ = cc in absurd no
 open_other (OpenOtherSettings m k w) n kept wanted is = let one : m ≡ n = cc in let two : k ≡ kept = cc in let three : w ≡ wanted = cc in cc
@@ -133,7 +133,7 @@ open_other (OpenBadSettings m) n kept wanted is = let no : ⊥ = cc in absurd no
 open_other OpenFailed n kept wanted is = let no : ⊥ = cc in absurd no
 open_other OpenMemory n kept wanted is = let no : ⊥ = cc in absurd no
 
-open_disk : (fault : OpenFault) → ending_of_open fault ≡ DiskFault → fault ≡ OpenFailed
+pub open_disk : (fault : OpenFault) → ending_of_open fault ≡ DiskFault → fault ≡ OpenFailed
 open_disk (OpenNotOurs at) is = let no : ⊥ = cc in absurd no
 open_disk (OpenDamaged g at) is = let no : ⊥ = cc in absurd no
 open_disk (OpenOtherSettings m k w) is = let no : ⊥ = cc in absurd no

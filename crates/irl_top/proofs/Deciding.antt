@@ -12,9 +12,11 @@ use Rattle.irl_model.proofs.FrontLaws.{front_same}
 use Rattle.irl_events.specs.State.{State}
 use Rattle.irl_disk.specs.Disk.{Files}
 use Rattle.irl_io.specs.Written.{AppendsPrefix}
-use Rattle.irl_words.specs.Words.{IsInRange}
+use Rattle.irl_offer.specs.declared.settings.Kind.TheVariants.{Crawl as CrawlKind}
+use Rattle.irl_words.specs.Words.{AreRunOptions, IsInRange}
 use Rattle.irl_words.specs.declared.command.Command.{Command}
-use Rattle.irl_words.specs.declared.command.Command.TheVariants.{Seen, Drum as DrumOf, Show, List as Listing}
+use Rattle.irl_words.specs.declared.command.RunOptions.{RunOptions}
+use Rattle.irl_words.specs.declared.command.Command.TheVariants.{Seen, Drum as DrumOf, Replay, Show, List as Listing}
 use Rattle.irl_yard.specs.Standing.{HasState}
 use Rattle.irl_head.specs.Asking.{Agrees, IsBadAsked}
 use Rattle.irl_head.specs.Opening.{IsBadStore, IsKeptOtherwise}
@@ -24,7 +26,7 @@ use Rattle.irl_head.proofs.HeadBytes.{valid_numbers}
 use Rattle.irl_schedule.specs.Feeding.{list_at, length_at}
 use Rattle.irl_top.specs.Message.{Says, status_of, refused_status}
 use Rattle.irl_top.specs.Outside.{Lent}
-use Rattle.irl_top.specs.Run.{Task, line_task, settings_in, Reaches, TakesIn, Ran, Completes, Filtered, Does}
+use Rattle.irl_top.specs.Run.{Task, line_task, settings_in, Reaches, TakesIn, Ran, Completes, Filtered, Does, WaitsForNobody}
 use Rattle.irl_top.specs.Shown.{IsListingOf, IsReportOf, IsShowEnding, Shown}
 use Rattle.irl_top.specs.Stream.{Stream}
 use Rattle.irl_top.specs.declared.line.LineKind.TheVariants.{Text as TextLine, Tuple as TupleLine}
@@ -153,8 +155,24 @@ look_accepted NoMemory kind = λ is. omega (arith, is)
 look_accepted (Full b) kind = absurd kind
 
 -- one that is in range is never refused as words are
-pub accepted : (command : Command) (before after : Lent) (ending : Ending) → Does command before after ending → IsInRange command → status_of ending ≢ refused_status
-accepted (Seen asked) before after ending does range = not_refused (line_task TextLine asked) before after ending does.ran range.valid
-accepted (DrumOf asked) before after ending does range = not_refused (line_task TupleLine asked) before after ending does.ran range.valid
-accepted Show before after ending does range = look_accepted ending does.kinds
-accepted Listing before after ending does range = look_accepted ending does.kinds
+pub accepted : (command : Command) (before after : Lent) (ending : Ending) → Does command before after ending → IsInRange command → WaitsForNobody command → status_of ending ≢ refused_status
+accepted (Seen asked) before after ending does range plain = not_refused (line_task TextLine asked) before after ending does.ran range.valid
+accepted (DrumOf asked) before after ending does range plain = not_refused (line_task TupleLine asked) before after ending does.ran range.valid
+accepted (Replay asked options) before after ending does range plain = absurd plain
+accepted Show before after ending does range plain = look_accepted ending does.kinds
+accepted Listing before after ending does range plain = look_accepted ending does.kinds
+
+-- a command that isn't a crawl waits for nobody
+pub waits_not : (command : Command) → ((asked : Asked) (options : RunOptions) → command ≡ Replay asked options → ⊥) → WaitsForNobody command
+waits_not (Seen asked) not = tt
+waits_not (DrumOf asked) not = tt
+waits_not (Replay asked options) not = not asked options refl
+waits_not Show not = tt
+waits_not Listing not = tt
+
+pub never_waits : (command : Command) (asked : Asked) (options : RunOptions) → command ≡ Replay asked options → WaitsForNobody command → ⊥
+never_waits command asked options is plain = subst WaitsForNobody is plain
+
+-- what a command that crawls asks
+pub crawl_asked : (asked : Asked) (options : RunOptions) → IsInRange (Replay asked options) → (asked.kind ≡ CrawlKind) × AreRunOptions options
+crawl_asked asked options range = let kind : Some asked.kind ≡ Some CrawlKind = range.kind in let same : asked.kind ≡ CrawlKind = cc in (same, range.run)

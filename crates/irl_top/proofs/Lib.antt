@@ -1,6 +1,11 @@
+pub mod Beginning
 pub mod Calls
 pub mod Closed
+pub mod CrawlInputs
+pub mod CrawlParts
+pub mod CrawlRuns
 pub mod Deciding
+pub mod Giving
 pub mod Going
 pub mod Growing
 pub mod InputLines

@@ -137,7 +137,7 @@ not_ours ending at (inr (inr (inl a))) is = let no : OutputFault ≡ NotOurs at 
 not_ours ending at (inr (inr (inr a))) is = let no : NoMemory ≡ NotOurs at = sym a ∙ is in cc
 
 -- what holds where it isn't refused holds at Done,
-at_done : (r : Result (Unit {0}) Ending) (P : Type 0) → IfErr r IsPrintEnding → OnOk r P → ending_of r ≡ Done → P
+pub at_done : (r : Result (Unit {0}) Ending) (P : Type 0) → IfErr r IsPrintEnding → OnOk r P → ending_of r ≡ Done → P
 at_done (Ok done) P kinds ok is = ok
 at_done (Err ending) P kinds ok is = absurd (not_done ending kinds is)
 
@@ -146,7 +146,7 @@ ours_printed (Ok done) at kinds is = cc
 ours_printed (Err ending) at kinds is = not_ours ending at kinds is
 
 -- and every other ending is the refusal
-refused_as : (r : Result (Unit {0}) Ending) (ending : Ending) → (Done ≡ ending → ⊥) → ending_of r ≡ ending → IsErrOf r ending
+pub refused_as : (r : Result (Unit {0}) Ending) (ending : Ending) → (Done ≡ ending → ⊥) → ending_of r ≡ ending → IsErrOf r ending
 refused_as (Ok done) ending other is = absurd (other is)
 refused_as (Err e) ending other is = cc
 

@@ -1,3 +1,4 @@
+pub mod Crawled
 pub mod Input
 pub mod Listing
 pub mod Message

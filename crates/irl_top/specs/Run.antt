@@ -1,6 +1,6 @@
 -- What one run of the program does, by what the store, the source and the two sinks tell before it and after it, and by
 -- what a stop at any moment leaves of the store. Each command adds its case to `Does`.
-use Rattle.std.specs.Prelude.{◌≡◌, ◌≢◌, ◌⊎◌, ℕ, ◌+◌, ◌<◌, ◌≤◌, List, [], ◌++◌, length, Option, None, Some, Result, Ok, Err, unwrap_or}
+use Rattle.std.specs.Prelude.{◌≡◌, ◌≢◌, ◌⊎◌, ℕ, ◌+◌, ◌<◌, ◌≤◌, List, [], ◌++◌, length, Option, None, Some, Result, Ok, Err, unwrap_or, ⊤}
 use Rattle.std.specs.Option.{ForSome}
 use Rattle.std.specs.Io.KnownBytes.{Appends}
 use Rattle.irl_base.specs.Faults.{Rose, HasCause}
@@ -27,11 +27,12 @@ use Rattle.irl_yard.specs.Opening.{entered_state, IsStoreDamagedAt}
 use Rattle.irl_schedule.specs.Feeding.{Grows, list_at, length_at}
 use Rattle.irl_words.specs.Words.{command_of}
 use Rattle.irl_words.specs.declared.command.Command.{Command}
-use Rattle.irl_words.specs.declared.command.Command.TheVariants.{Seen, Drum as DrumOf, Show, List as Listing}
+use Rattle.irl_words.specs.declared.command.Command.TheVariants.{Seen, Drum as DrumOf, Replay, Show, List as Listing}
 use Rattle.irl_top.specs.declared.line.LineKind.{LineKind}
 use Rattle.irl_top.specs.declared.line.LineKind.TheVariants.{Text as TextLine, Tuple as TupleLine}
 use Rattle.irl_top.specs.declared.ending.Ending.{Ending}
 use Rattle.irl_top.specs.declared.ending.Ending.TheVariants.{Done, BadSettings, LineRefused, NotOurs, Damaged, OtherSettings, DiskFault, InputFault, OutputFault, NoMemory, Full}
+use Rattle.irl_top.specs.Crawled.{CrawlRun, replay_task}
 use Rattle.irl_top.specs.Input.{refused, offered}
 use Rattle.irl_top.specs.Message.{Says, message, refusal, status_of, refused_status, IsAllPrinted, IsUnopened}
 use Rattle.irl_top.specs.Outside.{Lent, Outside, IsUntouched}
@@ -249,10 +250,19 @@ pub record Filtered (task : Task) (before after : Lent) (ending : Ending) : Type
   pub completes : Completes task before after ending
 
 -- ---- each command
+-- it is carried out without the threads of a run
+abbrev pub WaitsForNobody : Command → Type 0
+WaitsForNobody (Seen asked) = ⊤
+WaitsForNobody (DrumOf asked) = ⊤
+WaitsForNobody (Replay asked options) = ⊥
+WaitsForNobody Show = ⊤
+WaitsForNobody Listing = ⊤
+
 -- what it does, between what is told before it and after it
 abbrev pub Does : Command → Lent → Lent → Ending → Type 0
 Does (Seen asked) before after ending = Filtered (line_task TextLine asked) before after ending
 Does (DrumOf asked) before after ending = Filtered (line_task TupleLine asked) before after ending
+Does (Replay asked options) before after ending = CrawlRun (replay_task options) asked before after ending
 Does Show before after ending = Shown IsReportOf before after ending
 Does Listing before after ending = Shown IsListingOf before after ending
 

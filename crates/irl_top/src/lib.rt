@@ -1,6 +1,7 @@
 //! The top call: one run of the program.
 #![tactic(auto)]
 
+mod crawling;
 mod ending;
 mod filter;
 mod line;

@@ -2,9 +2,10 @@ ghost use Rattle.std.specs.Prelude.{◌≡◌, ◌≢◌, map};
 ghost use Rattle.irl_words.specs.Words.{IsInRange};
 ghost use Rattle.irl_top.specs.Message.{refused_status};
 ghost use Rattle.irl_top.specs.Outside.{outside, lent};
-ghost use Rattle.irl_top.specs.Run.{Runs, Obeys, Does};
+ghost use Rattle.irl_top.specs.Run.{Runs, Obeys, Does, WaitsForNobody};
 
 use crate::Ending;
+use crate::crawling::replay;
 use crate::ending::REFUSED;
 use crate::filter::filter;
 use crate::line::LineKind;
@@ -22,7 +23,7 @@ use std::thread::Threads;
 /// Words that are a command are carried out. Refused words have the status 1 and their line on the error sink, and where
 /// memory runs out while they are read it is 7 and that line; nothing else is called then.
 pub fn run<R, I, O, E, S>(
-    _rt: &R,
+    rt: &R,
     alloc: Global,
     words: &[&str],
     input: &mut I,
@@ -41,6 +42,11 @@ where
         (tells store input.old output.old errors.old) (tells result.1 input.new output.new errors.new) result.0 }
 {
     match read_words(alloc, words) {
+        Ok(Command::Replay(asked, options)) => {
+            let (ended, store) = replay(rt, alloc, &asked, &options, input, output, store);
+            let _ = tell(errors, ended);
+            (ended.status(), store)
+        }
         Ok(command) => plain(alloc, &command, input, output, errors, store),
         Err(WordFault::Refused(word)) => {
             let _ = tell_refused(errors, word.bytes());
@@ -66,7 +72,8 @@ pub fn plain<I: Source, O: Sink, E: Sink, S: Store>(
     errors: &mut E,
     store: S,
 ) -> (u8, S)
-    requires { IsInRange command.now }
+    requires range { IsInRange command.now }
+    requires plain { WaitsForNobody command.now }
     ensures obeys { let tells = outside S.told I.left I.faults O.written O.faults E.written E.faults in
         Obeys command.now
         (tells store input.old output.old errors.old) (tells result.1 input.new output.new errors.new) result.0 }
@@ -85,7 +92,8 @@ fn carry_out<I: Source, O: Sink, S: Store>(
     output: &mut O,
     store: S,
 ) -> (Ending, S)
-    requires { IsInRange command.now }
+    requires range { IsInRange command.now }
+    requires plain { WaitsForNobody command.now }
     ensures { let tells = lent S.told I.left I.faults O.written O.faults in
         Does command.now (tells store input.old output.old) (tells result.1 input.new output.new) result.0 }
 {
@@ -94,5 +102,6 @@ fn carry_out<I: Source, O: Sink, S: Store>(
         Command::Drum(asked) => filter(alloc, LineKind::Tuple, asked, input, output, store),
         Command::Show => show(alloc, output, store),
         Command::List => list(alloc, output, store),
+        Command::Replay(_, _) => unreachable!(),
     }
 }

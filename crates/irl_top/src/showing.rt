@@ -83,8 +83,8 @@ pub fn list<O: Sink, S: Store>(alloc: Global, output: &mut O, store: S) -> (Endi
     }
 }
 
-// Prints a report.
-fn print_report<O: Sink>(alloc: Global, counts: &Counts, output: &mut O) -> Result<(), Ending>
+/// Prints a report.
+pub fn print_report<O: Sink>(alloc: Global, counts: &Counts, output: &mut O) -> Result<(), Ending>
     ensures ok { OnOk result (Appends (O.written output.old) (O.written output.new) (report_of counts.now)) }
     ensures err { OnErr result (AppendsPrefix (O.written output.old) (O.written output.new) (report_of counts.now)) }
     ensures kinds { IfErr result IsWriteEnding }

@@ -1,8 +1,9 @@
 -- What a parse that takes a command's words gives, and what one that refuses them shows.
-use Rattle.std.proofs.Common.{◌≡◌, ◌∙◌, ◌<◌, ◌&&◌, ℕ, Bool, not, nat_lt, true, false, List, [], ◌∷◌, length, Option, Some, None, IfSome, option_map, refl, sym, ap, subst, arith, inl, inr, codes, suc, ne_eqb}
+use Rattle.std.proofs.Common.{◌≡◌, ◌∙◌, ◌<◌, ◌≤◌, ◌&&◌, ℕ, Bool, not, nat_lt, true, false, List, [], ◌∷◌, length, Option, Some, None, IfSome, unwrap_or, refl, sym, ap, subst, arith, inl, inr, codes, suc, ne_eqb}
 use Rattle.std.specs.List.{list_all}
+use Rattle.std.specs.Option.{option_map_or}
 use Rattle.std.specs.Str.{bytes_eq}
-use Rattle.std.proofs.lemmas.Bool.{ltb-true, not-true}
+use Rattle.std.proofs.lemmas.Bool.{ltb-false, ltb-true, not-true}
 use Rattle.clap.specs.Built.{IsParsedFrom}
 use Rattle.clap.specs.Simple.{has_simple_rules}
 use Rattle.clap.specs.Walk.{is_empty}
@@ -20,12 +21,15 @@ use Rattle.irl_offer.specs.Settings.{AreValid, AreValidBudgets, AreValidSizes, s
 use Rattle.irl_offer.specs.declared.offer.Rule.{Rule as ValueRule}
 use Rattle.irl_offer.specs.declared.settings.Asked.{Asked}
 use Rattle.irl_offer.specs.declared.settings.Kind.{Kind}
-use Rattle.irl_words.specs.Options.{options_of, rules_of}
+use Rattle.irl_offer.specs.declared.settings.Kind.TheVariants.{Lines, Tuples, Crawl}
+use Rattle.irl_words.specs.Options.{budgets_options, options_of, rules_of}
 use Rattle.irl_words.specs.Rows.{AreInRange, AreMatches, IsInParser}
-use Rattle.irl_words.specs.Words.{HasNoRule, IsInRange, asked_for, asked_of, kind_of, with_settings}
-use Rattle.irl_words.specs.declared.command.Command.{Command as Asking}
+use Rattle.irl_words.specs.Words.{AreRunOptions, IsInRange, asked_for, has_most_below_base, number_in, with_budgets, with_settings, with_widest_budgets}
+use Rattle.irl_words.specs.declared.command.Command.TheVariants as Asks
+use Rattle.irl_words.specs.declared.command.RunOptions.{RunOptions}
 use Rattle.irl_words.specs.declared.name.Name.{Name}
-use Rattle.irl_words.specs.declared.name.Name.TheVariants.{Seen, Drum, Show, List as Listing}
+use Rattle.irl_words.specs.declared.name.Name.TheVariants.{Seen, Drum, Replay, Show, List as Listing}
+use Rattle.irl_words.proofs.Numbers.{number_in_range}
 use Rattle.irl_words.proofs.Ranges.{takes_between, value_in_range}
 
 -- ---- the rows
@@ -48,6 +52,7 @@ record IsRow (name : Name) : Type 0 where
 row : (name : Name) → IsRow name
 row Seen = record { simple = refl; free = refl; rules = refl; own = refl }
 row Drum = record { simple = refl; free = refl; rules = refl; own = refl }
+row Replay = record { simple = refl; free = refl; rules = refl; own = refl }
 row Show = record { simple = refl; free = refl; rules = refl; own = refl }
 row Listing = record { simple = refl; free = refl; rules = refl; own = refl }
 
@@ -102,20 +107,80 @@ refused name words command e is faults other =
     has_fault (fault_of (options_of name) words) e (subst (λ a. HasKind (fault_of a words) e) is (faults free)) other
 
 -- ---- what a command asks
--- a command that asks for the sizes of a store of its kind is in range
-pub sizes_in_range : (command : Asking) (asked : Asked) (kind : Kind) (rule : Option ValueRule) (rows : List Row) → asked_of command ≡ Some asked
-    → asked ≡ with_settings rows (asked_for kind rule) → Some kind ≡ kind_of command → HasNoRule command → IsBucketCount (settings_of asked).buckets
-    → AreValidSizes (settings_of asked) → IsInRange command
-sizes_in_range command asked kind rule rows asks is same none buckets sizes =
+-- what asks for sizes of a store alone is valid
+valid : (asked : Asked) (kind : Kind) (rule : Option ValueRule) (rows : List Row) → asked ≡ with_settings rows (asked_for kind rule)
+    → IsBucketCount (settings_of asked).buckets → AreValidSizes (settings_of asked) → AreValid (settings_of asked)
+valid asked kind rule rows is buckets sizes =
     let budgets : AreValidBudgets (settings_of (with_settings rows (asked_for kind rule))) = record {
       queues = (omega arith, omega arith);
       base = (omega arith, omega arith);
       most = (omega arith, omega arith);
       ranks = (omega arith, omega arith);
     } in
+    record { buckets = buckets; sizes = sizes; budgets = subst (λ (a : Asked). AreValidBudgets (settings_of a)) (sym is) budgets }
+
+pub seen_in_range : (asked : Asked) (rows : List Row) → asked ≡ with_settings rows (asked_for Lines None) → IsBucketCount (settings_of asked).buckets
+    → AreValidSizes (settings_of asked) → IsInRange (Asks.Seen asked)
+seen_in_range asked rows is buckets sizes =
     record {
-      kind = ap (option_map (λ (a : Asked). a.kind)) asks ∙ ap (λ (a : Asked). Some a.kind) is ∙ same;
-      rule = none;
-      valid = subst (λ (o : Option Asked). IfSome o (λ a. AreValid (settings_of a))) (sym asks)
-          (record { buckets = buckets; sizes = sizes; budgets = subst (λ (a : Asked). AreValidBudgets (settings_of a)) (sym is) budgets });
+      kind = ap (λ (a : Asked). Some a.kind) is;
+      rule = ap (λ (a : Asked). a.rule) is;
+      valid = valid asked Lines None rows is buckets sizes;
+      run = tt;
+    }
+
+pub drum_in_range : (asked : Asked) (rule : Option ValueRule) (rows : List Row) → asked ≡ with_settings rows (asked_for Tuples rule)
+    → IsBucketCount (settings_of asked).buckets → AreValidSizes (settings_of asked) → IsInRange (Asks.Drum asked)
+drum_in_range asked rule rows is buckets sizes =
+    record {
+      kind = ap (λ (a : Asked). Some a.kind) is;
+      rule = tt;
+      valid = valid asked Tuples rule rows is buckets sizes;
+      run = tt;
+    }
+
+-- a base and a most that lie in their ranges, the most not below the base where both are there
+ordered : (base most : Option ℕ) → option_map_or (λ b. option_map_or (λ m. nat_lt m b) most false) base false ≡ false → unwrap_or base 1 ≤ 1000000
+    → 1 ≤ unwrap_or most 1000000 → unwrap_or base 1 ≤ unwrap_or most 1000000
+ordered None most e low high = high
+ordered (Some b) None e low high = low
+ordered (Some b) (Some m) e low high = ltb-false m b e
+
+-- what a crawl asks for, with its budgets
+crawl_can_be : (asked sized : Asked) (rows : List Row) → sized ≡ with_settings rows (asked_for Crawl None) → asked ≡ with_budgets rows sized
+    → IsBucketCount (settings_of asked).buckets → AreValidSizes (settings_of sized) → AreInRange budgets_options rows → has_most_below_base asked ≡ false
+    → AreValid (settings_of (with_widest_budgets asked))
+crawl_can_be asked sized rows from is buckets sizes range order =
+    let base = number_in_range (codes "base") 1 1000000 1 rows range.1.0 (omega arith) (omega arith) in
+    let most = number_in_range (codes "most") 1 1000000 1000000 rows range.1.1.0 (omega arith) (omega arith) in
+    let named = subst (λ (a : Asked). has_most_below_base a ≡ false) is order in
+    subst (λ (a : Asked). AreValid (settings_of (with_widest_budgets a))) (sym is)
+    (record {
+      buckets = subst (λ (a : Asked). IsBucketCount (settings_of a).buckets) is buckets;
+      sizes = record { array = sizes.array; trigger = sizes.trigger; block = sizes.block; cap = sizes.cap };
+      budgets = record {
+        queues = number_in_range (codes "queues") 1 64 2 rows range.0 (omega arith) (omega arith);
+        base = base;
+        most = (ordered (number_in (codes "base") rows) (number_in (codes "most") rows) named base.1 most.0, most.1);
+        ranks = number_in_range (codes "ranks") 1 1000000 10000 rows range.1.1.1.0 (omega arith) (omega arith);
+      };
+    })
+
+-- the budgets' options stand behind those of the settings
+of_budgets : (which : Name) (rows : List Row) → which ≡ Replay → AreInRange (rules_of which) rows → AreInRange budgets_options rows
+of_budgets which rows is range =
+    let all = subst (λ (n : Name). AreInRange (rules_of n) rows) is range in
+    let b = all.1.1.1.1.1 in
+    (b.0, (b.1.0, (b.1.1.0, (b.1.1.1.0, tt))))
+
+pub replay_in_range : (which : Name) (asked sized : Asked) (options : RunOptions) (rows : List Row) → which ≡ Replay → AreInRange (rules_of which) rows
+    → sized ≡ with_settings rows (asked_for Crawl None) → asked ≡ with_budgets rows sized → IsBucketCount (settings_of asked).buckets
+    → AreValidSizes (settings_of sized) → has_most_below_base asked ≡ false → AreRunOptions options → IsInRange (Asks.Replay asked options)
+replay_in_range which asked sized options rows name range from is buckets sizes order run =
+    let whole = is ∙ ap (with_budgets rows) from in
+    record {
+      kind = ap (λ (a : Asked). Some a.kind) whole;
+      rule = ap (λ (a : Asked). a.rule) whole;
+      valid = crawl_can_be asked sized rows from is buckets sizes (of_budgets which rows name range) order;
+      run = run;
     }

@@ -5,7 +5,7 @@ use Rattle.std.specs.List.{fold}
 use Rattle.clap.specs.Words.{App, Rule, new_app, new_rule, with_rule}
 use Rattle.clap.specs.declared.builder.value_parser.ValueParser.TheVariants.{Unsigned}
 use Rattle.irl_words.specs.declared.name.Name.{Name}
-use Rattle.irl_words.specs.declared.name.Name.TheVariants.{Seen, Drum, Show, List as Listing}
+use Rattle.irl_words.specs.declared.name.Name.TheVariants.{Seen, Drum, Replay, Show, List as Listing}
 
 -- an option `--name` with one value, a number from `least` to `most`
 abbrev pub number_option : List ℕ → ℕ → ℕ → Rule
@@ -27,14 +27,34 @@ settings_options =
     ∷ number_option (codes "cap") 1 1099511627776
     ∷ []
 
+-- the queues and the budgets of a crawl
+abbrev pub budgets_options : List Rule
+budgets_options =
+    number_option (codes "queues") 1 64
+    ∷ number_option (codes "base") 1 1000000
+    ∷ number_option (codes "most") 1 1000000
+    ∷ number_option (codes "ranks") 1 1000000
+    ∷ []
+
+-- how a crawl is run
+abbrev pub run_options : List Rule
+run_options =
+    number_option (codes "workers") 1 64
+    ∷ number_option (codes "delay") 0 86399999
+    ∷ number_option (codes "pages") 1 4294967295
+    ∷ number_option (codes "batch") 1 16384
+    ∷ word_option (codes "agent")
+    ∷ []
+
 -- ---- a row for each command
 abbrev pub names : List Name
-names = Seen ∷ Drum ∷ Show ∷ Listing ∷ []
+names = Seen ∷ Drum ∷ Replay ∷ Show ∷ Listing ∷ []
 
 -- the word that names it
 abbrev pub word_of : Name → List ℕ
 word_of Seen = codes "seen"
 word_of Drum = codes "drum"
+word_of Replay = codes "replay"
 word_of Show = codes "show"
 word_of Listing = codes "list"
 
@@ -42,6 +62,7 @@ word_of Listing = codes "list"
 abbrev pub rules_of : Name → List Rule
 rules_of Seen = settings_options
 rules_of Drum = settings_options ++ word_option (codes "rule") ∷ []
+rules_of Replay = settings_options ++ (budgets_options ++ run_options)
 rules_of Show = []
 rules_of Listing = []
 

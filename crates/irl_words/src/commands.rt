@@ -5,7 +5,7 @@ ghost use Rattle.irl_words.specs.Tables.{rules_of_row, IsSmallRow};
 ghost use Rattle.irl_words.specs.Options.{options_of};
 
 use crate::name::Name;
-use crate::options::{LongOption, RULE, SETTINGS, with_options};
+use crate::options::{BUDGETS, LongOption, RULE, RUN, SETTINGS, with_options};
 use clap::Command;
 use std::alloc::{AllocError, Global};
 
@@ -54,6 +54,36 @@ line of standard input, and prints each verdict. A line is `c KEY` to check,
     known 000000000000001f 7
     absent 0000000000000002",
     notes: NOTES_OF_LINES,
+};
+
+// `replay` crawls what was recorded. Its help has examples.
+const REPLAY: Row = Row {
+    word: "replay",
+    groups: &[&SETTINGS, &BUDGETS, &RUN],
+    own: &[],
+    usage: "irl DIR replay [OPTIONS]",
+    about: "\
+Crawls the pages of a tape, which standard input is, keeps in the folder DIR what
+it finds and what comes of it, and prints the report, as `show` does. It goes on
+from what the folder has, and ends where no URL waits, or after --pages of them.
+
+A tape has lines `suffix NAME`, `seed URL` and `lost URL`, and pages: each a line
+`page STATUS KIND URL`, of KIND html or other, `to URL` where it leads elsewhere,
+lines `|TEXT` of its body, and `end`. URLs that aren't on it answer 404.
+
+    $ cat tape
+    seed http://a.test/
+    page 200 html http://a.test/
+    |<a href=\"/x\">x</a>
+    end
+    $ irl DIR replay --pages 1 <tape | grep fresh
+    fresh 1
+    $ irl DIR replay <tape | grep done
+    done 2
+    $ irl DIR list
+    0 page http://a.test/
+    1 status:404 http://a.test/x",
+    notes: NOTES_OF_A_CRAWL,
 };
 
 // `show` reports what a store has.
@@ -116,6 +146,16 @@ Exit status: 0 done, 1 words refused, 2 a line refused, 3 not a store, damaged o
 made with other settings, 4 disk fault, 5 input fault, 6 output fault,
 7 no memory, 8 a bucket full.";
 
+// The same of one that crawls.
+const NOTES_OF_A_CRAWL: &str = "\
+In brackets stands what a new store gets, and from --workers on what each run gets.
+A store keeps what it was made with, from --buckets to --ranks: one of these that
+isn't named takes that, and another value is refused.
+
+Exit status: 0 done, 1 words refused, 2 a line refused, 3 not a store, damaged or
+made with other settings, 4 disk fault, 5 input fault, 6 output fault,
+7 no memory, 8 a bucket full.";
+
 // The same of one that only looks at a store.
 const NOTES_OF_A_LOOK: &str = "\
 Exit status: 0 done, 1 words refused, 3 not a store or damaged, 4 disk fault,
@@ -128,6 +168,7 @@ pub(crate) fn command<'a>(alloc: Global, name: Name) -> Result<Command<'a>, Allo
     match name {
         Name::Seen => command_of_row(alloc, &SEEN),
         Name::Drum => command_of_row(alloc, &DRUM),
+        Name::Replay => command_of_row(alloc, &REPLAY),
         Name::Show => command_of_row(alloc, &SHOW),
         Name::List => command_of_row(alloc, &LIST),
     }

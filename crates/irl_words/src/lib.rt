@@ -8,7 +8,7 @@ mod options;
 mod usage;
 mod words;
 
-pub use command::{Command, WordFault};
+pub use command::{Command, RunOptions, WordFault};
 pub use usage::help;
 pub use words::read_words;
 

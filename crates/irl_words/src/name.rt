@@ -6,6 +6,7 @@ ghost use Rattle.irl_words.specs.Options.{name_of, word_of};
 pub(crate) enum Name {
     Seen,
     Drum,
+    Replay,
     Show,
     List,
 }
@@ -18,6 +19,7 @@ impl Name {
         match word {
             "seen" => Some(Name::Seen),
             "drum" => Some(Name::Drum),
+            "replay" => Some(Name::Replay),
             "show" => Some(Name::Show),
             "list" => Some(Name::List),
             _ => None,

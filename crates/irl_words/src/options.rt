@@ -51,6 +51,59 @@ pub(crate) const SETTINGS: [LongOption; 5] = [
     },
 ];
 
+/// The queues and the budgets of a crawl.
+pub(crate) const BUDGETS: [LongOption; 4] = [
+    LongOption {
+        name: "queues",
+        value: Value::Number(1, 64),
+        help: "Queues that the crawl begins with, 1 to 64 (2)",
+    },
+    LongOption {
+        name: "base",
+        value: Value::Number(1, 1_000_000),
+        help: "URLs of a domain that a pass lets through where few link to it, 1 to 1000000 (10)",
+    },
+    LongOption {
+        name: "most",
+        value: Value::Number(1, 1_000_000),
+        help: "The same of the domain that most link to, from the base to 1000000 (10000)",
+    },
+    LongOption {
+        name: "ranks",
+        value: Value::Number(1, 1_000_000),
+        help: "Domains that may have more than the base, 1 to 1000000 (10000)",
+    },
+];
+
+/// How a crawl is run.
+pub(crate) const RUN: [LongOption; 5] = [
+    LongOption {
+        name: "workers",
+        value: Value::Number(1, 64),
+        help: "Workers that fetch, of which there may only be 1 as yet (1)",
+    },
+    LongOption {
+        name: "delay",
+        value: Value::Number(0, 86_399_999),
+        help: "Milliseconds between the starts of two fetches of a host, 0 to 86399999 (1000)",
+    },
+    LongOption {
+        name: "pages",
+        value: Value::Number(1, 4_294_967_295),
+        help: "URLs after which the run ends, 1 to 4294967295 (1000000)",
+    },
+    LongOption {
+        name: "batch",
+        value: Value::Number(1, 16_384),
+        help: "URLs that a turn takes at most, 1 to 16384 (4096)",
+    },
+    LongOption {
+        name: "agent",
+        value: Value::Word("NAME"),
+        help: "Name that robots files are read for, 1 to 64 letters, - or _ (irlbot)",
+    },
+];
+
 /// The rule of `drum`.
 pub(crate) const RULE: LongOption = LongOption {
     name: "rule",

@@ -1,5 +1,5 @@
 use super::*;
-use irl_offer::{Asked, Kind, Rule};
+use irl_offer::{Asked, Kind, Rule, Text};
 use std::alloc::{AllocError, Global};
 use std::test::Fail;
 
@@ -23,6 +23,11 @@ const TUPLES: Asked = Asked {
     ..LINES
 };
 
+const CRAWL: Asked = Asked {
+    kind: Kind::Crawl,
+    ..LINES
+};
+
 // Whether the words are refused with this one.
 fn is_refused_with(alloc: Global, words: &[&str], word: &str) -> Result<bool, AllocError> {
     match read_words(alloc, words) {
@@ -35,14 +40,36 @@ fn is_refused_with(alloc: Global, words: &[&str], word: &str) -> Result<bool, Al
 // Whether the words are this command.
 fn are(alloc: Global, words: &[&str], command: &Command) -> Result<bool, AllocError> {
     match read_words(alloc, words) {
-        Ok(read) => Ok(read == *command),
+        Ok(read) => Ok(is_same(&read, command)),
         Err(WordFault::Refused(_)) => Ok(false),
         Err(WordFault::Memory) => Err(AllocError),
     }
 }
 
+// Whether two commands are the same one, and ask the same.
+fn is_same(one: &Command, other: &Command) -> bool {
+    match (one, other) {
+        (Command::Seen(asked), Command::Seen(wanted)) => asked == wanted,
+        (Command::Drum(asked), Command::Drum(wanted)) => asked == wanted,
+        (Command::Replay(asked, options), Command::Replay(wanted, others)) => {
+            asked == wanted && is_same_run(options, others)
+        }
+        (Command::Show, Command::Show) => true,
+        (Command::List, Command::List) => true,
+        _ => false,
+    }
+}
+
+fn is_same_run(one: &RunOptions, other: &RunOptions) -> bool {
+    one.workers == other.workers
+        && one.delay == other.delay
+        && one.pages == other.pages
+        && one.batch == other.batch
+        && one.agent.bytes() == other.agent.bytes()
+}
+
 // The word with which words are refused, and the words.
-const REFUSED: [(&str, &[&str]); 54] = [
+const REFUSED: [(&str, &[&str]); 76] = [
     ("-", &[]),
     ("", &[""]),
     ("Seen", &["Seen"]),
@@ -97,7 +124,82 @@ const REFUSED: [(&str, &[&str]); 54] = [
     ("seen", &["seen", "--buckets", "3", "--array", "0"]),
     ("seen", &["seen", "--array", "+"]),
     ("seen", &["seen", "--array", "1_000"]),
+    ("seen", &["seen", "--most", "5"]),
+    ("Replay", &["Replay"]),
+    ("replay", &["replay", "x"]),
+    ("replay", &["replay", "--help"]),
+    ("replay", &["replay", "--port", "80"]),
+    ("replay", &["replay", "--rule", "add"]),
+    ("replay", &["replay", "--agent"]),
+    ("replay", &["replay", "--agent", "a", "--agent", "a"]),
+    ("replay", &["replay", "--workers", "2", "--workers", "2"]),
+    ("--agent", &["replay", "--agent", ""]),
+    ("--agent", &["replay", "--agent="]),
+    ("--agent", &["replay", "--agent", "irl2"]),
+    ("--agent", &["replay", "--agent", "irl bot"]),
+    ("--agent", &["replay", "--agent", "irlböt"]),
+    ("--agent", &["replay", "--agent", LONG_AGENT]),
+    ("--workers", &["replay", "--workers", "2"]),
+    ("--workers", &["replay", "--workers=64"]),
+    (
+        "replay",
+        &[
+            "replay",
+            "--workers",
+            "2",
+            "--agent",
+            "1",
+            "--most",
+            "1",
+            "--base",
+            "2",
+            "--buckets",
+            "3",
+            "--pages",
+            "0",
+        ],
+    ),
+    (
+        "--buckets",
+        &[
+            "replay",
+            "--workers",
+            "2",
+            "--agent",
+            "1",
+            "--most",
+            "1",
+            "--base",
+            "2",
+            "--buckets",
+            "3",
+        ],
+    ),
+    (
+        "--most",
+        &[
+            "replay",
+            "--workers",
+            "2",
+            "--agent",
+            "1",
+            "--most",
+            "1",
+            "--base",
+            "2",
+        ],
+    ),
+    ("--agent", &["replay", "--workers", "2", "--agent", "1"]),
+    (
+        "--most",
+        &["replay", "--base", "1000000", "--most", "999999"],
+    ),
 ];
+
+// A name of 65 letters, which is no agent's, and one of 64.
+const LONG_AGENT: &str = "abcdefghijklmnopqrstuvwxyzabcdefghijklmnopqrstuvwxyz-_abcdefghijk";
+
+const LONGEST_AGENT: &str = "abcdefghijklmnopqrstuvwxyzABCDEFGHIJKLMNOPQRSTUVWXYZ-_abcdefghij";
 
 #[test]
 fn words_are_refused_with_one_of_them(rt: HostRuntime) -> Result<(), Fail> {
@@ -224,29 +326,133 @@ fn words_are_read(rt: HostRuntime) -> Result<(), Fail> {
     Ok(())
 }
 
-// Each option of a number, the greatest that it takes, and the next one.
-const RANGES: [(&str, &str, &str); 5] = [
-    ("--buckets", "64", "65"),
-    ("--array", "8192", "8193"),
-    ("--trigger", "1048576", "1048577"),
-    ("--block", "65536", "65537"),
-    ("--cap", "1099511627776", "1099511627777"),
+// The words of `replay`, what it asks of a store, and how it runs: its delay, its pages, its batch and its agent.
+const REPLAYS: [(&[&str], Asked, (u64, u32, u32, &str)); 6] = [
+    (&["replay"], CRAWL, (1_000, 1_000_000, 4_096, "irlbot")),
+    (
+        &["replay", "--base", "10001", "--workers", "1"],
+        Asked {
+            base: Some(10_001),
+            ..CRAWL
+        },
+        (1_000, 1_000_000, 4_096, "irlbot"),
+    ),
+    (
+        &["replay", "--most=9", "--delay=0", "--agent=_"],
+        Asked {
+            most: Some(9),
+            ..CRAWL
+        },
+        (0, 1_000_000, 4_096, "_"),
+    ),
+    (
+        &["replay", "--most", "7", "--base", "7", "--agent", "-"],
+        Asked {
+            base: Some(7),
+            most: Some(7),
+            ..CRAWL
+        },
+        (1_000, 1_000_000, 4_096, "-"),
+    ),
+    (
+        &[
+            "replay",
+            "--agent",
+            LONGEST_AGENT,
+            "--batch=16384",
+            "--pages=4294967295",
+            "--delay=86399999",
+            "--workers=+1",
+        ],
+        CRAWL,
+        (86_399_999, 4_294_967_295, 16_384, LONGEST_AGENT),
+    ),
+    (
+        &[
+            "replay",
+            "--buckets=1",
+            "--array=2",
+            "--trigger=3",
+            "--block=4",
+            "--cap=5",
+            "--queues=6",
+            "--base=7",
+            "--most=8",
+            "--ranks=9",
+            "--workers=1",
+            "--delay=10",
+            "--pages=11",
+            "--batch=12",
+            "--agent=Foo-bot",
+        ],
+        Asked {
+            buckets: Some(1),
+            array: Some(2),
+            trigger: Some(3),
+            block: Some(4),
+            cap: Some(5),
+            queues: Some(6),
+            base: Some(7),
+            most: Some(8),
+            ranks: Some(9),
+            ..CRAWL
+        },
+        (10, 11, 12, "Foo-bot"),
+    ),
+];
+
+#[test]
+fn a_run_has_its_options(rt: HostRuntime) -> Result<(), Fail> {
+    for (words, asked, (delay, pages, batch, agent)) in REPLAYS {
+        let options = RunOptions {
+            workers: 1,
+            delay,
+            pages,
+            batch,
+            agent: Text::from_bytes(rt.alloc(), agent.as_bytes())?,
+        };
+        let command = Command::Replay(asked, options);
+        assert!(rt; are(rt.alloc(), words, &command)?, "at {words:?}");
+    }
+    Ok(())
+}
+
+// Each option of a number, whether `seen` and `drum` have it too, one number below the least that it takes, the least, the
+// greatest, and one above it.
+const RANGES: [(&str, bool, &str, &str, &str, &str); 13] = [
+    ("--buckets", true, "0", "1", "64", "65"),
+    ("--array", true, "0", "1", "8192", "8193"),
+    ("--trigger", true, "0", "1", "1048576", "1048577"),
+    ("--block", true, "0", "1", "65536", "65537"),
+    ("--cap", true, "0", "1", "1099511627776", "1099511627777"),
+    ("--queues", false, "0", "1", "64", "65"),
+    ("--base", false, "0", "1", "1000000", "1000001"),
+    ("--most", false, "0", "1", "1000000", "1000001"),
+    ("--ranks", false, "0", "1", "1000000", "1000001"),
+    ("--workers", false, "0", "1", "64", "65"),
+    ("--delay", false, "-1", "0", "86399999", "86400000"),
+    ("--pages", false, "0", "1", "4294967295", "4294967296"),
+    ("--batch", false, "0", "1", "16384", "16385"),
 ];
 
 #[test]
 fn numbers_have_ranges(rt: HostRuntime) -> Result<(), Fail> {
-    for (option, greatest, above) in RANGES {
-        for command in ["seen", "drum"] {
+    for (option, is_setting, below, least, greatest, above) in RANGES {
+        for (command, has_option) in [
+            ("seen", is_setting),
+            ("drum", is_setting),
+            ("replay", true),
+        ] {
             for (number, is_taken) in [
-                ("0", false),
-                ("1", true),
+                (below, false),
+                (least, true),
                 (greatest, true),
                 (above, false),
             ] {
                 let words = [command, option, number];
                 assert_eq!(rt;
                     is_refused_with(rt.alloc(), &words, command)?,
-                    !is_taken,
+                    !(is_taken && has_option),
                     "at {words:?}"
                 );
             }
@@ -267,7 +473,7 @@ fn a_thousand_words_are_refused(rt: HostRuntime) -> Result<(), Fail> {
 }
 
 // Words, what the help that they ask for has, and what it doesn't have; nothing where they ask for none.
-const HELPS: [(&[&str], &[&str], &str); 8] = [
+const HELPS: [(&[&str], &[&str], &str); 9] = [
     (
         &["seen", "--help"],
         &["irl DIR seen [OPTIONS]", "--cap <N>", "Exit status: 0 done"],
@@ -282,6 +488,19 @@ const HELPS: [(&[&str], &[&str], &str); 8] = [
             "b 1f 7 first",
         ],
         "DIR seen",
+    ),
+    (
+        &["replay", "--help"],
+        &[
+            "irl DIR replay [OPTIONS]",
+            "--cap <N>",
+            "--ranks <N>",
+            "--batch <N>",
+            "--agent <NAME>",
+            "    |<a href=\"/x\">x</a>\n",
+            "2 a line refused",
+        ],
+        "--rule",
     ),
     (
         &["show", "--help"],

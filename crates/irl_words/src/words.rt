@@ -1,26 +1,33 @@
-ghost use Rattle.std.specs.Prelude.{◌≡◌, map, option_map, IfOk, IfErr, IfSome, Ok, Err};
+ghost use Rattle.std.specs.Prelude.{◌≡◌, map, false, option_map, IfOk, IfErr, IfSome, Ok, Err};
 ghost use Rattle.clap.specs.Words.{found_of, one_of, rows_of, IsUnsignedIn};
 ghost use Rattle.irl_offer.specs.Buckets.{is_bucket_count as is_bucket_count_of, IsBucketCount};
 ghost use Rattle.irl_offer.specs.Settings.{AreValidSizes, settings_of};
-ghost use Rattle.irl_words.specs.Options.{rules_of, settings_options};
+ghost use Rattle.irl_words.specs.Options.{budgets_options, rules_of, run_options, settings_options};
 ghost use Rattle.irl_words.specs.Rows.{AreInRange, AreMatches};
-ghost use Rattle.irl_words.specs.Words.{asked_for as asked_for_of, checked as checked_of, decided, with_settings};
-ghost use Rattle.irl_words.specs.Words.{command_named, command_of, number_in, rule_in, IsCause, IsInRange, IsRefusedBy};
+ghost use Rattle.irl_words.specs.Words.{asked_for as asked_for_of, checked as checked_of, decided, has_most_below_base};
+ghost use Rattle.irl_words.specs.Words.{checked_run, run_in, with_budgets, with_settings};
+ghost use Rattle.irl_words.specs.Words.{is_agent as is_agent_of, is_token as is_token_of};
+ghost use Rattle.irl_words.specs.Words.{is_token_byte as is_token_byte_of};
+ghost use Rattle.irl_words.specs.Words.{command_named, command_of, number_in, rule_in, AreRunOptions};
+ghost use Rattle.irl_words.specs.Words.{IsCause, IsFaultWith, IsInRange, IsRefusedBy};
 
 use crate::commands::command;
 use crate::name::Name;
-use crate::{Command, WordFault};
+use crate::{Command, RunOptions, WordFault};
 use clap::ArgMatches;
 use clap::error::ErrorKind;
 use irl_offer::{Asked, Kind, Rule, Text};
 use std::alloc::{AllocError, Global};
 
-/// Reads the words behind the folder's. The first picks the command, and the others are its options: each takes one value,
-/// as `--name VALUE` or `--name=VALUE`, and is given at most once. An option that isn't named asks for nothing.
+/// Reads the words behind the folder's. The first picks the command, and the others are its options: each takes one
+/// value, as `--name VALUE` or `--name=VALUE`, and is given at most once. An option that isn't named asks nothing of a
+/// store, and in a run is its default.
 ///
-/// Words that are no command are refused with one of them: `-` where there is none; the first where it names no command, or
-/// where an option is unknown, given twice, without a value or with a value out of its range, and where a further word
-/// stands; `--buckets` where all the words are taken but that number is no power of two. Want of memory may come at any time.
+/// Words that are no command are refused with one of them: `-` where there is none; the first where it names no command,
+/// or where an option is unknown, given twice, without a value or with a value out of its range, and where a further word
+/// stands. Where all the words are taken it is `--buckets` where that number is no power of two, `--most` where it is
+/// below that of `--base`, `--agent` where that is no name of an agent, or `--workers` where that is another number than
+/// 1, the first of these. Want of memory may come at any time.
 pub fn read_words(alloc: Global, words: &[&str]) -> Result<Command, WordFault>
     ensures command { IfOk result (λ command. command_of (map (λ word. word.now) words.now) ≡ Ok command) }
     ensures range { IfOk result IsInRange }
@@ -37,7 +44,7 @@ pub fn read_words(alloc: Global, words: &[&str]) -> Result<Command, WordFault>
 
 // The fault of words that are refused with this one.
 fn refusal(alloc: Global, word: &str) -> WordFault
-    ensures { IsRefusedBy (Err word.now) result }
+    ensures { IsFaultWith word.now result }
 {
     match Text::from_bytes(alloc, word.as_bytes()) {
         Ok(word) => WordFault::Refused(word),
@@ -53,10 +60,7 @@ fn read_command(alloc: Global, name: Name, word: &str, words: &[&str]) -> Result
     ensures refused { IfErr result (IsRefusedBy (command_named name word.now (map (λ word. word.now) words.now))) }
 {
     match take(alloc, name, words)? {
-        Some(matches) => match decide(name, word, &matches) {
-            Ok(command) => Ok(command),
-            Err(word) => Err(refusal(alloc, word)),
-        },
+        Some(matches) => decide(alloc, name, word, &matches),
         None => Err(refusal(alloc, word)),
     }
 }
@@ -77,47 +81,52 @@ fn take<'a>(
 }
 
 // The command of this name with these values of its options, or the word with which they are refused.
-fn decide<'a>(name: Name, word: &'a str, matches: &ArgMatches) -> Result<Command, &'a str>
+fn decide(alloc: Global, name: Name, word: &str, matches: &ArgMatches) -> Result<Command, WordFault>
     requires { AreInRange (rules_of name) (rows_of (found_of matches.now)) }
     ensures command { IfOk result (λ command. decided name word.now (rows_of (found_of matches.now)) ≡ Ok command) }
     ensures range { IfOk result IsInRange }
-    ensures refused { IfErr result (λ refused.
-        decided name word.now (rows_of (found_of matches.now)) ≡ Err refused.now) }
+    ensures refused { IfErr result (IsRefusedBy (decided name word.now (rows_of (found_of matches.now)))) }
 {
     match name {
         Name::Seen => {
             let asked = settings(asked_for(Kind::Lines, None), matches);
-            Ok(Command::Seen(checked(asked)?))
+            Ok(Command::Seen(checked(alloc, asked)?))
         }
         Name::Drum => match rule(matches.get_str("rule")) {
             Some(rule) => {
                 let asked = settings(asked_for(Kind::Tuples, rule), matches);
-                Ok(Command::Drum(checked(asked)?))
+                Ok(Command::Drum(checked(alloc, asked)?))
             }
-            None => Err(word),
+            None => Err(refusal(alloc, word)),
         },
+        Name::Replay => {
+            let asked = settings(asked_for(Kind::Crawl, None), matches);
+            let asked = checked(alloc, budgets(asked, matches))?;
+            Ok(Command::Replay(asked, run(alloc, matches)?))
+        }
         Name::Show => Ok(Command::Show),
         Name::List => Ok(Command::List),
     }
 }
 
 // What is asked of a store, or the option with which it is refused: the first of these.
-fn checked(asked: Asked) -> Result<Asked, &'static str>
+fn checked(alloc: Global, asked: Asked) -> Result<Asked, WordFault>
     ensures asked { IfOk result (λ same. checked_of asked ≡ Ok same) }
     ensures same { IfOk result (λ same. same ≡ asked) }
     ensures buckets { IfOk result (λ same. IsBucketCount (settings_of same).buckets) }
-    ensures refused { IfErr result (λ option. checked_of asked ≡ Err option.now) }
+    ensures budgets { IfOk result (λ same. has_most_below_base same ≡ false) }
+    ensures refused { IfErr result (IsRefusedBy (checked_of asked)) }
 {
     match asked {
         Asked {
             buckets: Some(buckets),
             ..
-        } if !is_bucket_count(buckets) => Err("--buckets"),
+        } if !is_bucket_count(buckets) => Err(refusal(alloc, "--buckets")),
         Asked {
             base: Some(base),
             most: Some(most),
             ..
-        } if most < base => Err("--most"),
+        } if most < base => Err(refusal(alloc, "--most")),
         _ => Ok(asked),
     }
 }
@@ -155,11 +164,25 @@ fn settings(asked: Asked, matches: &ArgMatches) -> Asked
     ensures range { AreValidSizes (settings_of result) }
 {
     Asked {
-        buckets: size(matches, "buckets"),
-        array: size(matches, "array"),
-        trigger: size(matches, "trigger"),
-        block: size(matches, "block"),
-        cap: large_size(matches, "cap"),
+        buckets: number(matches, "buckets"),
+        array: number(matches, "array"),
+        trigger: number(matches, "trigger"),
+        block: number(matches, "block"),
+        cap: large_number(matches, "cap"),
+        ..asked
+    }
+}
+
+// The same with the queues and the budgets that they name.
+fn budgets(asked: Asked, matches: &ArgMatches) -> Asked
+    requires { AreInRange budgets_options (rows_of (found_of matches.now)) }
+    ensures { result ≡ with_budgets (rows_of (found_of matches.now)) asked }
+{
+    Asked {
+        queues: number(matches, "queues"),
+        base: number(matches, "base"),
+        most: number(matches, "most"),
+        ranks: number(matches, "ranks"),
         ..asked
     }
 }
@@ -177,17 +200,62 @@ fn rule(word: Option<&str>) -> Option<Option<Rule>>
     }
 }
 
-// The size that an option names.
-fn size(matches: &ArgMatches, option: &str) -> Option<u32>
-    requires { IfSome (one_of option.now (rows_of (found_of matches.now))) (IsUnsignedIn 1 4294967295) }
+// The options of a run, or the one with which they are refused: the first of these.
+fn run(alloc: Global, matches: &ArgMatches) -> Result<RunOptions, WordFault>
+    requires { AreInRange run_options (rows_of (found_of matches.now)) }
+    ensures options { IfOk result (λ options. checked_run (run_in (rows_of (found_of matches.now))) ≡ Ok options) }
+    ensures range { IfOk result AreRunOptions }
+    ensures refused { IfErr result (IsRefusedBy (checked_run (run_in (rows_of (found_of matches.now))))) }
+{
+    let agent = matches.get_str("agent").unwrap_or("irlbot");
+    if !is_agent(agent) {
+        return Err(refusal(alloc, "--agent"));
+    }
+    let workers = number(matches, "workers").unwrap_or(1);
+    if workers != 1 {
+        return Err(refusal(alloc, "--workers"));
+    }
+    Ok(RunOptions {
+        workers,
+        delay: large_number(matches, "delay").unwrap_or(1_000),
+        pages: number(matches, "pages").unwrap_or(1_000_000),
+        batch: number(matches, "batch").unwrap_or(4_096),
+        agent: Text::from_bytes(alloc, agent.as_bytes())?,
+    })
+}
+
+// Whether this is a name of an agent: 1 to 64 letters, `-` or `_`.
+fn is_agent(name: &str) -> bool
+    ensures { result ≡ is_agent_of name.now }
+{
+    is_token(name.as_bytes()) && name.len() <= 64
+}
+
+// Whether this is a product token: letters, `-` and `_`, at least one.
+fn is_token(name: &[u8]) -> bool
+    ensures { result ≡ is_token_of name.now }
+{
+    !name.is_empty() && name.iter().all(|byte| is_token_byte(*byte))
+}
+
+// Whether a token may have this byte.
+fn is_token_byte(byte: u8) -> bool
+    ensures { result ≡ is_token_byte_of byte }
+{
+    byte.is_ascii_alphabetic() || byte == b'-' || byte == b'_'
+}
+
+// The number that an option names.
+fn number(matches: &ArgMatches, option: &str) -> Option<u32>
+    requires { IfSome (one_of option.now (rows_of (found_of matches.now))) (IsUnsignedIn 0 4294967295) }
     ensures { result ≡ number_in option.now (rows_of (found_of matches.now)) }
 {
     matches.get_one::<u32>(option)
 }
 
 // The same of an option that takes larger ones.
-fn large_size(matches: &ArgMatches, option: &str) -> Option<u64>
-    requires { IfSome (one_of option.now (rows_of (found_of matches.now))) (IsUnsignedIn 1 18446744073709551615) }
+fn large_number(matches: &ArgMatches, option: &str) -> Option<u64>
+    requires { IfSome (one_of option.now (rows_of (found_of matches.now))) (IsUnsignedIn 0 18446744073709551615) }
     ensures { result ≡ number_in option.now (rows_of (found_of matches.now)) }
 {
     matches.get_one::<u64>(option)

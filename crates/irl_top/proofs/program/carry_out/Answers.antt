@@ -1,4 +1,4 @@
-use Rattle.irl_top.proofs.Deciding.{does_drum, does_list, does_seen, does_show}
+use Rattle.irl_top.proofs.Deciding.{does_drum, does_list, does_seen, does_show, never_waits}
 use Rattle.irl_top.proofs.program.carry_out.Goals as goal
 
 pub returns-in-Seen : goal.returns-in-Seen
@@ -12,3 +12,6 @@ returns-in-Show g c = does_show c.args.command.now _ _ _ c.in-Show.is (c.show.en
 
 pub returns-in-List : goal.returns-in-List
 returns-in-List g c = does_list c.args.command.now _ _ _ c.in-List.is (c.list.ensures (record { bytes = g.I.Source.left c.args.input.now; faults = g.I.Source.faults c.args.input.now }))
+
+pub unreachable-requires : goal.unreachable-requires
+unreachable-requires g c = never_waits c.args.command.now _ _ c.in-Replay.is c.requires.plain

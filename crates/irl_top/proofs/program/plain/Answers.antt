@@ -11,4 +11,4 @@ returns-clause-obeys g c = record {
 }
 
 pub returns-clause-accepted : goal.returns-clause-accepted
-returns-clause-accepted g c = λ is. accepted c.args.command.now _ _ c.carry_out-ending.result.0 c.carry_out-ending.ensures c.requires (sym c.status.ensures ∙ is)
+returns-clause-accepted g c = λ is. accepted c.args.command.now _ _ c.carry_out-ending.result.0 c.carry_out-ending.ensures c.requires.range c.requires.plain (sym c.status.ensures ∙ is)

@@ -1,16 +1,35 @@
-use Rattle.std.proofs.Common.{◌≡◌, ◌∙◌, ℕ, Bor, List, inl, sym, ap, subst, map, refl}
-use Rattle.std.specs.Prelude.{Result, Err}
-use Rattle.irl_words.specs.Words.{command_of}
+use Rattle.std.proofs.Common.{◌≡◌, ◌∙◌, ℕ, Bor, List, inl, sym, ap, subst, rules, map, refl}
+use Rattle.std.specs.Prelude.{Result, Ok, Err}
+use Rattle.irl_words.specs.Words.{IsInRange, command_of}
 use Rattle.irl_words.specs.declared.command.Command.{Command}
 use Rattle.irl_top.specs.Outside.{Outside, outside}
 use Rattle.irl_top.specs.Run.{Answers}
-use Rattle.irl_top.proofs.Deciding.{says_of}
+use Rattle.irl_top.proofs.Deciding.{crawl_asked, says_of}
 use Rattle.irl_top.proofs.program.run.Given.{Over}
 use Rattle.irl_top.proofs.program.run.Goals as goal
 
 -- what is told of all that a run is handed
 abbrev told : (g : Over) → g.row.S.Denot → g.row.I.Denot → g.row.O.Denot → g.row.E.Denot → Outside
 told g store input output errors = outside g.S.Store.told g.I.Source.left g.I.Source.faults g.O.Sink.written g.O.Sink.faults g.E.Sink.written g.E.Sink.faults store input output errors
+
+pub replay-ended-requires-clause-kind : goal.replay-ended-requires-clause-kind
+replay-ended-requires-clause-kind g c =
+    search (rules, (crawl_asked c.in-Ok-Replay.asked c.in-Ok-Replay.options (subst IsInRange c.in-Ok-Replay.field-0-is c.in-Ok-Replay.ensures.range)).0)
+
+pub replay-ended-requires-clause-options : goal.replay-ended-requires-clause-options
+replay-ended-requires-clause-options g c =
+    search (rules, (crawl_asked c.in-Ok-Replay.asked c.in-Ok-Replay.options (subst IsInRange c.in-Ok-Replay.field-0-is c.in-Ok-Replay.ensures.range)).1)
+
+pub returns-in-Ok-Replay : goal.returns-in-Ok-Replay
+returns-in-Ok-Replay g c =
+    let before = told g c.args.store c.args.input.now c.args.output.now c.args.errors.now in
+    let after = told g c.replay-ended.result.1 c.replay-ended.new.input c.replay-ended.new.output c.tell.new.errors in
+    inl (subst (λ (r : Result Command (List ℕ)). Answers r before after c.status.result) (sym (c.in-Ok-Replay.ensures.command ∙ ap Ok c.in-Ok-Replay.field-0-is)) (record {
+      ending = c.replay-ended.result.0;
+      status_is = c.status.ensures;
+      does = c.replay-ended.ensures;
+      says = says_of c.tell.result _ _ _ c.tell.ensures.ok c.tell.ensures.err c.tell.ensures.cause;
+    }))
 
 pub returns-in-Ok : goal.returns-in-Ok
 returns-in-Ok g c =

@@ -1,8 +1,9 @@
-use Rattle.std.proofs.Common.{◌≡◌, ◌∙◌, Err, ap, codes, rules, sym}
+use Rattle.std.proofs.Common.{◌≡◌, ◌∙◌, ap, codes, rules, sym}
 use Rattle.clap.specs.Words.{first_of, found_of, rows_of}
 use Rattle.clap.proofs.WalkLemmas.{first_value-rows}
-use Rattle.irl_words.specs.Words.{decided, rule_in, with_settings}
-use Rattle.irl_words.proofs.Deciding.{drum_asks, drum_refused}
+use Rattle.irl_words.specs.Words.{IsRefusedBy, decided, rule_in, with_settings}
+use Rattle.irl_words.proofs.Deciding.{drum_asks, drum_refused, drum_refuses, refused_with}
+use Rattle.irl_words.proofs.Taking.{replay_in_range}
 use Rattle.irl_words.proofs.words.decide.Goals as goal
 
 pub returns-in_err-checked-in-Some-clause-refused : goal.returns-in_err-checked-in-Some-clause-refused
@@ -10,8 +11,8 @@ returns-in_err-checked-in-Some-clause-refused c =
     let rows = rows_of (found_of c.args.matches.now) in
     let read : c.rule.result ≡ rule_in (first_of (codes "rule") rows) = c.rule.ensures ∙ ap rule_in (c.get_str.ensures ∙ first_value-rows (found_of c.args.matches.now) (codes "rule")) in
     let asked = c.settings-asked-in-Some.ensures.value ∙ ap (with_settings rows) c.asked_for-in-Some.ensures in
-    let is : decided c.args.name c.args.word.now rows ≡ Err c.in_err-checked-in-Some.field-0.0.now =
-    drum_asks c.args.name c.args.word.now rows c.in-Some.rule _ _ c.in-Drum.is (sym read ∙ c.in-Some.is) asked c.in_err-checked-in-Some.ensures.refused in
+    let is : IsRefusedBy (decided c.args.name c.args.word.now rows) c.in_err-checked-in-Some.field-0.0 =
+    drum_refuses c.args.name c.args.word.now rows c.in-Some.rule _ _ c.in-Drum.is (sym read ∙ c.in-Some.is) asked c.in_err-checked-in-Some.ensures.refused in
     search rules
 
 pub returns-in_ok-checked-in-Some-clause-command : goal.returns-in_ok-checked-in-Some-clause-command
@@ -25,4 +26,12 @@ pub returns-in-None-clause-refused : goal.returns-in-None-clause-refused
 returns-in-None-clause-refused c =
     let rows = rows_of (found_of c.args.matches.now) in
     let read : c.rule.result ≡ rule_in (first_of (codes "rule") rows) = c.rule.ensures ∙ ap rule_in (c.get_str.ensures ∙ first_value-rows (found_of c.args.matches.now) (codes "rule")) in
-    drum_refused c.args.name c.args.word.now rows c.in-Drum.is (sym read ∙ c.in-None.is)
+    refused_with _ c.args.word.now c.refusal.result (drum_refused c.args.name c.args.word.now rows c.in-Drum.is (sym read ∙ c.in-None.is)) c.refusal.ensures
+
+pub returns-in_ok-run-in-Replay-clause-range : goal.returns-in_ok-run-in-Replay-clause-range
+returns-in_ok-run-in-Replay-clause-range c =
+    let rows = rows_of (found_of c.args.matches.now) in
+    let sized = c.settings-asked-in-Replay.ensures.value ∙ ap (with_settings rows) c.asked_for-in-Replay.ensures in
+    let asked = c.in_ok-asked-in-Replay.ensures.same ∙ c.budgets.ensures in
+    replay_in_range c.args.name _ _ _ rows c.in-Replay.is c.requires sized asked c.in_ok-asked-in-Replay.ensures.buckets
+    c.settings-asked-in-Replay.ensures.range c.in_ok-asked-in-Replay.ensures.budgets c.in_ok-run-in-Replay.ensures.range

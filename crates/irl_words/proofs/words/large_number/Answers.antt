@@ -3,11 +3,11 @@ use Rattle.std.specs.Str.Parse.{ExplainsUnsignedError, HasUnsignedDigitsIfOk, Pa
 use Rattle.clap.specs.Words.{IsUnsignedIn, found_of}
 use Rattle.clap.proofs.WalkLemmas.{one_text-rows}
 use Rattle.irl_words.proofs.Numbers.{number_read}
-use Rattle.irl_words.proofs.words.large_size.Goals as goal
+use Rattle.irl_words.proofs.words.large_number.Goals as goal
 
 pub returns : goal.returns
 returns c =
     let rows = one_text-rows (found_of c.args.matches.now) c.args.option.now in
     number_read (λ bs r. ParsesUnsigned 64 10 bs r × ExplainsUnsignedError 10 bs r × HasUnsignedDigitsIfOk bs r) 64 18446744073709551615 _ c.get_one.result
-    c.get_one.ensures.none c.get_one.ensures.value (λ u x g. g.0) (omega arith) (subst (λ v. IfSome v (IsUnsignedIn 1 18446744073709551615)) (sym rows) c.requires)
+    c.get_one.ensures.none c.get_one.ensures.value (λ u x g. g.0) (omega arith) (subst (λ v. IfSome v (IsUnsignedIn 0 18446744073709551615)) (sym rows) c.requires)
     ∙ ap (option_map (λ t. digits_value 10 (without_leading_plus t))) rows

@@ -1,0 +1,353 @@
+-- One run of a command that crawls, by what entering its store says and what is done over an open one.
+use Rattle.std.proofs.Common.{◌≡◌, ◌≢◌, ◌∙◌, ◌⊎◌, inl, inr, ⊎_elim, ℕ, ◌≤◌, List, [], Option, None, Some, refl, sym, ap, subst, arith}
+use Rattle.std.specs.Prelude.{Result, Ok, Err, OnOk, IfErr, IsErrOf, unwrap_or}
+use Rattle.std.specs.Option.{ForSome}
+use Rattle.std.specs.Io.KnownBytes.{Appends}
+use Rattle.std.proofs.KnownBytes.{Appends-nil}
+use Rattle.irl_base.specs.Faults.{HasCause}
+use Rattle.irl_bay.specs.Drum.{IsDrum}
+use Rattle.irl_core.specs.States.{begun_with}
+use Rattle.irl_crawl.specs.Leading.{IsFullAt, Leads}
+use Rattle.irl_crawl.proofs.Leading.{leads_more_failed, leads_none, leads_wide}
+use Rattle.irl_disk.specs.Disk.{Files}
+use Rattle.irl_disk.specs.Images.{IsConsistent, Leaves, Told}
+use Rattle.irl_disk.proofs.Effects.{cause_for, cause_then}
+use Rattle.irl_disk.proofs.Stretches.{joins, widens}
+use Rattle.irl_events.specs.State.{State, IsFrontState, blank_state}
+use Rattle.irl_head.specs.Asking.{Agrees}
+use Rattle.irl_head.specs.Head.{kind_number}
+use Rattle.irl_head.specs.Opening.{DeniesState, IsBlank, IsUnwanted}
+use Rattle.irl_head.specs.declared.open_fault.OpenFault.{OpenFault}
+use Rattle.irl_head.specs.declared.open_fault.OpenFault.TheVariants.{NotOurs as OpenNotOurs, Damaged as OpenDamaged, OtherSettings as OpenOtherSettings, BadSettings as OpenBadSettings, Failed as OpenFailed, Memory as OpenMemory}
+use Rattle.irl_offer.specs.Settings.{settings_of}
+use Rattle.irl_offer.specs.declared.settings.Asked.{Asked}
+use Rattle.irl_offer.specs.declared.settings.Kind.{Kind}
+use Rattle.irl_offer.specs.declared.settings.Kind.TheVariants.{Lines, Tuples, Crawl as CrawlKind}
+use Rattle.irl_offer.specs.declared.settings.Settings.{Settings}
+use Rattle.irl_record.specs.Taped.{Taped}
+use Rattle.irl_record.specs.declared.reading.TapeFault.{TapeFault}
+use Rattle.irl_record.specs.declared.reading.TapeFault.TheVariants.{BadRecord, Failed as TapeFailed, Memory as TapeMemory}
+use Rattle.irl_report.specs.Report.{report_of}
+use Rattle.irl_fate.specs.declared.counts.Counts.{Counts}
+use Rattle.irl_yard.specs.declared.parts.Parts.{Parts}
+use Rattle.irl_yard.specs.Entering.{EntersStore, HasGround, OpensYard, OpeningRefused}
+use Rattle.irl_yard.specs.Holding.{HasOneOf, HoldsState, IsSound}
+use Rattle.irl_yard.specs.Leading.{FailsAt, HasOneBetween, LeadsTo}
+use Rattle.irl_yard.specs.Opening.{entered_state, new_state}
+use Rattle.irl_yard.specs.Passing.{AreCounts}
+use Rattle.irl_yard.specs.Standing.{HasState}
+use Rattle.irl_yard.proofs.Grounds.{entered_made}
+use Rattle.irl_yard.proofs.Holding.{held_has}
+use Rattle.irl_yard.proofs.States.{entered_front, state_both, state_same}
+use Rattle.irl_top.specs.Crawled.{CrawlTask, CrawlRun, CrawlsInput, CrawlsStore, Crawled, GoesOver, GoesTo, HasOtherSuffixes, IsCrawled, IsCrawlEnding, IsInput, IsOpenEnding, MayCrawl, PrintsReport, ending_of_tape, settings_for}
+use Rattle.irl_top.specs.Message.{ending_of, ending_of_open}
+use Rattle.irl_top.specs.Outside.{Lent}
+use Rattle.irl_top.specs.Shown.{IsReportOf, HasCounts}
+use Rattle.irl_top.specs.Stream.{Stream}
+use Rattle.irl_top.specs.declared.ending.Ending.{Ending}
+use Rattle.irl_top.specs.declared.ending.Ending.TheVariants.{Done, BadSettings, LineRefused, NotOurs, Damaged, OtherSettings, DiskFault, InputFault, OutputFault, NoMemory, Full}
+use Rattle.irl_top.proofs.Closed.{open_bad, open_damaged, open_disk, open_late, open_other, open_ours}
+use Rattle.irl_top.proofs.Shows.{Printed, all_of, has_report, none_of}
+
+-- ---- what is printed
+pub no_text : (ending : Ending) (y : State) → ending ≢ Done → PrintsReport ending y []
+no_text ending y fine = let whole = has_report y in (whole.0, whole.1, none_of whole.0, λ is. absurd (fine is))
+
+wrote_none : (old new : Stream) → new ≡ old → Appends old.bytes new.bytes []
+wrote_none old new same = subst (λ (s : Stream). Appends old.bytes s.bytes []) (sym same) (Appends-nil old.bytes)
+
+cause_same : (failed : Type 0) (old new : Stream) → new ≡ old → (failed → ⊥) → HasCause failed old.faults new.faults
+cause_same failed old new same none = record { later = omega (arith, ap (λ (s : Stream). s.faults) same); rose = λ is. absurd (none is) }
+
+-- ---- a refusal of an opening
+record IsClosed (asked : Asked) (fault : OpenFault) (before after : Lent) : Type 0 where
+  refused : OpeningRefused asked fault before.store after.store
+  entered : EntersStore asked (fault ≡ OpenFailed) before.store after.store
+  input : after.input ≡ before.input
+  output : after.output ≡ before.output
+
+-- what is left of a state, by the greatest that a stop leaves
+record KeepsState (x most : State) (before after : Told) : Type 0 where
+  state : State
+  told : ForSome after.files (HasState state)
+  fronts : IsFrontState x state × IsFrontState state most
+  either : (state ≡ x) ⊎ (state ≡ most)
+  stops : ((image : Files) → before.images image → HasState x image) → Leaves before after (HasOneBetween x most)
+
+one_told : (told : Option Files) (f : Files) (z : State) → told ≡ Some f → HasState z f → ForSome told (HasState z)
+one_told told f z is has = λ g is_g. let both = sym is ∙ is_g in let same : f ≡ g = cc in subst (HasState z) same has
+
+keeps_told : (asked : Asked) (fault : OpenFault) (before after : Told) (files : Files) (x : State) → OpeningRefused asked fault before after → EntersStore asked (fault ≡ OpenFailed) before after
+    → before.files ≡ Some files → HasState x files → (told : Option Files) → after.files ≡ told → KeepsState x (entered_state asked x) before after
+keeps_told asked fault before after files x refused entered is has told after_is = by_told told after_is
+  where
+    stopped : ((image : Files) → before.images image → HasState x image) → Leaves before after (HasOneBetween x (entered_state asked x))
+    stopped each = widens before after _ _ (entered.stops x each) (λ image either. ⊎_elim
+        (λ (h : HasState x image). (x, h, state_same x, entered_front asked x))
+        (λ (h : HasState (entered_state asked x) image). (entered_state asked x, h, entered_front asked x, state_same (entered_state asked x)))
+        either)
+
+    first : ForSome after.files (HasState x) → KeepsState x (entered_state asked x) before after
+    first told = record { state = x; told = told; fronts = (state_same x, entered_front asked x); either = inl refl; stops = stopped }
+
+    by_one : (f : Files) → after.files ≡ Some f → HasOneOf x (entered_state asked x) f → KeepsState x (entered_state asked x) before after
+    by_one f is_f (inl old) = first (one_told after.files f x is_f old)
+    by_one f is_f (inr new) = record {
+      state = entered_state asked x;
+      told = one_told after.files f (entered_state asked x) is_f new;
+      fronts = (entered_front asked x, state_same (entered_state asked x));
+      either = inr refl;
+      stops = stopped;
+    }
+
+    by_told : (told : Option Files) → after.files ≡ told → KeepsState x (entered_state asked x) before after
+    by_told None none = first (λ f is_f. let both = sym none ∙ is_f in let no : ⊥ = cc in absurd no)
+    by_told (Some f) is_f = by_one f is_f (refused.told_err x files is has f is_f)
+
+failed_or : (fault : OpenFault) → (fault ≢ OpenFailed) ⊎ (fault ≡ OpenFailed)
+failed_or (OpenNotOurs at) = inl (λ is. cc)
+failed_or (OpenDamaged f at) = inl (λ is. cc)
+failed_or (OpenOtherSettings n k w) = inl (λ is. cc)
+failed_or (OpenBadSettings n) = inl (λ is. cc)
+failed_or OpenFailed = inr refl
+failed_or OpenMemory = inl (λ is. cc)
+
+blank_image : (x : State) (image : Files) → x ≡ blank_state → HasState x image → IsBlank image
+blank_image x image is (inl blank) = blank.0
+blank_image x image is (inr (settings, made)) = let no : None ≡ Some settings = sym (ap (λ (s : State). s.settings) is) ∙ made.settings_are in let never : ⊥ = cc in absurd never
+
+-- unless a call failed the state stays
+keeps_closed : (asked : Asked) (fault : OpenFault) (before after : Told) (files : Files) (x : State) → OpeningRefused asked fault before after → EntersStore asked (fault ≡ OpenFailed) before after
+    → before.files ≡ Some files → HasState x files
+    → (most : State) × ((most ≡ x) ⊎ (most ≡ entered_state asked x)) × (fault ≢ OpenFailed → most ≡ x) × KeepsState x most before after
+keeps_closed asked fault before after files x refused entered is (inr (settings, made)) =
+    let same = entered_made asked settings x made.settings_are in
+    (entered_state asked x, inr refl, (λ fine. same), keeps_told asked fault before after files x refused entered is (inr (settings, made)) after.files refl)
+keeps_closed asked fault before after files x refused entered is (inl blank) = ⊎_elim
+    (λ fine. (
+      x,
+      inl refl,
+      (λ still. refl),
+      record {
+        state = x;
+        told = λ g is_g. inl (refused.blank fine files is blank.0 g is_g, blank.1);
+        fronts = (state_same x, state_same x);
+        either = inl refl;
+        stops = λ each. widens before after _ _ (refused.blank_stops fine (λ image left. blank_image x image blank.1 (each image left)))
+            (λ image still. (x, inl (still, blank.1), state_same x, state_same x));
+      },
+    ))
+    (λ failed. (entered_state asked x, inr refl, (λ fine. absurd (fine failed)), keeps_told asked fault before after files x refused entered is (inl blank) after.files refl))
+    (failed_or fault)
+
+no_done : (fault : OpenFault) → ending_of_open fault ≢ Done
+no_done fault = λ is. open_late fault (inl is)
+
+no_full : (fault : OpenFault) (n : ℕ) → ending_of_open fault ≡ Full n → ⊥
+no_full fault n is = open_late fault (inr (inr (inr (inr (n, is)))))
+
+store_refused : (task : CrawlTask) (asked : Asked) (before after : Lent) (fault : OpenFault) → IsClosed asked fault before after → (files : Files) (x : State) → before.store.files ≡ Some files → HasState x files
+    → CrawlsStore task asked before after (ending_of_open fault) x
+store_refused task asked before after fault closed files x is has =
+    let found = keeps_closed asked fault before.store after.store files x closed.refused closed.entered is has in
+    let keeps = found.3 in
+    record {
+      kept = x;
+      state = keeps.state;
+      most = found.0;
+      told = keeps.told;
+      may_kept = inl refl;
+      may_most = elim found.1 [ inl same ↦ inl same | inr new ↦ inr (inl new) ];
+      first = state_same x;
+      fronts = keeps.fronts;
+      settled = λ fine.
+          let same = found.2 (λ failed. fine (ap ending_of_open failed)) in
+          (⊎_elim (λ old. old) (λ new. new ∙ same) keeps.either, same);
+      done = λ done. absurd (no_done fault done);
+      full = λ n full. absurd (no_full fault n full);
+      text = [];
+      written = wrote_none before.output after.output closed.output;
+      prints = no_text (ending_of_open fault) x (no_done fault);
+      stops = keeps.stops;
+    }
+
+ground_as : (asked : Asked) (told : Option Files) (fault other : OpenFault) → fault ≡ other → HasGround asked told fault → HasGround asked told other
+ground_as asked told fault other is ground = subst (HasGround asked told) is ground
+
+denies_as : (fault other : OpenFault) → fault ≡ other → DeniesState other → DeniesState fault
+denies_as fault other is denies = subst DeniesState (sym is) denies
+
+unwanted : (fault : OpenFault) → ((n : ℕ) × (ending_of_open fault ≡ BadSettings n)) ⊎ ((at : ℕ) × (ending_of_open fault ≡ NotOurs at)) → IsUnwanted fault
+unwanted fault (inl bad) = subst IsUnwanted (sym (open_bad fault bad.0 bad.1)) tt
+unwanted fault (inr ours) = subst IsUnwanted (sym (open_ours fault ours.0 ours.1)) tt
+
+pub run_refused : (task : CrawlTask) (asked : Asked) (before after : Lent) (fault : OpenFault) → OpeningRefused asked fault before.store after.store
+    → EntersStore asked (fault ≡ OpenFailed) before.store after.store → after.input ≡ before.input → after.output ≡ before.output → CrawlRun task asked before after (ending_of_open fault)
+run_refused task asked before after fault refused entered input output =
+    let told = before.store.files in
+    record {
+      crawls = λ files is x has. store_refused task asked before after fault (record { refused = refused; entered = entered; input = input; output = output }) files x is has;
+      unopened = λ is. (refused.same (unwanted fault is), input, output);
+      read = λ is. absurd (no_done fault is);
+      bad = λ n is. (ground_as asked told fault (OpenBadSettings n) (open_bad fault n is) refused.ground).0;
+      bad_asked = λ n is. (ground_as asked told fault (OpenBadSettings n) (open_bad fault n is) refused.ground).1;
+      line = λ n is. absurd (open_late fault (inr (inl (n, is))));
+      not_ours = λ at is. ground_as asked told fault (OpenNotOurs at) (open_ours fault at is) refused.ground;
+      other = λ n kept wanted is. inl (ground_as asked told fault (OpenOtherSettings n kept wanted) (open_other fault n kept wanted is) refused.ground);
+      whole = λ f at is. refused.whole (denies_as fault (OpenDamaged f at) (open_damaged fault f at is) tt);
+      whole_ours = λ at is. refused.whole (denies_as fault (OpenNotOurs at) (open_ours fault at is) tt);
+      disk = cause_for (fault ≡ OpenFailed) (ending_of_open fault ≡ DiskFault) before.store.faults after.store.faults (open_disk fault) entered.cause;
+      input = cause_same (ending_of_open fault ≡ InputFault) before.input after.input input (λ is. open_late fault (inr (inr (inl is))));
+      output = cause_same (ending_of_open fault ≡ OutputFault) before.output after.output output (λ is. open_late fault (inr (inr (inr (inl is)))));
+    }
+
+-- ---- a store that was opened
+disk_or : (ending : Ending) → (ending ≢ DiskFault) ⊎ (ending ≡ DiskFault)
+disk_or Done = inl (λ is. cc)
+disk_or (BadSettings n) = inl (λ is. cc)
+disk_or (LineRefused n) = inl (λ is. cc)
+disk_or (NotOurs at) = inl (λ is. cc)
+disk_or (Damaged f at) = inl (λ is. cc)
+disk_or (OtherSettings n k w) = inl (λ is. cc)
+disk_or DiskFault = inr refl
+disk_or InputFault = inl (λ is. cc)
+disk_or OutputFault = inl (λ is. cc)
+disk_or NoMemory = inl (λ is. cc)
+disk_or (Full n) = inl (λ is. cc)
+
+never_bad : (ending : Ending) (n : ℕ) → IsOpenEnding ending → ending ≡ BadSettings n → ⊥
+never_bad ending n kind is = subst IsOpenEnding is kind
+
+never_ours : (ending : Ending) (at : ℕ) → IsOpenEnding ending → ending ≡ NotOurs at → ⊥
+never_ours ending at kind is = subst IsOpenEnding is kind
+
+-- entering leaves the suffixes that a crawl began with
+begun_entered : (asked : Asked) (x : State) (files : Files) → HasState x files → begun_with (entered_state asked x).events ≡ begun_with x.events
+begun_entered asked x files (inl blank) = subst (λ (s : State). begun_with (entered_state asked s).events ≡ begun_with s.events) (sym blank.1) refl
+begun_entered asked x files (inr (settings, made)) = ap (λ (s : State). begun_with s.events) (entered_made asked settings x made.settings_are)
+
+module _ (task : CrawlTask) (asked : Asked) (before mid after : Lent) (was now : Parts) (ending : Ending) (law : IsConsistent after.store) (drum : IsDrum was.urls)
+    (opened : OpensYard asked was before.store.files mid.store) (entered : EntersStore asked ⊥ before.store mid.store) (tells : (files : Files) → before.store.files ≡ Some files → (later : Files)
+    × (mid.store.files ≡ Some later)) (input : mid.input ≡ before.input) (output : mid.output ≡ before.output) (over : GoesOver task was now mid after ending) where
+  stops_in : (x most : State) → IsFrontState (entered_state asked x) most → ((image : Files) → before.store.images image → HasState x image)
+      → Leaves mid.store after.store (HasOneBetween (entered_state asked x) most) → Leaves before.store after.store (HasOneBetween x most)
+  stops_in x most front each stops = joins before.store mid.store after.store (HasOneBetween x most)
+      (widens before.store mid.store _ _ (entered.stops x each) (λ image either. ⊎_elim
+      (λ (h : HasState x image). (x, h, state_same x, state_both x (entered_state asked x) most (entered_front asked x) front))
+      (λ (h : HasState (entered_state asked x) image). (entered_state asked x, h, entered_front asked x, front))
+      either))
+      (widens mid.store after.store _ _ stops (λ image between. (between.0, between.1, state_both x (entered_state asked x) between.0 (entered_front asked x) between.2, between.3)))
+
+  may_in : (x y : State) → MayCrawl task mid.input.bytes (entered_state asked x) y → MayCrawl task before.input.bytes (entered_state asked x) y
+  may_in x y may = subst (λ (s : Stream). MayCrawl task s.bytes (entered_state asked x) y) input may
+
+  settings_is : (x : State) (files : Files) → before.store.files ≡ Some files → HasState x files → was.urls.settings ≡ settings_for asked (entered_state asked x)
+  settings_is x files is has = sym (ap (λ (o : Option Settings). unwrap_or o (settings_of asked)) (opened.holds files is x has).urls.settings)
+
+  written_in : Appends before.output.bytes after.output.bytes over.text
+  written_in = subst (λ (s : Stream). Appends s.bytes after.output.bytes over.text) output over.written
+
+  -- the store failed
+  store_failed : (x : State) (files : Files) → before.store.files ≡ Some files → HasState x files → ending ≡ DiskFault → CrawlsStore task asked before after ending x
+  store_failed x files is has failed =
+      let later = tells files is in
+      let fails = over.leads.fails failed later.0 later.1 (entered_state asked x) (opened.holds files is x has) in
+      let whole = state_both (entered_state asked x) fails.kept fails.most fails.first (state_both fails.kept fails.state fails.most fails.fronts.0 fails.fronts.1) in
+      let text : Appends before.output.bytes after.output.bytes [] = subst (λ (t : List ℕ). Appends before.output.bytes after.output.bytes t) (over.silent failed) written_in in
+      record {
+        kept = fails.kept;
+        state = fails.state;
+        most = fails.most;
+        told = fails.told;
+        may_kept = inr (may_in x fails.kept fails.may_kept);
+        may_most = inr (may_in x fails.most fails.may_most);
+        first = state_both x (entered_state asked x) fails.kept (entered_front asked x) fails.first;
+        fronts = fails.fronts;
+        settled = λ fine. absurd (fine failed);
+        done = λ done. let no : DiskFault ≡ Done = sym failed ∙ done in let never : ⊥ = cc in absurd never;
+        full = λ n full. let no : DiskFault ≡ Full n = sym failed ∙ full in let never : ⊥ = cc in absurd never;
+        text = [];
+        written = text;
+        prints = no_text ending fails.kept (λ done. let no : DiskFault ≡ Done = sym failed ∙ done in let never : ⊥ = cc in absurd never);
+        stops = λ each. stops_in x fails.most whole each fails.stops;
+      }
+
+  store_led : (x : State) (files : Files) → before.store.files ≡ Some files → HasState x files → ending ≢ DiskFault → CrawlsStore task asked before after ending x
+  store_led x files is has fine =
+      let later = tells files is in
+      let led = over.leads.leads fine later.0 later.1 (entered_state asked x) (opened.holds files is x has) in
+      let y = led.0 in
+      let goes = led.1 in
+      let to = led.2 in
+      record {
+        kept = y;
+        state = y;
+        most = y;
+        told = λ f told. held_has after.store.images now.urls y f over.leads.goes_on.drum to.holds.urls (law.told f told);
+        may_kept = inr (may_in x y goes.may);
+        may_most = inr (may_in x y goes.may);
+        first = state_both x (entered_state asked x) y (entered_front asked x) to.front;
+        fronts = (state_same y, state_same y);
+        settled = λ still. (refl, refl);
+        done = λ done.
+            let crawled = goes.done done in (
+              crawled.0,
+              subst (λ (s : Stream). IsInput task s.bytes crawled.0) input crawled.1,
+              subst (λ (s : Settings). IsCrawled task s crawled.0 (entered_state asked x) y) (settings_is x files is has) crawled.2,
+            );
+        full = λ n full. subst (λ (s : Settings). IsFullAt s (entered_state asked x) y n) (settings_is x files is has) (goes.full n full);
+        text = over.text;
+        written = written_in;
+        prints = goes.prints;
+        stops = λ each. stops_in x y to.front each to.stops;
+      }
+
+  -- damage is named of no state
+  none_whole : (x : State) (files : Files) → before.store.files ≡ Some files → HasState x files → (f at : ℕ) → ending ≡ Damaged f at → ⊥
+  none_whole x files is has f at damaged =
+      let later = tells files is in
+      let fine : ending ≢ DiskFault = λ failed. let no : Damaged f at ≡ DiskFault = sym damaged ∙ failed in let never : ⊥ = cc in absurd never in
+      (over.leads.leads fine later.0 later.1 (entered_state asked x) (opened.holds files is x has)).1.whole f at damaged
+
+  others : (x : State) (files : Files) → before.store.files ≡ Some files → HasState x files → (n kept wanted : ℕ) → ending ≡ OtherSettings n kept wanted
+      → (n ≡ 12) × ((tape : Taped) × IsInput task before.input.bytes tape × HasOtherSuffixes x tape.suffixes kept wanted)
+  others x files is has n kept wanted other =
+      let later = tells files is in
+      let fine : ending ≢ DiskFault = λ failed. let no : OtherSettings n kept wanted ≡ DiskFault = sym other ∙ failed in let never : ⊥ = cc in absurd never in
+      let found = (over.leads.leads fine later.0 later.1 (entered_state asked x) (opened.holds files is x has)).1.other n kept wanted other in
+      let differ = found.1.2 in (
+        found.0,
+        (
+          found.1.0,
+          subst (λ (s : Stream). IsInput task s.bytes found.1.0) input found.1.1,
+          record { text = differ.text; begun = sym (begun_entered asked x files has) ∙ differ.begun; kept_is = differ.kept_is; wanted_is = differ.wanted_is; differ = differ.differ; named = differ.named },
+        ),
+      )
+
+  pub run_opened : CrawlRun task asked before after ending
+  run_opened = record {
+    crawls = λ files is x has. ⊎_elim (store_led x files is has) (store_failed x files is has) (disk_or ending);
+    unopened = λ is. absurd (⊎_elim (λ (b : (n : ℕ) × (ending ≡ BadSettings n)). never_bad ending b.0 over.kinds b.1) (λ (o : (at : ℕ) × (ending ≡ NotOurs at)). never_ours ending o.0 over.kinds o.1) is);
+    read = λ is. subst (λ (s : Stream). ForSome s.bytes (λ _. after.input.bytes ≡ Some [])) input (over.read is);
+    bad = λ n is. absurd (never_bad ending n over.kinds is);
+    bad_asked = λ n is. absurd (never_bad ending n over.kinds is);
+    line = λ n is. subst (λ (s : Stream). ForSome s.bytes (λ bytes. task.reads bytes ≡ Err n)) input (over.line n is);
+    not_ours = λ at is. absurd (never_ours ending at over.kinds is);
+    other = λ n kept wanted is. inr (λ files told x has. others x files told has n kept wanted is);
+    whole = λ f at is files told x has. none_whole x files told has f at is;
+    whole_ours = λ at is. absurd (never_ours ending at over.kinds is);
+    disk = cause_then (ending ≡ DiskFault) before.store.faults mid.store.faults after.store.faults entered.cause.later over.leads.cause;
+    input = subst (λ (s : Stream). HasCause (ending ≡ InputFault) s.faults after.input.faults) input over.input;
+    output = subst (λ (s : Stream). HasCause (ending ≡ OutputFault) s.faults after.output.faults) output over.output;
+  }
+
+-- ---- the kind of a store
+crawl_number : (kind : Kind) → kind_number CrawlKind ≡ kind_number kind → kind ≡ CrawlKind
+crawl_number Lines same = cc
+crawl_number Tuples same = cc
+crawl_number CrawlKind same = refl
+
+-- a store that is asked for a crawl is one of a crawl
+pub kind_agrees : (asked : Asked) (settings : Settings) → Agrees asked settings → asked.kind ≡ CrawlKind → settings.kind ≡ CrawlKind
+kind_agrees asked settings agrees is =
+    crawl_number settings.kind (sym (ap kind_number is) ∙ agrees 0 (kind_number asked.kind) (kind_number settings.kind) refl refl)

@@ -1,0 +1,228 @@
+//! The commands that crawl: they lead a store on by what answers their fetches, and print its report.
+
+ghost use Rattle.std.specs.Prelude.{◌≡◌, ◌≢◌, ◌≤◌, [], false, None, length, IfErr, IfOk, IsErrOf, OnOk};
+ghost use Rattle.irl_log.specs.Form.{max_suffixes};
+ghost use Rattle.irl_pld.specs.Names.{bad_line};
+ghost use Rattle.irl_offer.specs.declared.settings.Kind.TheVariants.{Crawl as CrawlKind};
+ghost use Rattle.irl_words.specs.Words.{AreRunOptions};
+ghost use Rattle.irl_yard.specs.Holding.{IsSound};
+ghost use Rattle.irl_crawl.specs.Leading.{IsOpen, Leads};
+ghost use Rattle.irl_top.specs.Crawled.{replay_task, Begins, BeginsAt, Crawled, CrawlsInput, CrawlRun, GoesOver, IsCrawlEnding, IsPlanOf};
+ghost use Rattle.irl_top.specs.Crawled.{ending_of_crawl, ending_of_tape};
+ghost use Rattle.irl_top.specs.Outside.{lent};
+ghost use Rattle.irl_top.specs.declared.ending.Ending.TheVariants.{DiskFault as DiskEnding};
+
+use crate::Ending;
+use crate::showing::print_report;
+use irl_crawl::{Ended, Plan, crawl};
+use irl_disk::Store;
+use irl_fetch::NoGate;
+use irl_io::{Sink, Source};
+use irl_key::{Web, key_of};
+use irl_offer::{Asked, Text};
+use irl_record::{Tape, TapeFault, TapeFetch};
+use irl_words::RunOptions;
+use irl_yard::Yard;
+use std::alloc::{AllocError, Global};
+use std::sync::Wait;
+use std::thread::Threads;
+
+/// The number of the suffix text among what a store was made with, where it differs from a tape's.
+const SUFFIXES: u8 = 12;
+
+/// Crawls the pages of a tape, and prints the report. The store is entered before the tape is read, and the tape is read
+/// whole before the first offer.
+pub fn replay<R, I, O, S>(
+    rt: &R,
+    alloc: Global,
+    asked: &Asked,
+    options: &RunOptions,
+    input: &mut I,
+    output: &mut O,
+    store: S,
+) -> (Ending, S)
+where
+    R: Threads + Wait + Sync,
+    I: Source,
+    O: Sink,
+    S: Store,
+    requires kind { asked.now.kind ≡ CrawlKind }
+    requires options { AreRunOptions options.now }
+    ensures { let tells = lent S.told I.left I.faults O.written O.faults in
+        CrawlRun (replay_task options.now) asked.now (tells store input.old output.old)
+        (tells result.1 input.new output.new) result.0 }
+{
+    let yard = match Yard::enter(alloc, store, asked) {
+        Ok(yard) => yard,
+        Err((fault, store)) => return (fault.into(), store),
+    };
+    let (ending, yard) = crawl_input(rt, alloc, yard, options, input, output);
+    (ending, yard.into_store())
+}
+
+// Reads a tape whole, crawls it over an open store, and prints the report.
+fn crawl_input<R, I, O, S>(
+    rt: &R,
+    alloc: Global,
+    yard: Yard<S>,
+    options: &RunOptions,
+    input: &mut I,
+    output: &mut O,
+) -> (Ending, Yard<S>)
+where
+    R: Threads + Wait + Sync,
+    I: Source,
+    O: Sink,
+    S: Store,
+    requires sound { IsSound yard.parts }
+    requires kind { yard.parts.urls.settings.kind ≡ CrawlKind }
+    requires options { AreRunOptions options.now }
+    ensures { let tells = lent S.told I.left I.faults O.written O.faults in
+        GoesOver (replay_task options.now) yard.parts result.1.parts (tells yard.store input.old output.old)
+        (tells result.1.store input.new output.new) result.0 }
+{
+    let _is_sound = yard.is_sound();
+    let tape = match Tape::read(alloc, input, true) {
+        Ok(tape) => tape,
+        Err(fault) => return (ending_of_tape(fault), yard),
+    };
+    let (crawled, yard) = crawl_tape(rt, alloc, yard, &tape, options);
+    match crawled {
+        Ok(()) => {
+            let printed = print_report(alloc, &yard.counts(), output);
+            (Ending::of(printed), yard)
+        }
+        Err(ending) => (ending, yard),
+    }
+}
+
+// Crawls a tape over an open store.
+fn crawl_tape<R, S>(
+    rt: &R,
+    alloc: Global,
+    yard: Yard<S>,
+    tape: &Tape,
+    options: &RunOptions,
+) -> (Result<(), Ending>, Yard<S>)
+where
+    R: Threads + Wait + Sync,
+    S: Store,
+    requires sound { IsSound yard.parts }
+    requires kind { yard.parts.urls.settings.kind ≡ CrawlKind }
+    requires options { AreRunOptions options.now }
+    ensures leads { Leads (IsErrOf result.0 DiskEnding) (CrawlsInput (replay_task options.now) tape.now)
+        (Crawled result.0 (replay_task options.now) yard.parts.urls.settings tape.now) yard.parts result.1.parts
+        (S.told yard.store) (S.told result.1.store) }
+    ensures kinds { IfErr result.0 IsCrawlEnding }
+{
+    let _is_sound = yard.is_sound();
+    let mut yard = yard;
+    match begin(&mut yard, tape.suffixes()) {
+        Ok(()) => play(rt, alloc, yard, tape, options),
+        Err(ending) => (Err(ending), yard),
+    }
+}
+
+// Begins a crawl with a text of suffixes, or goes on with one that began with it; no text at all fits every crawl.
+fn begin<S: Store>(yard: &mut Yard<S>, suffixes: &Text) -> Result<(), Ending>
+    requires sound { IsSound yard.old.parts }
+    requires kind { yard.old.parts.urls.settings.kind ≡ CrawlKind }
+    requires good { bad_line suffixes.now ≡ None }
+    requires short { length suffixes.now ≤ max_suffixes }
+    ensures leads { Leads (IsErrOf result DiskEnding) (BeginsAt suffixes.now) (Begins result suffixes.now)
+        yard.old.parts yard.new.parts (S.told yard.old.store) (S.told yard.new.store) }
+    ensures kinds { IfErr result IsCrawlEnding }
+    ensures open { OnOk result (IsOpen yard.new.parts) }
+{
+    let _is_sound = yard.is_sound();
+    let Some(kept) = yard.suffixes() else {
+        yard.begin(suffixes)?;
+        return Ok(());
+    };
+    if fits(suffixes.bytes(), kept.text()) {
+        return Ok(());
+    }
+    Err(Ending::OtherSettings(SUFFIXES, key_of(kept.text()), key_of(suffixes.bytes())))
+}
+
+// Whether a crawl that began with a text of suffixes may go on with another: with the same one, or with none.
+fn fits(suffixes: &[u8], kept: &[u8]) -> bool
+    ensures named { result ≡ false → suffixes.now ≢ [] }
+    ensures other { result ≡ false → kept.now ≢ suffixes.now }
+{
+    suffixes.is_empty() || suffixes == kept
+}
+
+// Crawls a tape over a crawl that has begun.
+fn play<R, S>(
+    rt: &R,
+    alloc: Global,
+    yard: Yard<S>,
+    tape: &Tape,
+    options: &RunOptions,
+) -> (Result<(), Ending>, Yard<S>)
+where
+    R: Threads + Wait + Sync,
+    S: Store,
+    requires open { IsOpen yard.parts }
+    requires options { AreRunOptions options.now }
+    ensures leads { Leads (IsErrOf result.0 DiskEnding) (CrawlsInput (replay_task options.now) tape.now)
+        (Crawled result.0 (replay_task options.now) yard.parts.urls.settings tape.now) yard.parts result.1.parts
+        (S.told yard.store) (S.told result.1.store) }
+    ensures kinds { IfErr result.0 IsCrawlEnding }
+{
+    let _is_sound = yard.is_sound();
+    let plan = match plan_of(alloc, tape, options) {
+        Ok(plan) => plan,
+        Err(_) => return (Err(Ending::NoMemory), yard),
+    };
+    let mut fetchers = [TapeFetch::new(tape)];
+    let (ended, yard) = crawl(rt, alloc, yard, &mut fetchers, &mut [NoGate], &plan);
+    (ending_of_crawl(ended), yard)
+}
+
+// What a tape and the options of a run ask of a crawl.
+fn plan_of(alloc: Global, tape: &Tape, options: &RunOptions) -> Result<Plan, AllocError>
+    requires options { AreRunOptions options.now }
+    ensures { IfOk result (IsPlanOf tape.now options.now) }
+{
+    Ok(Plan {
+        seeds: copies(alloc, tape.seeds())?,
+        pages: options.pages,
+        batch: options.batch,
+        delay: options.delay,
+        agent: options.agent.copy(alloc)?,
+    })
+}
+
+// The same pages once more.
+fn copies(alloc: Global, webs: &[Web]) -> Result<Vec<Web>, AllocError>
+    ensures { IfOk result (λ copies. copies.items ≡ webs.now) }
+{
+    let mut copies = Vec::new(alloc);
+    for web in webs {
+        copies.push(web.copy(alloc)?)?;
+    }
+    Ok(copies)
+}
+
+// What the end of a crawl is to a run.
+fn ending_of_crawl(ended: Ended) -> Result<(), Ending>
+    ensures { result ≡ ending_of_crawl ended }
+{
+    match ended {
+        Ended::Done | Ended::Limit => Ok(()),
+        Ended::Fault(fault) => Err(fault.into()),
+    }
+}
+
+// The ending that a tape's fault is.
+fn ending_of_tape(fault: TapeFault) -> Ending
+    ensures { result ≡ ending_of_tape fault }
+{
+    match fault {
+        TapeFault::BadRecord(n) => Ending::LineRefused(n),
+        TapeFault::Failed => Ending::InputFault,
+        TapeFault::Memory => Ending::NoMemory,
+    }
+}

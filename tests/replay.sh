@@ -1,0 +1,183 @@
+#!/bin/sh
+# The command replay.
+
+. "$(dirname -- "$0")/common.sh"
+
+# A report, of the numbers of its 18 lines.
+report() {
+    set -- $1
+    for line in offers judged unique pairs fresh queued last front done page moved status denied shut lost bad large coded; do
+        printf '%s %s|' "$line" "$1"
+        shift
+    done
+}
+
+# Writes a tape of six URLs, one that a robots file denies and one that leads elsewhere among them.
+tape() {
+    cat >in <<'TAPE'
+suffix test
+seed http://www.a.test/
+page 200 other http://www.a.test/robots.txt
+|User-agent: *
+|Disallow: /private
+end
+page 200 html http://www.a.test/
+|<a href="/one">1</a>
+|<a href="/private/x">2</a>
+|<a href="http://b.test/">3</a>
+|<a href="/one#top">4</a>
+end
+page 301 other http://www.a.test/one
+to http://c.test/new
+end
+page 200 html http://b.test/
+|<a href="http://www.a.test/">a</a>
+|<a href="http://c.test/new">c</a>
+|<a href="https://c.test/secure">s</a>
+|<a href="/gone">g</a>
+end
+page 200 html http://c.test/new
+|<a href="http://b.test/">b</a>
+end
+# these are not linked
+page 200 other http://c.test/old
+|old
+end
+lost http://c.test/lost
+page 204 other http://c.test/none
+end
+TAPE
+}
+
+whole=$(report '10 10 6 5 0 0 0 0 6 3 1 1 1 0 0 0 0 0')
+listing='0 page http://www.a.test/|1 moved http://www.a.test/one|2 denied:2 http://www.a.test/private/x|3 page http://b.test/|5 page http://c.test/new|8 status:404 http://b.test/gone|'
+
+# Whole crawls
+
+try 'a tape' ''
+tape
+"$program" taped replay --buckets 1 <in >out 2>err
+gives 0 "$whole" ''
+"$program" taped show >out 2>err
+gives 0 "$whole" ''
+"$program" taped list >out 2>err
+gives 0 "$listing" ''
+right
+
+try 'a tape at the defaults' ''
+tape
+"$program" defaults replay <in >out 2>err
+gives 0 "$whole" ''
+right
+
+try 'a crawl that goes on' ''
+tape
+"$program" taped replay <in >out 2>err
+gives 0 "$(report '11 11 6 5 0 0 0 0 6 3 1 1 1 0 0 0 0 0')" ''
+"$program" taped list >out 2>err
+gives 0 "$listing" ''
+right
+
+try 'one page a run' ''
+tape
+"$program" paged replay --buckets 1 --pages 1 <in >out 2>err
+gives 0 "$(report '5 5 4 1 3 0 0 0 1 1 0 0 0 0 0 0 0 0')" ''
+for run in 2 3 4 5 6; do
+    "$program" paged replay --pages 1 <in >out 2>err || fail "status $? of run $run"
+done
+"$program" paged replay --pages 1 <in >out 2>err
+gives 0 "$(report '16 16 6 5 0 0 0 0 6 3 1 1 1 0 0 0 0 0')" ''
+"$program" paged list 2>err | cut -d ' ' -f 2- | sort >out
+text "$listing" | cut -d ' ' -f 2- | sort | cmp -s - out || fail "it lists '$(tr '\n' '|' <out)'"
+right
+
+try 'a page limit and then all' ''
+tape
+"$program" limited replay --buckets 1 --pages 1 --batch 1 <in >out 2>err
+gives 0 "$(report '5 5 4 1 3 0 0 0 1 1 0 0 0 0 0 0 0 0')" ''
+"$program" limited replay --batch 1 <in >out 2>err
+gives 0 "$(report '11 11 6 5 0 0 0 0 6 3 1 1 1 0 0 0 0 0')" ''
+right
+
+try 'an empty tape' ''
+"$program" empty replay <in >out 2>err
+gives 0 "$(report '0 0 0 0 0 0 0 0 0 0 0 0 0 0 0 0 0 0')" ''
+right
+
+try 'a page that is lost and one that leads to itself' 'seed http://a.test/|page 301 other http://a.test/|to /|end|lost http://a.test/robots.txt|'
+"$program" lost replay <in >out 2>err
+gives 0 "$(report '1 1 1 0 0 0 0 0 1 0 0 0 0 1 0 0 0 0')" ''
+right
+
+# What is refused
+
+try 'a tape without its last line' ''
+tape
+sed '$d' in >shorter
+"$program" cut replay <shorter >out 2>err
+gives 2 '' 'line 31 refused|'
+right
+
+try 'another text of suffixes' ''
+tape
+"$program" suffixed replay <in >/dev/null 2>err || fail "status $?"
+sed 's/^suffix test/suffix c.test/' in >other
+"$program" suffixed replay <other >out 2>err
+status=$?
+[ "$status" -eq 3 ] || fail "status $status, and not 3"
+has out ''
+grep -Eq '^other setting 12: kept [0-9]+, asked [0-9]+$' err || fail "it told '$(cat err)'"
+sed '/^suffix/d' in >none
+"$program" suffixed replay <none >out 2>err
+gives 0 "$(report '11 11 6 5 0 0 0 0 6 3 1 1 1 0 0 0 0 0')" ''
+right
+
+try 'a store of lines' 'http://a.test/|'
+"$program" lines seen <in >out 2>err
+gives 0 'http://a.test/|' ''
+tape
+"$program" lines replay <in >out 2>err
+gives 3 '' 'other setting 1: kept 1, asked 3|'
+"$program" taped seen <in >out 2>err
+gives 3 '' 'other setting 1: kept 3, asked 1|'
+right
+
+try 'a bucket that is full' ''
+tape
+"$program" full replay --buckets 1 --array 1 --cap 2 <in >out 2>err
+gives 8 '' 'bucket 0 full|'
+"$program" full replay <in >out 2>err
+gives 8 '' 'bucket 0 full|'
+right
+
+try 'several workers' ''
+tape
+"$program" workers replay --workers 2 <in >out 2>err
+gives 1 '' 'words refused: --workers|'
+"$program" workers replay --workers 0 <in >out 2>err
+gives 1 '' 'words refused: replay|'
+"$program" workers replay --agent 'a b' <in >out 2>err
+gives 1 '' 'words refused: --agent|'
+"$program" workers replay --most 5 --base 6 <in >out 2>err
+gives 1 '' 'words refused: --most|'
+is_absent workers
+right
+
+# Streams
+
+try 'output that is closed' ''
+tape
+"$program" closed replay <in >&- 2>err
+status=$?
+[ "$status" -eq 6 ] || fail "status $status, and not 6"
+"$program" closed show >out 2>err
+gives 0 "$whole" ''
+right
+
+try 'input that is a folder' ''
+mkdir folder
+"$program" unread replay <folder >out 2>err
+gives 5 '' 'input fault|'
+right
+
+finish
