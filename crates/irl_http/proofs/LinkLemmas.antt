@@ -20,14 +20,18 @@ none_on_last (x ∷ y ∷ xs) = ap (λ l. x ∷ l) (none_on_last (y ∷ xs))
 -- a write on the connection that was made adds to its exchange
 pub exchange_written : (port : ℕ) (gives written piece : List ℕ) (before made after : Option (List Connection)) → HasExchange port gives written before made → WritesOnLast piece made after
     → HasExchange port gives (written ++ piece) before after
-exchange_written port gives written piece None made after has writes = tt
+exchange_written port gives written piece None None None has writes = tt
+exchange_written port gives written piece None None (Some last) has writes = absurd writes
+exchange_written port gives written piece None (Some new) after has writes = absurd has
 exchange_written port gives written piece (Some old) None after has writes = absurd has
 exchange_written port gives written piece (Some old) (Some new) None has writes = absurd writes
 exchange_written port gives written piece (Some old) (Some new) (Some last) has writes = writes ∙ ap (written_on_last piece) has ∙ on_last piece old _
 
 pub exchange_stays : (port : ℕ) (gives written : List ℕ) (before made after : Option (List Connection)) → HasExchange port gives written before made → StaySame made after
     → HasExchange port gives written before after
-exchange_stays port gives written None made after has same = tt
+exchange_stays port gives written None None None has same = tt
+exchange_stays port gives written None None (Some last) has same = absurd same
+exchange_stays port gives written None (Some new) after has same = absurd has
 exchange_stays port gives written (Some old) None after has same = absurd has
 exchange_stays port gives written (Some old) (Some new) None has same = absurd same
 exchange_stays port gives written (Some old) (Some new) (Some last) has same = same ∙ has

@@ -21,7 +21,8 @@ stay_same None = tt
 stay_same (Some x) = refl
 
 pub stay_on : (a b c : Option (List Connection)) → StaySame a b → StaySame b c → StaySame a c
-stay_on None b c p q = tt
+stay_on None None c p q = q
+stay_on None (Some y) c p q = absurd p
 stay_on (Some x) None c p q = absurd p
 stay_on (Some x) (Some y) None p q = absurd q
 stay_on (Some x) (Some y) (Some z) p q = q ∙ p

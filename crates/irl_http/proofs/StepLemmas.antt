@@ -2,7 +2,7 @@
 use Rattle.std.proofs.Common.{◌≡◌, ℕ, ◌+◌, ◌-◌, ◌<◌, ◌≤◌, ◌⊎◌, inl, inr, true, false, List, [], ◌∷◌, ◌++◌, length, get_or, take, drop, refl, sym, ap, ◌∙◌, subst, arith, append-nil, length-append, length-take, length-drop}
 use Rattle.std.specs.List.{AllByRecursion}
 use Rattle.std.proofs.lemmas.Grind.{flat_map-append}
-use Rattle.std.proofs.lemmas.List.{take_at, take_all, take_more, take-take, take-append-drop}
+use Rattle.std.proofs.lemmas.List.{take_at, take_all, take_more, take-take, take-append-drop, take-append-le}
 use Rattle.std.proofs.lemmas.Bool.{cases_lt}
 use Rattle.std.proofs.Math.Seq.{take-add}
 use Rattle.httparse.specs.Grammar.{ResponseHead, print_response, NeverHasResponse}
@@ -16,7 +16,7 @@ use Rattle.irl_offer.specs.declared.reply.Answer.{Answer}
 use Rattle.irl_offer.specs.declared.reply.Answer.TheVariants.{Reply, NoReply, Short, BadReply, TooLarge, Coded}
 use Rattle.irl_http.specs.Heads.{line_feeds, is_interim, ReadsHead, IsInterim, print_heads, Awaits, HasHead, HasNoHead, HasBadHead, PassesBytes, PassesLines, max_heads, max_fields}
 use Rattle.irl_http.specs.Reply.{Shows}
-use Rattle.irl_http.specs.Parsing.{QuietBetween, TellsAlike, ParsesHead, EndsHeads}
+use Rattle.irl_http.specs.Parsing.{QuietBetween, TellsAlike, ParsesHead, EndsHeads, EndsInterim}
 use Rattle.irl_http.proofs.HeadLemmas.{open_no_head, open_not_bad, open_not_long, none_before, open_before, never_no_head, head_more, awaits_more, feeds_take, last_not_bad, head_long, empty_may}
 
 -- an open head within the limits shows nothing
@@ -302,3 +302,15 @@ quiet_nothing want n a from below s =
 
 pub nothing_yet : (h : ResponseHead) (rest : List ℕ) → ¬ HasHead [] h rest
 nothing_yet h rest = open_no_head [] [] awaits_nothing no_head_nothing h rest
+
+pub interim_nothing : EndsInterim [] 0
+interim_nothing = record { within = omega arith; early = omega arith; awaits = awaits_nothing; quiet = λ want n a from below. omega (arith, below) }
+
+-- heads of interim replies stay heads of interim replies
+pub interim_more : (bytes more : List ℕ) (at : ℕ) → EndsInterim bytes at → EndsInterim (bytes ++ more) at
+interim_more bytes more at ends = record {
+  within = omega (arith, ends.within, length-append bytes more);
+  early = ends.early;
+  awaits = subst (λ l. Awaits l []) (sym (take-append-le at bytes more ends.within)) ends.awaits;
+  quiet = λ want n a from below s. ends.quiet want n a from below (subst (λ l. Shows want l a) (take-append-le n bytes more (omega (arith, below, ends.within))) s);
+}

@@ -8,10 +8,11 @@ written_on_last piece [] = []
 written_on_last piece (c ∷ []) = record c { written = c.written ++ piece } ∷ []
 written_on_last piece (c ∷ d ∷ others) = c ∷ written_on_last piece (d ∷ others)
 
--- P holds of known connections before and after: those that were known stay known
+-- P holds of known connections before and after: whether they are known stays as it is
 abbrev pub OfKnown : (List Connection → List Connection → Type 0) → Option (List Connection) → Option (List Connection)
     → Type 0
-OfKnown P None after = ⊤
+OfKnown P None None = ⊤
+OfKnown P None (Some after) = ⊥
 OfKnown P (Some before) None = ⊥
 OfKnown P (Some before) (Some after) = P before after
 

@@ -15,7 +15,7 @@ use Rattle.irl_http.specs.declared.head.Next.TheVariants as next
 use Rattle.irl_http.specs.declared.head.Told.{Told}
 use Rattle.irl_http.specs.declared.head.Told.TheVariants as told
 use Rattle.irl_http.specs.Fields.{fields_of, plan_of, location_of, html_of}
-use Rattle.irl_http.specs.Heads.{max_heads, HasHead, HasNoHead, HasBadHead, PassesBytes, PassesLines}
+use Rattle.irl_http.specs.Heads.{max_heads, Awaits, HasHead, HasNoHead, HasBadHead, PassesBytes, PassesLines}
 use Rattle.irl_http.specs.Reply.{Shows, Tells}
 
 -- some bytes can follow that make it a head
@@ -50,7 +50,7 @@ pub record ParsesHead (bytes : List ℕ) (at : ℕ) (headers : List HeaderSpan) 
 abbrev pub NextAs : List ℕ → ℕ → List HeaderSpan → Next → Type 0
 NextAs bytes at headers (next.Head front spans) = ParsesHead bytes at headers front.now spans
 NextAs bytes at headers next.Open = QuietBetween bytes at (length bytes + 1) × (length bytes ≤ max_heads)
-    × HasNoHeadYet bytes
+    × HasNoHeadYet bytes × HasNoHead (drop at bytes)
 NextAs bytes at headers (next.Bad end) = QuietBetween bytes at end × (end ≤ length bytes) × HasBadHead (take end bytes)
 NextAs bytes at headers (next.TooLarge end) =
     QuietBetween bytes at end
@@ -83,13 +83,25 @@ pub record EndsHeads (bytes : List ℕ) (end : ℕ) (head : ResponseHead) : Type
   pub has : HasHead (take end bytes) head []
   pub quiet : QuietBetween bytes 0 end
 
+-- the bytes up to a place are whole heads of interim replies, and fewer show nothing
+pub record EndsInterim (bytes : List ℕ) (at : ℕ) : Type 0 where
+  pub within : at ≤ length bytes
+  pub early : at ≤ max_heads
+  pub awaits : Awaits (take at bytes) []
+  pub quiet : QuietBetween bytes 0 at
+
+-- all whole heads of interim replies that the bytes begin with end at a place
+pub record EndsAllInterim (bytes : List ℕ) (at : ℕ) : Type 0 where
+  pub ends : EndsInterim bytes at
+  pub none_behind : HasNoHead (drop at bytes)
+
 -- the answer that the fewest first bytes show, for pages and robots files alike
 abbrev pub TellsAlike : List ℕ → Answer → Type 0
 TellsAlike bytes answer = (want : Want) → Tells want bytes answer
 
 abbrev pub TellsHeads : List ℕ → Told → Type 0
 TellsHeads bytes (told.Head said end) = (head : ResponseHead) × Says said head × EndsHeads bytes end head
-TellsHeads bytes told.Nothing = QuietBetween bytes 0 (length bytes + 1) × (length bytes ≤ max_heads)
-    × HasNoHeadYet bytes
+TellsHeads bytes (told.Nothing at) = QuietBetween bytes 0 (length bytes + 1) × (length bytes ≤ max_heads)
+    × HasNoHeadYet bytes × EndsAllInterim bytes at
 TellsHeads bytes (told.Bad n) = TellsAlike bytes (BadReply n)
 TellsHeads bytes (told.TooLarge n) = TellsAlike bytes (Large n)

@@ -1,7 +1,7 @@
 ghost use Rattle.std.specs.Prelude.{◌≡◌, ◌+◌, ◌-◌, ◌<◌, ◌≤◌, [], length, take, drop, IfOk, MatchBool};
 ghost use Rattle.httparse.specs.Grammar.{NeverHasResponse};
 ghost use Rattle.irl_http.specs.Heads.{line_feeds, max_heads, max_fields, Awaits, HasNoHead, is_interim_status};
-ghost use Rattle.irl_http.specs.Parsing.{ParsedAs, MayBecomeHead, NextAs, PastAs, TellsHeads};
+ghost use Rattle.irl_http.specs.Parsing.{ParsedAs, MayBecomeHead, NextAs, PastAs, EndsInterim, TellsHeads};
 
 use crate::fields::{Head, head_of};
 use httparse::spans::{EMPTY_HEADER_SPAN, HeaderSpan, ResponseSpans, parse_response};
@@ -148,8 +148,8 @@ fn past_heads(bytes: &[u8], at: usize) -> Next<'_>
 pub(crate) enum Told {
     /// The head, which ends at a place.
     Head(Head, usize),
-    /// Nothing yet.
-    Nothing,
+    /// Nothing yet. All whole heads of interim replies end at a place.
+    Nothing(usize),
     /// This many first bytes end in a bad head.
     Bad(usize),
     /// This many first bytes pass a limit.
@@ -163,13 +163,14 @@ fn is_interim(status: u16) -> bool
     status >= 100 && status <= 199
 }
 
-/// Looks for the head of the reply behind those of interim replies.
-pub(crate) fn look(alloc: Global, bytes: &[u8]) -> Result<Told, AllocError>
-    requires { length bytes.now ≤ max_heads + 1 }
+/// Looks for the head of the reply behind those of interim replies, of which some end at a place.
+pub(crate) fn look(alloc: Global, bytes: &[u8], from: usize) -> Result<Told, AllocError>
+    requires few { length bytes.now ≤ max_heads + 1 }
+    requires interim { EndsInterim bytes.now from }
     ensures { IfOk result (TellsHeads bytes.now) }
 {
     let mut headers = [EMPTY_HEADER_SPAN; MAX_FIELDS];
-    let mut at = 0;
+    let mut at = from;
     loop {
         match next_head(bytes, at, &mut headers) {
             Next::Head(front, spans) => {
@@ -180,7 +181,7 @@ pub(crate) fn look(alloc: Global, bytes: &[u8]) -> Result<Told, AllocError>
                 }
                 at = end;
             }
-            Next::Open => return Ok(Told::Nothing),
+            Next::Open => return Ok(Told::Nothing(at)),
             Next::Bad(end) => return Ok(Told::Bad(end)),
             Next::TooLarge(end) => return Ok(Told::TooLarge(end)),
         }

@@ -104,6 +104,7 @@ pub(crate) fn read_heads<L: Link>(
     ensures undisturbed { Undisturbed (L.written link.old) (L.written link.new)
         (L.connections link.old) (L.connections link.new) (L.faults link.old) (L.faults link.new) }
 {
+    let mut from = 0;
     loop {
         let room = piece.len().min(MAX_HEADS + 1 - bytes.len());
         match read_more(link, &mut piece[..room], bytes)? {
@@ -111,11 +112,11 @@ pub(crate) fn read_heads<L: Link>(
             Fill::Ended => return Ok(Heads::Answer(Answer::Short(bytes.len() as u64))),
             Fill::Failed => return Ok(Heads::Answer(Answer::NoReply)),
         }
-        match look(alloc, bytes)? {
+        match look(alloc, bytes, from)? {
             Told::Head(head, end) => return Ok(Heads::Head(head, end)),
             Told::Bad(n) => return Ok(Heads::Answer(Answer::BadReply(n as u64))),
             Told::TooLarge(n) => return Ok(Heads::Answer(Answer::TooLarge(n as u64))),
-            Told::Nothing => {}
+            Told::Nothing(end) => from = end,
         }
     }
 }

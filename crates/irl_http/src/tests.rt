@@ -511,7 +511,7 @@ const BYTES: [Long; 3] = [
     (
         b"",
         b"HTTP/1.1 100 Continue\r\n\r\n",
-        100,
+        654,
         b"HTTP/1.1 404 No\r\n\r\n",
         Want::Page,
         "404 html|",
@@ -591,8 +591,10 @@ const BODIES: [Long; 7] = [
 
 #[test]
 fn limits_of_heads_hold(rt: HostRuntime) -> Result<(), Fail> {
-    assert_long(&rt, rt.alloc(), &HEADS, 16_384)?;
-    assert_long(&rt, rt.alloc(), &HEADS, 1_000)
+    for size in [16_384, 1_000, 1] {
+        assert_long(&rt, rt.alloc(), &HEADS, size)?;
+    }
+    Ok(())
 }
 
 #[test]

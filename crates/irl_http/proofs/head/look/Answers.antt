@@ -1,5 +1,5 @@
 -- A head of an interim reply is read over, and the first other one is the reply's.
-use Rattle.std.proofs.Common.{◌+◌, ◌≡◌, map, take, inl, false, true, sym, ap, ◌∙◌, arith}
+use Rattle.std.proofs.Common.{◌+◌, ◌≡◌, length, map, take, inl, false, true, sym, ap, ◌∙◌, arith}
 use Rattle.httparse.specs.Spans.{header_bytes}
 use Rattle.httparse.specs.Grammar.{status_code}
 use Rattle.irl_http.specs.Fields.{location_of, html_of, plan_by}
@@ -47,6 +47,15 @@ loop-front-preserved c =
       awaits = awaits_next bytes at c.in-Head.front.now head c.in-Head.spans.len p c.loop-front.invariant.awaits interim;
       quiet = quiet_on bytes at (at + c.in-Head.spans.len) c.loop-front.invariant.quiet c.in-Head.ensures.quiet;
     }
+
+pub returns-in-Open : goal.returns-in-Open
+returns-in-Open c =
+    let told = c.in-Open.ensures in (
+      quiet_on c.args.bytes.now c.loop-front.at (length c.args.bytes.now + 1) c.loop-front.invariant.quiet told.0,
+      told.1,
+      told.2,
+      record { ends = c.loop-front.invariant; none_behind = told.3 },
+    )
 
 pub returns-in-Bad : goal.returns-in-Bad
 returns-in-Bad c =

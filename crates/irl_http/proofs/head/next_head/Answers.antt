@@ -1,7 +1,7 @@
 -- A front of the bytes behind the place is parsed: all that heads may have, or as many lines as a head may have.
-use Rattle.std.proofs.Common.{◌≡◌, ◌+◌, ◌-◌, ◌<◌, length, take, drop, ap, subst, arith, length-take, length-drop}
+use Rattle.std.proofs.Common.{◌≡◌, ◌+◌, ◌-◌, ◌<◌, length, take, drop, ap, ◌∙◌, subst, arith, length-take, length-drop}
 use Rattle.std.proofs.lemmas.List.{take_all}
-use Rattle.irl_http.specs.Heads.{max_fields, line_feeds, ReadsHead}
+use Rattle.irl_http.specs.Heads.{max_fields, line_feeds, HasNoHead, ReadsHead}
 use Rattle.irl_http.specs.Parsing.{QuietBetween}
 use Rattle.irl_http.proofs.StepLemmas.{make_front, quiet_whole, next_bad, next_long, next_open, not_yet, fits_room}
 use Rattle.irl_http.proofs.head.next_head.Goals as goal
@@ -55,4 +55,5 @@ returns-in-Open-2 c =
       subst (QuietBetween bytes at) size (next_open bytes at (take end known) f c.requires.awaits c.in-Open.ensures.0 c.in-Open.ensures.1 (omega (arith, ap line_feeds all, last.1))),
       omega arith,
       λ h rest. not_yet bytes at (take end known) f c.requires.awaits c.in-Open.ensures.0 (omega (arith, size)) h rest,
+      subst HasNoHead (all ∙ take_all (c.min.result - at) (drop at bytes) (omega (arith, length-drop at bytes))) c.in-Open.ensures.0,
     )

@@ -4,13 +4,13 @@ use Rattle.std.proofs.lemmas.Result.{IfOk-from_err}
 use Rattle.irl_offer.specs.declared.reply.Answer.TheVariants.{NoReply, Short, BadReply, TooLarge}
 use Rattle.irl_http.specs.declared.reading.Heads.TheVariants as heads
 use Rattle.irl_http.specs.Heads.{max_heads}
-use Rattle.irl_http.specs.Parsing.{HasNoHeadYet, EndsHeads, TellsHeads}
+use Rattle.irl_http.specs.Parsing.{HasNoHeadYet, EndsHeads, EndsInterim, TellsHeads}
 use Rattle.irl_http.specs.Reply.{Tells}
 use Rattle.irl_http.specs.Reading.{Reads}
 use Rattle.irl_http.specs.Steps.{IsQuiet, FillAs}
 use Rattle.irl_http.proofs.ReadLemmas.{keeps_same, calm_same, calm_on, gets_read}
 use Rattle.irl_http.proofs.AnswerLemmas.{heads_read, heads_ok, heads_short, heads_fail}
-use Rattle.irl_http.proofs.StepLemmas.{quiet_nothing, nothing_yet}
+use Rattle.irl_http.proofs.StepLemmas.{quiet_nothing, nothing_yet, interim_nothing, interim_more}
 use Rattle.irl_http.proofs.reading.read_heads.Goals as goal
 
 pub loop-bytes-init : goal.loop-bytes-init
@@ -20,6 +20,7 @@ loop-bytes-init g c =
       gets = inl (c.requires.none, keeps_same (link.left c.args.link.now), refl);
       quiet = subst IsQuiet (sym c.requires.none) quiet_nothing;
       open_head = subst HasNoHeadYet (sym c.requires.none) nothing_yet;
+      interim = subst (λ l. EndsInterim l 0) (sym c.requires.none) interim_nothing;
       few = subst (λ l. length l ≤ max_heads) (sym c.requires.none) (omega arith);
       calm = calm_same (link.written c.args.link.now) (link.connections c.args.link.now) (link.faults c.args.link.now);
     }
@@ -37,9 +38,15 @@ loop-bytes-preserved g c =
           (link.left_at_read c.read_more.new.link) c.loop-bytes.bytes.items e.0 inv.gets inv.quiet e.2 c.read_more.ensures.last));
       quiet = subst IsQuiet same told.0;
       open_head = subst HasNoHeadYet same told.2;
+      interim = subst (λ l. EndsInterim l c.in-Nothing.end) same told.3.ends;
       few = omega (arith, ap length same, told.1);
       calm = calm_on _ _ _ _ _ _ _ _ _ inv.calm c.read_more.ensures.undisturbed;
     }
+
+pub look-requires-clause-interim : goal.look-requires-clause-interim
+look-requires-clause-interim g c =
+    let e = c.in_ok-read_more.ensures.ok in
+    subst (λ l. EndsInterim l c.loop-bytes.from) (sym (c.deref.ensures.value ∙ e.1)) (interim_more c.loop-bytes.bytes.items e.0 c.loop-bytes.from c.loop-bytes.invariant.interim)
 
 pub loop-bytes-smaller : goal.loop-bytes-smaller
 loop-bytes-smaller g c =
