@@ -16,6 +16,10 @@ enum Server {
     Silent,
     /// It gives a byte each tenth of a second, for as long as it may.
     Dripping,
+    /// It gives a part of an answer, and then nothing more.
+    Stalling,
+    /// It closes without an answer.
+    Empty,
     /// It gives a part of an answer, and closes.
     Closing,
     /// It gives more than was asked for, and closes.
@@ -63,6 +67,12 @@ fn give<R: std::time::Clock>(rt: &R, stream: &TcpStream, server: Server) -> io::
             pause(rt, 600);
         }
         Server::Dripping => drip(rt, stream)?,
+        Server::Stalling => {
+            read_request(stream)?;
+            peer.write_all(b"HTTP/1.1 200")?;
+            pause(rt, 600);
+        }
+        Server::Empty => read_request(stream)?,
         Server::Closing => {
             read_request(stream)?;
             peer.write_all(b"HTTP/1.1 200")?;
@@ -120,33 +130,36 @@ fn fetch<R: std::time::Clock, L: Link>(rt: &R, link: &mut L, port: u16) -> io::R
 fn both<R: Threads + std::time::Clock + Sync, W: Link + Drop + Send>(
     rt: &R,
     listener: &TcpListener,
-    mut wire: W,
+    wire: &mut W,
     port: u16,
     server: Server,
 ) -> (bool, io::Result<Came>) {
     join(
         rt,
         || serve(rt, listener, server),
-        move || fetch(rt, &mut wire, port),
+        move || fetch(rt, wire, port),
     )
 }
 
 // What servers do, the least and the most bytes that come of each, whether a fault does, and within which milliseconds.
-const SERVERS: [(Server, u64, u64, bool, u128, u128); 5] = [
+const SERVERS: [(Server, u64, u64, bool, u128, u128); 7] = [
     (Server::Silent, 0, 0, true, 200, 900),
     (Server::Dripping, 5, 11, true, 1_000, 1_900),
+    (Server::Stalling, 12, 12, true, 200, 900),
+    (Server::Empty, 0, 0, false, 0, 900),
     (Server::Closing, 12, 12, false, 0, 900),
     (Server::Generous, 100_000, 100_000, false, 0, 900),
     (Server::Resetting, 0, 0, true, 50, 900),
 ];
 
+// One link makes all of these fetches, and each has its whole time anew, whatever the one before it came to.
 #[test]
 fn no_server_holds_a_fetch(rt: HostRuntime) -> Result<(), Fail> {
+    let mut wire = Wire::with_limits(&rt, short());
     for (server, least, most, faults, from, till) in SERVERS {
         let listener = TcpListener::bind(&rt, "127.0.0.1:0")?;
         let port = listener.local_addr()?.port();
-        let wire = Wire::with_limits(&rt, short());
-        let (_, came) = both(&rt, &listener, wire, port, server);
+        let (_, came) = both(&rt, &listener, &mut wire, port, server);
         let came = came?;
         assert!(rt;
             came.bytes >= least && came.bytes <= most,
@@ -172,6 +185,25 @@ fn a_refused_connection_is_a_fault_at_once(rt: HostRuntime) -> Result<(), Fail> 
     // Without a connection nothing is read and nothing written.
     assert!(rt; wire.read(&mut [0u8; 8]).is_err());
     assert!(rt; wire.write(b"x").is_err());
+    Ok(())
+}
+
+// Nobody takes this connection, so what is written waits in the system until its room is full.
+#[test]
+fn a_peer_that_reads_nothing_holds_no_write(rt: HostRuntime) -> Result<(), Fail> {
+    let listener = TcpListener::bind(&rt, "127.0.0.1:0")?;
+    let mut wire = Wire::with_limits(&rt, short());
+    let start = Instant::now(&rt)?;
+    assert!(rt; wire.connect(listener.local_addr()?.port()).is_ok());
+    let mut refused = false;
+    for _ in 0..10_000 {
+        refused = wire.write(&[0u8; 16_384]).is_err();
+        if refused {
+            break;
+        }
+    }
+    let millis = start.elapsed(&rt)?.as_millis();
+    assert!(rt; refused && millis >= 200 && millis < 1_900, "{millis} ms");
     Ok(())
 }
 
