@@ -5,7 +5,6 @@ use Rattle.std.specs.Char.{is_ascii_digit}
 use Rattle.std.proofs.lemmas.Bool.{cond-true, cond-false, false≢true}
 use Rattle.std.proofs.lemmas.Bool.Decides.{nat_tests}
 use Rattle.std.proofs.lemmas.Slice.Eq.{bytes_eq-Decides}
-use Rattle.irl_base.specs.Limits.{max_page}
 use Rattle.irl_record.specs.Forms.{Form, form_of, is_skipped, begins, page_of, kind_of, is_status, status_of}
 use Rattle.irl_record.specs.Forms as form
 use Rattle.irl_record.specs.Parts.{Within, within_of}

@@ -19,3 +19,9 @@ pages_more page front n =
     flat_map_more page front (range_with_len 0 n) n
     ∙ ap (λ b. front ++ flat_map page (range_with_len 0 n ++ b ∷ [])) (sym same)
     ∙ ap (λ l. front ++ flat_map page l) (sym (range_by 0 n (n + 1) refl))
+
+-- one number more
+pub range_more : (n : ℕ) → range_with_len 0 (n + 1) ≡ range_with_len 0 n ++ n ∷ []
+range_more n =
+    let same : 0 + n ≡ n = omega arith in
+    range_by 0 n (n + 1) refl ∙ ap (λ b. range_with_len 0 n ++ b ∷ []) same

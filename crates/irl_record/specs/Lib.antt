@@ -10,3 +10,5 @@ pub mod Reading
 pub mod Site
 pub mod Taped
 pub mod Widening
+pub mod Wired
+pub mod WiredLaws

@@ -1,6 +1,9 @@
 -- A site that a program makes up: pages that link to one another.
-use Rattle.std.specs.Prelude.{ℕ, ◌+◌, ◌*◌, ◌%◌, nat_lt, List, [], ◌++◌, if◌then◌else◌, codes, decimal}
+use Rattle.std.specs.Prelude.{ℕ, ◌+◌, ◌*◌, ◌%◌, nat_lt, List, [], ◌∷◌, ◌++◌, map, None, true, if◌then◌else◌, codes, decimal}
 use Rattle.std.specs.List.{flat_map, range_with_len}
+use Rattle.irl_offer.specs.Replies.{Received}
+use Rattle.irl_record.specs.declared.record.Record.TheVariants.{Page}
+use Rattle.irl_record.specs.Taped.{Taped}
 
 -- the URL of a page: it is on one of 16 hosts
 abbrev pub page_url : ℕ → List ℕ
@@ -30,3 +33,29 @@ page_lines n i = head_line i ++ body_lines n i ++ codes "end\n"
 unfoldable pub site_text : ℕ → List ℕ
 site_text n =
     codes "suffix test\nseed http://s0.test/p0\n" ++ flat_map (page_lines n) (range_with_len 0 n)
+
+-- ---- its tape
+
+-- this number, if there is such a page among n
+abbrev pub if_below : ℕ → ℕ → List ℕ
+if_below n target = if nat_lt target n then target ∷ [] else []
+
+-- the pages that a page links to, in order
+abbrev pub targets : ℕ → ℕ → List ℕ
+targets n i = if_below n (2 * i + 1) ++ if_below n (2 * i + 2) ++ (7 * i + 3) % n ∷ []
+
+-- a link as the body has it
+abbrev pub link : ℕ → List ℕ
+link target = codes "<a href=\"" ++ page_url target ++ codes "\">x</a>\n"
+
+-- the reply to a page's URL
+abbrev pub page_reply : ℕ → ℕ → Received
+page_reply n i = record { status = 200; location = None; html = true; body = flat_map link (targets n i) }
+
+-- the tape of a site of n pages: one suffix, the first page as its one seed, and the pages in order
+abbrev pub site_tape : ℕ → Taped
+site_tape n = record {
+  suffixes = codes "test";
+  seeds = codes "http://s0.test/p0" ∷ [];
+  records = map (λ i. (page_url i, Page (page_reply n i))) (range_with_len 0 n);
+}

@@ -1,4 +1,4 @@
-ghost use Rattle.std.specs.Prelude.{◌≡◌, ◌≤◌, ℕ, IfOk, Ok};
+ghost use Rattle.std.specs.Prelude.{◌≡◌, ◌≤◌, ℕ, List, [], IfOk, Ok};
 ghost use Rattle.irl_base.specs.Faults.{HasCause};
 ghost use Rattle.irl_record.specs.Widening.{Answers, Widens, WidensSince};
 
@@ -21,13 +21,17 @@ pub trait Fetch {
     /// No moment that is told later is before this one.
     ghost last: { Self → ℕ };
 
+    /// What it is aimed at, as where it connects to, which no call changes. One that isn't aimed says nothing.
+    ghost aim: { Self → List ℕ } = { λ _. [] };
+
     /// Gets a page, or a robots file. `NoReply` comes only where a fault was counted in this call.
     fn fetch(&mut self, alloc: Global, web: &Web, want: Want) -> Result<Answer, AllocError>
         ensures told { IfOk result (λ answer. gives self.new (asked self.old) web.now want answer) }
         ensures wider { WidensSince (gives self.old) (gives self.new) }
         ensures asked { asked self.old ≤ asked self.new }
         ensures cause { HasCause (result ≡ Ok Answer.NoReply) (faults self.old) (faults self.new) }
-        ensures later { last self.old ≤ last self.new };
+        ensures later { last self.old ≤ last self.new }
+        ensures aim { aim self.new ≡ aim self.old };
 
     /// The moment now, in milliseconds.
     fn now(&mut self) -> u64
@@ -35,14 +39,16 @@ pub trait Fetch {
         ensures told { last self.new ≡ result }
         ensures wider { WidensSince (gives self.old) (gives self.new) }
         ensures asked { asked self.new ≡ asked self.old }
-        ensures faults { faults self.old ≤ faults self.new };
+        ensures faults { faults self.old ≤ faults self.new }
+        ensures aim { aim self.new ≡ aim self.old };
 
     /// Waits till the moment has come. A fetcher may wake early.
     fn wait_till(&mut self, moment: u64)
         ensures later { last self.old ≤ last self.new }
         ensures wider { WidensSince (gives self.old) (gives self.new) }
         ensures asked { asked self.new ≡ asked self.old }
-        ensures faults { faults self.old ≤ faults self.new };
+        ensures faults { faults self.old ≤ faults self.new }
+        ensures aim { aim self.new ≡ aim self.old };
 
     /// An answer since a count is one since each count before it.
     ghost earlier: { (x : Self) (since later : ℕ) → since ≤ later → Widens (gives x later) (gives x since) };

@@ -1,24 +1,33 @@
-ghost use Rattle.std.specs.Prelude.{◌≡◌, ◌<◌, ◌^◌, ◌++◌, Ok, true, IfOk, OnOk};
+ghost use Rattle.std.specs.Prelude.{◌≡◌, ◌<◌, ◌^◌, ◌++◌, Ok, true, IfErr, IfOk, OnOk};
 ghost use Rattle.irl_record.specs.Reading.{tape_of};
 ghost use Rattle.irl_record.specs.Site.{site_text as text_by, page_lines, head_line, body_lines, link_line, link_below, page_url};
 
 use crate::reading::TapeFault;
+use crate::sure_source::SureSource;
 use crate::tape::Tape;
-use irl_io::MemSource;
 use itoa::Buffer;
 use std::alloc::{AllocError, Global};
 
-/// The tape of a site of so many pages, which link to one another. A text that is no tape, as one past the limit of lines, is
-/// answered as want of memory.
+/// The tape of a site of so many pages, which link to one another. Of fewer than 536,870,912 pages it comes unless
+/// memory runs out. The text of more may pass the limit of lines, which is answered as want of memory too.
 pub fn site(alloc: Global, pages: u32) -> Result<Tape, AllocError>
     ensures { IfOk result (λ tape. tape_of true (text_by pages) ≡ Ok tape) }
 {
-    let text = site_text(alloc, u64::from(pages))?;
-    let mut source = MemSource::new(text, Vec::new(alloc));
-    match Tape::read(alloc, &mut source, true) {
+    match read_site(alloc, pages) {
         Ok(tape) => Ok(tape),
         Err(_) => Err(AllocError),
     }
+}
+
+/// The tape of a site of so many pages, or why there is none.
+fn read_site(alloc: Global, pages: u32) -> Result<Tape, TapeFault>
+    ensures value { IfOk result (λ tape. tape_of true (text_by pages) ≡ Ok tape) }
+    // Nothing but memory is wanting where the text is a tape.
+    ensures cause { pages < 2 ^ 29 → IfErr result (λ fault. fault ≡ TapeFault.Memory) }
+{
+    let text = site_text(alloc, u64::from(pages))?;
+    let mut source = SureSource::new(alloc, text);
+    Tape::read(alloc, &mut source, true)
 }
 
 /// The text of a site of so many pages.

@@ -1,3 +1,5 @@
+mod wire;
+
 use crate::{Fetch, Tape, TapeFault, TapeFetch, site};
 use irl_io::MemSource;
 use irl_key::{Canon, Web, canonical};
