@@ -195,8 +195,9 @@ stops_none suffixes a c s t o on known = record {
 -- ## Both
 
 -- the clock told the moment
-pub goes_now : (a b : Fetcher) (now : ℕ) → b.asked ≡ a.asked → ((since : ℕ) → Widens (a.gives since) (b.gives since)) → a.faults ≤ b.faults → a.last ≤ now → b.last ≡ now → GoesOn a b
-goes_now a b now asked wider faults later told = record { asked = omega (arith, asked); wider = wider; faults = faults; last = omega (arith, later, told) }
+pub goes_now : (a b : Fetcher) (now : ℕ) → b.asked ≡ a.asked → ((since : ℕ) → Widens (a.gives since) (b.gives since)) → a.faults ≤ b.faults → a.last ≤ now → b.last ≡ now → b.aim ≡ a.aim
+    → GoesOn a b
+goes_now a b now asked wider faults later told aim = record { asked = omega (arith, asked); wider = wider; faults = faults; last = omega (arith, later, told); aim = aim }
 
 pub next_does : {O : Type 0} (more : Bool) (first last : WorkLog) (suffixes : List ℕ) (a c : Fetcher) (s t : Schedule) (o p : Offering O) → DoesSome first last suffixes a c s t o p
     → (more ≡ false → t.items ≡ []) → p.last_fault ≡ o.last_fault → GoesOn a c → t.agent ≡ s.agent → t.delay ≡ s.delay → DoesNext (Ok more) first last suffixes a c s t o p

@@ -14,7 +14,7 @@ abbrev pub IsEarlier : (ℕ → Answers) → Type 0
 IsEarlier gives = (since later : ℕ) → since ≤ later → Widens (gives later) (gives since)
 
 pub goes_none : (a : Fetcher) → GoesOn a a
-goes_none a = record { asked = omega arith; wider = λ since url want answer given. given; faults = omega arith; last = omega arith }
+goes_none a = record { asked = omega arith; wider = λ since url want answer given. given; faults = omega arith; last = omega arith; aim = refl }
 
 pub goes_then : (a b c : Fetcher) → GoesOn a b → GoesOn b c → GoesOn a c
 goes_then a b c one two = record {
@@ -22,6 +22,7 @@ goes_then a b c one two = record {
   wider = λ since url want answer given. two.wider since url want answer (one.wider since url want answer given);
   faults = omega (arith, one.faults, two.faults);
   last = omega (arith, one.last, two.last);
+  aim = two.aim ∙ one.aim;
 }
 
 -- what was given still is

@@ -16,22 +16,25 @@ pub record Fetcher : Type 1 where
   pub faults : ℕ
   -- no moment that is told later is before this one
   pub last : ℕ
+  -- what it is aimed at
+  pub aim : List ℕ
 
 -- that of a value, by what is told of it
-abbrev pub fetcher : {F : Type 0} → (F → ℕ) → (F → ℕ → Answers) → (F → ℕ) → (F → ℕ) → F → Fetcher
-fetcher asked gives faults last x =
-    record { asked = asked x; gives = gives x; faults = faults x; last = last x }
+abbrev pub fetcher : {F : Type 0} → (F → ℕ) → (F → ℕ → Answers) → (F → ℕ) → (F → ℕ) → (F → List ℕ) → F → Fetcher
+fetcher asked gives faults last aim x =
+    record { asked = asked x; gives = gives x; faults = faults x; last = last x; aim = aim x }
 
 -- the answers since one moment, told at a later one
 abbrev pub given_since : Fetcher → Fetcher → Answers
 given_since old new = new.gives old.asked
 
--- What it gave it still gives, and neither its counts nor its moment fall.
+-- What it gave it still gives, it is aimed at the same, and neither its counts nor its moment fall.
 pub record GoesOn (old new : Fetcher) : Type 0 where
   pub asked : old.asked ≤ new.asked
   pub wider : WidensSince old.gives new.gives
   pub faults : old.faults ≤ new.faults
   pub last : old.last ≤ new.last
+  pub aim : new.aim ≡ old.aim
 
 -- a count has risen by so many at least; one that stands at its last value counts as risen by any number
 abbrev pub RoseBy : ℕ → ℕ → ℕ → Type 0

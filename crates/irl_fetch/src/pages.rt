@@ -25,7 +25,7 @@ pub fn fetch_page<R: Wait, F: Fetch, O: Offers, G: Gate>(
 ) -> Result<(), Fault>
     requires takes { TakesPages (O.takes sink.old) }
     ensures { FetchesPage result suffixes.now work.now
-        (fetcher F.asked F.gives F.faults F.last fetch.old) (fetcher F.asked F.gives F.faults F.last fetch.new)
+        (fetcher F.asked F.gives F.faults F.last F.aim fetch.old) (fetcher F.asked F.gives F.faults F.last F.aim fetch.new)
         (offering O.entries O.last_fault O.takes O.follows sink.old)
         (offering O.entries O.last_fault O.takes O.follows sink.new)
         done.old.items done.new.items }

@@ -24,7 +24,7 @@ pub fn ask<F: Fetch>(
     requires host { IsHost host }
     requires awaited { (schedule front.old).awaited host ≡ true }
     ensures { HandsIn result host now
-        (fetcher F.asked F.gives F.faults F.last fetch.old) (fetcher F.asked F.gives F.faults F.last fetch.new)
+        (fetcher F.asked F.gives F.faults F.last F.aim fetch.old) (fetcher F.asked F.gives F.faults F.last F.aim fetch.new)
         (schedule front.old) (schedule front.new) notes.old.items notes.new.items }
 {
     let note = fetch_note(alloc, fetch, &host, now)?;
@@ -43,7 +43,7 @@ fn fetch_note<F: Fetch>(
 ) -> Result<Note, AllocError>
     requires { IsHost host.now }
     ensures { FetchesNote result host.now when
-        (fetcher F.asked F.gives F.faults F.last fetch.old) (fetcher F.asked F.gives F.faults F.last fetch.new) }
+        (fetcher F.asked F.gives F.faults F.last F.aim fetch.old) (fetcher F.asked F.gives F.faults F.last F.aim fetch.new) }
 {
     let mut asked = robots_of(alloc, host.bytes())?;
     for followed in 0..6 {

@@ -42,7 +42,7 @@ pub fn work<R: Wait, F: Fetch, O: Offers, G: Gate>(
     requires takes { TakesPages (O.takes offers.old) }
     requires ready { (name : List ℕ) → (schedule front.old).awaited name ≡ false }
     ensures { Works result suffixes.now
-        (fetcher F.asked F.gives F.faults F.last fetch.old) (fetcher F.asked F.gives F.faults F.last fetch.new)
+        (fetcher F.asked F.gives F.faults F.last F.aim fetch.old) (fetcher F.asked F.gives F.faults F.last F.aim fetch.new)
         (schedule front.old) (schedule front.new)
         (offering O.entries O.last_fault O.takes O.follows offers.old)
         (offering O.entries O.last_fault O.takes O.follows offers.new) }
@@ -73,7 +73,7 @@ fn do_next<R: Wait, F: Fetch, O: Offers, G: Gate>(
     requires takes { TakesPages (O.takes offers.old) }
     requires ready { (name : List ℕ) → (schedule front.old).awaited name ≡ false }
     ensures { DoesNext result log.old log.new suffixes.now
-        (fetcher F.asked F.gives F.faults F.last fetch.old) (fetcher F.asked F.gives F.faults F.last fetch.new)
+        (fetcher F.asked F.gives F.faults F.last F.aim fetch.old) (fetcher F.asked F.gives F.faults F.last F.aim fetch.new)
         (schedule front.old) (schedule front.new)
         (offering O.entries O.last_fault O.takes O.follows offers.old)
         (offering O.entries O.last_fault O.takes O.follows offers.new) }

@@ -14,7 +14,7 @@ use Rattle.irl_fetch.proofs.working.do_next.Goals as goal
 use Rattle.irl_fetch.proofs.working.do_next.Goals.{After-take}
 
 abbrev seen : (g : Over) → g.row.F.Denot → Fetcher
-seen g fetch = fetcher g.F.Fetch.asked g.F.Fetch.gives g.F.Fetch.faults g.F.Fetch.last fetch
+seen g fetch = fetcher g.F.Fetch.asked g.F.Fetch.gives g.F.Fetch.faults g.F.Fetch.last g.F.Fetch.aim fetch
 
 abbrev way : (g : Over) → g.row.O.Denot → Offering g.row.O.Denot
 way g offers = offering g.O.Offers.entries g.O.Offers.last_fault g.O.Offers.takes g.O.Offers.follows offers
@@ -37,7 +37,7 @@ left g c = schedule c.take.new.self
 now_on : (g : Over) (c : After-take g) → GoesOn (first g c) (looked g c)
 now_on g c =
     let now = c.now-now.ensures in
-    goes_now (first g c) (looked g c) c.now-now.result now.asked now.wider now.faults now.later now.told
+    goes_now (first g c) (looked g c) c.now-now.result now.asked now.wider now.faults now.later now.told now.aim
 
 -- ---- goals
 pub returns-in_err-fetch_page-in-Page : goal.returns-in_err-fetch_page-in-Page
@@ -139,6 +139,7 @@ returns-in-WaitTill g c =
       wider = c.wait_till.ensures.wider;
       faults = c.wait_till.ensures.faults;
       last = c.wait_till.ensures.later;
+      aim = c.wait_till.ensures.aim;
     } in
     next_waits _ c.args.suffixes.now (first g at) d (stood g at) (left g at) c.now-now.result (way g c.args.offers.now) (goes_then (first g at) (looked g at) d (now_on g at) bd) c.requires.ready
     c.in-WaitTill.ensures.step.2

@@ -5,7 +5,7 @@ use Rattle.irl_fetch.proofs.working.work.Given.{Over}
 use Rattle.irl_fetch.proofs.working.work.Given as goal
 
 abbrev pub seen : (g : Over) → g.row.F.Denot → Fetcher
-seen g fetch = fetcher g.F.Fetch.asked g.F.Fetch.gives g.F.Fetch.faults g.F.Fetch.last fetch
+seen g fetch = fetcher g.F.Fetch.asked g.F.Fetch.gives g.F.Fetch.faults g.F.Fetch.last g.F.Fetch.aim fetch
 
 abbrev pub way : (g : Over) → g.row.O.Denot → Offering g.row.O.Denot
 way g offers = offering g.O.Offers.entries g.O.Offers.last_fault g.O.Offers.takes g.O.Offers.follows offers
