@@ -30,7 +30,7 @@ webs url (answer.BadReply n) = []
 webs url (answer.TooLarge n) = []
 webs url answer.Coded = []
 
-offers_are : (suffixes url : List ℕ) (a : Answer) → offers_of suffixes url a ≡ map (offer_from (domain_key suffixes url)) (webs url a)
+pub offers_are : (suffixes url : List ℕ) (a : Answer) → offers_of suffixes url a ≡ map (offer_from (domain_key suffixes url)) (webs url a)
 offers_are suffixes url (answer.Reply reply) = refl
 offers_are suffixes url answer.NoReply = refl
 offers_are suffixes url (answer.Short n) = refl
@@ -38,7 +38,7 @@ offers_are suffixes url (answer.BadReply n) = refl
 offers_are suffixes url (answer.TooLarge n) = refl
 offers_are suffixes url answer.Coded = refl
 
-web_found : (suffixes url : List ℕ) (a : Answer) (offer : Tuple) → Contains (offers_of suffixes url a) offer → (web : List ℕ) × Contains (webs url a) web
+pub web_found : (suffixes url : List ℕ) (a : Answer) (offer : Tuple) → Contains (offers_of suffixes url a) offer → (web : List ℕ) × Contains (webs url a) web
     × (offer_from (domain_key suffixes url) web ≡ offer)
 web_found suffixes url a offer h = map_cases (offer_from (domain_key suffixes url)) (webs url a) offer (subst (λ (os : List Tuple). Contains os offer) (offers_are suffixes url a) h)
 

@@ -1,5 +1,5 @@
 -- What a state of a store keeps in each state of which it is a front.
-use Rattle.std.proofs.Common.{◌≡◌, ◌∙◌, ℕ, ◌-◌, nat_eq, Bool, true, false, cond, List, [], ◌∷◌, ◌++◌, map, length, take, drop, Option, Some, None, refl, sym, ap, subst, ◌⊎◌, inl, inr}
+use Rattle.std.proofs.Common.{◌≡◌, ◌∙◌, ℕ, zero, suc, ◌-◌, nat_eq, Bool, true, false, cond, List, [], ◌∷◌, ◌++◌, map, length, take, drop, replicate, Option, Some, None, refl, sym, ap, subst, ◌⊎◌, inl, inr}
 use Rattle.std.specs.Prelude.{find, flat_map, option_map, unwrap_or}
 use Rattle.std.specs.List.{Contains}
 use Rattle.std.proofs.lemmas.List.Elements.{Contains-append_left, Contains-append_right, Contains-append_cases}
@@ -51,11 +51,32 @@ added_member (list ∷ lists) (m ∷ more) x h c = elim (Contains-append_cases m
 ]
 
 -- where nothing stood all is added
-added_none : (more : List (List Tuple)) (x : Tuple) → Contains (all_of more) x → Contains (added_to [] more) x
+pub added_none : (more : List (List Tuple)) (x : Tuple) → Contains (all_of more) x → Contains (added_to [] more) x
 added_none [] x c = c
 added_none (m ∷ more) x c = elim (Contains-append_cases m (all_of more) x c) [
   | inl here ↦ Contains-append_left m (added_to [] more) x here
   | inr there ↦ Contains-append_right m (added_to [] more) x (added_none more x there)
+]
+
+pub added_new : (n : ℕ) (more : List (List Tuple)) → added_to (replicate n []) more ≡ added_to [] more
+added_new zero more = refl
+added_new (suc n) [] = refl
+added_new (suc n) (m ∷ more) = ap (λ os. m ++ os) (added_new n more)
+
+pub all_new : (n : ℕ) → all_of (replicate n []) ≡ []
+all_new zero = refl
+all_new (suc n) = all_new n
+
+-- what is added stands in the lists
+pub added_listed : (lists more : List (List Tuple)) (x : Tuple) → Contains (added_to lists more) x → Contains (all_of more) x
+added_listed lists [] x c = absurd (no_member x c)
+added_listed [] (m ∷ more) x c = elim (Contains-append_cases m (added_to [] more) x c) [
+  | inl here ↦ Contains-append_left m (all_of more) x here
+  | inr there ↦ Contains-append_right m (all_of more) x (added_listed [] more x there)
+]
+added_listed (list ∷ lists) (m ∷ more) x c = elim (Contains-append_cases (drop (length list) m) (added_to lists more) x c) [
+  | inl here ↦ Contains-append_left m (all_of more) x (drop_member (length list) m x here)
+  | inr there ↦ Contains-append_right m (all_of more) x (added_listed lists more x there)
 ]
 
 added_blank : (more : List (List Tuple)) (x : Tuple) → Contains (all_of more) x → Contains (added_to ([] ∷ []) more) x
@@ -115,7 +136,7 @@ grows_blank y = record {
   texts = λ n c. absurd (no_member n c);
 }
 
-grows_fronts : (x y : State) → IsBook x.urls → AreFronts x y → Grows x y
+pub grows_fronts : (x y : State) → IsBook x.urls → AreFronts x y → Grows x y
 grows_fronts x y is fronts = record {
   offers = λ offer c. prefixes_member x.urls.lists y.urls.lists offer fronts.urls.lists c;
   added = λ offer c. added_member x.urls.lists y.urls.lists offer fronts.urls.lists c;

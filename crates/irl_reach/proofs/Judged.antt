@@ -1,7 +1,7 @@
 -- Of a book that has nothing left to judge, the keys of the unique URLs are those of all offers.
 use Rattle.std.proofs.Common.{◌≡◌, ◌∙◌, ℕ, zero, suc, ◌+◌, ◌-◌, ◌<◌, ◌≤◌, nat_eq, Bool, true, false, cond, not, List, [], ◌∷◌, map, length, take, drop, get_or, Option, Some, refl, sym, ap, subst, arith, inl, inr, length-drop, length-take}
 use Rattle.std.specs.Prelude.{find, option_map, unwrap_or}
-use Rattle.std.specs.List.{Contains, filter}
+use Rattle.std.specs.List.{Contains, enumerate_from, filter}
 use Rattle.std.proofs.lemmas.Bool.{cond-false, cond-true, eq-eqb, eqb-true, ne_eqb, not_from_false}
 use Rattle.std.proofs.lemmas.List.{get_or_default}
 use Rattle.std.proofs.lemmas.List.Elements.{Contains-append_cases}
@@ -9,8 +9,10 @@ use Rattle.irl_core.specs.States.{offers_of as offers_in, url_text}
 use Rattle.irl_events.proofs.LinkLemmas.{uniques-firsts}
 use Rattle.irl_events.specs.Links.{firsts_by_key}
 use Rattle.irl_model.proofs.Stretches.{below_long, here, judged_here_are, last_above, stretch_here}
-use Rattle.irl_model.specs.Book.{Book, IsBook, gone, is_unique, judged, judged_cut, judged_offers, lengths_of, list_lengths, pending, stretches, uniques, uniques_from}
+use Rattle.irl_model.specs.Judging.{judgements, verdict}
+use Rattle.irl_model.specs.Book.{Book, IsBook, gone, is_unique, judged, judged_as, judged_cut, judged_offers, lengths_of, list_lengths, pending, stretches, uniques, uniques_from}
 use Rattle.irl_offer.specs.declared.offer.Op.TheVariants.{Both}
+use Rattle.irl_offer.specs.declared.offer.Verdict.{Verdict}
 use Rattle.irl_offer.specs.declared.receipt.Judged.{Judged}
 use Rattle.irl_offer.specs.Tuple.{Tuple}
 use Rattle.irl_reach.specs.Along.{keys_in}
@@ -159,3 +161,22 @@ found_from n (j ∷ js) p h =
 
 pub unique_text : (book : Book) (p : ℕ × Tuple) → Contains (uniques book) p → url_text book p.0 ≡ p.1.aux
 unique_text book p h = ap (λ (o : Option (ℕ × Tuple)). unwrap_or (option_map (λ (q : ℕ × Tuple). q.1.aux) o) []) (found_from (gone book) (judged book) p h)
+
+-- ---- a unique offer, whatever the offers ask for
+numbered_member : {X : Type 0} (n : ℕ) (xs : List X) (p : ℕ × X) → Contains (enumerate_from n xs) p → Contains xs p.1
+numbered_member n [] p h = absurd (no_member p h)
+numbered_member n (x ∷ xs) p h = elim (member_cases (n, x) (enumerate_from (n + 1) xs) p h) [
+  | inl same ↦ subst (λ y. Contains (x ∷ xs) y) (ap (λ (q : ℕ × _). q.1) same) (first_member x xs)
+  | inr there ↦ later_member x xs p.1 (numbered_member (n + 1) xs p there)
+]
+
+pub unique_in : (book : Book) (p : ℕ × Tuple) → Contains (uniques book) p → Contains (offers_in book) p.1
+unique_in book p h =
+    let test : ℕ × Judged → Bool = λ q. is_unique q.1.verdict in
+    let some = map_cases (λ (q : ℕ × Judged). (q.0, q.1.offer)) (filter test (enumerate_from (gone book) (judged book))) p h in
+    let told = numbered_member (gone book) (judged book) some.0 (filter_member test (enumerate_from (gone book) (judged book)) some.0 some.1) in
+    let by = map_cases (judged_as book.buckets) (judgements book.rule book.base (judged_offers book)) some.0.1 told in
+    let at = map_cases (λ (q : ℕ × Tuple). (q.1, verdict book.rule book.base (judged_offers book) q.0)) (enumerate_from 0 (judged_offers book)) by.0 by.1 in
+    let same : at.0.1 ≡ p.1 = ap (λ (q : Tuple × Option Verdict). q.0) at.2 ∙ ap (λ (j : Judged). j.offer) by.2 ∙ ap (λ (q : ℕ × Tuple). q.1) some.2 in
+    stretches_member book.firsts book.firsts book.cuts book.lists p.1
+    (subst (λ o. Contains (judged_offers book) o) same (numbered_member 0 (judged_offers book) at.0 at.1))

@@ -1,3 +1,4 @@
+pub mod Anew
 pub mod Chains
 pub mod Ending
 pub mod Finds
@@ -8,5 +9,6 @@ pub mod Members
 pub mod Reaching
 pub mod Settled
 pub mod Staying
+pub mod Suffixes
 pub mod Turns
 pub mod Waits

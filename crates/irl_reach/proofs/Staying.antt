@@ -1,5 +1,5 @@
 -- A crawl whose answers are a tape's stays along it.
-use Rattle.std.proofs.Common.{◌≡◌, ◌∙◌, ℕ, true, false, List, [], ◌∷◌, ◌++◌, refl, sym, ap, subst, append_assoc, ◌⊎◌, inl, inr}
+use Rattle.std.proofs.Common.{◌≡◌, ◌∙◌, ℕ, true, false, List, [], ◌∷◌, ◌++◌, map, refl, sym, ap, subst, append_assoc, ◌⊎◌, inl, inr}
 use Rattle.std.specs.Prelude.{flat_map, unwrap_or}
 use Rattle.std.specs.List.{Contains}
 use Rattle.std.proofs.lemmas.List.Elements.{Contains-append_cases}
@@ -113,26 +113,14 @@ below_same_of settings x y fronts is front below =
     let books = (made_fronts settings x y is front).urls in
     ap (λ firsts. stretch firsts firsts fronts y.urls.lists) books.firsts ∙ stretch_same x.urls.firsts x.urls.firsts fronts x.urls.lists y.urls.lists below books.lists
 
-module _ (tape : Taped) (agent : List ℕ) (visits : List Visit) (start middle end : State) (along : IsAlong tape agent start) (crawls : Crawls tape (by_tape tape) agent visits start end)
-    (store : IsStore start) (made : IsStore middle) (one : IsFrontState start middle) (two : IsFrontState middle end) where
-  first : Grows start middle
-  first = grows start middle store one
-
-  second : Grows middle end
-  second = grows middle end made two
-
-  whole : Grows start end
-  whole = grows start end store (fronts_join start middle end store one two)
-
-  -- ---- notes and offers
-  end_notes : (note : Note) → Contains (notes_in end.events) note → IsNoteOn tape note.host note.state
-  end_notes note h = elim (flat_append (λ (g : Happened). notes_of g.0) start.events crawls.more note (subst (λ hs. Contains (notes_in hs) note) crawls.events h)) [
+-- ---- what a crawl offers
+module _ (tape : Taped) (agent : List ℕ) (visits : List Visit) (start end : State) (along : IsAlong tape agent start) (crawls : Crawls tape (by_tape tape) agent visits start end)
+    (store : IsStore start) (front : IsFrontState start end) where
+  notes_along : (note : Note) → Contains (notes_in end.events) note → IsNoteOn tape note.host note.state
+  notes_along note h = elim (flat_append (λ (g : Happened). notes_of g.0) start.events crawls.more note (subst (λ hs. Contains (notes_in hs) note) crawls.events h)) [
     | inl old ↦ along.notes note old
     | inr new ↦ crawls.notes note new
   ]
-
-  middle_notes : (note : Note) → Contains (notes_in middle.events) note → IsNoteOn tape note.host note.state
-  middle_notes note h = end_notes note (subst (λ hs. Contains (notes_in hs) note) (sym second.events.1) (flat_left (λ (g : Happened). notes_of g.0) middle.events second.events.0 note h))
 
   good_start : (offer : Tuple) → Contains (offers_in start.urls) offer → IsGood tape agent offer
   good_start offer h = record { text = along.texts offer h; reached = along.reached offer.key (map_member (λ (o : Tuple). o.key) (offers_in start.urls) offer h) }
@@ -143,19 +131,56 @@ module _ (tape : Taped) (agent : List ℕ) (visits : List Visit) (start middle e
     | inr seed ↦ good_seeds tape agent offer seed
   ]
 
-  good_end : (offer : Tuple) → Contains (offers_in end.urls) offer → IsGood tape agent offer
-  good_end offer h = elim (whole.added offer h) [
+  good_along : (offer : Tuple) → Contains (offers_in end.urls) offer → IsGood tape agent offer
+  good_along offer h = elim ((grows start end store front).added offer h) [
     | inl old ↦ good_start offer old
     | inr new ↦
         let there = among_member _ (seed_offers tape ++ flat_map (found_by tape.suffixes end.urls) visits) offer crawls.offers new in
         elim (Contains-append_cases (seed_offers tape) (flat_map (found_by tape.suffixes end.urls) visits) offer there) [
           | inl seed ↦ good_seeds tape agent offer seed
-          | inr found ↦ good_visits tape agent end end_notes (offers_in start.urls ++ seed_offers tape) visits good_made crawls.visited offer found
+          | inr found ↦ good_visits tape agent end notes_along (offers_in start.urls ++ seed_offers tape) visits good_made crawls.visited offer found
         ]
   ]
 
+  reached_in : (offers : List Tuple) → ((offer : Tuple) → Contains offers offer → IsGood tape agent offer) → (key : ℕ) → Contains (map (λ o. o.key) offers) key → Reached tape agent key
+  reached_in offers good key h =
+      let from = map_cases (λ (o : Tuple). o.key) offers key h in
+      subst (λ k. Reached tape agent k) from.2 (good from.0 from.1).reached
+
+  -- a state without events whose offers a crawl has, whatever its kind
+  pub plain_along : (middle : State) → ((offer : Tuple) → Contains (offers_in middle.urls) offer → Contains (offers_in end.urls) offer) → middle.events ≡ [] → IsAlong tape agent middle
+  plain_along middle has none =
+      let good : (offer : Tuple) → Contains (offers_in middle.urls) offer → IsGood tape agent offer = λ offer h. good_along offer (has offer h) in
+      record {
+        distinct = along.distinct;
+        texts = λ offer h. (good offer h).text;
+        reached = reached_in (offers_in middle.urls) good;
+        due = λ n o h. absurd (no_member (n, o) (subst (λ hs. Contains (settled_in hs) (n, o)) none h));
+        followed = λ n o h. absurd (no_member (n, o) (subst (λ hs. Contains (settled_in hs) (n, o)) none h));
+        notes = λ note h. absurd (no_member note (subst (λ hs. Contains (notes_in hs) note) none h));
+      }
+
+-- ---- a state on its way
+module _ (tape : Taped) (agent : List ℕ) (visits : List Visit) (start middle end : State) (along : IsAlong tape agent start) (crawls : Crawls tape (by_tape tape) agent visits start end)
+    (store : IsStore start) (made : IsStore middle) (one : IsFrontState start middle) (two : IsFrontState middle end) where
+  first : Grows start middle
+  first = grows start middle store one
+
+  second : Grows middle end
+  second = grows middle end made two
+
+  whole : IsFrontState start end
+  whole = fronts_join start middle end store one two
+
+  -- ---- notes and offers
+  end_notes : (note : Note) → Contains (notes_in end.events) note → IsNoteOn tape note.host note.state
+  end_notes = notes_along tape agent visits start end along crawls store whole
+
+  middle_notes : (note : Note) → Contains (notes_in middle.events) note → IsNoteOn tape note.host note.state
+  middle_notes note h = end_notes note (subst (λ hs. Contains (notes_in hs) note) (sym second.events.1) (flat_left (λ (g : Happened). notes_of g.0) middle.events second.events.0 note h))
+
   good_middle : (offer : Tuple) → Contains (offers_in middle.urls) offer → IsGood tape agent offer
-  good_middle offer h = good_end offer (second.offers offer h)
+  good_middle offer h = good_along tape agent visits start end along crawls store whole offer (second.offers offer h)
 
   -- ---- outcomes
   answered : (v : Visit) (n : ℕ) → Contains visits v → v.number ≡ n → v.answer ≡ answer_on tape (url_text end.urls n)
@@ -259,16 +284,11 @@ module _ (tape : Taped) (agent : List ℕ) (visits : List Visit) (start middle e
         (subst (λ t. Contains (found_on tape t) offer) (sym text) found)
   ]
 
-  middle_reached : (key : ℕ) → Contains (keys_in middle.urls) key → Reached tape agent key
-  middle_reached key h =
-      let from = map_cases (λ (x : Tuple). x.key) (offers_in middle.urls) key h in
-      subst (λ k. Reached tape agent k) from.2 (good_middle from.0 from.1).reached
-
   pub stays_along : IsAlong tape agent middle
   stays_along = record {
     distinct = along.distinct;
     texts = λ offer h. (good_middle offer h).text;
-    reached = middle_reached;
+    reached = reached_in tape agent visits start end along crawls store whole (offers_in middle.urls) good_middle;
     due = middle_due;
     followed = middle_followed;
     notes = middle_notes;

@@ -176,6 +176,10 @@ with_seeds seeds input = record input { seeds = seeds }
 abbrev pub without_seeds : Taped → Taped
 without_seeds input = with_seeds [] input
 
+-- a tape with these suffixes in place of its own
+abbrev pub with_suffixes : List ℕ → Taped → Taped
+with_suffixes suffixes tape = record tape { suffixes = suffixes }
+
 -- No offer and no visit is left over, as where a crawl met no fault: the offers that are added are, counted with
 -- repeats, just the seeds' and those of the visits, and what came of each visit is settled since the start.
 pub record LeavesNone (input : Taped) (visits : List Visit) (start end : State) : Type 0 where

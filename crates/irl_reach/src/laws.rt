@@ -20,7 +20,7 @@ ghost use Rattle.irl_offer.specs.Tuple.{Tuple};
 ghost use Rattle.irl_record.specs.Fetched.{by_tape};
 ghost use Rattle.irl_record.specs.Taped.{Taped};
 ghost use Rattle.irl_reach.specs.Along.{IsAlong, KeysDiffer, keys_in, notes_in, settled_in};
-ghost use Rattle.irl_reach.specs.Crawls.{AreVisits, Crawls, CrawlsOn, IsCrawlStore, IsStore, IsTold, IsVisit, LeavesNone, Visit, added_to, numbers_in, seed_offers, with_seeds};
+ghost use Rattle.irl_reach.specs.Crawls.{AreVisits, Crawls, CrawlsOn, IsCrawlStore, IsStore, IsTold, IsVisit, LeavesNone, Visit, added_to, numbers_in, seed_offers, with_seeds, with_suffixes};
 ghost use Rattle.irl_reach.specs.Reached.{IsClosed, Reached};
 ghost use Rattle.irl_reach.specs.Tapes.{IsDue, IsNoteOn};
 
@@ -73,6 +73,14 @@ pub fn a_blank_store_is_along()
     ensures { (tape : Taped) (agent : List ℕ) → KeysDiffer tape → IsAlong tape agent blank_state }
 {}
 
+/// What is along a tape, and what is reached, doesn't depend on the tape's suffixes.
+pub fn suffixes_dont_matter()
+    ensures along { (tape : Taped) (agent suffixes : List ℕ) (state : State) →
+        IsAlong tape agent state → IsAlong (with_suffixes suffixes tape) agent state }
+    ensures reached { (tape : Taped) (agent suffixes : List ℕ) (key : ℕ) →
+        Reached tape agent key → Reached (with_suffixes suffixes tape) agent key }
+{}
+
 /// A crawl whose answers are a tape's leads from a state along the tape to one, and so does a stop in it: each state of
 /// a store between its start and its end is along the tape.
 pub fn a_crawl_stays_along()
@@ -82,6 +90,14 @@ pub fn a_crawl_stays_along()
         IsAlong tape agent middle }
     ensures end { (tape : Taped) (agent : List ℕ) (visits : List Visit) (start end : State) →
         IsAlong tape agent start → Crawls tape (by_tape tape) agent visits start end →
+        IsStore start → IsStore end → IsFrontState start end → IsAlong tape agent end }
+    // So it does where the crawl goes by other suffixes than the tape's, as one that began with a text of its own.
+    ensures between_by { (tape input : Taped) (agent : List ℕ) (visits : List Visit) (start middle end : State) →
+        input.seeds ≡ tape.seeds → IsAlong tape agent start → Crawls input (by_tape tape) agent visits start end →
+        IsStore start → IsStore middle → IsFrontState start middle → IsFrontState middle end →
+        IsAlong tape agent middle }
+    ensures end_by { (tape input : Taped) (agent : List ℕ) (visits : List Visit) (start end : State) →
+        input.seeds ≡ tape.seeds → IsAlong tape agent start → Crawls input (by_tape tape) agent visits start end →
         IsStore start → IsStore end → IsFrontState start end → IsAlong tape agent end }
 {}
 
