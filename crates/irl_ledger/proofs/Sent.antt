@@ -28,7 +28,7 @@ use Rattle.irl_bay.proofs.Apart.{files_within}
 use Rattle.irl_bay.proofs.MergeFrames.{holds_fewer}
 use Rattle.irl_disk.proofs.Stretches.{left_now}
 use Rattle.irl_bay.proofs.Staying.{open_stays, told_before}
-use Rattle.irl_schedule.specs.Feeding.{Fed, Moment, Stays, TakesWaiting, Waits, handed_in, list_at}
+use Rattle.irl_schedule.specs.Feeding.{Fed, Grows, Moment, Stays, TakesWaiting, Waits, handed_in, list_at}
 use Rattle.irl_schedule.specs.Schedule.{one_more}
 use Rattle.irl_schedule.proofs.Steps.{durable_held}
 use Rattle.irl_schedule.proofs.Counts.{durable_index, length-durables}
@@ -55,21 +55,23 @@ more_links buckets b list old news links front takes =
     ∙ ap (λ (l : List Tuple). (l ++ part buckets b news) ++ tail) (sym (append-nil old)) in
     (takes.0 ++ tail, whole ∙ ap (λ (l : List Tuple). l ++ tail) takes.1 ∙ append_assoc list takes.0 tail)
 
-pub may_take : (settings : Settings) (urls pairs : Book) (events : List Happened) (book : Book) (news : List Tuple) → IsBookOf (pair_settings settings) book → IsFront pairs book
+pub may_take : (settings : Settings) (urls pairs : Book) (events : List Happened) (book : Book) (news : List Tuple) → IsBookOf (pair_settings settings) book
+    → Grows (pair_settings settings) 1 pairs book
     → IsPrefixOf news (new_links settings urls events) → TakesWaiting (pair_settings settings) pairs no_waiting book news → MayBeSent settings urls pairs events book
-may_take settings urls pairs events book news is front links takes = record {
+may_take settings urls pairs events book news is grows links takes = record {
   book_is = is;
-  front = front;
+  front = grows.front;
+  grows = grows;
   takes = λ b within. more_links settings.buckets b (list_at book b) (list_at pairs b) news (new_links settings urls events) links (takes b within);
 }
 
 -- a book between
 pub may_between : (settings : Settings) (urls pairs : Book) (events : List Happened) (book most : Book) (news : List Tuple) → IsBookOf (pair_settings settings) pairs
     → IsBookOf (pair_settings settings) book
-    → IsFront pairs book → IsFront book most → IsPrefixOf news (new_links settings urls events) → TakesWaiting (pair_settings settings) pairs no_waiting most news
+    → Grows (pair_settings settings) 1 pairs book → IsFront book most → IsPrefixOf news (new_links settings urls events) → TakesWaiting (pair_settings settings) pairs no_waiting most news
     → MayBeSent settings urls pairs events book
-may_between settings urls pairs events book most news was is front later links takes =
-    may_take settings urls pairs events book news is front links (λ b within.
+may_between settings urls pairs events book most news was is grows later links takes =
+    may_take settings urls pairs events book news is grows links (λ b within.
     prefix_both (list_at book b) (list_at most b) _ (prefixes_at book.lists most.lists b later.lists (omega (arith, within, is.is_book.lists, is.buckets))) (takes b within))
 
 -- where nothing is unjudged the last cut is at the lists' ends
@@ -107,9 +109,12 @@ module _ (settings : Settings) (urls pairs : Book) (events : List Happened) (new
   fed_is : Stays old new → IsBookOf (pair_settings settings) fed.book
   fed_is still = subst (λ (s : Settings). IsBookOf s fed.book) (still.settings ∙ settings_are) fed.holds.book_is
 
+  fed_grows : Grows (pair_settings settings) 1 pairs fed.book
+  fed_grows = subst (λ (s : Settings). Grows s 1 pairs fed.book) settings_are fed.grows
+
   -- the book that is held may be sent
   pub fed_may : Stays old new → IsPrefixOf news (new_links settings urls events) → MayBeSent settings urls pairs events fed.book
-  fed_may still links = may_take settings urls pairs events fed.book news (fed_is still) fed.grows.front links fed_takes
+  fed_may still links = may_take settings urls pairs events fed.book news (fed_is still) fed_grows links fed_takes
 
   -- and where nothing waits and all is judged it has all
   pub fed_all : Stays old new → IsDrum new.drum → news ≡ new_links settings urls events → ((b : ℕ) → new.waits b ≡ []) → ((b : ℕ) → b < old.drum.settings.buckets → pending_at new.drum b ≡ 0)

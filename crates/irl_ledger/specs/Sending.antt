@@ -24,7 +24,7 @@ use Rattle.irl_head.specs.StoreFiles.{pairs_base, urls_base}
 use Rattle.irl_bay.specs.JudgedSpoilt.{IsJudgedSpoiltAt}
 use Rattle.irl_bay.specs.Standing.{IsBookOf}
 use Rattle.irl_core.specs.States.{begun_with}
-use Rattle.irl_schedule.specs.Feeding.{Waits, list_at, moment}
+use Rattle.irl_schedule.specs.Feeding.{Grows, Waits, list_at, moment}
 use Rattle.irl_schedule.specs.Schedule.{none_more, one_more}
 use Rattle.irl_ledger.specs.Crawling.{AreTaken, domain_of, pair_settings}
 use Rattle.irl_ledger.specs.Reading.{IsStrangeTextAt}
@@ -110,10 +110,11 @@ new_links settings urls events = links_of (unwrap_or (begun_with events) [])
     (judged_after (progress settings.queues settings.buckets events).sent urls)
 
 -- A book of pairs that sending may leave: behind each list stand the first of the new links of its bucket, each once,
--- and nothing else.
+-- and nothing else. No list has grown past the cap, and one cut at most was made before a bucket had enough new offers.
 pub record MayBeSent (settings : Settings) (urls pairs : Book) (events : List Happened) (book : Book) : Type 0 where
   pub book_is : IsBookOf (pair_settings settings) book
   pub front : IsFront pairs book
+  pub grows : Grows (pair_settings settings) 1 pairs book
   pub takes : (b : ℕ) → b < settings.buckets
       → IsPrefixOf (list_at book b) (list_at pairs b ++ part settings.buckets b (new_links settings urls events))
 

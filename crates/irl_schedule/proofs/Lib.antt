@@ -1,3 +1,4 @@
+pub mod Between
 pub mod Calls
 pub mod Chains
 pub mod Counts

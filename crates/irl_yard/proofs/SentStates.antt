@@ -26,8 +26,9 @@ use Rattle.irl_bay.specs.JudgedSpoilt.{IsJudgedSpoiltAt}
 use Rattle.irl_bay.proofs.Staying.{leaves_same, tells_same}
 use Rattle.irl_bay.proofs.Standing.{holds_stands}
 use Rattle.irl_schedule.specs.Schedule.{one_more}
-use Rattle.irl_schedule.specs.Feeding.{Fed, HasBetween, Moment, Stays, TakesWaiting, moment}
-use Rattle.irl_schedule.proofs.Chains.{tells_on}
+use Rattle.irl_schedule.specs.Feeding.{Fed, FewUnjudged, Grows, HasBetween, Moment, Stays, TakesWaiting, moment}
+use Rattle.irl_schedule.proofs.Between.{grows_between}
+use Rattle.irl_schedule.proofs.Chains.{few_both, few_same, tells_on}
 use Rattle.irl_schedule.proofs.Outcomes.{ok_gives}
 use Rattle.irl_schedule.proofs.Journals.{leaves_pair}
 use Rattle.irl_head.specs.StoreFiles.{crawl_file, head_file, pairs_base, urls_base}
@@ -241,13 +242,26 @@ module _ (result : Result Unit Fault) (was now : Parts) (old new : Ledger) (s t 
     was_is : IsBookOf (pair_settings settings) state.pairs
     was_is = subst (λ (p : Settings). IsBookOf p state.pairs) opened.settings held.pairs_hold.book_is
 
+    -- a book that grew in batches, by the settings of the pairs, and one between
+    abbrev GrowsBy : Book → Type 0
+    GrowsBy book = Grows (pair_settings settings) 1 state.pairs book
+
+    grows_by : (book : Book) → Grows old.pairs.settings 1 state.pairs book → GrowsBy book
+    grows_by book = subst (λ (p : Settings). Grows p 1 state.pairs book) opened.settings
+
+    less_grows : (book most : Book) → IsFront state.pairs book → IsFront book most → FewUnjudged old.pairs.settings state.pairs book → GrowsBy most → GrowsBy book
+    less_grows book most first later few =
+        grows_between (pair_settings settings) 1 state.pairs book most first later (subst (λ (p : Settings). FewUnjudged p state.pairs book) opened.settings few)
+
     -- files that stand for a book between two, of which the second has only new links behind
-    has_between : (x most : Book) → IsFront state.pairs x → TakesWaiting (pair_settings settings) state.pairs no_waiting most offers.news → (image : Files) → Follows (ChangesOnly among_pairs) s.images image
-        → HasBetween old.pairs.base old.pairs.settings x most image → HasOneBetween (with_pairs x state) (with_pairs most state) image
-    has_between x most first takes image from both =
+    has_between : (x most : Book) → IsFront state.pairs x → FewUnjudged old.pairs.settings state.pairs x → GrowsBy most → TakesWaiting (pair_settings settings) state.pairs no_waiting most offers.news
+        → (image : Files) → Follows (ChangesOnly among_pairs) s.images image → HasBetween old.pairs.base old.pairs.settings x most image → HasOneBetween (with_pairs x state) (with_pairs most state) image
+    has_between x most first few grows takes image from both =
         let stands = subst (λ (n : ℕ). Stands n (pair_settings settings) both.0 image) opened.base
         (subst (λ (p : Settings). Stands old.pairs.base p both.0 image) opened.settings both.1) in
-        let may = may_between settings state.urls state.pairs state.events both.0 most offers.news was_is stands.book_is (front_both state.pairs x both.0 first both.2) both.3 front takes in (
+        let up = front_both state.pairs x both.0 first both.2 in
+        let grown = less_grows both.0 most up both.3 (few_both old.pairs.settings state.pairs x both.0 few both.4) grows in
+        let may = may_between settings state.urls state.pairs state.events both.0 most offers.news was_is stands.book_is grown both.3 front takes in (
           with_pairs both.0 state,
           has_pairs s t was.urls state law lawful kind holds.urls begun_events both.0 image may from stands,
           pairs_front (with_pairs x state) both.0 both.2,
@@ -255,15 +269,16 @@ module _ (result : Result Unit Fault) (was now : Parts) (old new : Ledger) (s t 
         )
 
     -- and so a stop leaves one
-    stops_between : (most : Book) → TakesWaiting (pair_settings settings) state.pairs no_waiting most offers.news
+    stops_between : (most : Book) → GrowsBy most → TakesWaiting (pair_settings settings) state.pairs no_waiting most offers.news
         → Leaves s t (HasBetween old.pairs.base old.pairs.settings state.pairs most) → Leaves s t (HasOneBetween state (with_pairs most state))
-    stops_between most takes leaves = widens s t _ _ (leaves_pair s t _ _ pairs_leave leaves) (λ image both. has_between state.pairs most (front_same state.pairs) takes image both.0 both.1)
+    stops_between most grows takes leaves = widens s t _ _ (leaves_pair s t _ _ pairs_leave leaves) (λ image both.
+        has_between state.pairs most (front_same state.pairs) (few_same old.pairs.settings state.pairs) grows takes image both.0 both.1)
 
     leads : (fed : Fed 1 one_more offers.news before after state.pairs) → IsDrum new.pairs → MayHaveSent settings state fed.book → LeadsTo state (with_pairs fed.book state) now s t
     leads fed pairs_law may = record {
       holds = ended fed.book pairs_law may fed.holds;
       front = pairs_front state fed.book may.front;
-      stops = stops_between fed.book (fed_takes settings state.urls state.pairs state.events offers.news before after refl opened.settings fed) fed.stops;
+      stops = stops_between fed.book (grows_by fed.book fed.grows) (fed_takes settings state.urls state.pairs state.events offers.news before after refl opened.settings fed) fed.stops;
     }
 
     kept : IsDrum new.pairs → (IsErrOf result Failed → ⊥) → (book : Book) × MayHaveSent settings state book × LeadsTo state (with_pairs book state) now s t
@@ -277,26 +292,27 @@ module _ (result : Result Unit Fault) (was now : Parts) (old new : Ledger) (s t 
     fails failed =
         let strands = offers.runs.stranded failed files told state.pairs held.pairs_hold in
         let takes = subst (λ (p : Settings). TakesWaiting p state.pairs no_waiting strands.most offers.news) opened.settings strands.takes in
-        let may : (x : Book) → IsBookOf old.pairs.settings x → IsFront state.pairs x → IsFront x strands.most → MayHaveSent settings state x = λ x is first later.
-        may_between settings state.urls state.pairs state.events x strands.most offers.news was_is (subst (λ (p : Settings). IsBookOf p x) opened.settings is) first later front takes in
+        let may : (x : Book) → IsBookOf old.pairs.settings x → Grows old.pairs.settings 1 state.pairs x → IsFront x strands.most → MayHaveSent settings state x = λ x is grows later.
+        may_between settings state.urls state.pairs state.events x strands.most offers.news was_is (subst (λ (p : Settings). IsBookOf p x) opened.settings is) (grows_by x grows) later front takes in
         let up : IsFront strands.kept strands.most = front_both strands.kept strands.book strands.most strands.kept_front strands.front in
         let follows : (image : Files) → t.images image → Follows (ChangesOnly among_pairs) s.images image = λ image left. left_now s t _ lawful pairs_leave image left in
         record {
           kept = with_pairs strands.kept state;
           state = with_pairs strands.book state;
           most = with_pairs strands.most state;
-          may_kept = (strands.kept, may strands.kept strands.kept_legal strands.kept_grows.front up, refl);
-          may_most = (strands.most, may strands.most strands.legal strands.may_grow.front (front_same strands.most), refl);
+          may_kept = (strands.kept, may strands.kept strands.kept_legal strands.kept_grows up, refl);
+          may_most = (strands.most, may strands.most strands.legal strands.may_grow (front_same strands.most), refl);
           told = λ image is.
               let stands = strands.told image is in
               let moved = subst (λ (n : ℕ). Stands n (pair_settings settings) strands.book image) opened.base
               (subst (λ (p : Settings). Stands old.pairs.base p strands.book image) opened.settings stands) in
-              has_pairs s t was.urls state law lawful kind holds.urls begun_events strands.book image (may strands.book stands.book_is strands.grows.front strands.front)
+              has_pairs s t was.urls state law lawful kind holds.urls begun_events strands.book image (may strands.book stands.book_is strands.grows strands.front)
               (follows image (lawful.told image is)) moved;
           first = pairs_front state strands.kept strands.kept_grows.front;
           fronts = (pairs_front (with_pairs strands.kept state) strands.book strands.kept_front, pairs_front (with_pairs strands.book state) strands.most strands.front);
-          stops = stops_between strands.most takes strands.stops;
-          now = λ image left. has_between strands.kept strands.most strands.kept_grows.front takes image (follows image left) (strands.now image left);
+          stops = stops_between strands.most (grows_by strands.most strands.may_grow) takes strands.stops;
+          now = λ image left. has_between strands.kept strands.most strands.kept_grows.front strands.kept_grows.waits (grows_by strands.most strands.may_grow) takes image (follows image left)
+              (strands.now image left);
         }
 
     done : IsDrum new.pairs → (value : Unit) → result ≡ Ok value → (book : Book) × HasSentAll settings state book × LeadsTo state (with_pairs book state) now s t
@@ -310,23 +326,24 @@ module _ (result : Result Unit Fault) (was now : Parts) (old new : Ledger) (s t 
         (fed.book, sent, leads fed pairs_law sent.may, sent_event settings state.urls state.pairs state.events fed.book holds.urls.urls_hold.book_is crawl begun_events sent)
 
     -- a stop on the way
-    between : (most : Book) → TakesWaiting (pair_settings settings) state.pairs no_waiting most offers.news → Leaves s t (HasBetween old.pairs.base old.pairs.settings state.pairs most)
+    between : (most : Book) → GrowsBy most → TakesWaiting (pair_settings settings) state.pairs no_waiting most offers.news → Leaves s t (HasBetween old.pairs.base old.pairs.settings state.pairs most)
         → Leaves s t (HasSomeSent settings state)
-    between most takes leaves = widens s t _ _ (leaves_pair s t _ _ pairs_leave leaves) (λ image both.
+    between most grows takes leaves = widens s t _ _ (leaves_pair s t _ _ pairs_leave leaves) (λ image both.
         let stands = subst (λ (n : ℕ). Stands n (pair_settings settings) both.1.0 image) opened.base
         (subst (λ (p : Settings). Stands old.pairs.base p both.1.0 image) opened.settings both.1.1) in
         let was_is = subst (λ (p : Settings). IsBookOf p state.pairs) opened.settings held.pairs_hold.book_is in
-        let may = may_between settings state.urls state.pairs state.events both.1.0 most offers.news was_is stands.book_is both.1.2 both.1.3 front takes in
+        let grown = less_grows both.1.0 most both.1.2 both.1.3 both.1.4 grows in
+        let may = may_between settings state.urls state.pairs state.events both.1.0 most offers.news was_is stands.book_is grown both.1.3 front takes in
         (both.1.0, may, has_pairs s t was.urls state law lawful kind holds.urls begun_events both.1.0 image may both.0 stands))
 
     stops : Leaves s t (HasSomeSent settings state)
     stops = ⊎_elim
         (λ (failed : IsErrOf result Failed).
         let strands = offers.runs.stranded failed files told state.pairs held.pairs_hold in
-        between strands.most (subst (λ (p : Settings). TakesWaiting p state.pairs no_waiting strands.most offers.news) opened.settings strands.takes) strands.stops)
+        between strands.most (grows_by strands.most strands.may_grow) (subst (λ (p : Settings). TakesWaiting p state.pairs no_waiting strands.most offers.news) opened.settings strands.takes) strands.stops)
         (λ (not : IsErrOf result Failed → ⊥).
         let fed = offers.runs.fed not files told state.pairs held.pairs_hold in
-        between fed.book (fed_takes settings state.urls state.pairs state.events offers.news before after refl opened.settings fed) fed.stops)
+        between fed.book (grows_by fed.book fed.grows) (fed_takes settings state.urls state.pairs state.events offers.news before after refl opened.settings fed) fed.stops)
         (failed_or_not result)
 
     not_damaged : (f at : ℕ) → IsErrOf result (Damaged f at) → ⊥
