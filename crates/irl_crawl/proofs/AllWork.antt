@@ -103,7 +103,7 @@ order_more befores worker s done own all stands before same is =
 -- ## The loop
 
 -- The workers before this one did all that their fronts say, which is the log, and the others have begun nothing.
-pub record SoFar {F O : Type 0} (asked : F → ℕ) (gives : F → ℕ → Answers) (faults last : F → ℕ) (log : WorkLog) (agent suffixes : List ℕ) (worker : ℕ) (olds nows : List F)
+pub record SoFar {F O : Type 0} (asked : F → ℕ) (gives : F → ℕ → Answers) (faults last : F → ℕ) (aim : F → List ℕ) (log : WorkLog) (agent suffixes : List ℕ) (worker : ℕ) (olds nows : List F)
     (befores fronts : List Schedule) (o p : Offering O) : Type 0 where
   pub handled : List Handled
   pub noted : List Noted
@@ -118,16 +118,16 @@ pub record SoFar {F O : Type 0} (asked : F → ℕ) (gives : F → ℕ → Answe
   pub moments : All (λ note. IsMomentBy last olds nows note.when) log.notes.items
   pub delays : KeepDelays befores fronts
   pub calm : p.last_fault ≡ o.last_fault
-  pub goes_on : AllGoOn asked gives faults last olds nows
+  pub goes_on : AllGoOn asked gives faults last aim olds nows
   pub count : length fronts ≡ length befores
   pub agents : AreFor agent fronts
   -- the workers from this one on are as they were
   pub fronts_same : (at : ℕ) → worker ≤ at → slice_get fronts at ≡ slice_get befores at
   pub fetchers_same : (at : ℕ) → worker ≤ at → slice_get nows at ≡ slice_get olds at
 
-pub far_first : {F O : Type 0} (asked : F → ℕ) (gives : F → ℕ → Answers) (faults last : F → ℕ) (log : WorkLog) (agent suffixes : List ℕ) (olds : List F) (befores : List Schedule) (o : Offering O)
-    → log.done.items ≡ [] → log.notes.items ≡ [] → AreFor agent befores → SoFar asked gives faults last log agent suffixes 0 olds olds befores befores o o
-far_first asked gives faults last log agent suffixes olds befores o done notes for = record {
+pub far_first : {F O : Type 0} (asked : F → ℕ) (gives : F → ℕ → Answers) (faults last : F → ℕ) (aim : F → List ℕ) (log : WorkLog) (agent suffixes : List ℕ) (olds : List F) (befores : List Schedule) (o : Offering O)
+    → log.done.items ≡ [] → log.notes.items ≡ [] → AreFor agent befores → SoFar asked gives faults last aim log agent suffixes 0 olds olds befores befores o o
+far_first asked gives faults last aim log agent suffixes olds befores o done notes for = record {
   handled = [];
   noted = [];
   done = done;
@@ -141,7 +141,7 @@ far_first asked gives faults last log agent suffixes olds befores o done notes f
   moments = All-same (λ (note : Note). IsMomentBy last olds olds note.when) log.notes.items [] notes (All-nil _);
   delays = delays_stay befores;
   calm = refl;
-  goes_on = all_go_none asked gives faults last olds;
+  goes_on = all_go_none asked gives faults last aim olds;
   count = refl;
   agents = for;
   fronts_same = λ at high. refl;
@@ -154,24 +154,24 @@ inside_too : (worker : ℕ) (firsts fronts : List Held) → length (schedules fr
 inside_too worker firsts fronts same low = omega (arith, same, low, length-map firsts schedule, length-map fronts schedule)
 
 -- this worker went on, and no other
-pub record RunsOne {F : Type 0} (asked : F → ℕ) (gives : F → ℕ → Answers) (faults last : F → ℕ) (worker : ℕ) (x y : F) (nows laters : List F) (s t : Schedule) (fronts afters : List Schedule)
+pub record RunsOne {F : Type 0} (asked : F → ℕ) (gives : F → ℕ → Answers) (faults last : F → ℕ) (aim : F → List ℕ) (worker : ℕ) (x y : F) (nows laters : List F) (s t : Schedule) (fronts afters : List Schedule)
     : Type 0 where
   pub stood : slice_get nows worker ≡ Some x
   pub fetcher_set : IsSetAt worker y nows laters
   pub stands : slice_get fronts worker ≡ Some s
   pub front_set : IsSetAt worker t fronts afters
-  pub goes_on : GoesOn (fetcher asked gives faults last x) (fetcher asked gives faults last y)
+  pub goes_on : GoesOn (fetcher asked gives faults last aim x) (fetcher asked gives faults last aim y)
   pub agent : t.agent ≡ s.agent
   pub delay : t.delay ≡ s.delay
 
 -- by the places of its fetcher and its front
-pub runs_at : {F O : Type 0} (asked : F → ℕ) (gives : F → ℕ → Answers) (faults last : F → ℕ) {log : WorkLog} {agent suffixes : List ℕ} (worker : ℕ) (d y : F) (olds nows : List F)
-    (front after : Held) (firsts fronts : List Held) {o p : Offering O} → SoFar asked gives faults last log agent suffixes worker olds nows (schedules firsts) (schedules fronts) o p
+pub runs_at : {F O : Type 0} (asked : F → ℕ) (gives : F → ℕ → Answers) (faults last : F → ℕ) (aim : F → List ℕ) {log : WorkLog} {agent suffixes : List ℕ} (worker : ℕ) (d y : F) (olds nows : List F)
+    (front after : Held) (firsts fronts : List Held) {o p : Offering O} → SoFar asked gives faults last aim log agent suffixes worker olds nows (schedules firsts) (schedules fronts) o p
     → worker < length olds → length firsts ≡ length olds → front ≡ get_or fronts worker front
-    → GoesOn (fetcher asked gives faults last (get_or nows worker d)) (fetcher asked gives faults last y) → (schedule after).agent ≡ (schedule front).agent
+    → GoesOn (fetcher asked gives faults last aim (get_or nows worker d)) (fetcher asked gives faults last aim y) → (schedule after).agent ≡ (schedule front).agent
     → (schedule after).delay ≡ (schedule front).delay
-    → RunsOne asked gives faults last worker (get_or nows worker d) y nows (set nows worker y) (schedule front) (schedule after) (schedules fronts) (schedules (set fronts worker after))
-runs_at asked gives faults last worker d y olds nows front after firsts fronts far low many stands on agent delay =
+    → RunsOne asked gives faults last aim worker (get_or nows worker d) y nows (set nows worker y) (schedule front) (schedule after) (schedules fronts) (schedules (set fronts worker after))
+runs_at asked gives faults last aim worker d y olds nows front after firsts fronts far low many stands on agent delay =
     let within : worker < length nows = omega (arith, low, far.goes_on.count) in
     let inside : worker < length fronts = inside_too worker firsts fronts far.count (omega (arith, low, many)) in
     record {
@@ -219,51 +219,51 @@ stood_first : (befores fronts : List Schedule) (worker : ℕ) (s : Schedule) →
     → slice_get befores worker ≡ Some s
 stood_first befores fronts worker s before stands = sym (before worker (omega arith)) ∙ stands
 
-worked_more : {F O : Type 0} (asked : F → ℕ) (gives : F → ℕ → Answers) (faults last : F → ℕ) (log : WorkLog) (agent suffixes : List ℕ) (worker : ℕ) (x y : F) (olds nows laters : List F)
-    (s t : Schedule) (befores fronts afters : List Schedule) (o p : Offering O) (far : SoFar asked gives faults last log agent suffixes worker olds nows befores fronts o p)
-    → RunsOne asked gives faults last worker x y nows laters s t fronts afters → (handled : List Handled) (noted : List Noted) (left : List Work)
-    → HasWorked suffixes handled noted left (fetcher asked gives faults last x) (fetcher asked gives faults last y) s t
+worked_more : {F O : Type 0} (asked : F → ℕ) (gives : F → ℕ → Answers) (faults last : F → ℕ) (aim : F → List ℕ) (log : WorkLog) (agent suffixes : List ℕ) (worker : ℕ) (x y : F) (olds nows laters : List F)
+    (s t : Schedule) (befores fronts afters : List Schedule) (o p : Offering O) (far : SoFar asked gives faults last aim log agent suffixes worker olds nows befores fronts o p)
+    → RunsOne asked gives faults last aim worker x y nows laters s t fronts afters → (handled : List Handled) (noted : List Noted) (left : List Work)
+    → HasWorked suffixes handled noted left (fetcher asked gives faults last aim x) (fetcher asked gives faults last aim y) s t
     → HaveWorked (IsGivenBy asked gives olds laters) agent suffixes (far.handled ++ handled) (far.noted ++ noted) (left ++ loaded (drop (worker + 1) befores)) befores
-worked_more asked gives faults last log agent suffixes worker x y olds nows laters s t befores fronts afters o p far runs handled noted left worked =
+worked_more asked gives faults last aim log agent suffixes worker x y olds nows laters s t befores fronts afters o p far runs handled noted left worked =
     let first : slice_get befores worker ≡ Some s = stood_first befores fronts worker s far.fronts_same runs.stands in
     have_then (IsGivenBy asked gives olds nows) (IsGivenBy asked gives olds laters) agent suffixes far.handled handled far.noted noted left (loaded (drop (worker + 1) befores))
-    (fetcher asked gives faults last x) (fetcher asked gives faults last y) befores worker s t
-    (given_more asked gives faults last olds nows laters worker x y runs.fetcher_set runs.stood runs.goes_on)
-    (given_by_one asked gives faults last olds laters worker x y (sym (far.fetchers_same worker (omega arith)) ∙ runs.stood) runs.fetcher_set.here)
+    (fetcher asked gives faults last aim x) (fetcher asked gives faults last aim y) befores worker s t
+    (given_more asked gives faults last aim olds nows laters worker x y runs.fetcher_set runs.stood runs.goes_on)
+    (given_by_one asked gives faults last aim olds laters worker x y (sym (far.fetchers_same worker (omega arith)) ∙ runs.stood) runs.fetcher_set.here)
     first (agent_at agent fronts worker s far.agents runs.stands)
     (subst (λ (left : List Work). HaveWorked (IsGivenBy asked gives olds nows) agent suffixes far.handled far.noted left befores) (loaded_rest befores worker s first) far.worked)
     worked
 
-moments_more : {F O : Type 0} (asked : F → ℕ) (gives : F → ℕ → Answers) (faults last : F → ℕ) (log : WorkLog) (agent suffixes : List ℕ) (worker : ℕ) (x y : F) (olds nows laters : List F)
-    (s t : Schedule) (befores fronts afters : List Schedule) (o p : Offering O) → SoFar asked gives faults last log agent suffixes worker olds nows befores fronts o p
-    → RunsOne asked gives faults last worker x y nows laters s t fronts afters → (noted : List Noted) (own all : List Note) → own ≡ map (λ one. one.note) noted → all ≡ log.notes.items ++ own
+moments_more : {F O : Type 0} (asked : F → ℕ) (gives : F → ℕ → Answers) (faults last : F → ℕ) (aim : F → List ℕ) (log : WorkLog) (agent suffixes : List ℕ) (worker : ℕ) (x y : F) (olds nows laters : List F)
+    (s t : Schedule) (befores fronts afters : List Schedule) (o p : Offering O) → SoFar asked gives faults last aim log agent suffixes worker olds nows befores fronts o p
+    → RunsOne asked gives faults last aim worker x y nows laters s t fronts afters → (noted : List Noted) (own all : List Note) → own ≡ map (λ one. one.note) noted → all ≡ log.notes.items ++ own
     → All (λ one. (last x ≤ one.note.when) × (one.note.when ≤ last y)) noted → All (λ note. IsMomentBy last olds laters note.when) all
-moments_more asked gives faults last log agent suffixes worker x y olds nows laters s t befores fronts afters o p far runs noted own all is whole moments =
+moments_more asked gives faults last aim log agent suffixes worker x y olds nows laters s t befores fronts afters o p far runs noted own all is whole moments =
     let IsOne = λ (note : Note). IsMomentBy last olds laters note.when in
     let was : slice_get olds worker ≡ Some x = sym (far.fetchers_same worker (omega arith)) ∙ runs.stood in
     All-same IsOne all (log.notes.items ++ own) whole
     (All-append IsOne log.notes.items own
     (All-weaker (λ (note : Note). IsMomentBy last olds nows note.when) IsOne
-    (λ note. moment_more asked gives faults last olds nows laters worker x y runs.fetcher_set runs.stood runs.goes_on note.when) log.notes.items far.moments)
+    (λ note. moment_more asked gives faults last aim olds nows laters worker x y runs.fetcher_set runs.stood runs.goes_on note.when) log.notes.items far.moments)
     (All-same IsOne own (map (λ (one : Noted). one.note) noted) is
     (All-map IsOne (λ (one : Noted). one.note) noted
     (All-weaker (λ (one : Noted). (last x ≤ one.note.when) × (one.note.when ≤ last y)) (λ (one : Noted). IsOne one.note)
     (λ one when. record { at = worker; old = x; new = y; was = was; is = runs.fetcher_set.here; from = when.0; till = when.1 }) noted moments))))
 
-pub far_next : {F O : Type 0} {asked : F → ℕ} {gives : F → ℕ → Answers} {faults last : F → ℕ} {log part whole : WorkLog} {agent suffixes : List ℕ} {worker : ℕ} {x y : F} {olds nows laters : List F}
-    {s t : Schedule} {befores fronts afters : List Schedule} {o p q : Offering O} → SoFar asked gives faults last log agent suffixes worker olds nows befores fronts o p
-    → RunsOne asked gives faults last worker x y nows laters s t fronts afters
-    → FinishesWork part suffixes (fetcher asked gives faults last x) (fetcher asked gives faults last y) s t p q → q.last_fault ≡ p.last_fault
+pub far_next : {F O : Type 0} {asked : F → ℕ} {gives : F → ℕ → Answers} {faults last : F → ℕ} {aim : F → List ℕ} {log part whole : WorkLog} {agent suffixes : List ℕ} {worker : ℕ} {x y : F} {olds nows laters : List F}
+    {s t : Schedule} {befores fronts afters : List Schedule} {o p q : Offering O} → SoFar asked gives faults last aim log agent suffixes worker olds nows befores fronts o p
+    → RunsOne asked gives faults last aim worker x y nows laters s t fronts afters
+    → FinishesWork part suffixes (fetcher asked gives faults last aim x) (fetcher asked gives faults last aim y) s t p q → q.last_fault ≡ p.last_fault
     → whole.done.items ≡ log.done.items ++ part.done.items → whole.notes.items ≡ log.notes.items ++ part.notes.items
-    → SoFar asked gives faults last whole agent suffixes (worker + 1) olds laters befores afters o q
-far_next {asked} {gives} {faults} {last} {log} {part} {whole} {agent} {suffixes} {worker} {x} {y} {olds} {nows} {laters} {s} {t} {befores} {fronts} {afters} {o} {p} {q} far
+    → SoFar asked gives faults last aim whole agent suffixes (worker + 1) olds laters befores afters o q
+far_next {asked} {gives} {faults} {last} {aim} {log} {part} {whole} {agent} {suffixes} {worker} {x} {y} {olds} {nows} {laters} {s} {t} {befores} {fronts} {afters} {o} {p} {q} far
     runs does calm done notes = record {
       handled = far.handled ++ does.handled;
       noted = far.noted ++ does.noted;
       done = done ∙ ap (λ xs. log.done.items ++ xs) does.done ∙ ap (λ xs. xs ++ map done_of does.handled) far.done ∙ sym (map-append done_of far.handled does.handled);
       notes = notes ∙ ap (λ xs. log.notes.items ++ xs) does.notes ∙ ap (λ xs. xs ++ map (λ (one : Noted). one.note) does.noted) far.notes
           ∙ sym (map-append (λ (one : Noted). one.note) far.noted does.noted);
-      worked = worked_more asked gives faults last log agent suffixes worker x y olds nows laters s t befores fronts afters o p far runs does.handled does.noted [] does.worked;
+      worked = worked_more asked gives faults last aim log agent suffixes worker x y olds nows laters s t befores fronts afters o p far runs does.handled does.noted [] does.worked;
       entered = enters_as (flat_map entered_of far.handled ++ flat_map entered_of does.handled) (flat_map entered_of (far.handled ++ does.handled)) o q
           (sym (flat_map-append entered_of far.handled does.handled)) (enters_then (flat_map entered_of far.handled) (flat_map entered_of does.handled) o p q far.entered does.entered);
       known = know_more agent far.noted does.noted befores fronts afters worker s t far.known (stood_first befores fronts worker s far.fronts_same runs.stands)
@@ -272,32 +272,32 @@ far_next {asked} {gives} {faults} {last} {log} {part} {whole} {agent} {suffixes}
       none_left = none_more fronts afters worker t runs.front_set does.none_left far.none_left;
       order = order_more befores worker s log.done.items part.done.items whole.done.items (stood_first befores fronts worker s far.fronts_same runs.stands) far.order
           (numbers_same s.items part.done.items does.handled does.done does.worked.items) done;
-      moments = moments_more asked gives faults last log agent suffixes worker x y olds nows laters s t befores fronts afters o p far runs does.noted part.notes.items whole.notes.items does.notes
+      moments = moments_more asked gives faults last aim log agent suffixes worker x y olds nows laters s t befores fronts afters o p far runs does.noted part.notes.items whole.notes.items does.notes
           notes does.worked.moments;
       delays = delays_more befores fronts afters worker s t far.delays runs.stands runs.front_set runs.delay;
       calm = calm ∙ far.calm;
-      goes_on = one_goes_on asked gives faults last olds nows laters worker x y far.goes_on runs.fetcher_set runs.stood runs.goes_on;
+      goes_on = one_goes_on asked gives faults last aim olds nows laters worker x y far.goes_on runs.fetcher_set runs.stood runs.goes_on;
       count = runs.front_set.count ∙ far.count;
       agents = agents_more agent fronts afters worker s t far.agents runs.stands runs.front_set runs.agent;
       fronts_same = same_more befores fronts afters worker t runs.front_set far.fronts_same;
       fetchers_same = same_more olds nows laters worker y runs.fetcher_set far.fetchers_same;
     }
 
-pub fetchers_more : {F O : Type 0} {asked : F → ℕ} {gives : F → ℕ → Answers} {faults last : F → ℕ} {log : WorkLog} {agent suffixes : List ℕ} {worker : ℕ} {x y : F} {olds nows laters : List F}
-    {s t : Schedule} {befores fronts afters : List Schedule} {o p : Offering O} → SoFar asked gives faults last log agent suffixes worker olds nows befores fronts o p
-    → RunsOne asked gives faults last worker x y nows laters s t fronts afters → AllGoOn asked gives faults last olds laters
-fetchers_more {asked} {gives} {faults} {last} {worker = worker} {x = x} {y = y} {olds = olds} {nows = nows} {laters = laters} far runs =
-    one_goes_on asked gives faults last olds nows laters worker x y far.goes_on runs.fetcher_set runs.stood runs.goes_on
+pub fetchers_more : {F O : Type 0} {asked : F → ℕ} {gives : F → ℕ → Answers} {faults last : F → ℕ} {aim : F → List ℕ} {log : WorkLog} {agent suffixes : List ℕ} {worker : ℕ} {x y : F} {olds nows laters : List F}
+    {s t : Schedule} {befores fronts afters : List Schedule} {o p : Offering O} → SoFar asked gives faults last aim log agent suffixes worker olds nows befores fronts o p
+    → RunsOne asked gives faults last aim worker x y nows laters s t fronts afters → AllGoOn asked gives faults last aim olds laters
+fetchers_more {asked} {gives} {faults} {last} {aim} {worker = worker} {x = x} {y = y} {olds = olds} {nows = nows} {laters = laters} far runs =
+    one_goes_on asked gives faults last aim olds nows laters worker x y far.goes_on runs.fetcher_set runs.stood runs.goes_on
 
 -- ## The end
 
 pub order_all : (befores : List Schedule) (worker : ℕ) (done : List Done) → AreByWorker (take worker befores) done → length befores ≤ worker → AreByWorker befores done
 order_all befores worker done order all = subst (λ (fronts : List Schedule). AreByWorker fronts done) (take_all worker befores all) order
 
-pub all_done : {F O : Type 0} {asked : F → ℕ} {gives : F → ℕ → Answers} {faults last : F → ℕ} {log : WorkLog} {agent suffixes : List ℕ} {worker : ℕ} {olds nows : List F}
-    {befores fronts : List Schedule} {o p : Offering O} → SoFar asked gives faults last log agent suffixes worker olds nows befores fronts o p → length befores ≤ worker
+pub all_done : {F O : Type 0} {asked : F → ℕ} {gives : F → ℕ → Answers} {faults last : F → ℕ} {aim : F → List ℕ} {log : WorkLog} {agent suffixes : List ℕ} {worker : ℕ} {olds nows : List F}
+    {befores fronts : List Schedule} {o p : Offering O} → SoFar asked gives faults last aim log agent suffixes worker olds nows befores fronts o p → length befores ≤ worker
     → WorkAll (Ok log) (IsGivenBy asked gives olds nows) agent suffixes befores fronts o p
-all_done {asked} {gives} {faults} {last} {log} {agent} {suffixes} {worker} {olds} {nows} {befores} {fronts} {o} {p} far all = record {
+all_done {asked} {gives} {faults} {last} {aim} {log} {agent} {suffixes} {worker} {olds} {nows} {befores} {fronts} {o} {p} far all = record {
   finish = record {
     handled = far.handled;
     noted = far.noted;
@@ -320,34 +320,34 @@ entered_then : (h1 h2 : List Handled) (part : List Entered) → flat_map entered
 entered_then h1 h2 part =
     sym (append_assoc (flat_map entered_of h1) (flat_map entered_of h2) part) ∙ ap (λ xs. xs ++ part) (sym (flat_map-append entered_of h1 h2))
 
-begun_more : {F : Type 0} (asked : F → ℕ) (gives : F → ℕ → Answers) (faults last : F → ℕ) (agent suffixes : List ℕ) (worker : ℕ) (x y : F) (olds laters : List F) (s : Schedule)
+begun_more : {F : Type 0} (asked : F → ℕ) (gives : F → ℕ → Answers) (faults last : F → ℕ) (aim : F → List ℕ) (agent suffixes : List ℕ) (worker : ℕ) (x y : F) (olds laters : List F) (s : Schedule)
     (befores : List Schedule) (one two : List Noted) (left rest : List Work) (part : List Entered) → slice_get olds worker ≡ Some x → slice_get laters worker ≡ Some y
-    → slice_get befores worker ≡ Some s → s.agent ≡ agent → IsBegun suffixes two left part (fetcher asked gives faults last x) (fetcher asked gives faults last y) s
+    → slice_get befores worker ≡ Some s → s.agent ≡ agent → IsBegun suffixes two left part (fetcher asked gives faults last aim x) (fetcher asked gives faults last aim y) s
     → HasBegunOne (IsGivenBy asked gives olds laters) agent suffixes (one ++ two) (left ++ rest) part befores
-begun_more asked gives faults last agent suffixes worker x y olds laters s befores one two left rest part was is stands for begun = record {
+begun_more asked gives faults last aim agent suffixes worker x y olds laters s befores one two left rest part was is stands for begun = record {
   work = begun.work;
   others = begun.others ++ rest;
   is_left = IsPermutation-append_left rest left (begun.work ∷ begun.others) begun.is_left;
   state = begun.state;
   known = among_one agent befores one two worker s stands for _ begun.state begun.known;
   allowed = begun.allowed;
-  some = part_wider (given_since (fetcher asked gives faults last x) (fetcher asked gives faults last y)) (IsGivenBy asked gives olds laters)
-      (given_by_one asked gives faults last olds laters worker x y was is) suffixes begun.work.web part begun.some;
+  some = part_wider (given_since (fetcher asked gives faults last aim x) (fetcher asked gives faults last aim y)) (IsGivenBy asked gives olds laters)
+      (given_by_one asked gives faults last aim olds laters worker x y was is) suffixes begun.work.web part begun.some;
 }
 
-stops_more : {F O : Type 0} (asked : F → ℕ) (gives : F → ℕ → Answers) (faults last : F → ℕ) (log : WorkLog) (agent suffixes : List ℕ) (worker : ℕ) (x y : F) (olds nows laters : List F)
-    (s t : Schedule) (befores fronts afters : List Schedule) (o p q : Offering O) → SoFar asked gives faults last log agent suffixes worker olds nows befores fronts o p
-    → RunsOne asked gives faults last worker x y nows laters s t fronts afters
-    → StopsWork suffixes (fetcher asked gives faults last x) (fetcher asked gives faults last y) s t p q → StopAll (IsGivenBy asked gives olds laters) agent suffixes befores o q
-stops_more asked gives faults last log agent suffixes worker x y olds nows laters s t befores fronts afters o p q far runs stops = record {
+stops_more : {F O : Type 0} (asked : F → ℕ) (gives : F → ℕ → Answers) (faults last : F → ℕ) (aim : F → List ℕ) (log : WorkLog) (agent suffixes : List ℕ) (worker : ℕ) (x y : F) (olds nows laters : List F)
+    (s t : Schedule) (befores fronts afters : List Schedule) (o p q : Offering O) → SoFar asked gives faults last aim log agent suffixes worker olds nows befores fronts o p
+    → RunsOne asked gives faults last aim worker x y nows laters s t fronts afters
+    → StopsWork suffixes (fetcher asked gives faults last aim x) (fetcher asked gives faults last aim y) s t p q → StopAll (IsGivenBy asked gives olds laters) agent suffixes befores o q
+stops_more asked gives faults last aim log agent suffixes worker x y olds nows laters s t befores fronts afters o p q far runs stops = record {
   handled = far.handled ++ stops.handled;
   noted = far.noted ++ stops.noted;
   left = stops.left ++ loaded (drop (worker + 1) befores);
-  worked = worked_more asked gives faults last log agent suffixes worker x y olds nows laters s t befores fronts afters o p far runs stops.handled stops.noted stops.left stops.worked;
+  worked = worked_more asked gives faults last aim log agent suffixes worker x y olds nows laters s t befores fronts afters o p far runs stops.handled stops.noted stops.left stops.worked;
   part = stops.part;
   begun = elim stops.begun [
     | inl none ↦ inl none
-    | inr one ↦ inr (begun_more asked gives faults last agent suffixes worker x y olds laters s befores far.noted stops.noted stops.left (loaded (drop (worker + 1) befores)) stops.part
+    | inr one ↦ inr (begun_more asked gives faults last aim agent suffixes worker x y olds laters s befores far.noted stops.noted stops.left (loaded (drop (worker + 1) befores)) stops.part
         (sym (far.fetchers_same worker (omega arith)) ∙ runs.stood) runs.fetcher_set.here (stood_first befores fronts worker s far.fronts_same runs.stands)
         (agent_at agent fronts worker s far.agents runs.stands) one)
   ];
@@ -356,16 +356,16 @@ stops_more asked gives faults last log agent suffixes worker x y olds nows later
 }
 
 -- a worker was refused
-pub all_stopped : {F O : Type 0} {asked : F → ℕ} {gives : F → ℕ → Answers} {faults last : F → ℕ} {result : Result WorkLog Fault} {fault : Fault} {log : WorkLog} {agent suffixes : List ℕ}
+pub all_stopped : {F O : Type 0} {asked : F → ℕ} {gives : F → ℕ → Answers} {faults last : F → ℕ} {aim : F → List ℕ} {result : Result WorkLog Fault} {fault : Fault} {log : WorkLog} {agent suffixes : List ℕ}
     {worker : ℕ} {x y : F} {olds nows laters : List F} {s t : Schedule} {befores fronts afters : List Schedule} {o p q : Offering O} → result ≡ Err fault
-    → SoFar asked gives faults last log agent suffixes worker olds nows befores fronts o p → RunsOne asked gives faults last worker x y nows laters s t fronts afters
-    → StopsWork suffixes (fetcher asked gives faults last x) (fetcher asked gives faults last y) s t p q → q.last_fault ≡ fault_or p.last_fault fault
+    → SoFar asked gives faults last aim log agent suffixes worker olds nows befores fronts o p → RunsOne asked gives faults last aim worker x y nows laters s t fronts afters
+    → StopsWork suffixes (fetcher asked gives faults last aim x) (fetcher asked gives faults last aim y) s t p q → q.last_fault ≡ fault_or p.last_fault fault
     → WorkAll result (IsGivenBy asked gives olds laters) agent suffixes befores afters o q
-all_stopped {asked} {gives} {faults} {last} {result} {fault} {log} {agent} {suffixes} {worker} {x} {y} {olds} {nows} {laters} {s} {t} {befores} {fronts} {afters} {o} {p} {q} is
+all_stopped {asked} {gives} {faults} {last} {aim} {result} {fault} {log} {agent} {suffixes} {worker} {x} {y} {olds} {nows} {laters} {s} {t} {befores} {fronts} {afters} {o} {p} {q} is
     far runs stops ends = record {
       finish = refused_if (λ (l : WorkLog). FinishAll l (IsGivenBy asked gives olds laters) agent suffixes befores afters o q) result fault is;
       stop = refused_err (StopAll (IsGivenBy asked gives olds laters) agent suffixes befores o q) result fault is
-          (stops_more asked gives faults last log agent suffixes worker x y olds nows laters s t befores fronts afters o p q far runs stops);
+          (stops_more asked gives faults last aim log agent suffixes worker x y olds nows laters s t befores fronts afters o p q far runs stops);
       fault = refused_fault result fault o q is (ends ∙ ap (λ last. fault_or last fault) far.calm);
       count = runs.front_set.count ∙ far.count;
       agents = agents_more agent fronts afters worker s t far.agents runs.stands runs.front_set runs.agent;
@@ -373,10 +373,10 @@ all_stopped {asked} {gives} {faults} {last} {result} {fault} {log} {agent} {suff
     }
 
 -- a worker finished, and there was no memory for what it did
-pub all_lacked : {F O : Type 0} {asked : F → ℕ} {gives : F → ℕ → Answers} {faults last : F → ℕ} {result : Result WorkLog Fault} {fault : Fault} {log part : WorkLog} {agent suffixes : List ℕ}
+pub all_lacked : {F O : Type 0} {asked : F → ℕ} {gives : F → ℕ → Answers} {faults last : F → ℕ} {aim : F → List ℕ} {result : Result WorkLog Fault} {fault : Fault} {log part : WorkLog} {agent suffixes : List ℕ}
     {worker : ℕ} {x y : F} {olds nows laters : List F} {s t : Schedule} {befores fronts afters : List Schedule} {o p q : Offering O} → result ≡ Err fault → fault ≡ Memory
-    → SoFar asked gives faults last log agent suffixes worker olds nows befores fronts o p → RunsOne asked gives faults last worker x y nows laters s t fronts afters
-    → FinishesWork part suffixes (fetcher asked gives faults last x) (fetcher asked gives faults last y) s t p q → q.last_fault ≡ p.last_fault
+    → SoFar asked gives faults last aim log agent suffixes worker olds nows befores fronts o p → RunsOne asked gives faults last aim worker x y nows laters s t fronts afters
+    → FinishesWork part suffixes (fetcher asked gives faults last aim x) (fetcher asked gives faults last aim y) s t p q → q.last_fault ≡ p.last_fault
     → WorkAll result (IsGivenBy asked gives olds laters) agent suffixes befores afters o q
 all_lacked {p = p} {q = q} is memory far runs does calm =
     all_stopped is far runs
@@ -398,8 +398,8 @@ pub fronts_changed : (first mid : Crew) (fronts : Vec Held Global) → mid ≡ r
 fronts_changed first mid fronts same = ap (λ (crew : Crew). record crew { fronts = fronts }) same
 
 -- no robots file is awaited in its front
-pub next_ready : {F O : Type 0} {asked : F → ℕ} {gives : F → ℕ → Answers} {faults last : F → ℕ} {log : WorkLog} {agent suffixes : List ℕ} (worker : ℕ) {olds nows : List F}
-    (front : Held) (firsts fronts : List Held) {o p : Offering O} → SoFar asked gives faults last log agent suffixes worker olds nows (schedules firsts) (schedules fronts) o p
+pub next_ready : {F O : Type 0} {asked : F → ℕ} {gives : F → ℕ → Answers} {faults last : F → ℕ} {aim : F → List ℕ} {log : WorkLog} {agent suffixes : List ℕ} (worker : ℕ) {olds nows : List F}
+    (front : Held) (firsts fronts : List Held) {o p : Offering O} → SoFar asked gives faults last aim log agent suffixes worker olds nows (schedules firsts) (schedules fronts) o p
     → worker < length olds → length firsts ≡ length olds → front ≡ get_or fronts worker front → AreReady (schedules firsts) → (name : List ℕ) → (schedule front).awaited name ≡ false
 next_ready worker front firsts fronts far low many stands ready =
     ready worker (schedule front) (stood_first (schedules firsts) (schedules fronts) worker (schedule front) far.fronts_same

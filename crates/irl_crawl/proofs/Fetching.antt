@@ -36,6 +36,7 @@ use Rattle.irl_crawl.specs.Fetching.{Fetches, FetchesWhole, entries_of}
 use Rattle.irl_crawl.specs.Offering.{OffersSome, OnlyOffers}
 use Rattle.irl_crawl.specs.Workers.{AreFor, loaded}
 use Rattle.irl_crawl.specs.Working.{HasBegunOne, HaveWorked, KnowAsNoted, WorkAll}
+use Rattle.irl_crawl.proofs.Batches.{grown_same}
 use Rattle.irl_crawl.proofs.Leading.{leads_none}
 use Rattle.irl_crawl.proofs.Lifting.{IsBehind, closed_behind, closed_leads, hands, last_named, rest_kept, served_behind}
 
@@ -178,7 +179,7 @@ module _ {S O : Type 0} (tells : S → Told) (law : (s : S) → IsConsistent (te
 -- there was no memory for a desk
 offers_none : {A : Type 0} (settings : Settings) (x : State) → OffersSome {A = A} (Err Memory) settings [] x x
 offers_none settings x = record {
-  only = record { others = refl; among = subst (λ (l : List Tuple). IsAmong l []) (sym (added_same x.urls.lists)) (among_none []) };
+  only = record { others = refl; grows = grown_same settings x; among = subst (λ (l : List Tuple). IsAmong l []) (sym (added_same x.urls.lists)) (among_none []) };
   all = tt;
   ground = record {
     full = λ n is. let no : ⊥ = cc in absurd no;
@@ -196,7 +197,7 @@ not_opened gives agent suffixes befores parts now law drum sound agents = record
   worked = record { items = IsPermutation-refl (loaded befores); each = All-nil _; notes = All-nil _ };
   begun = inl refl;
   whole = tt;
-  leads = leads_none (IsErrOf {T = WorkLog} {E = Fault} (Err Memory) Failed) (OnlyOffers []) (OffersSome {A = WorkLog} (Err Memory) parts.urls.settings []) parts now law drum sound
+  leads = leads_none (IsErrOf {T = WorkLog} {E = Fault} (Err Memory) Failed) (OnlyOffers parts.urls.settings []) (OffersSome {A = WorkLog} (Err Memory) parts.urls.settings []) parts now law drum sound
       (λ is. cc) (λ x held. offers_none parts.urls.settings x);
   rest = refl;
   count = refl;

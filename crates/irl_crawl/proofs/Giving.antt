@@ -15,8 +15,8 @@ one_there xs ys at x long is =
 abbrev pub AreEarlier : {F : Type 0} → (F → ℕ → Answers) → Type 0
 AreEarlier {F} gives = (x : F) (since later : ℕ) → since ≤ later → Widens (gives x later) (gives x since)
 
-module _ {F : Type 0} (asked : F → ℕ) (gives : F → ℕ → Answers) (faults last : F → ℕ) (olds mids news : List F) (one : AllGoOn asked gives faults last olds mids)
-    (two : AllGoOn asked gives faults last mids news) where
+module _ {F : Type 0} (asked : F → ℕ) (gives : F → ℕ → Answers) (faults last : F → ℕ) (aim : F → List ℕ) (olds mids news : List F) (one : AllGoOn asked gives faults last aim olds mids)
+    (two : AllGoOn asked gives faults last aim mids news) where
   -- what was given in the first one,
   pub given_first : Widens (IsGivenBy asked gives olds mids) (IsGivenBy asked gives olds news)
   given_first url want answer given =

@@ -10,19 +10,19 @@ use Rattle.irl_fetch.specs.Telling.{Fetcher, GoesOn, fetcher}
 use Rattle.irl_fetch.proofs.Telling.{goes_none, goes_then}
 use Rattle.irl_crawl.specs.Workers.{AllGoOn}
 
-module _ {F : Type 0} (asked : F → ℕ) (gives : F → ℕ → Answers) (faults last : F → ℕ) where
+module _ {F : Type 0} (asked : F → ℕ) (gives : F → ℕ → Answers) (faults last : F → ℕ) (aim : F → List ℕ) where
   abbrev at_moment : F → Fetcher
-  at_moment = fetcher asked gives faults last
+  at_moment = fetcher asked gives faults last aim
 
   -- no call
-  pub all_go_none : (xs : List F) → AllGoOn asked gives faults last xs xs
+  pub all_go_none : (xs : List F) → AllGoOn asked gives faults last aim xs xs
   all_go_none xs = record {
     count = refl;
     each = λ at old new was is. subst (λ (x : F). GoesOn (at_moment old) (at_moment x)) (same_some old new (sym was ∙ is)) (goes_none (at_moment old));
   }
 
   -- one behind the other
-  pub all_go_then : (xs ys zs : List F) → AllGoOn asked gives faults last xs ys → AllGoOn asked gives faults last ys zs → AllGoOn asked gives faults last xs zs
+  pub all_go_then : (xs ys zs : List F) → AllGoOn asked gives faults last aim xs ys → AllGoOn asked gives faults last aim ys zs → AllGoOn asked gives faults last aim xs zs
   all_go_then xs ys zs one two = record {
     count = two.count ∙ one.count;
     each = λ at old new was is.
@@ -32,7 +32,7 @@ module _ {F : Type 0} (asked : F → ℕ) (gives : F → ℕ → Answers) (fault
   }
 
   -- one of them goes on, and the others stay
-  pub all_go_one : (xs : List F) (at : ℕ) (old new : F) → slice_get xs at ≡ Some old → GoesOn (at_moment old) (at_moment new) → AllGoOn asked gives faults last xs (set xs at new)
+  pub all_go_one : (xs : List F) (at : ℕ) (old new : F) → slice_get xs at ≡ Some old → GoesOn (at_moment old) (at_moment new) → AllGoOn asked gives faults last aim xs (set xs at new)
   all_go_one xs at old new here goes = record {
     count = length-set xs at new;
     each = λ k x y was is. elim (cases_eq k at) [
@@ -44,5 +44,5 @@ module _ {F : Type 0} (asked : F → ℕ) (gives : F → ℕ → Answers) (fault
     ];
   }
 
-  pub all_go_at : (xs : List F) (at : ℕ) (d new : F) → at < length xs → GoesOn (at_moment (get_or xs at d)) (at_moment new) → AllGoOn asked gives faults last xs (set xs at new)
+  pub all_go_at : (xs : List F) (at : ℕ) (d new : F) → at < length xs → GoesOn (at_moment (get_or xs at d)) (at_moment new) → AllGoOn asked gives faults last aim xs (set xs at new)
   all_go_at xs at d new within goes = all_go_one xs at (get_or xs at d) new (slice_get-get_or xs at d within) goes

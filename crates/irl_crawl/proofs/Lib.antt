@@ -1,4 +1,5 @@
 pub mod AllWork
+pub mod Batches
 pub mod Books
 pub mod Deals
 pub mod Fetching

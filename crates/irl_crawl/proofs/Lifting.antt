@@ -1,5 +1,5 @@
 -- What a desk that hands a store back makes of the states that the store held.
-use Rattle.std.proofs.Common.{◌≡◌, ◌∙◌, ◌⊎◌, inl, inr, ⊎_elim, ℕ, ◌<◌, List, [], ◌∷◌, ◌++◌, Some, Option, Result, Ok, Err, IsErrOf, refl, sym, ap, subst, arith}
+use Rattle.std.proofs.Common.{◌≡◌, ◌∙◌, ◌⊎◌, inl, inr, ⊎_elim, ℕ, ◌<◌, List, [], ◌∷◌, ◌++◌, length, Some, Option, Result, Ok, Err, IsErrOf, refl, sym, ap, subst, arith}
 use Rattle.std.specs.List.{AllByRecursion}
 use Rattle.irl_base.specs.declared.fault.Fault.{Fault}
 use Rattle.irl_base.specs.declared.fault.Fault.TheVariants.{Damaged, Failed, Full, Memory}
@@ -30,7 +30,7 @@ use Rattle.irl_desk.proofs.Spreading.{hands_back}
 use Rattle.irl_crawl.specs.Leading.{HasGround, Leads}
 use Rattle.irl_crawl.specs.Offering.{HasOffers, OffersSome, OnlyOffers, offers_in}
 use Rattle.irl_crawl.proofs.Leading.{always, never}
-use Rattle.irl_crawl.proofs.Books.{AddsSome, adds_fed, kind_begun, lifts, takes_each}
+use Rattle.irl_crawl.proofs.Books.{AddsSome, adds_fed, adds_grown, kind_begun, lifts, takes_each}
 use Rattle.irl_crawl.proofs.Spread.{HasABucket, IsPage, all_offers, among_offers}
 
 -- ---- the receipts
@@ -96,24 +96,30 @@ module _ {S : Type 0} {A : Type 0} (told : S → Told) (entries : List Entered) 
   buckets_are : AllByRecursion (HasABucket settings.buckets) news
   buckets_are = bucketed settings.buckets (handed_at (moment_at told old)) [] entries hands.enters.numbered
 
-  only : (x y : State) → AddsSome settings.buckets news x y → OnlyOffers entries x y
+  only : (x y : State) → AddsSome settings 0 news x y → OnlyOffers settings entries x y
   only x y adds = record {
     others = adds.others;
-    among = among_offers settings.buckets news x.urls.lists y.urls.lists adds.front.lists adds.count buckets_are (takes_each settings.buckets news x y adds);
+    grows = adds_grown settings 0 news x y adds;
+    among = among_offers settings.buckets news x.urls.lists y.urls.lists adds.front.lists adds.count buckets_are (takes_each settings 0 news x y adds);
   }
 
-  adds : (x : State) (fed : Fed 0 one_more news from to x.urls) → AddsSome settings.buckets news x (with_urls fed.book x)
+  adds : (x : State) (fed : Fed 0 one_more news from to x.urls) → AddsSome settings 0 news x (with_urls fed.book x)
   adds = adds_fed 0 one_more news was now s t (waiting_at old.arrays) (waiting_at new.arrays) fresh.empty opened law (lawful new.store) begun pages hands.enters.stays hands.enters.rest
 
-  ground : (files : Files) → s.files ≡ Some files → (x : State) → HoldsState s.images was x → (fed : Fed 0 one_more news from to x.urls) → HasGround answer settings x (with_urls fed.book x)
+  ground : (files : Files) → s.files ≡ Some files → (x : State) → HoldsState s.images was x → (fed : Fed 0 one_more news from to x.urls) → HasGround answer settings news x (with_urls fed.book x)
   ground files told_now x held fed = record {
     full = λ n is.
         let why = hands.enters.ground.full n (not_memory (Full n) new.last (new.last ≡ Some (Full n)) (full_memory n) (behind.named (Full n) is)) in
         let same = hands.enters.stays.settings in
         let has = durable_held t.images now.urls fed.book n fed.holds why.0 in
+        let there : n < settings.buckets = subst (λ (p : Settings). n < p.buckets) same why.0 in
+        let had = durable_held s.images was.urls x.urls n held.urls.urls_hold there in
+        let handed = hands.enters.counts n in
+        let none = ap (λ (l : List Tuple). length l) (fresh.empty n) in
         inl (
-          subst (λ (p : Settings). n < p.buckets) same why.0,
+          there,
           omega (arith, why.2, why.3, has, ap (λ (p : Settings). p.array) same, ap (λ (p : Settings). p.cap) same),
+          omega (arith, why.3, had, handed, none, ap (λ (p : Settings). p.cap) same),
         );
     whole = λ f at is.
         hands.enters.ground.whole f at (not_memory (Damaged f at) new.last (new.last ≡ Some (Damaged f at)) (damaged_memory f at) (behind.named (Damaged f at) is)) files told_now x.urls
@@ -147,11 +153,11 @@ module _ {S : Type 0} {A : Type 0} (told : S → Told) (entries : List Entered) 
   failed_last is = not_memory Failed new.last (new.last ≡ Some Failed) failed_memory (behind.named Failed is)
 
   -- What was offered is in the lists, by the answer.
-  pub desk_leads : Leads (IsErrOf answer Failed) (OnlyOffers entries) (OffersSome answer settings entries) was now s t
+  pub desk_leads : Leads (IsErrOf answer Failed) (OnlyOffers settings entries) (OffersSome answer settings entries) was now s t
   desk_leads =
       lifts 0 one_more news was now s t (waiting_at old.arrays) (waiting_at new.arrays) fresh.empty opened law (lawful new.store) begun pages hands.enters.stays hands.enters.rest
       (IsErrOf answer Failed)
-      (OnlyOffers entries) (OffersSome answer settings entries)
+      (OnlyOffers settings entries) (OffersSome answer settings entries)
       (record {
         drum = hands.enters.sound.drum;
         sound = λ not. hands.enters.sound.sound (λ failed. not (behind.failed failed));
@@ -206,5 +212,5 @@ module _ {S : Type 0} (told : S → Told) (entries : List Entered) (old mid : Se
   }
 
   pub closed_leads : {A : Type 0} (answer : Result A Fault) → IsBehind answer closed new.last
-      → Leads (IsErrOf answer Failed) (OnlyOffers entries) (OffersSome answer old.parts.urls.settings entries) old.parts parts (told old.store) (told store)
+      → Leads (IsErrOf answer Failed) (OnlyOffers old.parts.urls.settings entries) (OffersSome answer old.parts.urls.settings entries) old.parts parts (told old.store) (told store)
   closed_leads answer behind = desk_leads told entries answer closed old new lawful opened law begun fresh hands behind

@@ -1,5 +1,5 @@
 -- Calls that only look at an open store, one behind the other, and what they make of a state.
-use Rattle.std.proofs.Common.{◌≡◌, ◌∙◌, ℕ, List, Option, Some, Result, Ok, Err, IsErrOf, refl, sym, ap, subst, arith}
+use Rattle.std.proofs.Common.{◌≡◌, ◌∙◌, ℕ, List, [], Option, Some, Result, Ok, Err, IsErrOf, refl, sym, ap, subst, arith}
 use Rattle.std.specs.Option.{ForSome}
 use Rattle.std.specs.Prelude.{IsOkUnless}
 use Rattle.irl_base.specs.declared.fault.Fault.{Fault}
@@ -145,7 +145,7 @@ looks_front result gives is_of was now before after reads states rest goes = rec
 -- ---- what they make of a state
 pub looks_ground : {A : Type 0} (result : Result A Fault) (settings : Settings) (was now : Parts) (before after : Told) (files : Files) (x : State) → before.files ≡ Some files
     → HoldsState before.images was x
-    → OnlyLooks result was now before after → HasGround result settings x x
+    → OnlyLooks result was now before after → HasGround result settings [] x x
 looks_ground result settings was now before after files x told holds looks = record {
   full = λ n is. absurd (looks.full n is);
   whole = λ f at is. looks.whole f at is files told x holds;

@@ -18,7 +18,9 @@ use Rattle.irl_events.specs.State.{State, IsFrontState}
 use Rattle.irl_fate.specs.Fronts.{AreFirst}
 use Rattle.irl_key.specs.declared.web.Work.{Work}
 use Rattle.irl_ledger.specs.Settling.{IsFlushed, max_settled}
+use Rattle.irl_base.specs.Among.{IsAmong}
 use Rattle.irl_offer.specs.Offering.{Entered}
+use Rattle.irl_offer.specs.Tuple.{Tuple}
 use Rattle.irl_offer.specs.declared.done.Done.{Done}
 use Rattle.irl_offer.specs.declared.note.Note.{Note}
 use Rattle.irl_offer.specs.declared.note.NoteState.{NoteState}
@@ -31,7 +33,7 @@ use Rattle.irl_log.specs.Form.{IsNote}
 use Rattle.irl_offer.specs.declared.settings.Settings.{Settings}
 use Rattle.irl_polite.specs.Schedule.{Schedule}
 use Rattle.irl_record.specs.Widening.{Answers, Widens}
-use Rattle.irl_reach.specs.Crawls.{IsCrawlStore}
+use Rattle.irl_reach.specs.Crawls.{IsCrawlStore, added_to, found_by}
 use Rattle.irl_schedule.proofs.Outcomes.{same_refusal}
 use Rattle.irl_yard.specs.declared.parts.Parts.{Parts}
 use Rattle.irl_yard.specs.declared.parts.Rest.{Rest}
@@ -47,18 +49,18 @@ use Rattle.irl_fetch.proofs.Notes.{host_short, host_some, text_short}
 use Rattle.irl_fetch.specs.declared.working.WorkLog.{WorkLog}
 use Rattle.irl_crawl.specs.Fetching.{Fetches, entries_of}
 use Rattle.irl_crawl.specs.Judging.{IsJudged, OnlyJudges}
-use Rattle.irl_crawl.specs.Leading.{HasGround, Leads}
+use Rattle.irl_crawl.specs.Leading.{Leads}
 use Rattle.irl_crawl.specs.Loading.{AreNext, Loads}
-use Rattle.irl_crawl.specs.Offering.{HasOffers, OnlyOffers}
+use Rattle.irl_crawl.specs.Offering.{HasOffers, OffersSome, OnlyOffers, offers_in}
 use Rattle.irl_crawl.specs.Settling.{IsSettling, Settles, settled_state}
 use Rattle.irl_crawl.specs.Turning.{MayTurn, OnlyTurns, Turns, TurnsWhole}
 use Rattle.irl_crawl.specs.Workers.{AreIdle, AreNotedIn, loaded}
 use Rattle.irl_crawl.specs.Working.{HasBegunOne, HaveWorked}
+use Rattle.irl_crawl.proofs.Batches.{Covers, covers_among, covers_none, fills_among, ground_before}
 use Rattle.irl_crawl.proofs.Fronts.{AreTaken, taken_of_front}
 use Rattle.irl_crawl.proofs.Running.{turns_wider}
 use Rattle.irl_crawl.proofs.Leading.{leads_more_failed, leads_then, leads_wide}
-use Rattle.irl_crawl.proofs.Settling.{ground_before}
-use Rattle.irl_crawl.proofs.Turning.{judges_turn, offers_turn, turns_none, whole_notes_turn, whole_offers_turn, whole_turn}
+use Rattle.irl_crawl.proofs.Turning.{judges_turn, offers_found, offers_turn, turns_none, whole_notes_turn, whole_offers_turn, whole_turn}
 use Rattle.irl_crawl.proofs.Visits.{TurnOf, notes_from}
 
 -- ---- what may be settled
@@ -106,6 +108,19 @@ begun_of images settings (Crawl ledger) state suffixes held is = sym held.1.suff
 ok_failed : {A : Type 0} (value : A) → IsErrOf {T = A} {E = Fault} (Ok value) Failed → ⊥
 ok_failed value is = cc
 
+-- by equal settings
+pub offers_by : {A : Type 0} (result : Result A Fault) (entries : List Entered) (was now : Parts) (before after : Told) (settings other : Settings) → settings ≡ other
+    → Leads (IsErrOf result Failed) (OnlyOffers settings entries) (OffersSome result settings entries) was now before after
+    → Leads (IsErrOf result Failed) (OnlyOffers other entries) (OffersSome result other entries) was now before after
+offers_by result entries was now before after settings other same leads =
+    subst (λ (s : Settings). Leads (IsErrOf result Failed) (OnlyOffers s entries) (OffersSome result s entries) was now before after) same leads
+
+pub settles_by : (result : Result ℕ Fault) (notes : List Note) (done : List Done) (was now : Parts) (before after : Told) (settings other : Settings) → settings ≡ other
+    → Leads (IsErrOf result Failed) (IsSettling settings notes done) (Settles result settings notes done) was now before after
+    → Leads (IsErrOf result Failed) (IsSettling other notes done) (Settles result other notes done) was now before after
+settles_by result notes done was now before after settings other same leads =
+    subst (λ (s : Settings). Leads (IsErrOf result Failed) (IsSettling s notes done) (Settles result s notes done) was now before after) same leads
+
 -- ---- the whole
 module _ (agent suffixes : List ℕ) (most : ℕ) (olds befores afters : List Schedule) (gives wide : Answers) (wider : Widens gives wide) (first mid : Parts) (start loaded_then : Told)
     (store : (x : State) → HoldsState start.images first x → IsCrawlStore first.urls.settings x) (suffixes_are : suffixes_in first.rest ≡ Some suffixes) where
@@ -121,15 +136,22 @@ module _ (agent suffixes : List ℕ) (most : ℕ) (olds befores afters : List Sc
   unturned : (x y : State) → y ≡ x → OnlyTurns wide agent suffixes settings most x y
   unturned x y same = subst (OnlyTurns wide agent suffixes settings most x) (sym same) (turns_none wide agent suffixes settings most x)
 
+  -- what the visits of a turn found
+  abbrev found : (x y : State) → OnlyTurns wide agent suffixes settings most x y → List Tuple
+  found x y only = flat_map (found_by suffixes y.urls) only.visits
+
   -- the pages were refused
   pub not_loaded : (fault : Fault) → Leads (IsErrOf {T = Unit {0}} {E = Fault} (Err fault) Failed) (λ x y. y ≡ x) (Loads (Err fault) settings agent olds befores) first mid start loaded_then
       → Leads (IsErrOf {T = ℕ} {E = Fault} (Err fault) Failed) May (Did (Err fault)) first mid start loaded_then
   not_loaded fault loading =
       leads_more_failed _ _ _ _ first mid start loaded_then (same_refusal fault Failed) (same_refusal fault Failed)
       (leads_wide _ _ _ May (Did (Err fault)) first mid start loaded_then loading (λ x y held front same known. unturned x y same)
-      (λ x y held later front loads. record {
-        turns = λ known. (unturned x y loads.same, tt);
-        ground = ground_before (Err fault) (Err fault) settings x x y (λ other. same_refusal fault other) (state_same x) loads.ground;
+      (λ x y held later front loads known.
+      let only = unturned x y loads.same in
+      record {
+        only = only;
+        whole = tt;
+        ground = ground_before (Err fault) (Err fault) settings [] (found x y only) x x y (λ other. same_refusal fault other) (state_same x) (λ n within. omega arith) loads.ground;
       }))
 
   -- they are loaded,
@@ -162,20 +184,25 @@ module _ (agent suffixes : List ℕ) (most : ℕ) (olds befores afters : List Sc
           → Leads (IsErrOf {T = ℕ} {E = Fault} (Err fault) Failed) May (Did (Err fault)) first now start fetched_then
       not_fetched fault fetches =
           leads_more_failed _ _ _ _ first now start fetched_then (same_refusal fault Failed) (same_refusal fault Failed)
-          (leads_then _ _ _ _ _ _ May (Did (Err fault)) first mid now start loaded_then fetched_then loading (ok_failed value) fetches.leads
-          (λ x y z held later front further loads offers. record {
-            turns = λ known. (turned x y z held front further loads loads.same offers.only known, tt);
-            ground = ground_before (Err fault) (Err fault) settings x y z (λ other. same_refusal fault other) front
-                (subst (λ (s : Settings). HasGround {A = WorkLog} (Err fault) s y z) same_settings offers.ground);
+          (leads_then _ _ _ _ _ _ May (Did (Err fault)) first mid now start loaded_then fetched_then loading (ok_failed value)
+          (offers_by {A = WorkLog} (Err fault) (entries_of fetches.handled fetches.part) mid now loaded_then fetched_then mid.urls.settings settings same_settings fetches.leads)
+          (λ x y z held later front further loads offers known.
+          let turn = turned x y z held front further loads loads.same offers.only known in
+          record {
+            only = turn.0;
+            whole = tt;
+            ground = ground_before (Err fault) (Err fault) settings (offers_in (entries_of fetches.handled fetches.part)) (found x z turn.0) x y z (λ other. same_refusal fault other) front
+                (covers_among settings (offers_in (entries_of fetches.handled fetches.part)) (found x z turn.0) x y (ap (λ (s : State). s.urls.lists) loads.same) turn.1) offers.ground;
           })
-          (λ x y z held later front further loads only known. turned x y z held front further loads loads.same only known))
+          (λ x y z held later front further loads only known. (turned x y z held front further loads loads.same only known).0))
         where
-          turned : (x y z : State) → HoldsState start.images first x → IsFrontState x y → IsFrontState y z → Loaded x y → y ≡ x → OnlyOffers (entries_of fetches.handled fetches.part) y z
-              → AreNotedIn agent x.events olds → OnlyTurns wide agent suffixes settings most x z
+          turned : (x y z : State) → HoldsState start.images first x → IsFrontState x y → IsFrontState y z → Loaded x y → y ≡ x → OnlyOffers settings (entries_of fetches.handled fetches.part) y z
+              → AreNotedIn agent x.events olds → (turn : OnlyTurns wide agent suffixes settings most x z) × IsAmong (offers_in (entries_of fetches.handled fetches.part)) (found x z turn)
           turned x y z held front further loads same only known =
-              turns_wider gives wide wider agent suffixes settings most x z
-              (offers_turn (turn_of x y held loads known fetches.handled fetches.noted fetches.left fetches.part fetches.worked fetches.begun) z (state_both x y z front further)
-              (subst (λ (s : State). OnlyOffers (entries_of fetches.handled fetches.part) s z) same only))
+              let it = turn_of x y held loads known fetches.handled fetches.noted fetches.left fetches.part fetches.worked fetches.begun in
+              let both = state_both x y z front further in
+              let offered = subst (λ (s : State). OnlyOffers settings (entries_of fetches.handled fetches.part) s z) same only in
+              (turns_wider gives wide wider agent suffixes settings most x z (offers_turn it z both offered), offers_found it z both offered)
 
       -- or all is fetched, and settled or not
       module _ (log : WorkLog) (fetches : Fetches (Ok log) gives agent suffixes befores afters mid now loaded_then fetched_then) where
@@ -198,22 +225,23 @@ module _ (agent suffixes : List ℕ) (most : ℕ) (olds befores afters : List Sc
         record HasAll (x b : State) : Type 0 where
           known : AreNotedIn agent x.events olds → AreNotedIn agent x.events befores
           works : Loaded x x
-          only : OnlyOffers entries x b
+          only : OnlyOffers settings entries x b
           offered : HasOffers entries x b
 
         all_fetched : Leads (IsErrOf {T = WorkLog} {E = Fault} (Ok log) Failed) May HasAll first now start fetched_then
         all_fetched =
-            leads_then _ _ _ _ _ _ May HasAll first mid now start loaded_then fetched_then loading (ok_failed value) fetches.leads
+            leads_then _ _ _ _ _ _ May HasAll first mid now start loaded_then fetched_then loading (ok_failed value)
+            (offers_by {A = WorkLog} (Ok log) (entries_of handled fetches.part) mid now loaded_then fetched_then mid.urls.settings settings same_settings fetches.leads)
             (λ x y b held later front further loads offers. record {
               known = loads.known;
               works = subst (Loaded x) loads.same loads;
-              only = subst (λ (s : State). OnlyOffers entries s b) loads.same (subst (λ (es : List Entered). OnlyOffers es y b) all_entries offers.only);
+              only = subst (λ (s : State). OnlyOffers settings entries s b) loads.same (subst (λ (es : List Entered). OnlyOffers settings es y b) all_entries offers.only);
               offered = subst (λ (s : State). HasOffers entries s b) loads.same (subst (λ (es : List Entered). HasOffers es y b) all_entries offers.all);
             })
             (λ x y b held later front further loads only known.
             turns_wider gives wide wider agent suffixes settings most x b
             (whole_offers_turn (turn_of x y held loads known handled noted [] [] worked (inl refl)) b (state_both x y b front further)
-            (subst (λ (s : State). OnlyOffers entries s b) loads.same (subst (λ (es : List Entered). OnlyOffers es y b) all_entries only))))
+            (subst (λ (s : State). OnlyOffers settings entries s b) loads.same (subst (λ (es : List Entered). OnlyOffers settings es y b) all_entries only))))
 
         it : (x b : State) → HoldsState start.images first x → HasAll x b → AreNotedIn agent x.events olds → TurnOf gives agent suffixes settings most x befores handled noted [] []
         it x b held all known = turn_of x x held all.works known handled noted [] [] worked (inl refl)
@@ -224,10 +252,10 @@ module _ (agent suffixes : List ℕ) (most : ℕ) (olds befores afters : List Sc
         abbrev came : List Done
         came = map done_of handled
 
-        may_settled : (x b y : State) → HoldsState start.images first x → IsFrontState x b → IsFrontState b y → HasAll x b → IsSettling kept came b y → May x y
+        may_settled : (x b y : State) → HoldsState start.images first x → IsFrontState x b → IsFrontState b y → HasAll x b → IsSettling settings kept came b y → May x y
         may_settled x b y held front further all (inl same) known =
             turns_wider gives wide wider agent suffixes settings most x y
-            (whole_offers_turn (it x b held all known) y (state_both x b y front further) (subst (OnlyOffers entries x) (sym same) all.only))
+            (whole_offers_turn (it x b held all known) y (state_both x b y front further) (subst (OnlyOffers settings entries x) (sym same) all.only))
         may_settled x b y held front further all (inr (inl noted_are)) known =
             turns_wider gives wide wider agent suffixes settings most x y (whole_notes_turn (it x b held all known) b y (state_both x b y front further) all.only noted_are)
         may_settled x b y held front further all (inr (inr judges)) known =
@@ -236,7 +264,7 @@ module _ (agent suffixes : List ℕ) (most : ℕ) (olds befores afters : List Sc
 
         -- all of it, by the answer
         did_settled : (result : Result ℕ Fault) (x b y : State) → HoldsState start.images first x → IsFrontState x b → IsFrontState b y → HasAll x b
-            → IsSettling kept came b y → OnOk result (OnlyJudges (settled_state kept came b) y × IsJudged settings y) → IfOk result (λ count. count ≡ length handled)
+            → IsSettling settings kept came b y → OnOk result (OnlyJudges settings (settled_state kept came b) y × IsJudged settings y) → IfOk result (λ count. count ≡ length handled)
             → AreNotedIn agent x.events olds → (only : OnlyTurns wide agent suffixes settings most x y) × IfOk result (λ count. TurnsWhole count agent suffixes settings only.visits afters x y)
         did_settled (Ok count) x b y held front further all is whole number known =
             let judged =
@@ -248,35 +276,54 @@ module _ (agent suffixes : List ℕ) (most : ℕ) (olds befores afters : List Sc
         did_settled (Err fault) x b y held front further all is whole number known = (may_settled x b y held front further all is known, tt)
 
         pub settled_after : (result : Result ℕ Fault) (last : Parts) (settled_then : Told)
-            → Leads (IsErrOf result Failed) (IsSettling log.notes.items log.done.items) (Settles result now.urls.settings log.notes.items log.done.items) now last fetched_then settled_then
+            → Leads (IsErrOf result Failed) (IsSettling now.urls.settings log.notes.items log.done.items) (Settles result now.urls.settings log.notes.items log.done.items) now last fetched_then
+            settled_then
             → IfOk result (λ count. count ≡ length log.done.items) → Leads (IsErrOf result Failed) May (Did result) first last start settled_then
         settled_after result last settled_then settling number =
             let both : now.urls.settings ≡ settings = fetches.leads.settings ∙ same_settings in
             let count : IfOk result (λ count. count ≡ length handled) = counted result number in
-            leads_then _ _ _ _ _ _ May (Did result) first now last start fetched_then settled_then all_fetched (ok_failed log) settling
-            (λ x b y held later front further all settles. record {
-              turns = did_settled result x b y held front further all (is_settling b y settles.is) (judged result b y both settles.all) count;
-              ground = ground_before result result settings x b y (λ fault answered. answered) front (subst (λ (s : Settings). HasGround result s b y) both settles.ground);
+            leads_then _ _ _ _ _ _ May (Did result) first now last start fetched_then settled_then all_fetched (ok_failed log)
+            (settles_by result log.notes.items log.done.items now last fetched_then settled_then now.urls.settings settings both settling)
+            (λ x b y held later front further all settles known.
+            let is = is_settling b y settles.is in
+            let turn = did_settled result x b y held front further all is (judged result b y settles.all) count known in
+            record {
+              only = turn.0;
+              whole = turn.1;
+              ground = ground_before result result settings [] (found x y turn.0) x b y (λ fault answered. answered) front (covered x b y later both all is turn.0) settles.ground;
             })
             (λ x b y held later front further all is. may_settled x b y held front further all (is_settling b y is))
           where
-            is_settling : (b y : State) → IsSettling log.notes.items log.done.items b y → IsSettling kept came b y
+            is_settling : (b y : State) → IsSettling settings log.notes.items log.done.items b y → IsSettling settings kept came b y
             is_settling b y is =
-                subst (λ (ns : List Note). IsSettling ns came b y) fetches.whole.notes (subst (λ (ds : List Done). IsSettling log.notes.items ds b y) fetches.whole.done is)
+                subst (λ (ns : List Note). IsSettling settings ns came b y) fetches.whole.notes (subst (λ (ds : List Done). IsSettling settings log.notes.items ds b y) fetches.whole.done is)
 
             counted : (answer : Result ℕ Fault) → IfOk answer (λ count. count ≡ length log.done.items) → IfOk answer (λ count. count ≡ length handled)
             counted (Ok count) number = number ∙ ap length fetches.whole.done ∙ length-map handled done_of
             counted (Err fault) number = tt
 
-            judged : (answer : Result ℕ Fault) (b y : State) → now.urls.settings ≡ settings
-                → OnOk answer (OnlyJudges (settled_state log.notes.items log.done.items b) y × IsJudged now.urls.settings y)
-                → OnOk answer (OnlyJudges (settled_state kept came b) y × IsJudged settings y)
-            judged (Ok count) b y both all = (
-              subst (λ (ns : List Note). OnlyJudges (settled_state ns came b) y) fetches.whole.notes
-                  (subst (λ (ds : List Done). OnlyJudges (settled_state log.notes.items ds b) y) fetches.whole.done all.0),
-              subst (λ (s : Settings). IsJudged s y) both all.1,
+            judged : (answer : Result ℕ Fault) (b y : State) → OnOk answer (OnlyJudges settings (settled_state log.notes.items log.done.items b) y × IsJudged settings y)
+                → OnOk answer (OnlyJudges settings (settled_state kept came b) y × IsJudged settings y)
+            judged (Ok count) b y all = (
+              subst (λ (ns : List Note). OnlyJudges settings (settled_state ns came b) y) fetches.whole.notes
+                  (subst (λ (ds : List Done). OnlyJudges settings (settled_state log.notes.items ds b) y) fetches.whole.done all.0),
+              all.1,
             )
-            judged (Err fault) b y both all = tt
+            judged (Err fault) b y all = tt
+
+            settled_lists : (b y : State) → IsSettling settings kept came b y → y.urls.lists ≡ b.urls.lists
+            settled_lists b y (inl same) = ap (λ (s : State). s.urls.lists) same
+            settled_lists b y (inr (inl noted_are)) = ap (λ (s : State). s.urls.lists) noted_are
+            settled_lists b y (inr (inr judges)) = judges.lists
+
+            -- the lists that were settled have no more than what the visits found
+            covered : (x b y : State) → HoldsState fetched_then.images now b → now.urls.settings ≡ settings → HasAll x b → IsSettling settings kept came b y
+                → (only : OnlyTurns wide agent suffixes settings most x y) → Covers settings [] (found x y only) x b
+            covered x b y later both all is only =
+                let book = later.urls.urls_hold.book_is in
+                covers_none settings (found x y only) x b
+                (fills_among settings (found x y only) x b book.is_book (book.buckets ∙ ap (λ (p : Settings). p.buckets) both) all.only.grows.urls.front
+                (subst (λ (lists : List (List Tuple)). IsAmong (added_to x.urls.lists lists) (found x y only)) (settled_lists b y is) only.crawls.offers))
 
 -- ---- by equal names of the same
 pub fetches_for : (result : Result WorkLog Fault) (gives : Answers) (agent agent' suffixes suffixes' : List ℕ) (befores afters : List Schedule) (was now : Parts) (before after : Told) → agent ≡ agent'
@@ -292,11 +339,11 @@ idle_after log gives count agent suffixes befores afters was now before after ma
     record { count_is = fetches.count ∙ many; agents = fetches.agents; items = fetches.whole.items }
 
 pub settles_for : (result : Result ℕ Fault) (settings : Settings) (notes notes' : List Note) (done done' : List Done) (was now : Parts) (before after : Told) → notes ≡ notes' → done ≡ done'
-    → Leads (IsErrOf result Failed) (IsSettling notes done) (Settles result settings notes done) was now before after
-    → Leads (IsErrOf result Failed) (IsSettling notes' done') (Settles result settings notes' done') was now before after
+    → Leads (IsErrOf result Failed) (IsSettling settings notes done) (Settles result settings notes done) was now before after
+    → Leads (IsErrOf result Failed) (IsSettling settings notes' done') (Settles result settings notes' done') was now before after
 settles_for result settings notes notes' done done' was now before after same_notes same_done leads =
-    subst (λ (ns : List Note). Leads (IsErrOf result Failed) (IsSettling ns done') (Settles result settings ns done') was now before after) same_notes
-    (subst (λ (ds : List Done). Leads (IsErrOf result Failed) (IsSettling notes ds) (Settles result settings notes ds) was now before after) same_done leads)
+    subst (λ (ns : List Note). Leads (IsErrOf result Failed) (IsSettling settings ns done') (Settles result settings ns done') was now before after) same_notes
+    (subst (λ (ds : List Done). Leads (IsErrOf result Failed) (IsSettling settings notes ds) (Settles result settings notes ds) was now before after) same_done leads)
 
 -- ---- what a turn hands to its settle
 module _ (most : ℕ) (gives : Answers) (agent suffixes : List ℕ) (befores afters : List Schedule) (was mid now : Parts) (before after : Told) (log : WorkLog)

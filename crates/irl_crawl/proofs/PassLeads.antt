@@ -38,7 +38,7 @@ module _ {S : Type 0} (tells : S → Told) (result : Result ℕ Fault) (was now 
   abbrev Either : State → State → Type 0
   Either x y = IsEither x (with_pass settings x) y
 
-  made : (x : State) (answer : Result ℕ Fault) → ((y : State) → HasGround answer settings x y) → (IsErrOf answer Failed → ⊥)
+  made : (x : State) (answer : Result ℕ Fault) → ((y : State) → HasGround answer settings [] x y) → (IsErrOf answer Failed → ⊥)
       → LeadsOrStays answer x (with_pass settings x) now (tells before) (tells after)
       → (y : State) × Passes answer settings x y × LeadsTo x y now (tells before) (tells after)
   made x (Ok n) ground still leads = (with_pass settings x, record { done = refl; kept = tt; ground = ground (with_pass settings x) }, leads.done)

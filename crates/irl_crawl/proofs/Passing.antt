@@ -1,6 +1,6 @@
 -- A pass is a turn that visits nothing.
 use Rattle.std.proofs.Common.{◌≡◌, ◌∙◌, ℕ, ◌≤◌, List, [], ◌∷◌, ◌++◌, length, Result, Ok, Err, IfOk, OnOk, OnErr, refl, sym, ap, subst, arith, inl, inr}
-use Rattle.std.specs.List.{Contains}
+use Rattle.std.specs.List.{Contains, flat_map}
 use Rattle.std.specs.List.Sorted.{IsPermutation}
 use Rattle.std.proofs.lemmas.List.Sorted.{IsPermutation-refl}
 use Rattle.irl_base.specs.declared.fault.Fault.{Fault}
@@ -13,15 +13,16 @@ use Rattle.irl_polite.specs.Schedule.{Schedule}
 use Rattle.irl_reach.proofs.Members.{flat_left}
 use Rattle.irl_reach.proofs.Turns.{added_same, crawls_event}
 use Rattle.irl_reach.specs.Along.{notes_of, settled_in}
+use Rattle.irl_reach.specs.Crawls.{found_by}
 use Rattle.irl_record.specs.Widening.{Answers}
 use Rattle.irl_yard.specs.Adding.{with_event}
 use Rattle.irl_yard.specs.Leading.{IsEither}
 use Rattle.irl_yard.specs.Passing.{with_pass}
+use Rattle.irl_crawl.proofs.Batches.{ground_any, grown_alike, grown_more}
 use Rattle.irl_crawl.proofs.Turning.{since_are, turns_none}
 use Rattle.irl_crawl.specs.Judging.{IsJudged}
-use Rattle.irl_crawl.specs.Leading.{HasGround}
 use Rattle.irl_crawl.specs.Running.{Passes}
-use Rattle.irl_crawl.specs.Turning.{AreBatches, OnlyTurns, Turns, TurnsWhole, events_since, input_of}
+use Rattle.irl_crawl.specs.Turning.{AreBatches, OnlyTurns, Turns, TurnsWhole, events_since, input_of, turns_in}
 use Rattle.irl_crawl.specs.Workers.{AreNotedIn}
 
 module _ (gives : Answers) (agent suffixes : List ℕ) (settings : Settings) (most : ℕ) (x : State) (judged : ℕ) (places : List Place) where
@@ -38,6 +39,7 @@ module _ (gives : Answers) (agent suffixes : List ℕ) (settings : Settings) (mo
     front = tt;
     batch = subst (AreBatches most) (sym since) (omega arith, tt);
     settled = subst (λ (hs : List Happened). length (settled_in hs) ≤ most) (sym since) (omega arith);
+    grows = grown_more settings 0 (turns_in (events_since x passed)) x passed (omega arith) (grown_alike settings x passed refl refl);
   }
 
   still_noted : (fronts : List Schedule) → AreNotedIn agent x.events fronts → AreNotedIn agent passed.events fronts
@@ -70,11 +72,12 @@ module _ (gives : Answers) (agent suffixes : List ℕ) (settings : Settings) (mo
   either_turns (inr pass) = subst (OnlyTurns gives agent suffixes settings most x) (sym pass) (pass_turns gives agent suffixes settings most x _ _)
 
   pub pass_step : (result : Result ℕ Fault) → IfOk result (λ count. count ≡ 0) → Passes result settings x y → IsJudged settings x → Turns result gives agent suffixes settings most fronts fronts x y
-  pass_step (Ok count) none passes is = record {
-    turns = λ noted.
-        subst (λ (z : State). (only : OnlyTurns gives agent suffixes settings most x z) × TurnsWhole count agent suffixes settings only.visits fronts x z) (sym passes.done)
-        (subst (λ n. (only : OnlyTurns gives agent suffixes settings most x (with_pass settings x)) × TurnsWhole n agent suffixes settings only.visits fronts x (with_pass settings x)) (sym none)
-        (pass_turns gives agent suffixes settings most x _ _, pass_whole gives agent suffixes settings most x _ _ fronts is noted));
-    ground = passes.ground;
-  }
-  pass_step (Err fault) none passes is = record { turns = λ noted. (either_turns (inl passes.kept), tt); ground = passes.ground }
+  pass_step (Ok count) none passes is noted =
+      let turn : (only : OnlyTurns gives agent suffixes settings most x y) × TurnsWhole count agent suffixes settings only.visits fronts x y =
+      subst (λ (z : State). (only : OnlyTurns gives agent suffixes settings most x z) × TurnsWhole count agent suffixes settings only.visits fronts x z) (sym passes.done)
+      (subst (λ n. (only : OnlyTurns gives agent suffixes settings most x (with_pass settings x)) × TurnsWhole n agent suffixes settings only.visits fronts x (with_pass settings x)) (sym none)
+      (pass_turns gives agent suffixes settings most x _ _, pass_whole gives agent suffixes settings most x _ _ fronts is noted)) in
+      record { only = turn.0; whole = turn.1; ground = ground_any (Ok count) settings (flat_map (found_by suffixes y.urls) turn.0.visits) x y passes.ground }
+  pass_step (Err fault) none passes is noted =
+      let only = either_turns (inl passes.kept) in
+      record { only = only; whole = tt; ground = ground_any (Err fault) settings (flat_map (found_by suffixes y.urls) only.visits) x y passes.ground }

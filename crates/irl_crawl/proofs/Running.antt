@@ -1,6 +1,6 @@
 -- What turns and passes make of a state, one behind the other, is one crawl.
 use Rattle.std.proofs.Common.{◌≡◌, ◌≢◌, ◌∙◌, ℕ, ◌+◌, ◌-◌, ◌≤◌, List, [], ◌∷◌, ◌++◌, map, length, drop, Result, Ok, Err, append_assoc, refl, sym, ap, subst, arith, inl, inr}
-use Rattle.std.specs.Prelude.{AllPairs}
+use Rattle.std.specs.Prelude.{AllPairs, flat_map}
 use Rattle.std.specs.List.{AllByRecursion, Contains}
 use Rattle.std.specs.List.Sorted.{IsPermutation}
 use Rattle.std.proofs.lemmas.Grind.{flat_map-append}
@@ -11,16 +11,18 @@ use Rattle.irl_events.specs.Events.{Event, Begin, Pairs, Pass, Robots, Settle, H
 use Rattle.irl_events.specs.State.{State, IsFrontState}
 use Rattle.irl_offer.specs.declared.note.Note.{Note}
 use Rattle.irl_offer.specs.declared.settings.Settings.{Settings}
+use Rattle.irl_offer.specs.Tuple.{Tuple}
 use Rattle.irl_polite.specs.Schedule.{Schedule}
-use Rattle.irl_reach.proofs.Growing.{drop_front}
-use Rattle.irl_reach.proofs.Joining.{crawls_join, leaves_join}
+use Rattle.irl_reach.proofs.Growing.{drop_front, grows}
+use Rattle.irl_reach.proofs.Joining.{all_found_later, crawls_join, leaves_join}
 use Rattle.irl_reach.proofs.Members.{all_from, all_member, no_member}
 use Rattle.irl_reach.proofs.Settled.{front_unsettled}
 use Rattle.irl_reach.proofs.Turns.{added_same, crawls_behind, crawls_quiet, crawls_unvisited, crawls_wider, leaves_settled, once_more}
 use Rattle.irl_reach.specs.Along.{notes_in, outcomes_of, settled_in}
-use Rattle.irl_reach.specs.Crawls.{Crawls, IsCrawlStore, IsStore, LeavesNone, Visit, added_to}
+use Rattle.irl_reach.specs.Crawls.{Crawls, IsCrawlStore, IsStore, LeavesNone, Visit, added_to, found_by}
 use Rattle.irl_record.specs.Widening.{Answers, Widens}
 use Rattle.irl_yard.specs.Passing.{come}
+use Rattle.irl_crawl.proofs.Batches.{Covers, Fills, covers_append, fills_among, grown_both, grown_more, grown_same, turns_both}
 use Rattle.irl_crawl.proofs.Turning.{since_are}
 use Rattle.irl_crawl.specs.Crawling.{CrawlsTo, CrawlsWhole, NoneWaits, OnlyCrawls, result_of}
 use Rattle.irl_crawl.specs.declared.plan.Ended.{Ended}
@@ -28,7 +30,7 @@ use Rattle.irl_crawl.specs.declared.plan.Ended.TheVariants.{Done, Fault, Limit}
 use Rattle.irl_crawl.specs.Judging.{IsJudged, IsOfPairs}
 use Rattle.irl_crawl.specs.Leading.{HasGround}
 use Rattle.irl_crawl.specs.Offering.{OnlySeeds}
-use Rattle.irl_crawl.specs.Turning.{AreBatches, OnlyTurns, TurnsWhole, events_since, input_of}
+use Rattle.irl_crawl.specs.Turning.{AreBatches, OnlyTurns, TurnsWhole, events_since, input_of, turns_in}
 use Rattle.irl_crawl.specs.Workers.{AreNotedIn}
 
 -- ---- events
@@ -61,27 +63,28 @@ module _ (gives : Answers) (agent suffixes : List ℕ) (seeds : List (List ℕ))
 
 -- ---- how far a run came from a state
 pub record SoFar (gives : Answers) (agent suffixes : List ℕ) (settings : Settings) (pages batch left : ℕ) (fronts : List Schedule) (x y : State) : Type 0 where
-  pub only : OnlyCrawls gives agent suffixes [] pages batch x y
+  pub only : OnlyCrawls gives agent suffixes [] settings 0 pages batch x y
   pub whole : CrawlsWhole suffixes [] settings only.visits x y
   pub known : AreNotedIn agent y.events fronts
   pub count : length (settled_in (events_since x y)) + left ≡ pages
 
 -- nothing was done
-pub crawls_none : (gives : Answers) (agent suffixes : List ℕ) (pages batch : ℕ) (x : State) → OnlyCrawls gives agent suffixes [] pages batch x x
-crawls_none gives agent suffixes pages batch x =
+pub crawls_none : (gives : Answers) (agent suffixes : List ℕ) (settings : Settings) (pages batch : ℕ) (x : State) → OnlyCrawls gives agent suffixes [] settings 0 pages batch x x
+crawls_none gives agent suffixes settings pages batch x =
     let none = since_none x in
     record {
       visits = [];
       crawls = crawls_quiet (input_of suffixes []) gives agent [] x x refl refl;
       batches = subst (AreBatches batch) (sym none) tt;
       pages_are = subst (λ (hs : List Happened). length (settled_in hs) ≤ pages) (sym none) (omega arith);
+      grows = grown_more settings 0 (0 + turns_in (events_since x x)) x x (omega arith) (grown_same settings x);
     }
 
 pub far_none : (gives : Answers) (agent suffixes : List ℕ) (settings : Settings) (pages batch : ℕ) (fronts : List Schedule) (x : State) → IsJudged settings x → AreNotedIn agent x.events fronts
     → SoFar gives agent suffixes settings pages batch pages fronts x x
 unfolding crawls_none
 far_none gives agent suffixes settings pages batch fronts x judged known = record {
-  only = crawls_none gives agent suffixes pages batch x;
+  only = crawls_none gives agent suffixes settings pages batch x;
   whole = record {
     leaves = record {
       offers = subst (λ (l : List _). IsPermutation l []) (sym (added_same x.urls.lists)) (IsPermutation-refl []);
@@ -94,13 +97,14 @@ far_none gives agent suffixes settings pages batch fronts x judged known = recor
 }
 
 -- more answers
-abbrev pub only_wider : (old new : Answers) (agent suffixes : List ℕ) (seeds : List (List ℕ)) (pages batch : ℕ) (x y : State) → Widens old new → OnlyCrawls old agent suffixes seeds pages batch x y
-    → OnlyCrawls new agent suffixes seeds pages batch x y
-only_wider old new agent suffixes seeds pages batch x y wider only = record {
+abbrev pub only_wider : (old new : Answers) (agent suffixes : List ℕ) (seeds : List (List ℕ)) (settings : Settings) (spare pages batch : ℕ) (x y : State) → Widens old new
+    → OnlyCrawls old agent suffixes seeds settings spare pages batch x y → OnlyCrawls new agent suffixes seeds settings spare pages batch x y
+only_wider old new agent suffixes seeds settings spare pages batch x y wider only = record {
   visits = only.visits;
   crawls = crawls_wider old new wider (input_of suffixes seeds) agent [] only.visits x y only.crawls;
   batches = only.batches;
   pages_are = only.pages_are;
+  grows = only.grows;
 }
 
 abbrev pub turns_wider : (old new : Answers) → Widens old new → (agent suffixes : List ℕ) (settings : Settings) (most : ℕ) (x y : State) → OnlyTurns old agent suffixes settings most x y
@@ -111,12 +115,13 @@ turns_wider old new wider agent suffixes settings most x y only = record {
   front = only.front;
   batch = only.batch;
   settled = only.settled;
+  grows = only.grows;
 }
 
 pub far_wider : (old new : Answers) (agent suffixes : List ℕ) (settings : Settings) (pages batch left : ℕ) (fronts : List Schedule) (x y : State) → Widens old new
     → SoFar old agent suffixes settings pages batch left fronts x y → SoFar new agent suffixes settings pages batch left fronts x y
 far_wider old new agent suffixes settings pages batch left fronts x y wider far = record {
-  only = only_wider old new agent suffixes [] pages batch x y wider far.only;
+  only = only_wider old new agent suffixes [] settings 0 pages batch x y wider far.only;
   whole = far.whole;
   known = far.known;
   count = far.count;
@@ -143,13 +148,31 @@ module _ (gives : Answers) (agent suffixes : List ℕ) (settings : Settings) (pa
   count_both : length (settled_in (events_since x z)) ≡ length (settled_in (events_since x y)) + length (settled_in (events_since y z))
   count_both = ap (λ (hs : List Happened). length (settled_in hs)) since ∙ settled_both (events_since x y) (events_since y z)
 
-  pub turn_more : OnlyCrawls gives agent suffixes [] pages batch x z
+  pub turn_more : OnlyCrawls gives agent suffixes [] settings 0 pages batch x z
   turn_more = record {
     visits = far.only.visits ++ turn.visits;
     crawls = both_crawl gives agent suffixes [] far.only.visits turn.visits x y z far.only.crawls turn.crawls store stood one two once;
     batches = subst (AreBatches batch) (sym since) (batches_both batch most (events_since x y) (events_since y z) small far.only.batches turn.batch);
     pages_are = let few = turn.settled in let many = far.count in let both = count_both in omega (arith, few, many, both, within);
+    grows =
+        let turns = ap turns_in since ∙ turns_both (events_since x y) (events_since y z) in
+        let first = 0 + turns_in (events_since x y) in
+        let second = turns_in (events_since y z) in
+        grown_more settings (first + second) (0 + turns_in (events_since x z)) x z (omega (arith, turns)) (grown_both settings first second x y z far.only.grows turn.grows);
   }
+
+  -- what was handed in up to the turn and in it is what all visits found
+  pub more_covers : Covers settings (flat_map (found_by suffixes z.urls) turn.visits) (flat_map (found_by suffixes z.urls) turn_more.visits) x y
+  unfolding turn_more
+  more_covers =
+      let found : List Visit → List Tuple = flat_map (found_by suffixes z.urls) in
+      let same : flat_map (found_by suffixes y.urls) far.only.visits ≡ found far.only.visits =
+      sym (all_found_later suffixes gives agent y z (grows y z stood two) _ far.only.visits far.only.crawls.visited) in
+      let fills : Fills settings (found far.only.visits) x y =
+      subst (λ (l : List Tuple). Fills settings l x y) same
+      (fills_among settings (flat_map (found_by suffixes y.urls) far.only.visits) x y made.book made.buckets far.only.grows.urls.front far.only.crawls.offers) in
+      subst (λ (l : List Tuple). Covers settings (found turn.visits) l x y) (sym (flat_map-append (found_by suffixes z.urls) far.only.visits turn.visits))
+      (covers_append settings (found far.only.visits) (found turn.visits) x y fills)
 
   -- all that was loaded is settled
   pub far_more : (count : ℕ) (afters : List Schedule) → TurnsWhole count agent suffixes settings turn.visits afters y z → SoFar gives agent suffixes settings pages batch (left - count) afters x z
@@ -193,8 +216,9 @@ pairs_begin : (event : Event) (suffixes : List ℕ) → IsOfPairs event → even
 pairs_begin event suffixes of is = subst IsOfPairs is of
 
 -- the seeds of a crawl that visits nothing
-pub seeds_crawl : (gives : Answers) (agent suffixes : List ℕ) (seeds : List (List ℕ)) (pages batch : ℕ) (x y : State) → OnlySeeds seeds x y → OnlyCrawls gives agent suffixes seeds pages batch x y
-seeds_crawl gives agent suffixes seeds pages batch x y only =
+pub seeds_crawl : (gives : Answers) (agent suffixes : List ℕ) (seeds : List (List ℕ)) (settings : Settings) (pages batch : ℕ) (x y : State) → OnlySeeds settings seeds x y
+    → OnlyCrawls gives agent suffixes seeds settings 1 pages batch x y
+seeds_crawl gives agent suffixes seeds settings pages batch x y only =
     let since = since_are x y only.more only.events in
     let none = pairs_unsettled only.more only.pairs in
     record {
@@ -204,13 +228,14 @@ seeds_crawl gives agent suffixes seeds pages batch x y only =
           (λ note there. absurd (no_member note (subst (λ (notes : List Note). Contains notes note) (pairs_unnoted only.more only.pairs) there))) none;
       batches = subst (AreBatches batch) (sym since) (pairs_batches batch only.more only.pairs);
       pages_are = subst (λ (hs : List Happened). length (settled_in hs) ≤ pages) (sym since) (subst (λ (ds : List _). length ds ≤ pages) (sym none) (omega arith));
+      grows = grown_more settings 1 (1 + turns_in (events_since x y)) x y (omega arith) only.grows;
     }
 
 -- a crawl behind them
 module _ (gives : Answers) (agent suffixes : List ℕ) (seeds : List (List ℕ)) (settings : Settings) (pages batch : ℕ) (x y z : State) (store : IsStore x) (made : IsStore y) (one : IsFrontState x y)
-    (two : IsFrontState y z) (seeded : OnlySeeds seeds x y) (run : OnlyCrawls gives agent suffixes [] pages batch y z) where
-  abbrev first : OnlyCrawls gives agent suffixes seeds pages batch x y
-  first = seeds_crawl gives agent suffixes seeds pages batch x y seeded
+    (two : IsFrontState y z) (seeded : OnlySeeds settings seeds x y) (run : OnlyCrawls gives agent suffixes [] settings 0 pages batch y z) where
+  abbrev first : OnlyCrawls gives agent suffixes seeds settings 1 pages batch x y
+  first = seeds_crawl gives agent suffixes seeds settings pages batch x y seeded
 
   since_seeds : events_since x z ≡ events_since x y ++ events_since y z
   unfolding seeds_crawl
@@ -223,13 +248,17 @@ module _ (gives : Answers) (agent suffixes : List ℕ) (seeds : List (List ℕ))
       let both = ap (λ (hs : List Happened). length (settled_in hs)) since_seeds ∙ settled_both (events_since x y) (events_since y z) in
       omega (arith, none, both)
 
-  pub seeds_then : OnlyCrawls gives agent suffixes seeds pages batch x z
+  pub seeds_then : OnlyCrawls gives agent suffixes seeds settings 1 pages batch x z
   unfolding seeds_crawl
   seeds_then = record {
     visits = run.visits;
     crawls = both_crawl gives agent suffixes seeds [] run.visits x y z first.crawls run.crawls store made one two run.crawls.once;
     batches = subst (AreBatches batch) (sym since_seeds) (batches_both batch batch (events_since x y) (events_since y z) (omega arith) first.batches run.batches);
     pages_are = let most = run.pages_are in let same = seeds_count in omega (arith, most, same);
+    grows =
+        let turns = ap turns_in since_seeds ∙ turns_both (events_since x y) (events_since y z) in
+        let second = 0 + turns_in (events_since y z) in
+        grown_more settings (1 + second) (1 + turns_in (events_since x z)) x z (omega (arith, turns)) (grown_both settings 1 second x y z seeded.grows run.grows);
   }
 
   -- and nothing is left over
@@ -243,8 +272,10 @@ module _ (gives : Answers) (agent suffixes : List ℕ) (seeds : List (List ℕ))
 
 -- and by its answer
 pub seeds_to : (ended : Ended) (gives : Answers) (agent suffixes : List ℕ) (seeds : List (List ℕ)) (settings : Settings) (pages batch : ℕ) (x y z : State) → IsStore x → IsStore y → IsFrontState x y
-    → IsFrontState y z → OnlySeeds seeds x y → CrawlsTo ended gives agent suffixes [] settings pages batch y z → IsPermutation (added_to x.urls.lists y.urls.lists) (map (offer_from 0) seeds)
-    → HasGround (result_of ended) settings x z → CrawlsTo ended gives agent suffixes seeds settings pages batch x z
+    → IsFrontState y z → OnlySeeds settings seeds x y → (to : CrawlsTo ended gives agent suffixes [] settings 0 pages batch y z)
+    → IsPermutation (added_to x.urls.lists y.urls.lists) (map (offer_from 0) seeds)
+    → HasGround (result_of ended) settings (map (offer_from 0) seeds ++ flat_map (found_by suffixes z.urls) to.only.visits) x z
+    → CrawlsTo ended gives agent suffixes seeds settings 1 pages batch x z
 unfolding seeds_then
 seeds_to ended gives agent suffixes seeds settings pages batch x y z store made one two seeded to all ground = record {
   only = seeds_then gives agent suffixes seeds settings pages batch x y z store made one two seeded to.only;

@@ -1,7 +1,8 @@
 -- What keeping notes, settling outcomes and judging make of the states that an open store held, one behind the other.
-use Rattle.std.proofs.Common.{◌≡◌, ◌∙◌, inl, inr, ℕ, true, List, [], Option, None, Some, Result, Ok, Err, OnOk, OnErr, IsErrOf, refl, sym, ap, subst}
+use Rattle.std.proofs.Common.{◌≡◌, ◌∙◌, inl, inr, ℕ, true, List, [], Option, None, Some, Result, Ok, Err, OnOk, OnErr, IsErrOf, refl, sym, ap, subst, arith}
 use Rattle.std.proofs.lemmas.List.{append-nil}
 use Rattle.std.specs.List.{AllByRecursion}
+use Rattle.irl_base.proofs.Among.{among_none}
 use Rattle.irl_base.specs.Faults.{HasCause}
 use Rattle.irl_base.specs.declared.fault.Fault.{Fault}
 use Rattle.irl_base.specs.declared.fault.Fault.TheVariants.{Damaged, Failed, Full}
@@ -9,7 +10,7 @@ use Rattle.irl_bay.specs.Drum.{Drum, IsDrum, durables}
 use Rattle.irl_disk.specs.Disk.{Files, TellsBy}
 use Rattle.irl_disk.specs.Images.{IsConsistent, Told}
 use Rattle.irl_events.specs.Events.{Settle, has_number}
-use Rattle.irl_events.specs.State.{State, IsFrontState}
+use Rattle.irl_events.specs.State.{State}
 use Rattle.irl_frontier.specs.Frontier.{Frontier}
 use Rattle.irl_ledger.specs.declared.ledger.Ledger.{Ledger}
 use Rattle.irl_ledger.specs.Settling.{IsFlushed, outcomes_of}
@@ -31,10 +32,10 @@ use Rattle.irl_yard.specs.Settling.{MaySettle, settle_of}
 use Rattle.irl_yard.proofs.Begun.{event_begun, ledger_in, notes_begun, notes_suffixes, settle_suffixes}
 use Rattle.irl_yard.proofs.CallsLead.{event_leads, notes_lead}
 use Rattle.irl_yard.proofs.SentWhole.{crawl_in}
-use Rattle.irl_yard.proofs.States.{state_both}
 use Rattle.irl_crawl.specs.Judging.{Judges, OnlyJudges}
-use Rattle.irl_crawl.specs.Leading.{HasGround, IsFullAt, KeepsBegun, Leads}
+use Rattle.irl_crawl.specs.Leading.{KeepsBegun, Leads}
 use Rattle.irl_crawl.specs.Settling.{IsSettling, Settles, settled_state}
+use Rattle.irl_crawl.proofs.Batches.{covers_among, ground_before, grown_more, grown_same}
 use Rattle.irl_crawl.proofs.Books.{kind_begun}
 use Rattle.irl_crawl.proofs.Leading.{leads_more_failed, leads_then, leads_wide}
 
@@ -88,20 +89,6 @@ module _ {S : Type 0} (tells : S → Told) (notes : List Note) (was mid : Parts)
       suffixes = kept.suffixes ∙ settle_suffixes tells (Ok other) (durables mid.urls) (outcomes_of done) mid late t u settled noted_ledger settled_ledger
           ∙ notes_suffixes tells (Ok value) notes was mid s t noted (crawl_in was.rest begun) noted_ledger;
     }
-
--- ---- grounds
--- of a later part for both together
-pub full_before : (settings : Settings) (x y z : State) (n : ℕ) → IsFrontState x y → IsFullAt settings y z n → IsFullAt settings x z n
-full_before settings x y z n front (inl full) = inl full
-full_before settings x y z n front (inr (b, is, lt, w, first, last, full)) = inr (b, is, lt, w, state_both x y w front first, last, full)
-
-pub ground_before : {A B : Type 0} (one : Result A Fault) (other : Result B Fault) (settings : Settings) (x y z : State) → ((fault : Fault) → IsErrOf other fault → IsErrOf one fault) → IsFrontState x
-    y
-    → HasGround one settings y z → HasGround other settings x z
-ground_before one other settings x y z same front ground = record {
-  full = λ n is. full_before settings x y z n front (ground.full n (same (Full n) is));
-  whole = λ f at is. ground.whole f at (same (Damaged f at) is);
-}
 
 -- ---- a call that makes one state of another, or leaves it
 -- by the answer
@@ -161,46 +148,47 @@ module _ {S : Type 0} (tells : S → Told) (law : (s : S) → IsConsistent (tell
 -- a refusal by another name
 pub settles_as : (notes : List Note) (done : List Done) (settings : Settings) (was now : Parts) (before after : Told) (result : Result ℕ Fault) (fault other : Fault) → result ≡ Err other → other ≡
     fault
-    → Leads (IsErrOf {T = ℕ} {E = Fault} (Err fault) Failed) (IsSettling notes done) (Settles (Err fault) settings notes done) was now before after
-    → Leads (IsErrOf result Failed) (IsSettling notes done) (Settles result settings notes done) was now before after
+    → Leads (IsErrOf {T = ℕ} {E = Fault} (Err fault) Failed) (IsSettling settings notes done) (Settles (Err fault) settings notes done) was now before after
+    → Leads (IsErrOf result Failed) (IsSettling settings notes done) (Settles result settings notes done) was now before after
 settles_as notes done settings was now before after result fault other is same leads =
-    subst (λ (r : Result ℕ Fault). Leads (IsErrOf r Failed) (IsSettling notes done) (Settles r settings notes done) was now before after) (sym (is ∙ ap (λ (f : Fault). Err f) same)) leads
+    subst (λ (r : Result ℕ Fault). Leads (IsErrOf r Failed) (IsSettling settings notes done) (Settles r settings notes done) was now before after) (sym (is ∙ ap (λ (f : Fault). Err f) same)) leads
 
 -- judging, by equal settings
-pub judges_by : (result : Result Unit Fault) (was now : Parts) (before after : Told) (settings other : Settings) → settings ≡ other → Leads (IsErrOf result Failed) OnlyJudges (Judges result settings)
+pub judges_by : (result : Result Unit Fault) (was now : Parts) (before after : Told) (settings other : Settings) → settings ≡ other → Leads (IsErrOf result Failed) (OnlyJudges settings) (Judges result settings)
     was now before after
-    → Leads (IsErrOf result Failed) OnlyJudges (Judges result other) was now before after
-judges_by result was now before after settings other same leads = subst (λ (s : Settings). Leads (IsErrOf result Failed) OnlyJudges (Judges result s) was now before after) same leads
+    → Leads (IsErrOf result Failed) (OnlyJudges other) (Judges result other) was now before after
+judges_by result was now before after settings other same leads = subst (λ (s : Settings). Leads (IsErrOf result Failed) (OnlyJudges s) (Judges result s) was now before after) same leads
 
-only_none : (x y : State) → y ≡ x → OnlyJudges x y
-only_none x y is =
-    subst (OnlyJudges x) (sym is) (record { lists = refl; more = []; events = sym (append-nil x.events); pairs = tt })
+only_none : (settings : Settings) (x y : State) → y ≡ x → OnlyJudges settings x y
+only_none settings x y is =
+    subst (OnlyJudges settings x) (sym is)
+    (record { grows = grown_more settings 0 1 x x (omega arith) (grown_same settings x); lists = refl; more = []; events = sym (append-nil x.events); pairs = tt })
 
 module _ (notes : List Note) (done : List Done) (settings : Settings) (was : Parts) (before : Told) where
   -- the notes were refused
   pub notes_refused : (fault : Fault) (now : Parts) (after : Told) → Leads (IsErrOf {T = Unit {0}} {E = Fault} (Err fault) Failed) (λ x. IsEither x (with_notes notes x))
       (Makes (Err fault) (with_notes notes)) was now before after
       → ((n : ℕ) → IsErrOf {T = Unit {0}} {E = Fault} (Err fault) (Full n) → ⊥) → ((f at : ℕ) → IsErrOf {T = Unit {0}} {E = Fault} (Err fault) (Damaged f at) → ⊥)
-      → Leads (IsErrOf {T = ℕ} {E = Fault} (Err fault) Failed) (IsSettling notes done) (Settles (Err fault) settings notes done) was now before after
+      → Leads (IsErrOf {T = ℕ} {E = Fault} (Err fault) Failed) (IsSettling settings notes done) (Settles (Err fault) settings notes done) was now before after
   notes_refused fault now after noting not_full not_damaged =
       leads_more_failed _ _ _ _ was now before after (same_refusal fault Failed) (same_refusal fault Failed)
-      (leads_wide _ _ _ (IsSettling notes done) (Settles (Err fault) settings notes done) was now before after noting (λ x y held front may. wide x y may)
+      (leads_wide _ _ _ (IsSettling settings notes done) (Settles (Err fault) settings notes done) was now before after noting (λ x y held front may. wide x y may)
       (λ x y held later front is. record {
         is = inl is.kept;
         all = tt;
         ground = record { full = λ n e. absurd (not_full n (same_refusal fault (Full n) e)); whole = λ f at e. not_damaged f at (same_refusal fault (Damaged f at) e) };
       }))
     where
-      wide : (x y : State) → IsEither x (with_notes notes x) y → IsSettling notes done x y
+      wide : (x y : State) → IsEither x (with_notes notes x) y → IsSettling settings notes done x y
       wide x y (inl same) = inl same
       wide x y (inr noted) = inr (inl noted)
 
   -- they are kept
   module _ (mid : Parts) (between : Told) (value : Unit {0})
       (noting : Leads (IsErrOf {T = Unit {0}} {E = Fault} (Ok value) Failed) (λ x. IsEither x (with_notes notes x)) (Makes (Ok value) (with_notes notes)) was mid before between) where
-    noted_then : (x y z : State) → y ≡ with_notes notes x → IsEither y (settle_in done y) z → IsSettling notes done x z
+    noted_then : (x y z : State) → y ≡ with_notes notes x → IsEither y (settle_in done y) z → IsSettling settings notes done x z
     noted_then x y z noted (inl same) = inr (inl (same ∙ noted))
-    noted_then x y z noted (inr settled) = inr (inr (only_none (settled_state notes done x) z (settled ∙ ap (settle_in done) noted)))
+    noted_then x y z noted (inr settled) = inr (inr (only_none settings (settled_state notes done x) z (settled ∙ ap (settle_in done) noted)))
 
     not_failed : IsErrOf {T = Unit {0}} {E = Fault} (Ok value) Failed → ⊥
     not_failed is = cc
@@ -209,10 +197,10 @@ module _ (notes : List Note) (done : List Done) (settings : Settings) (was : Par
     pub settle_refused : (fault : Fault) (now : Parts) (after : Told) → Leads (IsErrOf {T = Unit {0}} {E = Fault} (Err fault) Failed) (λ x. IsEither x (settle_in done x))
         (Makes (Err fault) (settle_in done)) mid now between after
         → ((n : ℕ) → IsErrOf {T = Unit {0}} {E = Fault} (Err fault) (Full n) → ⊥) → ((f at : ℕ) → IsErrOf {T = Unit {0}} {E = Fault} (Err fault) (Damaged f at) → ⊥)
-        → Leads (IsErrOf {T = ℕ} {E = Fault} (Err fault) Failed) (IsSettling notes done) (Settles (Err fault) settings notes done) was now before after
+        → Leads (IsErrOf {T = ℕ} {E = Fault} (Err fault) Failed) (IsSettling settings notes done) (Settles (Err fault) settings notes done) was now before after
     settle_refused fault now after settling not_full not_damaged =
         leads_more_failed _ _ _ _ was now before after (same_refusal fault Failed) (same_refusal fault Failed)
-        (leads_then _ _ _ _ _ _ (IsSettling notes done) (Settles (Err fault) settings notes done) was mid now before between after noting not_failed settling
+        (leads_then _ _ _ _ _ _ (IsSettling settings notes done) (Settles (Err fault) settings notes done) was mid now before between after noting not_failed settling
         (λ x y z held later front next noted is. record {
           is = inr (inl (is.kept ∙ noted.done));
           all = tt;
@@ -223,39 +211,40 @@ module _ (notes : List Note) (done : List Done) (settings : Settings) (was : Par
     -- or they are settled,
     module _ (late : Parts) (settled : Told) (value' : Unit {0})
         (settling : Leads (IsErrOf {T = Unit {0}} {E = Fault} (Ok value') Failed) (λ x. IsEither x (settle_in done x)) (Makes (Ok value') (settle_in done)) mid late between settled) where
-      both : Leads (IsErrOf {T = Unit {0}} {E = Fault} (Ok value') Failed) (IsSettling notes done) (λ x y. y ≡ settled_state notes done x) was late before settled
+      both : Leads (IsErrOf {T = Unit {0}} {E = Fault} (Ok value') Failed) (IsSettling settings notes done) (λ x y. y ≡ settled_state notes done x) was late before settled
       both =
-          leads_then _ _ _ _ _ _ (IsSettling notes done) (λ x y. y ≡ settled_state notes done x) was mid late before between settled noting not_failed settling
+          leads_then _ _ _ _ _ _ (IsSettling settings notes done) (λ x y. y ≡ settled_state notes done x) was mid late before between settled noting not_failed settling
           (λ x y z held later front next noted is. is.done ∙ ap (settle_in done) noted.done)
           (λ x y z held later front next noted may. noted_then x y z noted.done may)
 
-      judged_then : (x y z : State) → y ≡ settled_state notes done x → OnlyJudges y z → OnlyJudges (settled_state notes done x) z
-      judged_then x y z is judged = subst (λ (state : State). OnlyJudges state z) is judged
+      judged_then : (x y z : State) → y ≡ settled_state notes done x → OnlyJudges settings y z → OnlyJudges settings (settled_state notes done x) z
+      judged_then x y z is judged = subst (λ (state : State). OnlyJudges settings state z) is judged
 
       none_failed : IsErrOf {T = Unit {0}} {E = Fault} (Ok value') Failed → ⊥
       none_failed is = cc
 
       -- and judging is refused,
-      pub judging_refused : (fault : Fault) (now : Parts) (after : Told) → Leads (IsErrOf {T = Unit {0}} {E = Fault} (Err fault) Failed) OnlyJudges (Judges (Err fault) settings) late now settled after
-          → Leads (IsErrOf {T = ℕ} {E = Fault} (Err fault) Failed) (IsSettling notes done) (Settles (Err fault) settings notes done) was now before after
+      pub judging_refused : (fault : Fault) (now : Parts) (after : Told) → Leads (IsErrOf {T = Unit {0}} {E = Fault} (Err fault) Failed) (OnlyJudges settings) (Judges (Err fault) settings) late now settled after
+          → Leads (IsErrOf {T = ℕ} {E = Fault} (Err fault) Failed) (IsSettling settings notes done) (Settles (Err fault) settings notes done) was now before after
       judging_refused fault now after judging =
           leads_more_failed _ _ _ _ was now before after (same_refusal fault Failed) (same_refusal fault Failed)
-          (leads_then _ _ _ _ _ _ (IsSettling notes done) (Settles (Err fault) settings notes done) was late now before settled after both none_failed judging
+          (leads_then _ _ _ _ _ _ (IsSettling settings notes done) (Settles (Err fault) settings notes done) was late now before settled after both none_failed judging
           (λ x y z held later front next is judges. record {
             is = inr (inr (judged_then x y z is judges.only));
             all = tt;
-            ground = ground_before (Err fault) (Err fault) settings x y z (λ other. same_refusal fault other) front judges.ground;
+            ground = ground_before (Err fault) (Err fault) settings [] [] x y z (λ other. same_refusal fault other) front
+                (covers_among settings [] [] x y (ap (λ (s : State). s.urls.lists) is) (among_none [])) judges.ground;
           })
           (λ x y z held later front next is judged. inr (inr (judged_then x y z is judged))))
 
       -- or all is judged
-      pub judged_whole : (value'' : Unit {0}) (count : ℕ) (now : Parts) (after : Told) → Leads (IsErrOf {T = Unit {0}} {E = Fault} (Ok value'') Failed) OnlyJudges (Judges (Ok value'') settings) late
+      pub judged_whole : (value'' : Unit {0}) (count : ℕ) (now : Parts) (after : Told) → Leads (IsErrOf {T = Unit {0}} {E = Fault} (Ok value'') Failed) (OnlyJudges settings) (Judges (Ok value'') settings) late
           now settled after
-          → Leads (IsErrOf {T = ℕ} {E = Fault} (Ok count) Failed) (IsSettling notes done) (Settles (Ok count) settings notes done) was now before after
+          → Leads (IsErrOf {T = ℕ} {E = Fault} (Ok count) Failed) (IsSettling settings notes done) (Settles (Ok count) settings notes done) was now before after
       judged_whole value'' count now after judging =
           leads_more_failed _ _ _ _ was now before after (λ (is : IsErrOf {T = Unit {0}} {E = Fault} (Ok value'') Failed). let no : ⊥ = cc in absurd no)
           (λ (is : IsErrOf {T = ℕ} {E = Fault} (Ok count) Failed). let no : ⊥ = cc in absurd no)
-          (leads_then _ _ _ _ _ _ (IsSettling notes done) (Settles (Ok count) settings notes done) was late now before settled after both none_failed judging
+          (leads_then _ _ _ _ _ _ (IsSettling settings notes done) (Settles (Ok count) settings notes done) was late now before settled after both none_failed judging
           (λ x y z held later front next is judges. record {
             is = inr (inr (judged_then x y z is judges.only));
             all = (judged_then x y z is judges.only, judges.all);

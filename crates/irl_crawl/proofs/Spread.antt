@@ -113,7 +113,7 @@ joined_one (suc n) (suc at) one p q within here others =
     (IsPermutation-append_right (q 0) (joined n (next p)) (one ∷ joined n (next q)) rest) (IsPermutation-middle (q 0) one (joined n (next q))))
 
 -- an offer of the bucket stands in front, and one of another isn't there
-part_here : (buckets b : ℕ) (offer : Tuple) (more : List Tuple) → bucket_of buckets offer.key ≡ b → part buckets b (offer ∷ more) ≡ offer ∷ part buckets b more
+pub part_here : (buckets b : ℕ) (offer : Tuple) (more : List Tuple) → bucket_of buckets offer.key ≡ b → part buckets b (offer ∷ more) ≡ offer ∷ part buckets b more
 part_here buckets b offer more is = ap (λ (t : Bool). cond t (offer ∷ part buckets b more) (part buckets b more)) (eq-eqb (bucket_of buckets offer.key) b is)
 
 part_elsewhere : (buckets b : ℕ) (offer : Tuple) (more : List Tuple) → bucket_of buckets offer.key ≢ b → part buckets b (offer ∷ more) ≡ part buckets b more

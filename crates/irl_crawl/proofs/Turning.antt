@@ -37,10 +37,12 @@ use Rattle.irl_record.specs.Widening.{Answers}
 use Rattle.irl_robots.specs.Leave.{leave, leave_of}
 use Rattle.irl_yard.specs.Adding.{notes_happened, with_event, with_notes}
 use Rattle.irl_crawl.specs.Judging.{IsJudged, IsOfPairs, OnlyJudges}
+use Rattle.irl_crawl.specs.Leading.{GrowsInBatches}
 use Rattle.irl_crawl.specs.Offering.{HasOffers, OnlyOffers, offers_in}
-use Rattle.irl_crawl.specs.Turning.{AreBatches, OnlyTurns, TurnsWhole, events_since, input_of}
+use Rattle.irl_crawl.specs.Turning.{AreBatches, OnlyTurns, TurnsWhole, events_since, input_of, turns_in}
 use Rattle.irl_crawl.specs.Workers.{loaded}
 use Rattle.irl_crawl.specs.Working.{HasBegunOne, KnowAsNoted}
+use Rattle.irl_crawl.proofs.Batches.{grown_both, grown_more, grown_same, grown_to, turn_there}
 use Rattle.irl_crawl.proofs.Numbers.{loaded_most}
 use Rattle.irl_crawl.proofs.Visits.{TurnOf, are_visits, begun_visits, found_among, found_handled, handled_loaded, is_handled, leave_read, noted_among, noted_by, notes_from, visits_for, visits_front, visits_in, visits_of, visits_once, work_text}
 
@@ -196,6 +198,7 @@ turns_none gives agent suffixes settings most x =
       front = tt;
       batch = subst (λ hs. AreBatches most hs) (sym none) tt;
       settled = subst (λ hs. length (settled_in hs) ≤ most) (sym none) (omega arith);
+      grows = grown_more settings 0 (turns_in (events_since x x)) x x (omega arith) (grown_same settings x);
     }
 
 -- ---- a turn
@@ -205,8 +208,8 @@ module _ {gives : Answers} {agent suffixes : List ℕ} {settings : Settings} {mo
   turns_by : (y : State) (more : List Happened) → IsFrontState x y → IsAmong (added_to x.urls.lists y.urls.lists) (offers_in (flat_map entered_of handled ++ part)) → y.events ≡ x.events ++ more
       → AllByRecursion (λ (h : Happened). IsOfTurn gives h.0) more → ((earlier later : List Happened) (h : Happened) (fronts : List ℕ) (outcomes : List (ℕ × Outcome)) → more ≡ earlier ++ h ∷ later
       → h.0 ≡ Settle fronts outcomes → AllByRecursion (λ d. IsSettled suffixes agent (visits_in it) y.urls (x.events ++ earlier) fronts d.0 d.1) outcomes)
-      → length (settled_in more) ≤ most → OnlyTurns gives agent suffixes settings most x y
-  turns_by y more front among events told settled few =
+      → length (settled_in more) ≤ most → GrowsInBatches settings (turns_in more) x y → OnlyTurns gives agent suffixes settings most x y
+  turns_by y more front among events told settled few grows =
       let since : events_since x y ≡ more = since_are x y more events in
       record {
         visits = visits_in it;
@@ -227,28 +230,35 @@ module _ {gives : Answers} {agent suffixes : List ℕ} {settings : Settings} {mo
         front = visits_front it;
         batch = subst (λ hs. AreBatches most hs) (sym since) (batches_within most more few);
         settled = subst (λ hs. length (settled_in hs) ≤ most) (sym since) few;
+        grows = subst (λ hs. GrowsInBatches settings (turns_in hs) x y) (sym since) grows;
       }
 
   -- where nothing is settled
   turns_plain : (y : State) (more : List Happened) → IsFrontState x y → IsAmong (added_to x.urls.lists y.urls.lists) (offers_in (flat_map entered_of handled ++ part)) → y.events ≡ x.events ++ more
-      → AllByRecursion (λ (h : Happened). IsPlain gives h.0) more → OnlyTurns gives agent suffixes settings most x y
-  turns_plain y more front among events plain =
+      → AllByRecursion (λ (h : Happened). IsPlain gives h.0) more → GrowsInBatches settings 0 x y → OnlyTurns gives agent suffixes settings most x y
+  turns_plain y more front among events plain grows =
       turns_by y more front among events
       (all_weaker (λ (h : Happened). IsPlain gives h.0) (λ (h : Happened). IsOfTurn gives h.0) more (λ h. plain_turn gives h.0) plain)
       (λ earlier later h fronts outcomes at is.
       let there : Contains more h = subst (λ l. Contains l h) (sym at) (Contains-append_right earlier (h ∷ later) h (first_member h later)) in
       let no : IsPlain gives (Settle fronts outcomes) = subst (λ e. IsPlain gives e) is (all_member (λ (g : Happened). IsPlain gives g.0) more h plain there) in
       absurd no)
-      (subst (λ ds. length ds ≤ most) (sym (none_settled gives more plain)) (omega arith))
+      (subst (λ ds. length ds ≤ most) (sym (none_settled gives more plain)) (omega arith)) (grown_more settings 0 (turns_in more) x y (omega arith) grows)
 
   -- what the workers entered is offered, or some of it
-  pub offers_turn : (b : State) → IsFrontState x b → OnlyOffers (flat_map entered_of handled ++ part) x b → OnlyTurns gives agent suffixes settings most x b
+  pub offers_turn : (b : State) → IsFrontState x b → OnlyOffers settings (flat_map entered_of handled ++ part) x b → OnlyTurns gives agent suffixes settings most x b
   offers_turn b front only =
       let events : b.events ≡ x.events ++ [] = ap (λ (s : State). s.events) only.others ∙ sym (append-nil x.events) in
-      turns_plain b [] front only.among events tt
+      turns_plain b [] front only.among events tt only.grows
+
+  -- all of it is found by the visits
+  pub offers_found : (b : State) (front : IsFrontState x b) (only : OnlyOffers settings (flat_map entered_of handled ++ part) x b)
+      → IsAmong (offers_in (flat_map entered_of handled ++ part)) (flat_map (found_by suffixes b.urls) (offers_turn b front only).visits)
+  unfolding offers_turn turns_plain turns_by
+  offers_found b front only = found_among it b front
 
   -- and the notes are kept
-  pub notes_turn : (b n : State) → IsFrontState x n → OnlyOffers (flat_map entered_of handled ++ part) x b → n ≡ with_notes (notes_from noted) b → OnlyTurns gives agent suffixes settings most x n
+  pub notes_turn : (b n : State) → IsFrontState x n → OnlyOffers settings (flat_map entered_of handled ++ part) x b → n ≡ with_notes (notes_from noted) b → OnlyTurns gives agent suffixes settings most x n
   notes_turn b n front only is =
       let events : n.events ≡ x.events ++ notes_happened (notes_from noted) =
       ap (λ (s : State). s.events) is ∙ ap (λ (s : State). s.events ++ notes_happened (notes_from noted)) only.others in
@@ -256,6 +266,7 @@ module _ {gives : Answers} {agent suffixes : List ℕ} {settings : Settings} {mo
       turns_plain n (notes_happened (notes_from noted)) front
       (subst (λ ls. IsAmong (added_to x.urls.lists ls) (offers_in (flat_map entered_of handled ++ part))) (sym lists) only.among) events
       (notes_plain gives noted (λ one there. All-contains (IsNoted gives) noted one it.worked.notes there))
+      (grown_to settings 0 x b n (ap (λ (s : State). s.urls) is) (ap (λ (s : State). s.pairs) is) only.grows)
 
 -- ---- a turn in which all was done
 module _ {gives : Answers} {agent suffixes : List ℕ} {settings : Settings} {most : ℕ} {x : State} {befores : List Schedule} {handled : List Handled} {noted : List Noted}
@@ -266,11 +277,11 @@ module _ {gives : Answers} {agent suffixes : List ℕ} {settings : Settings} {mo
   abbrev settles : List (ℕ × Outcome)
   settles = outcomes_from (map done_of handled)
 
-  pub whole_offers_turn : (b : State) → IsFrontState x b → OnlyOffers (flat_map entered_of handled) x b → OnlyTurns gives agent suffixes settings most x b
-  whole_offers_turn b front only = offers_turn it b front (subst (λ es. OnlyOffers es x b) (sym (append-nil (flat_map entered_of handled))) only)
+  pub whole_offers_turn : (b : State) → IsFrontState x b → OnlyOffers settings (flat_map entered_of handled) x b → OnlyTurns gives agent suffixes settings most x b
+  whole_offers_turn b front only = offers_turn it b front (subst (λ es. OnlyOffers settings es x b) (sym (append-nil (flat_map entered_of handled))) only)
 
-  pub whole_notes_turn : (b n : State) → IsFrontState x n → OnlyOffers (flat_map entered_of handled) x b → n ≡ with_notes (notes_from noted) b → OnlyTurns gives agent suffixes settings most x n
-  whole_notes_turn b n front only is = notes_turn it b n front (subst (λ es. OnlyOffers es x b) (sym (append-nil (flat_map entered_of handled))) only) is
+  pub whole_notes_turn : (b n : State) → IsFrontState x n → OnlyOffers settings (flat_map entered_of handled) x b → n ≡ with_notes (notes_from noted) b → OnlyTurns gives agent suffixes settings most x n
+  whole_notes_turn b n front only is = notes_turn it b n front (subst (λ es. OnlyOffers settings es x b) (sym (append-nil (flat_map entered_of handled))) only) is
 
   settled_few : length settles ≤ most
   settled_few =
@@ -283,7 +294,7 @@ module _ {gives : Answers} {agent suffixes : List ℕ} {settings : Settings} {mo
       let most_are = loaded_most settings x it.store most it.numbers (map (λ (work : Work). work.number) (loaded befores)) it.first it.each in
       omega (arith, done, works, all, names, most_are)
 
-  module _ (b : State) (begins : IsFrontState x b) (only : OnlyOffers (flat_map entered_of handled) x b) (offered : HasOffers (flat_map entered_of handled) x b)
+  module _ (b : State) (begins : IsFrontState x b) (only : OnlyOffers settings (flat_map entered_of handled) x b) (offered : HasOffers (flat_map entered_of handled) x b)
       (y : State) (front : IsFrontState x y) (lists : y.urls.lists ≡ b.urls.lists) where
     firsts_are : y.urls.firsts ≡ b.urls.firsts
     firsts_are = (made_fronts settings x y it.store front).urls.firsts ∙ sym (made_fronts settings x b it.store begins).urls.firsts
@@ -388,12 +399,13 @@ module _ {gives : Answers} {agent suffixes : List ℕ} {settings : Settings} {mo
           (subst (λ hs. AllByRecursion (λ (d : ℕ × Outcome). IsSettled suffixes agent (visits_in it) y.urls (x.events ++ hs) (lengths_of b.urls) d.0 d.1) settles) (sym alone.before)
           (all_from (λ (d : ℕ × Outcome). IsSettled suffixes agent (visits_in it) y.urls (x.events ++ notes) (lengths_of b.urls) d.0 d.1) settles settled_each)))
 
-      settled_turn : y.events ≡ x.events ++ more → OnlyTurns gives agent suffixes settings most x y
-      settled_turn events =
+      settled_turn : GrowsInBatches settings 1 x y → y.events ≡ x.events ++ more → OnlyTurns gives agent suffixes settings most x y
+      settled_turn grows events =
           let among : IsAmong (added_to x.urls.lists y.urls.lists) (offers_in (flat_map entered_of handled ++ [])) =
           subst (λ es. IsAmong (added_to x.urls.lists y.urls.lists) (offers_in es)) (sym (append-nil (flat_map entered_of handled)))
           (subst (λ ls. IsAmong (added_to x.urls.lists ls) (offers_in entries)) (sym lists) only.among) in
           turns_by it y more front among events of_turn settled_at (subst (λ ds. length ds ≤ most) (sym settled_are) settled_few)
+          (grown_more settings 1 (turns_in more) x y (turn_there notes pairs settling refl) grows)
 
       -- ---- nothing is left over
       begun_none : (begun : ([] ≡ []) ⊎ HasBegunOne gives agent suffixes noted [] [] befores) → flat_map visits_of handled ++ begun_visits begun ≡ flat_map visits_of handled
@@ -455,7 +467,7 @@ module _ {gives : Answers} {agent suffixes : List ℕ} {settings : Settings} {mo
         }
 
   -- ---- by what the calls leave
-  module _ (b n s : State) (begins : IsFrontState x b) (only : OnlyOffers (flat_map entered_of handled) x b) (offered : HasOffers (flat_map entered_of handled) x b)
+  module _ (b n s : State) (begins : IsFrontState x b) (only : OnlyOffers settings (flat_map entered_of handled) x b) (offered : HasOffers (flat_map entered_of handled) x b)
       (kept : n ≡ with_notes (notes_from noted) b) (done : s ≡ with_event (Settle (lengths_of b.urls) (outcomes_from (map done_of handled))) [] n) where
     settled_events : s.events ≡ (x.events ++ notes_happened (notes_from noted)) ++ (Settle (lengths_of b.urls) (outcomes_from (map done_of handled)), []) ∷ []
     settled_events =
@@ -467,14 +479,18 @@ module _ {gives : Answers} {agent suffixes : List ℕ} {settings : Settings} {mo
     settled_lists : s.urls.lists ≡ b.urls.lists
     settled_lists = ap (λ (z : State). z.urls.lists) done ∙ ap (λ (z : State). z.urls.lists) kept
 
+    settled_grown : GrowsInBatches settings 0 x s
+    settled_grown =
+        grown_to settings 0 x b s (ap (λ (z : State). z.urls) done ∙ ap (λ (z : State). z.urls) kept) (ap (λ (z : State). z.pairs) done ∙ ap (λ (z : State). z.pairs) kept) only.grows
+
     -- the outcomes are settled
     pub settles_turn : IsFrontState x s → OnlyTurns gives agent suffixes settings most x s
     settles_turn front =
-        settled_turn b begins only offered s front settled_lists [] tt
+        settled_turn b begins only offered s front settled_lists [] tt (grown_more settings 0 1 x s (omega arith) settled_grown)
         (settled_events ∙ append_assoc x.events (notes_happened (notes_from noted)) ((Settle (lengths_of b.urls) (outcomes_from (map done_of handled)), []) ∷ []))
 
     -- and what is unjudged is judged, or some of it
-    module _ (y : State) (front : IsFrontState x y) (judges : OnlyJudges s y) where
+    module _ (y : State) (front : IsFrontState x y) (judges : OnlyJudges settings s y) where
       judged_lists : y.urls.lists ≡ b.urls.lists
       judged_lists = judges.lists ∙ settled_lists
 
@@ -486,8 +502,11 @@ module _ {gives : Answers} {agent suffixes : List ℕ} {settings : Settings} {mo
           judges.events ∙ ap (λ hs. hs ++ judges.more) settled_events ∙ append_assoc (x.events ++ notes) (settling ∷ []) judges.more
           ∙ append_assoc x.events notes (settling ∷ judges.more)
 
+      judged_grown : GrowsInBatches settings 1 x y
+      judged_grown = grown_more settings (0 + 1) 1 x y (omega arith) (grown_both settings 0 1 x s y settled_grown judges.grows)
+
       pub judges_turn : OnlyTurns gives agent suffixes settings most x y
-      judges_turn = settled_turn b begins only offered y front judged_lists judges.more judges.pairs judged_events
+      judges_turn = settled_turn b begins only offered y front judged_lists judges.more judges.pairs judged_grown judged_events
 
       pub whole_turn : (afters : List Schedule) → IsJudged settings y → KnowAsNoted agent noted befores afters
           → (turns : OnlyTurns gives agent suffixes settings most x y) × TurnsWhole (length handled) agent suffixes settings turns.visits afters x y

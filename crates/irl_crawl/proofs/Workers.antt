@@ -62,9 +62,9 @@ same_at xs at x y one two = same_Some x y (sym one ∙ two)
 -- ## Fetchers
 
 -- what was given still is
-pub given_more : {F : Type 0} (asked : F → ℕ) (gives : F → ℕ → Answers) (faults last : F → ℕ) (olds nows laters : List F) (at : ℕ) (x y : F) → IsSetAt at y nows laters
-    → slice_get nows at ≡ Some x → GoesOn (fetcher asked gives faults last x) (fetcher asked gives faults last y) → Widens (IsGivenBy asked gives olds nows) (IsGivenBy asked gives olds laters)
-given_more asked gives faults last olds nows laters at x y changed stood on = λ url want answer is. elim (cases_eq is.at at) [
+pub given_more : {F : Type 0} (asked : F → ℕ) (gives : F → ℕ → Answers) (faults last : F → ℕ) (aim : F → List ℕ) (olds nows laters : List F) (at : ℕ) (x y : F) → IsSetAt at y nows laters
+    → slice_get nows at ≡ Some x → GoesOn (fetcher asked gives faults last aim x) (fetcher asked gives faults last aim y) → Widens (IsGivenBy asked gives olds nows) (IsGivenBy asked gives olds laters)
+given_more asked gives faults last aim olds nows laters at x y changed stood on = λ url want answer is. elim (cases_eq is.at at) [
   | inl same ↦
       let one : is.new ≡ x = same_at nows at is.new x (subst (λ (k : ℕ). slice_get nows k ≡ Some is.new) same is.is) stood in
       record {
@@ -79,29 +79,29 @@ given_more asked gives faults last olds nows laters at x y changed stood on = λ
 ]
 
 -- what one gave is given by one of them
-pub given_by_one : {F : Type 0} (asked : F → ℕ) (gives : F → ℕ → Answers) (faults last : F → ℕ) (olds laters : List F) (at : ℕ) (x y : F) → slice_get olds at ≡ Some x
-    → slice_get laters at ≡ Some y → Widens (given_since (fetcher asked gives faults last x) (fetcher asked gives faults last y)) (IsGivenBy asked gives olds laters)
-given_by_one asked gives faults last olds laters at x y was is = λ url want answer given. record { at = at; old = x; new = y; was = was; is = is; given = given }
+pub given_by_one : {F : Type 0} (asked : F → ℕ) (gives : F → ℕ → Answers) (faults last : F → ℕ) (aim : F → List ℕ) (olds laters : List F) (at : ℕ) (x y : F) → slice_get olds at ≡ Some x
+    → slice_get laters at ≡ Some y → Widens (given_since (fetcher asked gives faults last aim x) (fetcher asked gives faults last aim y)) (IsGivenBy asked gives olds laters)
+given_by_one asked gives faults last aim olds laters at x y was is = λ url want answer given. record { at = at; old = x; new = y; was = was; is = is; given = given }
 
-pub one_goes_on : {F : Type 0} (asked : F → ℕ) (gives : F → ℕ → Answers) (faults last : F → ℕ) (olds nows laters : List F) (at : ℕ) (x y : F) → AllGoOn asked gives faults last olds nows
-    → IsSetAt at y nows laters → slice_get nows at ≡ Some x → GoesOn (fetcher asked gives faults last x) (fetcher asked gives faults last y) → AllGoOn asked gives faults last olds laters
-one_goes_on asked gives faults last olds nows laters at x y all changed stood on = record {
+pub one_goes_on : {F : Type 0} (asked : F → ℕ) (gives : F → ℕ → Answers) (faults last : F → ℕ) (aim : F → List ℕ) (olds nows laters : List F) (at : ℕ) (x y : F) → AllGoOn asked gives faults last aim olds nows
+    → IsSetAt at y nows laters → slice_get nows at ≡ Some x → GoesOn (fetcher asked gives faults last aim x) (fetcher asked gives faults last aim y) → AllGoOn asked gives faults last aim olds laters
+one_goes_on asked gives faults last aim olds nows laters at x y all changed stood on = record {
   count = changed.count ∙ all.count;
   each = λ k old new was is. elim (cases_eq k at) [
     | inl same ↦
         let one : y ≡ new = same_at laters at y new changed.here (subst (λ (k : ℕ). slice_get laters k ≡ Some new) same is) in
-        subst (λ (f : _). GoesOn (fetcher asked gives faults last old) (fetcher asked gives faults last f)) one
-        (goes_then (fetcher asked gives faults last old) (fetcher asked gives faults last x) (fetcher asked gives faults last y)
+        subst (λ (f : _). GoesOn (fetcher asked gives faults last aim old) (fetcher asked gives faults last aim f)) one
+        (goes_then (fetcher asked gives faults last aim old) (fetcher asked gives faults last aim x) (fetcher asked gives faults last aim y)
         (all.each at old x (subst (λ (k : ℕ). slice_get olds k ≡ Some old) same was) stood) on)
     | inr other ↦ all.each k old new was (sym (changed.elsewhere k other) ∙ is)
   ];
 }
 
 -- a moment of this time stays one as it goes on
-pub moment_more : {F : Type 0} (asked : F → ℕ) (gives : F → ℕ → Answers) (faults last : F → ℕ) (olds nows laters : List F) (at : ℕ) (x y : F) → IsSetAt at y nows laters
-    → slice_get nows at ≡ Some x → GoesOn (fetcher asked gives faults last x) (fetcher asked gives faults last y) → (moment : ℕ) → IsMomentBy last olds nows moment
+pub moment_more : {F : Type 0} (asked : F → ℕ) (gives : F → ℕ → Answers) (faults last : F → ℕ) (aim : F → List ℕ) (olds nows laters : List F) (at : ℕ) (x y : F) → IsSetAt at y nows laters
+    → slice_get nows at ≡ Some x → GoesOn (fetcher asked gives faults last aim x) (fetcher asked gives faults last aim y) → (moment : ℕ) → IsMomentBy last olds nows moment
     → IsMomentBy last olds laters moment
-moment_more asked gives faults last olds nows laters at x y changed stood on moment is = elim (cases_eq is.at at) [
+moment_more asked gives faults last aim olds nows laters at x y changed stood on moment is = elim (cases_eq is.at at) [
   | inl same ↦
       let one : is.new ≡ x = same_at nows at is.new x (subst (λ (k : ℕ). slice_get nows k ≡ Some is.new) same is.is) stood in
       record {

@@ -1,8 +1,9 @@
 -- A crawl over an open store.
-use Rattle.std.specs.Prelude.{◌≡◌, ◌<◌, ◌≤◌, ℕ, List, [], length, map, Result, Ok, Err}
+use Rattle.std.specs.Prelude.{◌≡◌, ◌<◌, ◌≤◌, ◌+◌, ℕ, List, [], ◌++◌, flat_map, length, map, Result, Ok, Err}
 use Rattle.irl_base.specs.declared.fault.Fault.{Fault as FaultValue}
 use Rattle.irl_base.specs.declared.fault.Fault.TheVariants.{Failed}
 use Rattle.std.specs.List.{AllByRecursion}
+use Rattle.irl_answer.specs.Found.{offer_from}
 use Rattle.irl_base.specs.Limits.{max_text}
 use Rattle.irl_crawl.specs.declared.plan.Plan.{Plan}
 use Rattle.irl_crawl.specs.declared.plan.Ended.{Ended}
@@ -13,12 +14,12 @@ use Rattle.irl_fate.specs.Kept.{is_front}
 use Rattle.irl_ledger.specs.Settling.{max_settled}
 use Rattle.irl_offer.specs.declared.settings.Settings.{Settings}
 use Rattle.irl_reach.specs.Along.{settled_in}
-use Rattle.irl_reach.specs.Crawls.{Crawls, LeavesNone, Visit, numbers_in}
+use Rattle.irl_reach.specs.Crawls.{Crawls, LeavesNone, Visit, found_by, numbers_in}
 use Rattle.irl_record.specs.Widening.{Answers}
 use Rattle.irl_yard.specs.Passing.{come}
 use Rattle.irl_crawl.specs.Judging.{IsJudged}
-use Rattle.irl_crawl.specs.Leading.{HasGround}
-use Rattle.irl_crawl.specs.Turning.{AreBatches, events_since, input_of}
+use Rattle.irl_crawl.specs.Leading.{GrowsInBatches, HasGround}
+use Rattle.irl_crawl.specs.Turning.{AreBatches, events_since, input_of, turns_in}
 
 -- no unique URL is fresh, in front, in a queue or in the last list
 pub record NoneWaits (settings : Settings) (state : State) : Type 0 where
@@ -34,13 +35,15 @@ result_of Limit = Ok tt
 result_of (Fault fault) = Err fault
 
 -- Some URLs were visited, and nothing is offered but the seeds and what the visits name; no more are settled than the
--- plan says, nor in one turn.
-pub record OnlyCrawls (gives : Answers) (agent suffixes : List ℕ) (seeds : List (List ℕ)) (pages batch : ℕ)
-    (x y : State) : Type 0 where
+-- plan says, nor in one turn. Merges come in batches: in each book one cut for each turn that is settled may be early,
+-- and so many others.
+pub record OnlyCrawls (gives : Answers) (agent suffixes : List ℕ) (seeds : List (List ℕ)) (settings : Settings)
+    (spare pages batch : ℕ) (x y : State) : Type 0 where
   pub visits : List Visit
   pub crawls : Crawls (input_of suffixes seeds) gives agent visits x y
   pub batches : AreBatches batch (events_since x y)
   pub pages_are : length (settled_in (events_since x y)) ≤ pages
+  pub grows : GrowsInBatches settings (spare + turns_in (events_since x y)) x y
 
 -- What came of each visit is settled, and all is judged.
 pub record CrawlsWhole (suffixes : List ℕ) (seeds : List (List ℕ)) (settings : Settings) (visits : List Visit)
@@ -50,12 +53,14 @@ pub record CrawlsWhole (suffixes : List ℕ) (seeds : List (List ℕ)) (settings
 
 -- by the answer
 pub record CrawlsTo (ended : Ended) (gives : Answers) (agent suffixes : List ℕ) (seeds : List (List ℕ))
-    (settings : Settings) (pages batch : ℕ) (x y : State) : Type 0 where
-  pub only : OnlyCrawls gives agent suffixes seeds pages batch x y
+    (settings : Settings) (spare pages batch : ℕ) (x y : State) : Type 0 where
+  pub only : OnlyCrawls gives agent suffixes seeds settings spare pages batch x y
   pub done : ended ≡ Done → CrawlsWhole suffixes seeds settings only.visits x y × NoneWaits settings y
   pub limit : ended ≡ Limit → CrawlsWhole suffixes seeds settings only.visits x y
       × (length (settled_in (events_since x y)) ≡ pages) × (NoneWaits settings y → ⊥)
-  pub ground : HasGround (result_of ended) settings x y
+  -- the seeds were handed in, and what the visits found
+  pub ground : HasGround (result_of ended) settings
+      (map (offer_from 0) seeds ++ flat_map (found_by suffixes y.urls) only.visits) x y
 
 -- ---- what is asked
 -- the numbers of a plan are in their ranges, and its seeds are short

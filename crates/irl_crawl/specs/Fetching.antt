@@ -43,7 +43,7 @@ pub record Fetches (result : Result WorkLog Fault) (gives : Answers) (agent suff
   pub worked : HaveWorked gives agent suffixes handled noted left befores
   pub begun : (part ≡ []) ⊎ HasBegunOne gives agent suffixes noted left part befores
   pub whole : IfOk result (λ log. FetchesWhole log agent handled noted left part befores afters now)
-  pub leads : Leads (IsErrOf result Failed) (OnlyOffers (entries_of handled part))
+  pub leads : Leads (IsErrOf result Failed) (OnlyOffers was.urls.settings (entries_of handled part))
       (OffersSome result was.urls.settings (entries_of handled part)) was now before after
   -- nothing changes beside the bay of URLs, and the fronts are as many, for the same agent
   pub rest : now.rest ≡ was.rest

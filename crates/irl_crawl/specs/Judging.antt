@@ -1,5 +1,5 @@
 -- Judging what is unjudged, and sending the pairs of what was judged.
-use Rattle.std.specs.Prelude.{◌≡◌, List, ◌++◌, Result, OnOk, ⊤}
+use Rattle.std.specs.Prelude.{◌≡◌, List, [], ◌++◌, Result, OnOk, ⊤}
 use Rattle.std.specs.List.{AllByRecursion}
 use Rattle.irl_base.specs.declared.fault.Fault.{Fault}
 use Rattle.irl_events.specs.Events.{Event, Begin, Pairs, Pass, Robots, Settle, Happened}
@@ -7,7 +7,7 @@ use Rattle.irl_events.specs.State.{State}
 use Rattle.irl_model.specs.Book.{judged_cut, lengths_of}
 use Rattle.irl_offer.specs.declared.settings.Settings.{Settings}
 use Rattle.irl_yard.specs.Sending.{AreSentAlready}
-use Rattle.irl_crawl.specs.Leading.{HasGround}
+use Rattle.irl_crawl.specs.Leading.{GrowsInBatches, HasGround}
 
 -- an event that tells that pairs are sent
 abbrev pub IsOfPairs : Event → Type 0
@@ -17,8 +17,9 @@ IsOfPairs (Pass judged) = ⊥
 IsOfPairs (Robots note) = ⊥
 IsOfPairs (Settle fronts outcomes) = ⊥
 
--- No offer of URLs is added, and no event but that pairs are sent.
-pub record OnlyJudges (x y : State) : Type 0 where
+-- No offer of URLs is added, and no event but that pairs are sent; one cut of each book may be early.
+pub record OnlyJudges (settings : Settings) (x y : State) : Type 0 where
+  pub grows : GrowsInBatches settings 1 x y
   pub lists : y.urls.lists ≡ x.urls.lists
   pub more : List Happened
   pub events : y.events ≡ x.events ++ more
@@ -30,6 +31,6 @@ pub record IsJudged (settings : Settings) (state : State) : Type 0 where
   pub sent : AreSentAlready settings state
 
 pub record Judges (result : Result Unit Fault) (settings : Settings) (x y : State) : Type 0 where
-  pub only : OnlyJudges x y
+  pub only : OnlyJudges settings x y
   pub all : OnOk result (IsJudged settings y)
-  pub ground : HasGround result settings x y
+  pub ground : HasGround result settings [] x y

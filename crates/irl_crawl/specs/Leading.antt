@@ -1,5 +1,5 @@
 -- What parts of a crawl ask of an open store, and what they make of the states that it held.
-use Rattle.std.specs.Prelude.{◌≡◌, ◌⊎◌, ◌+◌, ◌<◌, ℕ, Some, Result, IsErrOf, length}
+use Rattle.std.specs.Prelude.{◌≡◌, ◌⊎◌, ◌+◌, ◌<◌, ℕ, List, Some, Result, IsErrOf, length}
 use Rattle.std.specs.Option.{ForSome}
 use Rattle.irl_base.specs.Faults.{HasCause}
 use Rattle.irl_base.specs.declared.fault.Fault.{Fault}
@@ -7,8 +7,11 @@ use Rattle.irl_base.specs.declared.fault.Fault.TheVariants.{Damaged, Full}
 use Rattle.irl_disk.specs.Disk.{Files}
 use Rattle.irl_disk.specs.Images.{Told}
 use Rattle.irl_events.specs.State.{State, IsFrontState}
+use Rattle.irl_model.specs.Book.{part}
+use Rattle.irl_offer.specs.Tuple.{Tuple}
 use Rattle.irl_offer.specs.declared.settings.Settings.{Settings}
-use Rattle.irl_schedule.specs.Feeding.{list_at}
+use Rattle.irl_schedule.specs.Feeding.{Grows, list_at}
+use Rattle.irl_ledger.specs.Crawling.{pair_settings}
 use Rattle.irl_ledger.specs.declared.ledger.Ledger.{Ledger}
 use Rattle.irl_yard.specs.declared.parts.Parts.{Parts}
 use Rattle.irl_yard.specs.declared.parts.Rest.TheVariants.{Crawl}
@@ -53,16 +56,26 @@ pub record Leads (failed : Type 0) (may did : State → State → Type 0) (was n
     pub goes_on : StaysSound failed now
     pub cause : HasCause failed before.faults after.faults
 
+-- From one state to a later one: in both books a list that has grown is within the cap, and at most so many cuts were
+-- made before a bucket had enough new offers.
+pub record GrowsInBatches (settings : Settings) (early : ℕ) (x y : State) : Type 0 where
+  pub urls : Grows settings early x.urls y.urls
+  pub pairs : Grows (pair_settings settings) early x.pairs y.pairs
+
 -- ---- why a fault is answered
--- What is handed in doesn't fit: in a bucket of URLs, which has so many offers that not a whole array more fits; or,
--- counted behind those, in one of pairs, which lacks room for the new links of a state on the way.
-abbrev pub IsFullAt : Settings → State → State → ℕ → Type 0
-IsFullAt settings x y n =
-    ((n < settings.buckets) × (settings.cap < length (list_at y.urls n) + settings.array))
+-- What is handed in doesn't fit. In a bucket of URLs: the first state's list and all offers of the bucket that were
+-- handed in since pass the cap together, and to the last one's not a whole array more fits. Or, counted behind those,
+-- in a bucket of pairs, which lacks room for the new links of a state on the way.
+abbrev pub IsFullAt : Settings → List Tuple → State → State → ℕ → Type 0
+IsFullAt settings handed x y n =
+    ((n < settings.buckets) × (settings.cap < length (list_at y.urls n) + settings.array)
+    × (settings.cap < length (list_at x.urls n) + length (part settings.buckets n handed)))
     ⊎ ((b : ℕ) × (n ≡ 64 + b) × (b < settings.buckets) × (z : State) × IsFrontState x z × IsFrontState z y
     × (settings.cap < links_in settings z b))
 
--- The ground of an answer, of the state that was held and the one that it was led to: damage is named of neither.
-pub record HasGround {A : Type 0} (result : Result A Fault) (settings : Settings) (x y : State) : Type 0 where
-  pub full : (n : ℕ) → IsErrOf result (Full n) → IsFullAt settings x y n
+-- The ground of an answer, of the state that was held and the one that it was led to, by these offers of URLs: damage
+-- is named of neither.
+pub record HasGround {A : Type 0} (result : Result A Fault) (settings : Settings) (handed : List Tuple) (x y : State)
+    : Type 0 where
+  pub full : (n : ℕ) → IsErrOf result (Full n) → IsFullAt settings handed x y n
   pub whole : (f at : ℕ) → IsErrOf result (Damaged f at) → ⊥

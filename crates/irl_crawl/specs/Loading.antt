@@ -1,5 +1,5 @@
 -- Handing the pages that are next to the workers, with the notes on their hosts.
-use Rattle.std.specs.Prelude.{◌≡◌, ◌≤◌, ℕ, List, map, take, Result, OnOk}
+use Rattle.std.specs.Prelude.{◌≡◌, ◌≤◌, ℕ, List, [], map, take, Result, OnOk}
 use Rattle.std.specs.List.Sorted.{IsPermutation}
 use Rattle.irl_base.specs.declared.fault.Fault.{Fault}
 use Rattle.irl_events.specs.State.{State}
@@ -23,4 +23,4 @@ pub record Loads (result : Result Unit Fault) (settings : Settings) (agent : Lis
   pub same : y ≡ x
   pub texts : OnOk result (AreWorks (loaded new) x.urls)
   pub known : OnOk result (AreNotedIn agent x.events old → AreNotedIn agent x.events new)
-  pub ground : HasGround result settings x y
+  pub ground : HasGround result settings [] x y

@@ -14,14 +14,16 @@ use Rattle.irl_reach.specs.Crawls.{added_to}
 use Rattle.irl_yard.specs.Settling.{StandsAt}
 use Rattle.irl_yard.specs.Standing.{with_urls}
 use Rattle.irl_crawl.specs.Judging.{IsJudged, IsOfPairs}
-use Rattle.irl_crawl.specs.Leading.{HasGround}
+use Rattle.irl_crawl.specs.Leading.{GrowsInBatches, HasGround}
 
 abbrev pub offers_in : List Entered → List Tuple
 offers_in entries = map (λ one. one.offer) entries
 
--- Only URLs are offered: what the lists of URLs have more is, counted with repeats, among what was handed in.
-pub record OnlyOffers (entries : List Entered) (x y : State) : Type 0 where
+-- Only URLs are offered: what the lists of URLs have more is, counted with repeats, among what was handed in. No cut is
+-- made early.
+pub record OnlyOffers (settings : Settings) (entries : List Entered) (x y : State) : Type 0 where
   pub others : y ≡ with_urls y.urls x
+  pub grows : GrowsInBatches settings 0 x y
   pub among : IsAmong (added_to x.urls.lists y.urls.lists) (offers_in entries)
 
 -- it is just that, and each offer stands where its receipt says
@@ -32,13 +34,15 @@ pub record HasOffers (entries : List Entered) (x y : State) : Type 0 where
 -- by the answer
 pub record OffersSome {A : Type 0} (result : Result A Fault) (settings : Settings) (entries : List Entered)
     (x y : State) : Type 0 where
-  pub only : OnlyOffers entries x y
+  pub only : OnlyOffers settings entries x y
   pub all : OnOk result (HasOffers entries x y)
-  pub ground : HasGround result settings x y
+  pub ground : HasGround result settings (offers_in entries) x y
 
 -- ---- seeds
--- No offer of URLs is added but those of seeds, and no event but that pairs are sent.
-pub record OnlySeeds (seeds : List (List ℕ)) (x y : State) : Type 0 where
+-- No offer of URLs is added but those of seeds, and no event but that pairs are sent; one cut of each book may be
+-- early.
+pub record OnlySeeds (settings : Settings) (seeds : List (List ℕ)) (x y : State) : Type 0 where
+  pub grows : GrowsInBatches settings 1 x y
   pub among : IsAmong (added_to x.urls.lists y.urls.lists) (map (offer_from 0) seeds)
   pub more : List Happened
   pub events : y.events ≡ x.events ++ more
@@ -46,7 +50,7 @@ pub record OnlySeeds (seeds : List (List ℕ)) (x y : State) : Type 0 where
 
 -- all are, and all is judged, by the answer
 pub record Seeds (result : Result Unit Fault) (settings : Settings) (seeds : List (List ℕ)) (x y : State) : Type 0 where
-  pub only : OnlySeeds seeds x y
+  pub only : OnlySeeds settings seeds x y
   pub all : OnOk result (IsPermutation (added_to x.urls.lists y.urls.lists) (map (offer_from 0) seeds)
       × IsJudged settings y)
-  pub ground : HasGround result settings x y
+  pub ground : HasGround result settings (map (offer_from 0) seeds) x y

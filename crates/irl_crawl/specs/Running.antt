@@ -16,7 +16,7 @@ use Rattle.irl_crawl.specs.Turning.{Turns}
 pub record Passes {A : Type 0} (result : Result A Fault) (settings : Settings) (x y : State) : Type 0 where
   pub done : OnOk result (y ≡ with_pass settings x)
   pub kept : OnErr result (y ≡ x)
-  pub ground : HasGround result settings x y
+  pub ground : HasGround result settings [] x y
 
 -- a turn, of a state in which all is judged: a pass is one that visits nothing
 abbrev pub Steps : Result ℕ Fault → Answers → List ℕ → List ℕ → Settings → ℕ → List Schedule → List Schedule
@@ -27,8 +27,8 @@ Steps result gives agent suffixes settings most old new x y =
 -- such steps, where the store failed on the way, and where it didn't, by the answer
 abbrev pub MayRun : Answers → List ℕ → List ℕ → Settings → ℕ → ℕ → State → State → Type 0
 MayRun gives agent suffixes settings pages batch x y =
-    IsJudged settings x → OnlyCrawls gives agent suffixes [] pages batch x y
+    IsJudged settings x → OnlyCrawls gives agent suffixes [] settings 0 pages batch x y
 
 abbrev pub Runs : Ended → Answers → List ℕ → List ℕ → Settings → ℕ → ℕ → State → State → Type 0
 Runs ended gives agent suffixes settings pages batch x y =
-    IsJudged settings x → CrawlsTo ended gives agent suffixes [] settings pages batch x y
+    IsJudged settings x → CrawlsTo ended gives agent suffixes [] settings 0 pages batch x y

@@ -18,12 +18,13 @@ settled_state notes done state =
     with_event (Settle (lengths_of state.urls) (outcomes_of done)) [] (with_notes notes state)
 
 -- as far as settling came: nothing, the notes, or the outcomes too, and judging behind them
-abbrev pub IsSettling : List Note → List Done → State → State → Type 0
-IsSettling notes done x y = (y ≡ x) ⊎ (y ≡ with_notes notes x) ⊎ OnlyJudges (settled_state notes done x) y
+abbrev pub IsSettling : Settings → List Note → List Done → State → State → Type 0
+IsSettling settings notes done x y =
+    (y ≡ x) ⊎ (y ≡ with_notes notes x) ⊎ OnlyJudges settings (settled_state notes done x) y
 
 -- by the answer: how many were settled
 pub record Settles (result : Result ℕ Fault) (settings : Settings) (notes : List Note) (done : List Done) (x y : State)
     : Type 0 where
-  pub is : IsSettling notes done x y
-  pub all : OnOk result (OnlyJudges (settled_state notes done x) y × IsJudged settings y)
-  pub ground : HasGround result settings x y
+  pub is : IsSettling settings notes done x y
+  pub all : OnOk result (OnlyJudges settings (settled_state notes done x) y × IsJudged settings y)
+  pub ground : HasGround result settings [] x y

@@ -28,11 +28,11 @@ pub record IsGivenBy {F : Type 0} (asked : F → ℕ) (gives : F → ℕ → Ans
   pub given : gives new (asked old) url want answer
 
 -- each goes on, and there are as many
-pub record AllGoOn {F : Type 0} (asked : F → ℕ) (gives : F → ℕ → Answers) (faults last : F → ℕ) (olds news : List F)
+pub record AllGoOn {F : Type 0} (asked : F → ℕ) (gives : F → ℕ → Answers) (faults last : F → ℕ) (aim : F → List ℕ) (olds news : List F)
     : Type 0 where
   pub count : length news ≡ length olds
   pub each : (at : ℕ) (old new : F) → slice_get olds at ≡ Some old → slice_get news at ≡ Some new
-      → GoesOn (fetcher asked gives faults last old) (fetcher asked gives faults last new)
+      → GoesOn (fetcher asked gives faults last aim old) (fetcher asked gives faults last aim new)
 
 -- a moment of one of them in this time
 pub record IsMomentBy {F : Type 0} (last : F → ℕ) (olds news : List F) (moment : ℕ) : Type 0 where

@@ -45,7 +45,7 @@ pub fn crawl<R, S, F, G>(
 where
     R: Threads + Wait + Sync,
     S: Store,
-    F: Fetch + Send,
+    F: Fetch,
     G: Gate + Send,
     requires open { IsOpen yard.parts }
     requires some { (1 ≤ length fetchers.old) × (length fetchers.old ≤ 64) × (length gates.old ≡ length fetchers.old) }
@@ -53,11 +53,11 @@ where
     ensures leads { (suffixes : List ℕ) → suffixes_in yard.parts.rest ≡ Some suffixes →
         Leads (result.0 ≡ Ended.Fault Fault.Failed)
         (OnlyCrawls (IsGivenBy F.asked F.gives fetchers.old fetchers.new) plan.now.agent suffixes plan.now.seeds.items
-        plan.now.pages plan.now.batch)
+        yard.parts.urls.settings 1 plan.now.pages plan.now.batch)
         (CrawlsTo result.0 (IsGivenBy F.asked F.gives fetchers.old fetchers.new) plan.now.agent suffixes
-        plan.now.seeds.items yard.parts.urls.settings plan.now.pages plan.now.batch)
+        plan.now.seeds.items yard.parts.urls.settings 1 plan.now.pages plan.now.batch)
         yard.parts result.1.parts (S.told yard.store) (S.told result.1.store) }
-    ensures fetchers { AllGoOn F.asked F.gives F.faults F.last fetchers.old fetchers.new }
+    ensures fetchers { AllGoOn F.asked F.gives F.faults F.last F.aim fetchers.old fetchers.new }
 {
     let _is_sound = yard.is_sound();
     let (seeded, yard) = seed(rt, alloc, yard, &plan.seeds);
@@ -111,7 +111,7 @@ fn go_on<R: Wait, S: Store, F: Fetch, G: Gate>(
         (Runs result.0 (IsGivenBy F.asked F.gives fetchers.old fetchers.new) crew.agent crew.suffixes
         yard.parts.urls.settings plan.now.pages plan.now.batch)
         yard.parts result.1.parts (S.told yard.store) (S.told result.1.store) }
-    ensures fetchers { AllGoOn F.asked F.gives F.faults F.last fetchers.old fetchers.new }
+    ensures fetchers { AllGoOn F.asked F.gives F.faults F.last F.aim fetchers.old fetchers.new }
 {
     let _is_sound = yard.is_sound();
     let mut yard = yard;
@@ -161,7 +161,7 @@ fn step<R: Wait, S: Store, F: Fetch, G: Gate>(
     ensures count { IfOk result.0 (λ count. count ≤ most) }
     ensures idle { OnOk result.0 (AreIdle (length fetchers.old) crew.new.agent (schedules crew.new.fronts.items)) }
     ensures crew { (crew.new.agent ≡ crew.old.agent) × (crew.new.suffixes ≡ crew.old.suffixes) }
-    ensures fetchers { AllGoOn F.asked F.gives F.faults F.last fetchers.old fetchers.new }
+    ensures fetchers { AllGoOn F.asked F.gives F.faults F.last F.aim fetchers.old fetchers.new }
 {
     if yard.front_len() == 0 {
         let mut yard = yard;

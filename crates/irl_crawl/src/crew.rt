@@ -96,7 +96,7 @@ impl Crew {
         ensures suffixes { self.new.suffixes ≡ self.old.suffixes }
         ensures urls { yard.new.parts.urls ≡ yard.old.parts.urls }
         ensures rest { yard.new.parts.rest ≡ yard.old.parts.rest }
-        ensures fetchers { AllGoOn F.asked F.gives F.faults F.last fetchers.old fetchers.new }
+        ensures fetchers { AllGoOn F.asked F.gives F.faults F.last F.aim fetchers.old fetchers.new }
     {
         let works = yard.front(self.alloc, most)?;
         let mut shares = no_shares(self.alloc, fetchers.len())?;

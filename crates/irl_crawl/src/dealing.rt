@@ -54,7 +54,7 @@ pub fn deal_all<S: Store, F: Fetch>(
     ensures deals { Deals result works.items yard.old.parts yard.new.parts
         (S.told yard.old.store) (S.told yard.new.store) shares.old shares.new }
     ensures serves { ServesOn result (length fetchers.old) hosts.old hosts.new shares.old shares.new }
-    ensures fetchers { AllGoOn F.asked F.gives F.faults F.last fetchers.old fetchers.new }
+    ensures fetchers { AllGoOn F.asked F.gives F.faults F.last F.aim fetchers.old fetchers.new }
 {
     for work in works {
         deal(alloc, yard, fetchers, hosts, shares, work)?;
@@ -77,7 +77,7 @@ fn deal<S: Store, F: Fetch>(
     ensures deals { Deals result (work ∷ []) yard.old.parts yard.new.parts
         (S.told yard.old.store) (S.told yard.new.store) shares.old shares.new }
     ensures serves { ServesOn result (length fetchers.old) hosts.old hosts.new shares.old shares.new }
-    ensures fetchers { AllGoOn F.asked F.gives F.faults F.last fetchers.old fetchers.new }
+    ensures fetchers { AllGoOn F.asked F.gives F.faults F.last F.aim fetchers.old fetchers.new }
 {
     let host = work.web.host();
     let met = hosts.name(host)?;
@@ -101,8 +101,8 @@ fn read_note<S: Store, F: Fetch>(
     requires { IsSound yard.old.parts }
     ensures adds { AddsNotes result yard.old.parts yard.new.parts
         (S.told yard.old.store) (S.told yard.new.store) notes.old.items notes.new.items }
-    ensures goes_on { GoesOn (fetcher F.asked F.gives F.faults F.last fetch.old)
-        (fetcher F.asked F.gives F.faults F.last fetch.new) }
+    ensures goes_on { GoesOn (fetcher F.asked F.gives F.faults F.last F.aim fetch.old)
+        (fetcher F.asked F.gives F.faults F.last F.aim fetch.new) }
 {
     if again {
         return Ok(());

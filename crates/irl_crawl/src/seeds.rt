@@ -29,7 +29,7 @@ pub fn seed<R: Wait, S: Store>(
 ) -> (Result<(), Fault>, Yard<S>)
     requires open { IsOpen yard.parts }
     requires short { AllByRecursion (λ text. length text ≤ max_text) seeds.now }
-    ensures leads { Leads (IsErrOf result.0 Fault.Failed) (OnlySeeds seeds.now)
+    ensures leads { Leads (IsErrOf result.0 Fault.Failed) (OnlySeeds yard.parts.urls.settings seeds.now)
         (Seeds result.0 yard.parts.urls.settings seeds.now) yard.parts result.1.parts
         (S.told yard.store) (S.told result.1.store) }
     ensures keeps { OnOk result.0 (KeepsFront yard.parts result.1.parts × IsSent result.1.parts) }
@@ -55,8 +55,9 @@ pub fn seed<R: Wait, S: Store>(
 /// Judges what is unjudged, and sends the pairs of what was judged.
 pub fn judge<S: Store>(yard: &mut Yard<S>) -> Result<(), Fault>
     requires open { IsOpen yard.old.parts }
-    ensures leads { Leads (IsErrOf result Fault.Failed) OnlyJudges (Judges result yard.old.parts.urls.settings)
-        yard.old.parts yard.new.parts (S.told yard.old.store) (S.told yard.new.store) }
+    ensures leads { Leads (IsErrOf result Fault.Failed) (OnlyJudges yard.old.parts.urls.settings)
+        (Judges result yard.old.parts.urls.settings) yard.old.parts yard.new.parts
+        (S.told yard.old.store) (S.told yard.new.store) }
     ensures keeps { OnOk result (KeepsFront yard.old.parts yard.new.parts × IsSent yard.new.parts) }
 {
     let _is_sound = yard.is_sound();

@@ -52,7 +52,7 @@ pub fn turn<R: Wait, S: Store, F: Fetch, G: Gate>(
     ensures crew { (crew.new.agent ≡ crew.old.agent) × (crew.new.suffixes ≡ crew.old.suffixes) }
     // A host that has a worker keeps it.
     ensures numbers { KeepsNumbers crew.old.hosts crew.new.hosts }
-    ensures fetchers { AllGoOn F.asked F.gives F.faults F.last fetchers.old fetchers.new }
+    ensures fetchers { AllGoOn F.asked F.gives F.faults F.last F.aim fetchers.old fetchers.new }
 {
     let mut yard = yard;
     let _is_sound = yard.is_sound();
@@ -88,7 +88,7 @@ fn fetch_all<R: Wait, S: Store, F: Fetch, G: Gate>(
     ensures fetches { Fetches result.0 (IsGivenBy F.asked F.gives fetchers.old fetchers.new) crew.old.agent
         crew.old.suffixes (schedules crew.old.fronts.items) (schedules crew.new.fronts.items)
         yard.parts result.1.parts (S.told yard.store) (S.told result.1.store) }
-    ensures fetchers { AllGoOn F.asked F.gives F.faults F.last fetchers.old fetchers.new }
+    ensures fetchers { AllGoOn F.asked F.gives F.faults F.last F.aim fetchers.old fetchers.new }
     ensures crew { crew.new ≡ record crew.old { fronts = crew.new.fronts } }
 {
     let _is_sound = yard.is_sound();
@@ -110,7 +110,8 @@ fn settle<S: Store>(yard: &mut Yard<S>, notes: &[Note], done: &[Done]) -> Result
     requires open { IsOpen yard.old.parts }
     requires notes { AllByRecursion IsNote notes.now }
     requires settles { MaySettle yard.old.parts.urls yard.old.parts.rest done.now }
-    ensures leads { Leads (IsErrOf result Fault.Failed) (IsSettling notes.now done.now)
+    ensures leads { Leads (IsErrOf result Fault.Failed)
+        (IsSettling yard.old.parts.urls.settings notes.now done.now)
         (Settles result yard.old.parts.urls.settings notes.now done.now) yard.old.parts yard.new.parts
         (S.told yard.old.store) (S.told yard.new.store) }
     ensures keeps { OnOk result (KeepsBegun yard.old.parts yard.new.parts × IsSent yard.new.parts) }

@@ -34,7 +34,7 @@ pub fn work_all<R: Wait, F: Fetch, O: Offers, G: Gate>(
     ensures moments { IfOk result (λ log.
         All (λ note. IsMomentBy F.last fetchers.old fetchers.new note.when) log.notes.items) }
     ensures follows { O.follows offers.old offers.new }
-    ensures fetchers { AllGoOn F.asked F.gives F.faults F.last fetchers.old fetchers.new }
+    ensures fetchers { AllGoOn F.asked F.gives F.faults F.last F.aim fetchers.old fetchers.new }
     ensures crew { crew.new ≡ record crew.old { fronts = crew.new.fronts } }
 {
     let mut whole = WorkLog {

@@ -61,4 +61,4 @@ returns-in-Err-clause-leads g c =
 pub returns-in-Err-clause-fetchers : goal.returns-in-Err-clause-fetchers
 returns-in-Err-clause-fetchers g c =
     let f = g.F.Fetch in
-    all_go_then f.asked f.gives f.faults f.last c.args.fetchers.now c.loop.fetchers c.step-settled.new.fetchers c.loop.invariant.2.runs.goes_on c.step-settled.ensures.fetchers
+    all_go_then f.asked f.gives f.faults f.last f.aim c.args.fetchers.now c.loop.fetchers c.step-settled.new.fetchers c.loop.invariant.2.runs.goes_on c.step-settled.ensures.fetchers

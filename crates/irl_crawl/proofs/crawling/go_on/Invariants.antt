@@ -6,7 +6,7 @@ use Rattle.irl_crawl.proofs.crawling.go_on.Given as goal
 abbrev pub invariant-loop : goal.invariant-loop
 invariant-loop g l = (goal.iterator-loop g).can_next l.iterator' × (goal.iterator-loop g).is_finite l.iterator'
     × record {
-      runs : RunsOn g.F.Fetch.asked g.F.Fetch.gives g.F.Fetch.faults g.F.Fetch.last l.fn.crew.agent l.fn.crew.suffixes l.plan.pages l.plan.batch l.left (schedules l.crew.fronts.items)
+      runs : RunsOn g.F.Fetch.asked g.F.Fetch.gives g.F.Fetch.faults g.F.Fetch.last g.F.Fetch.aim l.fn.crew.agent l.fn.crew.suffixes l.plan.pages l.plan.batch l.left (schedules l.crew.fronts.items)
           l.fn.fetchers l.fetchers
           l.fn.yard.parts l.yard.parts (g.S.Store.told l.fn.yard.store) (g.S.Store.told l.yard.store);
       agent : l.crew.agent ≡ l.fn.crew.agent;

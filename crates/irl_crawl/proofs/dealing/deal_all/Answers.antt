@@ -16,7 +16,7 @@ loop-work-preserved g c =
           c.in_ok-deal.ensures.deals;
       serves = serves_then (Ok tt) (length c.args.fetchers.now) c.args.hosts.now c.loop-work.hosts c.deal.new.hosts c.args.shares.now c.loop-work.shares c.deal.new.shares c.loop-work.invariant.serves
           (serves_unit c.in_ok-deal.field-0 (length c.args.fetchers.now) c.loop-work.hosts c.deal.new.hosts c.loop-work.shares c.deal.new.shares kept);
-      fetchers = all_go_then g.F.Fetch.asked g.F.Fetch.gives g.F.Fetch.faults g.F.Fetch.last c.args.fetchers.now c.loop-work.fetchers c.deal.new.fetchers c.loop-work.invariant.fetchers
+      fetchers = all_go_then g.F.Fetch.asked g.F.Fetch.gives g.F.Fetch.faults g.F.Fetch.last g.F.Fetch.aim c.args.fetchers.now c.loop-work.fetchers c.deal.new.fetchers c.loop-work.invariant.fetchers
           c.deal.ensures.fetchers;
     }
 
@@ -31,4 +31,4 @@ returns-in_err-deal-clause-deals g c =
 
 pub returns-in_err-deal-clause-fetchers : goal.returns-in_err-deal-clause-fetchers
 returns-in_err-deal-clause-fetchers g c =
-    all_go_then g.F.Fetch.asked g.F.Fetch.gives g.F.Fetch.faults g.F.Fetch.last c.args.fetchers.now c.loop-work.fetchers c.deal.new.fetchers c.loop-work.invariant.fetchers c.deal.ensures.fetchers
+    all_go_then g.F.Fetch.asked g.F.Fetch.gives g.F.Fetch.faults g.F.Fetch.last g.F.Fetch.aim c.args.fetchers.now c.loop-work.fetchers c.deal.new.fetchers c.loop-work.invariant.fetchers c.deal.ensures.fetchers

@@ -8,5 +8,5 @@ abbrev pub invariant-loop-work : goal.invariant-loop-work
 invariant-loop-work g l = record {
   deals : Deals (Ok tt) l.yielded l.fn.yard.parts l.yard.parts (g.S.Store.told l.fn.yard.store) (g.S.Store.told l.yard.store) l.fn.shares l.shares;
   serves : ServesOn (Ok tt) (length l.fn.fetchers) l.fn.hosts l.hosts l.fn.shares l.shares;
-  fetchers : AllGoOn g.F.Fetch.asked g.F.Fetch.gives g.F.Fetch.faults g.F.Fetch.last l.fn.fetchers l.fetchers;
+  fetchers : AllGoOn g.F.Fetch.asked g.F.Fetch.gives g.F.Fetch.faults g.F.Fetch.last g.F.Fetch.aim l.fn.fetchers l.fetchers;
 }

@@ -80,7 +80,7 @@ returns-in-Ok-clause-leads g c =
     (subst (λ (r : Result WorkLog Fault). Fetches r gives crew.agent crew.suffixes befores afters mid.parts now.parts (tells mid.store) (tells now.store)) c.in-Ok.is
     c.fetch_all-worked.ensures.fetches) in
     settled_after old.agent old.suffixes c.args.most (schedules old.fronts.items) befores afters gives wide
-    (given_second g.F.Fetch.asked g.F.Fetch.gives g.F.Fetch.faults g.F.Fetch.last c.args.fetchers.now c.load.new.fetchers c.fetch_all-worked.new.fetchers c.load.ensures.fetchers
+    (given_second g.F.Fetch.asked g.F.Fetch.gives g.F.Fetch.faults g.F.Fetch.last g.F.Fetch.aim c.args.fetchers.now c.load.new.fetchers c.fetch_all-worked.new.fetchers c.load.ensures.fetchers
     c.fetch_all-worked.ensures.fetchers g.met.F.Fetch.earlier)
     was.parts mid.parts (tells was.store) (tells mid.store)
     (λ x held. held_is_crawl (tells was.store).images was.parts x c.is_sound-is_sound.ensures.drum c.requires.«open».begun held) c.requires.suffixes c.in_default.field-0 c.in_default.ensures.leads
@@ -141,7 +141,7 @@ returns-in-Ok-clause-idle g c =
 
 pub returns-in-Ok-clause-fetchers : goal.returns-in-Ok-clause-fetchers
 returns-in-Ok-clause-fetchers g c =
-    all_go_then g.F.Fetch.asked g.F.Fetch.gives g.F.Fetch.faults g.F.Fetch.last c.args.fetchers.now c.load.new.fetchers c.fetch_all-worked.new.fetchers c.load.ensures.fetchers
+    all_go_then g.F.Fetch.asked g.F.Fetch.gives g.F.Fetch.faults g.F.Fetch.last g.F.Fetch.aim c.args.fetchers.now c.load.new.fetchers c.fetch_all-worked.new.fetchers c.load.ensures.fetchers
     c.fetch_all-worked.ensures.fetchers
 
 pub returns-in-Err-worked-clause-leads : goal.returns-in-Err-worked-clause-leads
@@ -162,7 +162,7 @@ returns-in-Err-worked-clause-leads g c =
     (subst (λ (r : Result WorkLog Fault). Fetches r gives crew.agent crew.suffixes befores afters mid.parts now.parts (tells mid.store) (tells now.store)) c.in-Err-worked.is
     c.fetch_all-worked.ensures.fetches) in
     not_fetched old.agent old.suffixes c.args.most (schedules old.fronts.items) befores afters gives wide
-    (given_second g.F.Fetch.asked g.F.Fetch.gives g.F.Fetch.faults g.F.Fetch.last c.args.fetchers.now c.load.new.fetchers c.fetch_all-worked.new.fetchers c.load.ensures.fetchers
+    (given_second g.F.Fetch.asked g.F.Fetch.gives g.F.Fetch.faults g.F.Fetch.last g.F.Fetch.aim c.args.fetchers.now c.load.new.fetchers c.fetch_all-worked.new.fetchers c.load.ensures.fetchers
     c.fetch_all-worked.ensures.fetchers g.met.F.Fetch.earlier)
     was.parts mid.parts (tells was.store) (tells mid.store)
     (λ x held. held_is_crawl (tells was.store).images was.parts x c.is_sound-is_sound.ensures.drum c.requires.«open».begun held) c.requires.suffixes c.in_default.field-0 c.in_default.ensures.leads
@@ -170,7 +170,7 @@ returns-in-Err-worked-clause-leads g c =
 
 pub returns-in-Err-worked-clause-fetchers : goal.returns-in-Err-worked-clause-fetchers
 returns-in-Err-worked-clause-fetchers g c =
-    all_go_then g.F.Fetch.asked g.F.Fetch.gives g.F.Fetch.faults g.F.Fetch.last c.args.fetchers.now c.load.new.fetchers c.fetch_all-worked.new.fetchers c.load.ensures.fetchers
+    all_go_then g.F.Fetch.asked g.F.Fetch.gives g.F.Fetch.faults g.F.Fetch.last g.F.Fetch.aim c.args.fetchers.now c.load.new.fetchers c.fetch_all-worked.new.fetchers c.load.ensures.fetchers
     c.fetch_all-worked.ensures.fetchers
 
 pub returns-in-Ok-clause-numbers : goal.returns-in-Ok-clause-numbers

@@ -12,7 +12,7 @@ use Rattle.irl_crawl.proofs.work.work_all.Goals as goal
 
 pub loop-worker-init : goal.loop-worker-init
 loop-worker-init g c = record {
-  far = far_first g.F.Fetch.asked g.F.Fetch.gives g.F.Fetch.faults g.F.Fetch.last (record { done = c.new.result; notes = c.new-2.result }) c.args.crew.now.agent c.args.crew.now.suffixes
+  far = far_first g.F.Fetch.asked g.F.Fetch.gives g.F.Fetch.faults g.F.Fetch.last g.F.Fetch.aim (record { done = c.new.result; notes = c.new-2.result }) c.args.crew.now.agent c.args.crew.now.suffixes
       c.args.fetchers.now (schedules c.args.crew.now.fronts.items) (offering g.O.Offers.entries g.O.Offers.last_fault g.O.Offers.takes g.O.Offers.follows c.args.offers.now)
       c.new.ensures.items c.new-2.ensures.items c.requires.agents;
   crew = refl;
@@ -27,11 +27,11 @@ pub returns-in_err-part-clause-works : goal.returns-in_err-part-clause-works
 returns-in_err-part-clause-works g c =
     let far = c.loop-worker.invariant.far in
     let low : c.loop-worker.worker < length c.args.fetchers.now = omega (arith, c.loop-worker-test.true) in
-    let runs = runs_at g.F.Fetch.asked g.F.Fetch.gives g.F.Fetch.faults g.F.Fetch.last c.loop-worker.worker c.index-fetchers-worker.result c.work.new.fetch c.args.fetchers.now
+    let runs = runs_at g.F.Fetch.asked g.F.Fetch.gives g.F.Fetch.faults g.F.Fetch.last g.F.Fetch.aim c.loop-worker.worker c.index-fetchers-worker.result c.work.new.fetch c.args.fetchers.now
     c.loop-worker.fetchers c.index_mut-front.result.now c.work.new.front c.args.crew.now.fronts.items c.loop-worker.crew.fronts.items far low c.requires.fronts c.index_mut-front.ensures.value
     c.work.ensures.goes_on c.work.ensures.agent c.work.ensures.delay in
-    let a = fetcher g.F.Fetch.asked g.F.Fetch.gives g.F.Fetch.faults g.F.Fetch.last (get_or c.loop-worker.fetchers c.loop-worker.worker c.index-fetchers-worker.result) in
-    let b = fetcher g.F.Fetch.asked g.F.Fetch.gives g.F.Fetch.faults g.F.Fetch.last c.work.new.fetch in
+    let a = fetcher g.F.Fetch.asked g.F.Fetch.gives g.F.Fetch.faults g.F.Fetch.last g.F.Fetch.aim (get_or c.loop-worker.fetchers c.loop-worker.worker c.index-fetchers-worker.result) in
+    let b = fetcher g.F.Fetch.asked g.F.Fetch.gives g.F.Fetch.faults g.F.Fetch.last g.F.Fetch.aim c.work.new.fetch in
     let p = offering g.O.Offers.entries g.O.Offers.last_fault g.O.Offers.takes g.O.Offers.follows c.loop-worker.offers in
     let q = offering g.O.Offers.entries g.O.Offers.last_fault g.O.Offers.takes g.O.Offers.follows c.work.new.offers in
     let same : c.loop-worker.crew.suffixes ≡ c.args.crew.now.suffixes = ap (λ (crew : Crew). crew.suffixes) c.loop-worker.invariant.crew in
@@ -45,7 +45,7 @@ pub returns-in_err-part-clause-fetchers : goal.returns-in_err-part-clause-fetche
 returns-in_err-part-clause-fetchers g c =
     let far = c.loop-worker.invariant.far in
     let low : c.loop-worker.worker < length c.args.fetchers.now = omega (arith, c.loop-worker-test.true) in
-    let runs = runs_at g.F.Fetch.asked g.F.Fetch.gives g.F.Fetch.faults g.F.Fetch.last c.loop-worker.worker c.index-fetchers-worker.result c.work.new.fetch c.args.fetchers.now
+    let runs = runs_at g.F.Fetch.asked g.F.Fetch.gives g.F.Fetch.faults g.F.Fetch.last g.F.Fetch.aim c.loop-worker.worker c.index-fetchers-worker.result c.work.new.fetch c.args.fetchers.now
     c.loop-worker.fetchers c.index_mut-front.result.now c.work.new.front c.args.crew.now.fronts.items c.loop-worker.crew.fronts.items far low c.requires.fronts c.index_mut-front.ensures.value
     c.work.ensures.goes_on c.work.ensures.agent c.work.ensures.delay in
     fetchers_more far runs
@@ -54,11 +54,11 @@ pub returns-in_err-join-clause-works : goal.returns-in_err-join-clause-works
 returns-in_err-join-clause-works g c =
     let far = c.loop-worker.invariant.far in
     let low : c.loop-worker.worker < length c.args.fetchers.now = omega (arith, c.loop-worker-test.true) in
-    let runs = runs_at g.F.Fetch.asked g.F.Fetch.gives g.F.Fetch.faults g.F.Fetch.last c.loop-worker.worker c.index-fetchers-worker.result c.work.new.fetch c.args.fetchers.now
+    let runs = runs_at g.F.Fetch.asked g.F.Fetch.gives g.F.Fetch.faults g.F.Fetch.last g.F.Fetch.aim c.loop-worker.worker c.index-fetchers-worker.result c.work.new.fetch c.args.fetchers.now
     c.loop-worker.fetchers c.index_mut-front.result.now c.work.new.front c.args.crew.now.fronts.items c.loop-worker.crew.fronts.items far low c.requires.fronts c.index_mut-front.ensures.value
     c.work.ensures.goes_on c.work.ensures.agent c.work.ensures.delay in
-    let a = fetcher g.F.Fetch.asked g.F.Fetch.gives g.F.Fetch.faults g.F.Fetch.last (get_or c.loop-worker.fetchers c.loop-worker.worker c.index-fetchers-worker.result) in
-    let b = fetcher g.F.Fetch.asked g.F.Fetch.gives g.F.Fetch.faults g.F.Fetch.last c.work.new.fetch in
+    let a = fetcher g.F.Fetch.asked g.F.Fetch.gives g.F.Fetch.faults g.F.Fetch.last g.F.Fetch.aim (get_or c.loop-worker.fetchers c.loop-worker.worker c.index-fetchers-worker.result) in
+    let b = fetcher g.F.Fetch.asked g.F.Fetch.gives g.F.Fetch.faults g.F.Fetch.last g.F.Fetch.aim c.work.new.fetch in
     let p = offering g.O.Offers.entries g.O.Offers.last_fault g.O.Offers.takes g.O.Offers.follows c.loop-worker.offers in
     let q = offering g.O.Offers.entries g.O.Offers.last_fault g.O.Offers.takes g.O.Offers.follows c.work.new.offers in
     let same : c.loop-worker.crew.suffixes ≡ c.args.crew.now.suffixes = ap (λ (crew : Crew). crew.suffixes) c.loop-worker.invariant.crew in
@@ -78,7 +78,7 @@ pub returns-in_err-join-clause-fetchers : goal.returns-in_err-join-clause-fetche
 returns-in_err-join-clause-fetchers g c =
     let far = c.loop-worker.invariant.far in
     let low : c.loop-worker.worker < length c.args.fetchers.now = omega (arith, c.loop-worker-test.true) in
-    let runs = runs_at g.F.Fetch.asked g.F.Fetch.gives g.F.Fetch.faults g.F.Fetch.last c.loop-worker.worker c.index-fetchers-worker.result c.work.new.fetch c.args.fetchers.now
+    let runs = runs_at g.F.Fetch.asked g.F.Fetch.gives g.F.Fetch.faults g.F.Fetch.last g.F.Fetch.aim c.loop-worker.worker c.index-fetchers-worker.result c.work.new.fetch c.args.fetchers.now
     c.loop-worker.fetchers c.index_mut-front.result.now c.work.new.front c.args.crew.now.fronts.items c.loop-worker.crew.fronts.items far low c.requires.fronts c.index_mut-front.ensures.value
     c.work.ensures.goes_on c.work.ensures.agent c.work.ensures.delay in
     fetchers_more far runs
@@ -87,11 +87,11 @@ pub loop-worker-preserved : goal.loop-worker-preserved
 loop-worker-preserved g c =
     let far = c.loop-worker.invariant.far in
     let low : c.loop-worker.worker < length c.args.fetchers.now = omega (arith, c.loop-worker-test.true) in
-    let runs = runs_at g.F.Fetch.asked g.F.Fetch.gives g.F.Fetch.faults g.F.Fetch.last c.loop-worker.worker c.index-fetchers-worker.result c.work.new.fetch c.args.fetchers.now
+    let runs = runs_at g.F.Fetch.asked g.F.Fetch.gives g.F.Fetch.faults g.F.Fetch.last g.F.Fetch.aim c.loop-worker.worker c.index-fetchers-worker.result c.work.new.fetch c.args.fetchers.now
     c.loop-worker.fetchers c.index_mut-front.result.now c.work.new.front c.args.crew.now.fronts.items c.loop-worker.crew.fronts.items far low c.requires.fronts c.index_mut-front.ensures.value
     c.work.ensures.goes_on c.work.ensures.agent c.work.ensures.delay in
-    let a = fetcher g.F.Fetch.asked g.F.Fetch.gives g.F.Fetch.faults g.F.Fetch.last (get_or c.loop-worker.fetchers c.loop-worker.worker c.index-fetchers-worker.result) in
-    let b = fetcher g.F.Fetch.asked g.F.Fetch.gives g.F.Fetch.faults g.F.Fetch.last c.work.new.fetch in
+    let a = fetcher g.F.Fetch.asked g.F.Fetch.gives g.F.Fetch.faults g.F.Fetch.last g.F.Fetch.aim (get_or c.loop-worker.fetchers c.loop-worker.worker c.index-fetchers-worker.result) in
+    let b = fetcher g.F.Fetch.asked g.F.Fetch.gives g.F.Fetch.faults g.F.Fetch.last g.F.Fetch.aim c.work.new.fetch in
     let p = offering g.O.Offers.entries g.O.Offers.last_fault g.O.Offers.takes g.O.Offers.follows c.loop-worker.offers in
     let q = offering g.O.Offers.entries g.O.Offers.last_fault g.O.Offers.takes g.O.Offers.follows c.work.new.offers in
     let same : c.loop-worker.crew.suffixes ≡ c.args.crew.now.suffixes = ap (λ (crew : Crew). crew.suffixes) c.loop-worker.invariant.crew in
