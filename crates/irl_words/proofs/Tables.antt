@@ -1,4 +1,4 @@
--- The options of the code's tables, as a reader of command lines is told them.
+-- The arguments of the code's tables, as a reader of command lines is told them.
 use Rattle.std.proofs.Common.{◌≡◌, ◌∙◌, ◌+◌, ◌<◌, ◌^◌, ◌++◌, ℕ, suc, List, [], ◌∷◌, length, map, take, get_or, Some, sym, ap, subst, append-nil, arith, ℤ, pos, to_z}
 use Rattle.std.specs.Borrow.{Bor}
 use Rattle.std.specs.List.{flat_map, fold}
@@ -13,8 +13,8 @@ use Rattle.clap.specs.Values.{NarrowsTo, unsigned_up_to}
 use Rattle.clap.specs.declared.builder.value_parser.ValueParser.{ValueParser}
 use Rattle.clap.specs.Words.{App, Rule, with_rule}
 use Rattle.clap.specs.declared.builder.value_parser.ValueParser.TheVariants.{Unsigned}
-use Rattle.irl_words.specs.Tables.{rule_of_option, rules_of_group}
-use Rattle.irl_words.specs.declared.options.LongOption.{LongOption}
+use Rattle.irl_words.specs.Tables.{rule_of_argument, rules_of_group}
+use Rattle.irl_words.specs.declared.options.Argument.{Argument}
 
 -- two numbers below the greatest signed one narrow the numbers of 64 bits to those from one to the other
 pub narrowed : (least most : ℕ) → least < 2 ^ 63 → most < 2 ^ 63
@@ -30,22 +30,22 @@ ranged whole parser start last least most all from upto low high narrows =
     let two = subst (λ (z : ℤ). NarrowsTo (Unsigned 0 18446744073709551615) (Some z) (Some last) parser) (from ∙ to_z_pos w64 least low) one in
     subst (λ (z : ℤ). NarrowsTo (Unsigned 0 18446744073709551615) (Some (pos least)) (Some z) parser) (upto ∙ to_z_pos w64 most high) two ∙ narrowed least most low high
 
--- a command that has the options before one, and then that one
-pub one_more : (options : List LongOption) (i : ℕ) (last : LongOption) (start old new : App) → i < length options
-    → old ≡ fold with_rule start (map rule_of_option (take i options)) → new ≡ with_rule old (rule_of_option (get_or options i last))
-    → new ≡ fold with_rule start (map rule_of_option (take (i + 1) options))
-one_more options i last start old new within before is =
+-- a command that has the arguments before one, and then that one
+pub one_more : (arguments : List Argument) (i : ℕ) (last : Argument) (start old new : App) → i < length arguments
+    → old ≡ fold with_rule start (map rule_of_argument (take i arguments)) → new ≡ with_rule old (rule_of_argument (get_or arguments i last))
+    → new ≡ fold with_rule start (map rule_of_argument (take (i + 1) arguments))
+one_more arguments i last start old new within before is =
     let more : i + 1 ≡ suc i = omega arith in
-    let next = ap (λ (n : ℕ). take n options) more ∙ take-suc options i last within in
-    let one = get_or options i last in
+    let next = ap (λ (n : ℕ). take n arguments) more ∙ take-suc arguments i last within in
+    let one = get_or arguments i last in
     is
-    ∙ ap (λ (a : App). with_rule a (rule_of_option one)) before
-    ∙ sym (fold-append with_rule start (map rule_of_option (take i options)) (rule_of_option one ∷ []))
-    ∙ ap (fold with_rule start) (sym (map-append rule_of_option (take i options) (one ∷ [])))
-    ∙ ap (λ (all : List LongOption). fold with_rule start (map rule_of_option all)) (sym next)
+    ∙ ap (λ (a : App). with_rule a (rule_of_argument one)) before
+    ∙ sym (fold-append with_rule start (map rule_of_argument (take i arguments)) (rule_of_argument one ∷ []))
+    ∙ ap (fold with_rule start) (sym (map-append rule_of_argument (take i arguments) (one ∷ [])))
+    ∙ ap (λ (all : List Argument). fold with_rule start (map rule_of_argument all)) (sym next)
 
 -- the same of groups
-pub one_group_more : (groups : List (Bor (List LongOption))) (i : ℕ) (last : Bor (List LongOption)) (start old new : App) → i < length groups
+pub one_group_more : (groups : List (Bor (List Argument))) (i : ℕ) (last : Bor (List Argument)) (start old new : App) → i < length groups
     → old ≡ fold with_rule start (flat_map rules_of_group (take i groups)) → new ≡ fold with_rule old (rules_of_group (get_or groups i last))
     → new ≡ fold with_rule start (flat_map rules_of_group (take (i + 1) groups))
 one_group_more groups i last start old new within before is =
@@ -57,4 +57,4 @@ one_group_more groups i last start old new within before is =
     ∙ sym (fold-append with_rule start (flat_map rules_of_group (take i groups)) (rules_of_group one))
     ∙ ap (λ (more : List Rule). fold with_rule start (flat_map rules_of_group (take i groups) ++ more)) (sym (append-nil (rules_of_group one)))
     ∙ ap (fold with_rule start) (sym (flat_map-append rules_of_group (take i groups) (one ∷ [])))
-    ∙ ap (λ (all : List (Bor (List LongOption))). fold with_rule start (flat_map rules_of_group all)) (sym next)
+    ∙ ap (λ (all : List (Bor (List Argument))). fold with_rule start (flat_map rules_of_group all)) (sym next)

@@ -28,7 +28,7 @@ use Rattle.irl_words.specs.Words.{AreRunOptions, IsInRange, asked_for, has_most_
 use Rattle.irl_words.specs.declared.command.Command.TheVariants as Asks
 use Rattle.irl_words.specs.declared.command.RunOptions.{RunOptions}
 use Rattle.irl_words.specs.declared.name.Name.{Name}
-use Rattle.irl_words.specs.declared.name.Name.TheVariants.{Seen, Drum, Replay, Show, List as Listing}
+use Rattle.irl_words.specs.declared.name.Name.TheVariants.{Seen, Drum, Replay, Crawl as Crawling, Gen, Show, List as Listing}
 use Rattle.irl_words.proofs.Numbers.{number_in_range}
 use Rattle.irl_words.proofs.Ranges.{takes_between, value_in_range}
 
@@ -53,6 +53,8 @@ row : (name : Name) → IsRow name
 row Seen = record { simple = refl; free = refl; rules = refl; own = refl }
 row Drum = record { simple = refl; free = refl; rules = refl; own = refl }
 row Replay = record { simple = refl; free = refl; rules = refl; own = refl }
+row Crawling = record { simple = refl; free = refl; rules = refl; own = refl }
+row Gen = record { simple = refl; free = refl; rules = refl; own = refl }
 row Show = record { simple = refl; free = refl; rules = refl; own = refl }
 row Listing = record { simple = refl; free = refl; rules = refl; own = refl }
 
@@ -127,6 +129,7 @@ seen_in_range asked rows is buckets sizes =
       rule = ap (λ (a : Asked). a.rule) is;
       valid = valid asked Lines None rows is buckets sizes;
       run = tt;
+      number = tt;
     }
 
 pub drum_in_range : (asked : Asked) (rule : Option ValueRule) (rows : List Row) → asked ≡ with_settings rows (asked_for Tuples rule)
@@ -137,6 +140,7 @@ drum_in_range asked rule rows is buckets sizes =
       rule = tt;
       valid = valid asked Tuples rule rows is buckets sizes;
       run = tt;
+      number = tt;
     }
 
 -- a base and a most that lie in their ranges, the most not below the base where both are there
@@ -166,21 +170,46 @@ crawl_can_be asked sized rows from is buckets sizes range order =
       };
     })
 
--- the budgets' options stand behind those of the settings
-of_budgets : (which : Name) (rows : List Row) → which ≡ Replay → AreInRange (rules_of which) rows → AreInRange budgets_options rows
-of_budgets which rows is range =
-    let all = subst (λ (n : Name). AreInRange (rules_of n) rows) is range in
-    let b = all.1.1.1.1.1 in
-    (b.0, (b.1.0, (b.1.1.0, (b.1.1.1.0, tt))))
-
-pub replay_in_range : (which : Name) (asked sized : Asked) (options : RunOptions) (rows : List Row) → which ≡ Replay → AreInRange (rules_of which) rows
+pub replay_in_range : (asked sized : Asked) (options : RunOptions) (rows : List Row) → AreInRange budgets_options rows
     → sized ≡ with_settings rows (asked_for Crawl None) → asked ≡ with_budgets rows sized → IsBucketCount (settings_of asked).buckets
     → AreValidSizes (settings_of sized) → has_most_below_base asked ≡ false → AreRunOptions options → IsInRange (Asks.Replay asked options)
-replay_in_range which asked sized options rows name range from is buckets sizes order run =
+replay_in_range asked sized options rows range from is buckets sizes order run =
     let whole = is ∙ ap (with_budgets rows) from in
     record {
       kind = ap (λ (a : Asked). Some a.kind) whole;
       rule = ap (λ (a : Asked). a.rule) whole;
-      valid = crawl_can_be asked sized rows from is buckets sizes (of_budgets which rows name range) order;
+      valid = crawl_can_be asked sized rows from is buckets sizes range order;
       run = run;
+      number = tt;
+    }
+
+-- ---- the numbers of crawls
+-- a number that is named is in the range of its option
+named_in_range : (option : List ℕ) (most number : ℕ) (rows : List Row) → IfSome (one_of option rows) (IsUnsignedIn 1 most) → number_in option rows ≡ Some number → 1 ≤ most
+    → (1 ≤ number) × (number ≤ most)
+named_in_range option most number rows range is some =
+    subst (λ (n : Option ℕ). (1 ≤ unwrap_or n 1) × (unwrap_or n 1 ≤ most)) is (number_in_range option 1 most 1 rows range (omega arith) some)
+
+pub port_in_range : (which : Name) (asked : Asked) (options : RunOptions) (port : ℕ) (rows : List Row) → which ≡ Crawling → AreInRange (rules_of which) rows
+    → number_in (codes "port") rows ≡ Some port → IsInRange (Asks.Replay asked options) → IsInRange (Asks.Crawl asked options port)
+port_in_range which asked options port rows name range is crawl =
+    let all = subst (λ (n : Name). AreInRange (rules_of n) rows) name range in
+    record {
+      kind = crawl.kind;
+      rule = crawl.rule;
+      valid = crawl.valid;
+      run = crawl.run;
+      number = named_in_range (codes "port") 65535 port rows all.1.1.1.1.1.1.1.1.1.1.1.1.1.1.0 is (omega arith);
+    }
+
+pub pages_in_range : (which : Name) (asked : Asked) (options : RunOptions) (pages : ℕ) (rows : List Row) → which ≡ Gen → AreInRange (rules_of which) rows
+    → number_in (codes "size") rows ≡ Some pages → IsInRange (Asks.Replay asked options) → IsInRange (Asks.Gen asked options pages)
+pages_in_range which asked options pages rows name range is crawl =
+    let all = subst (λ (n : Name). AreInRange (rules_of n) rows) name range in
+    record {
+      kind = crawl.kind;
+      rule = crawl.rule;
+      valid = crawl.valid;
+      run = crawl.run;
+      number = named_in_range (codes "size") 100000 pages rows all.1.1.1.1.1.1.1.1.1.1.1.1.1.1.0 is (omega arith);
     }

@@ -18,7 +18,8 @@ use Rattle.irl_words.specs.Options.{name_of, options_of}
 use Rattle.irl_words.specs.declared.name.Name.{Name}
 use Rattle.irl_words.specs.declared.name.Name.TheVariants as name
 use Rattle.irl_words.specs.declared.command.Command.{Command}
-use Rattle.irl_words.specs.declared.command.Command.TheVariants.{Seen, Drum, Replay, Show, List as Listing}
+use Rattle.irl_words.specs.declared.command.Command.TheVariants.{Seen, Drum, Replay, Gen, Show}
+use Rattle.irl_words.specs.declared.command.Command.TheVariants.{Crawl as Crawling, List as Listing}
 use Rattle.irl_words.specs.declared.command.RunOptions.{RunOptions}
 use Rattle.irl_words.specs.declared.command.WordFault.{WordFault}
 use Rattle.irl_words.specs.declared.command.WordFault.TheVariants.{Refused, Memory}
@@ -126,28 +127,42 @@ checked_run options =
     if not (is_agent options.agent) then Err (codes "--agent")
     else (if not (nat_eq options.workers 1) then Err (codes "--workers") else Ok options)
 
+-- what a crawl asks of a store and how it is run, or the option with which they are refused: the first of these
+abbrev pub paired : Result Asked (List ℕ) → Result RunOptions (List ℕ) → Result (Asked × RunOptions) (List ℕ)
+paired (Ok asked) (Ok options) = Ok (asked, options)
+paired (Ok asked) (Err word) = Err word
+paired (Err word) options = Err word
+
+abbrev pub crawl_in : List Row → Result (Asked × RunOptions) (List ℕ)
+crawl_in rows =
+    paired (checked (with_budgets rows (with_settings rows (asked_for Crawl None)))) (checked_run (run_in rows))
+
 -- the command that asks for this, unless it is refused
 abbrev pub asking : (Asked → Command) → Result Asked (List ℕ) → Result Command (List ℕ)
 asking command (Ok asked) = Ok (command asked)
 asking command (Err word) = Err word
 
 -- the same of a crawl, with the options of its run
-abbrev pub running : (Asked → RunOptions → Command) → Result Asked (List ℕ) → Result RunOptions (List ℕ)
-    → Result Command (List ℕ)
-running command (Ok asked) (Ok options) = Ok (command asked options)
-running command (Ok asked) (Err word) = Err word
-running command (Err word) options = Err word
+abbrev pub running : (Asked → RunOptions → Command) → Result (Asked × RunOptions) (List ℕ) → Result Command (List ℕ)
+running command (Ok crawl) = Ok (command crawl.0 crawl.1)
+running command (Err word) = Err word
 
 -- The command of this name with these values of its options, or the word with which they are refused, the first of
--- these: the command's own where the value of one of its options is none that it takes; then the option with which what
--- is asked of a store is refused; and then that with which its run is. Those that a command alone has come last.
+-- these: the command's own where the value of one of its options is none that it takes, or where one that has to be
+-- there isn't; then the option with which what is asked of a store is refused; and then that with which its run is.
+-- Those that a command alone has come last.
 abbrev pub decided : Name → List ℕ → List Row → Result Command (List ℕ)
 decided name.Seen word rows = asking Seen (checked (with_settings rows (asked_for Lines None)))
 decided name.Drum word rows =
     option_map_or (λ rule. asking Drum (checked (with_settings rows (asked_for Tuples rule))))
     (rule_in (first_of (codes "rule") rows)) (Err word)
-decided name.Replay word rows =
-    running Replay (checked (with_budgets rows (with_settings rows (asked_for Crawl None)))) (checked_run (run_in rows))
+decided name.Replay word rows = running Replay (crawl_in rows)
+decided name.Crawl word rows =
+    option_map_or (λ port. running (λ asked options. Crawling asked options port) (crawl_in rows))
+    (number_in (codes "port") rows) (Err word)
+decided name.Gen word rows =
+    option_map_or (λ pages. running (λ asked options. Gen asked options pages) (crawl_in rows))
+    (number_in (codes "size") rows) (Err word)
 decided name.Show word rows = Ok Show
 decided name.List word rows = Ok Listing
 
@@ -185,6 +200,8 @@ abbrev pub asked_of : Command → Option Asked
 asked_of (Seen asked) = Some asked
 asked_of (Drum asked) = Some asked
 asked_of (Replay asked options) = Some asked
+asked_of (Crawling asked options port) = Some asked
+asked_of (Gen asked options pages) = Some asked
 asked_of Show = None
 asked_of Listing = None
 
@@ -192,6 +209,8 @@ abbrev pub kind_of : Command → Option Kind
 kind_of (Seen asked) = Some Lines
 kind_of (Drum asked) = Some Tuples
 kind_of (Replay asked options) = Some Crawl
+kind_of (Crawling asked options port) = Some Crawl
+kind_of (Gen asked options pages) = Some Crawl
 kind_of Show = None
 kind_of Listing = None
 
@@ -200,6 +219,8 @@ abbrev pub HasNoRule : Command → Type 0
 HasNoRule (Seen asked) = asked.rule ≡ None
 HasNoRule (Drum asked) = ⊤
 HasNoRule (Replay asked options) = asked.rule ≡ None
+HasNoRule (Crawling asked options port) = asked.rule ≡ None
+HasNoRule (Gen asked options pages) = asked.rule ≡ None
 HasNoRule Show = ⊤
 HasNoRule Listing = ⊤
 
@@ -214,6 +235,8 @@ abbrev pub CanBeAsked : Command → Type 0
 CanBeAsked (Seen asked) = AreValid (settings_of asked)
 CanBeAsked (Drum asked) = AreValid (settings_of asked)
 CanBeAsked (Replay asked options) = AreValid (settings_of (with_widest_budgets asked))
+CanBeAsked (Crawling asked options port) = AreValid (settings_of (with_widest_budgets asked))
+CanBeAsked (Gen asked options pages) = AreValid (settings_of (with_widest_budgets asked))
 CanBeAsked Show = ⊤
 CanBeAsked Listing = ⊤
 
@@ -222,6 +245,8 @@ abbrev pub run_of : Command → Option RunOptions
 run_of (Seen asked) = None
 run_of (Drum asked) = None
 run_of (Replay asked options) = Some options
+run_of (Crawling asked options port) = Some options
+run_of (Gen asked options pages) = Some options
 run_of Show = None
 run_of Listing = None
 
@@ -233,9 +258,21 @@ pub record AreRunOptions (options : RunOptions) : Type 0 where
   pub batch : (1 ≤ options.batch) × (options.batch ≤ 16384)
   pub agent : is_agent options.agent ≡ true
 
--- What a command asks is in range: it asks for a store of its own kind, as one can be, and for a run as one can be.
+-- the port of a crawl is one, and a made-up site has 1 to 100,000 pages
+abbrev pub HasNumber : Command → Type 0
+HasNumber (Seen asked) = ⊤
+HasNumber (Drum asked) = ⊤
+HasNumber (Replay asked options) = ⊤
+HasNumber (Crawling asked options port) = (1 ≤ port) × (port ≤ 65535)
+HasNumber (Gen asked options pages) = (1 ≤ pages) × (pages ≤ 100000)
+HasNumber Show = ⊤
+HasNumber Listing = ⊤
+
+-- What a command asks is in range: it asks for a store of its own kind, as one can be, and for a run as one can be, and
+-- its own number is one.
 pub record IsInRange (command : Command) : Type 0 where
   pub kind : option_map (λ asked. asked.kind) (asked_of command) ≡ kind_of command
   pub rule : HasNoRule command
   pub valid : CanBeAsked command
   pub run : IfSome (run_of command) AreRunOptions
+  pub number : HasNumber command

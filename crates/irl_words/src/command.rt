@@ -10,6 +10,12 @@ pub enum Command {
     Drum(Asked),
     /// Crawls the pages of a tape, and prints the report. It asks this of the store, and runs with these options.
     Replay(Asked, RunOptions),
+    /// Crawls sites that answer on this machine, at this port, and prints the report. It asks this of the store, and
+    /// runs with these options.
+    Crawl(Asked, RunOptions, u16),
+    /// Crawls a made-up site of so many pages, and prints the report. It asks this of the store, and runs with these
+    /// options.
+    Gen(Asked, RunOptions, u32),
     /// Prints the report of the store.
     Show,
     /// Prints a line for each URL or line of the store that was judged Unique.

@@ -5,7 +5,7 @@ ghost use Rattle.irl_words.specs.Tables.{rules_of_row, IsSmallRow};
 ghost use Rattle.irl_words.specs.Options.{options_of};
 
 use crate::name::Name;
-use crate::options::{BUDGETS, LongOption, RULE, RUN, SETTINGS, with_options};
+use crate::options::{Argument, BUDGETS, PORT, RULE, RUN, SETTINGS, SIZE, with_arguments};
 use clap::Command;
 use std::alloc::{AllocError, Global};
 
@@ -13,9 +13,9 @@ use std::alloc::{AllocError, Global};
 pub(crate) struct Row {
     word: &'static str,
     /// The options that it has in common with others, by groups.
-    groups: &'static [&'static [LongOption]],
-    /// Those that it alone has.
-    own: &'static [LongOption],
+    groups: &'static [&'static [Argument]],
+    /// What it alone is given.
+    own: &'static [Argument],
     usage: &'static str,
     /// What it does.
     about: &'static str,
@@ -84,6 +84,49 @@ lines `|TEXT` of its body, and `end`. URLs that aren't on it answer 404.
     0 page http://a.test/
     1 status:404 http://a.test/x",
     notes: NOTES_OF_A_CRAWL,
+};
+
+// `crawl` crawls what answers on this machine. Its help has an example.
+const CRAWL: Row = Row {
+    word: "crawl",
+    groups: &[&SETTINGS, &BUDGETS, &RUN],
+    own: &[PORT],
+    usage: "irl DIR crawl --port N [OPTIONS]",
+    about: "\
+Crawls sites that answer on this machine: every host is reached at 127.0.0.1 on the
+port of --port, whatever its URLs say, and is sent its own name in `Host:`. Keeps in
+the folder DIR what it finds and what comes of it, and prints the report, as `show`
+does. It goes on from what the folder has, and ends where no URL waits, or after
+--pages of them.
+
+Standard input is a tape without pages: lines `suffix NAME` and `seed URL`.
+
+    $ python3 -m http.server 8080 >log 2>&1 &
+    $ echo 'seed http://a.test/' | irl DIR crawl --port 8080 --pages 1 | grep page
+    page 1",
+    notes: NOTES_OF_A_CRAWL,
+};
+
+// `gen` crawls what is made up. Its help has an example.
+const GEN: Row = Row {
+    word: "gen",
+    groups: &[&SETTINGS, &BUDGETS, &RUN],
+    own: &[SIZE],
+    usage: "irl DIR gen N [OPTIONS]",
+    about: "\
+Crawls a made-up site of N pages, keeps in the folder DIR what it finds and what comes
+of it, and prints the report, as `show` does. It reads no input. It goes on from what
+the folder has, and ends where no URL waits, or after --pages of them.
+
+Page I is http://sH.test/pI, where H is I mod 16. It leads to the pages 2 * I + 1 and
+2 * I + 2, where the site has these, and to the page (7 * I + 3) mod N. The crawl
+begins at page 0.
+
+    $ irl DIR gen 2000 | grep -e unique -e pairs -e done
+    unique 2000
+    pairs 44
+    done 2000",
+    notes: NOTES_OF_A_MADE_SITE,
 };
 
 // `show` reports what a store has.
@@ -156,6 +199,15 @@ Exit status: 0 done, 1 words refused, 2 a line refused, 3 not a store, damaged o
 made with other settings, 4 disk fault, 5 input fault, 6 output fault,
 7 no memory, 8 a bucket full.";
 
+// The same of one that makes up what it crawls, and reads no input.
+const NOTES_OF_A_MADE_SITE: &str = "\
+In brackets stands what a new store gets, and from --workers on what each run gets.
+A store keeps what it was made with, from --buckets to --ranks: one of these that
+isn't named takes that, and another value is refused.
+
+Exit status: 0 done, 1 words refused, 3 not a store, damaged or made with other
+settings, 4 disk fault, 6 output fault, 7 no memory, 8 a bucket full.";
+
 // The same of one that only looks at a store.
 const NOTES_OF_A_LOOK: &str = "\
 Exit status: 0 done, 1 words refused, 3 not a store or damaged, 4 disk fault,
@@ -169,6 +221,8 @@ pub(crate) fn command<'a>(alloc: Global, name: Name) -> Result<Command<'a>, Allo
         Name::Seen => command_of_row(alloc, &SEEN),
         Name::Drum => command_of_row(alloc, &DRUM),
         Name::Replay => command_of_row(alloc, &REPLAY),
+        Name::Crawl => command_of_row(alloc, &CRAWL),
+        Name::Gen => command_of_row(alloc, &GEN),
         Name::Show => command_of_row(alloc, &SHOW),
         Name::List => command_of_row(alloc, &LIST),
     }
@@ -185,7 +239,7 @@ fn command_of_row<'a>(alloc: Global, row: &Row) -> Result<Command<'a>, AllocErro
         .about(row.about)
         .after_help(row.notes);
     for group in row.groups {
-        command = with_options(alloc, command, group)?;
+        command = with_arguments(alloc, command, group)?;
     }
-    with_options(alloc, command, row.own)
+    with_arguments(alloc, command, row.own)
 }

@@ -7,6 +7,8 @@ pub(crate) enum Name {
     Seen,
     Drum,
     Replay,
+    Crawl,
+    Gen,
     Show,
     List,
 }
@@ -20,6 +22,8 @@ impl Name {
             "seen" => Some(Name::Seen),
             "drum" => Some(Name::Drum),
             "replay" => Some(Name::Replay),
+            "crawl" => Some(Name::Crawl),
+            "gen" => Some(Name::Gen),
             "show" => Some(Name::Show),
             "list" => Some(Name::List),
             _ => None,

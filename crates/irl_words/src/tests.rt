@@ -54,6 +54,12 @@ fn is_same(one: &Command, other: &Command) -> bool {
         (Command::Replay(asked, options), Command::Replay(wanted, others)) => {
             asked == wanted && is_same_run(options, others)
         }
+        (Command::Crawl(asked, options, port), Command::Crawl(wanted, others, other)) => {
+            asked == wanted && is_same_run(options, others) && port == other
+        }
+        (Command::Gen(asked, options, pages), Command::Gen(wanted, others, other)) => {
+            asked == wanted && is_same_run(options, others) && pages == other
+        }
         (Command::Show, Command::Show) => true,
         (Command::List, Command::List) => true,
         _ => false,
@@ -196,6 +202,31 @@ const REFUSED: [(&str, &[&str]); 76] = [
     ),
 ];
 
+// The same of words that are no `crawl` and no `gen`.
+const REFUSED_CRAWLS: [(&str, &[&str]); 15] = [
+    ("Crawl", &["Crawl"]),
+    ("crawl", &["crawl", "--port", "80", "--help"]),
+    ("crawl", &["crawl", "--port", "80", "--rule", "add"]),
+    ("crawl", &["crawl", "--port", "80", "--workers", "65"]),
+    ("crawl", &["crawl", "--buckets", "3"]),
+    ("--buckets", &["crawl", "--port", "80", "--buckets", "3"]),
+    (
+        "--most",
+        &["crawl", "--base", "2", "--most", "1", "--port", "80"],
+    ),
+    (
+        "--agent",
+        &["crawl", "--agent", "1", "--workers", "2", "--port", "80"],
+    ),
+    ("--workers", &["crawl", "--port", "80", "--workers", "2"]),
+    ("Gen", &["Gen", "5"]),
+    ("gen", &["gen", "5", "--help"]),
+    ("gen", &["gen", "100001", "--workers", "2"]),
+    ("gen", &["gen", "--workers", "2"]),
+    ("--agent", &["gen", "--agent=", "5"]),
+    ("--workers", &["gen", "5", "--workers", "64"]),
+];
+
 // A name of 65 letters, which is no agent's, and one of 64.
 const LONG_AGENT: &str = "abcdefghijklmnopqrstuvwxyzabcdefghijklmnopqrstuvwxyz-_abcdefghijk";
 
@@ -204,6 +235,14 @@ const LONGEST_AGENT: &str = "abcdefghijklmnopqrstuvwxyzABCDEFGHIJKLMNOPQRSTUVWXY
 #[test]
 fn words_are_refused_with_one_of_them(rt: HostRuntime) -> Result<(), Fail> {
     for (word, words) in REFUSED {
+        assert!(rt; is_refused_with(rt.alloc(), words, word)?, "at {words:?}");
+    }
+    Ok(())
+}
+
+#[test]
+fn words_of_a_crawl_are_refused(rt: HostRuntime) -> Result<(), Fail> {
+    for (word, words) in REFUSED_CRAWLS {
         assert!(rt; is_refused_with(rt.alloc(), words, word)?, "at {words:?}");
     }
     Ok(())
@@ -403,16 +442,125 @@ const REPLAYS: [(&[&str], Asked, (u64, u32, u32, &str)); 6] = [
 
 #[test]
 fn a_run_has_its_options(rt: HostRuntime) -> Result<(), Fail> {
-    for (words, asked, (delay, pages, batch, agent)) in REPLAYS {
-        let options = RunOptions {
-            workers: 1,
-            delay,
-            pages,
-            batch,
-            agent: Text::from_bytes(rt.alloc(), agent.as_bytes())?,
-        };
-        let command = Command::Replay(asked, options);
-        assert!(rt; are(rt.alloc(), words, &command)?, "at {words:?}");
+    for (words, asked, run) in REPLAYS {
+        assert!(rt; is_replay(rt.alloc(), words, asked, run)?, "at {words:?}");
+        assert!(rt; is_crawl(rt.alloc(), words, asked, run)?, "at {words:?}");
+        assert!(rt; is_gen(rt.alloc(), words, asked, run)?, "at {words:?}");
+    }
+    Ok(())
+}
+
+// The delay, the pages, the batch and the agent of a run.
+type Run = (u64, u32, u32, &'static str);
+
+// Whether the words are a `replay` that asks this of a store and runs so.
+fn is_replay(alloc: Global, words: &[&str], asked: Asked, run: Run) -> Result<bool, AllocError> {
+    are(
+        alloc,
+        words,
+        &Command::Replay(asked, options_of(alloc, run)?),
+    )
+}
+
+// Whether a `crawl` with the same options does.
+fn is_crawl(alloc: Global, words: &[&str], asked: Asked, run: Run) -> Result<bool, AllocError> {
+    let words = with_options_of(alloc, &["crawl", "--port", "80"], words)?;
+    are(
+        alloc,
+        &words,
+        &Command::Crawl(asked, options_of(alloc, run)?, 80),
+    )
+}
+
+// Whether a `gen` with the same options does.
+fn is_gen(alloc: Global, words: &[&str], asked: Asked, run: Run) -> Result<bool, AllocError> {
+    let words = with_options_of(alloc, &["gen", "5"], words)?;
+    are(
+        alloc,
+        &words,
+        &Command::Gen(asked, options_of(alloc, run)?, 5),
+    )
+}
+
+// The options of such a run.
+fn options_of(alloc: Global, (delay, pages, batch, agent): Run) -> Result<RunOptions, AllocError> {
+    Ok(RunOptions {
+        workers: 1,
+        delay,
+        pages,
+        batch,
+        agent: Text::from_bytes(alloc, agent.as_bytes())?,
+    })
+}
+
+// These words, and behind them those of a command but for its first.
+fn with_options_of<'a>(
+    alloc: Global,
+    first: &[&'a str],
+    words: &[&'a str],
+) -> Result<Vec<&'a str>, AllocError> {
+    let mut all = Vec::new(alloc);
+    for word in first {
+        all.push(*word)?;
+    }
+    for word in words.iter().skip(1) {
+        all.push(*word)?;
+    }
+    Ok(all)
+}
+
+// The port or the pages of a command that has such a number; nothing where the words are refused.
+fn number_of(alloc: Global, words: &[&str]) -> Result<Option<u32>, AllocError> {
+    match read_words(alloc, words) {
+        Ok(Command::Crawl(_, _, port)) => Ok(Some(u32::from(port))),
+        Ok(Command::Gen(_, _, pages)) => Ok(Some(pages)),
+        Ok(_) | Err(WordFault::Refused(_)) => Ok(None),
+        Err(WordFault::Memory) => Err(AllocError),
+    }
+}
+
+// Words of `crawl` and `gen`, and the port or the pages; nothing where they are refused with the command's word.
+const NUMBERED: [(&[&str], Option<u32>); 34] = [
+    (&["crawl"], None),
+    (&["crawl", "80"], None),
+    (&["crawl", "--port"], None),
+    (&["crawl", "--port", "0"], None),
+    (&["crawl", "--port", "1"], Some(1)),
+    (&["crawl", "--port", "65535"], Some(65_535)),
+    (&["crawl", "--port", "65536"], None),
+    (&["crawl", "--port", "-80"], None),
+    (&["crawl", "--port", ""], None),
+    (&["crawl", "--port=+80"], Some(80)),
+    (&["crawl", "--port", "0080"], Some(80)),
+    (&["crawl", "--delay", "0", "--port", "80"], Some(80)),
+    (&["crawl", "--port", "80", "--port", "80"], None),
+    (&["crawl", "--port", "80", "x"], None),
+    (&["crawl", "--port", "80", "--"], Some(80)),
+    (&["crawl", "--", "--port", "80"], None),
+    (&["gen"], None),
+    (&["gen", "0"], None),
+    (&["gen", "1"], Some(1)),
+    (&["gen", "100000"], Some(100_000)),
+    (&["gen", "100001"], None),
+    (&["gen", "+5"], Some(5)),
+    (&["gen", "005"], Some(5)),
+    (&["gen", "-5"], None),
+    (&["gen", ""], None),
+    (&["gen", "x"], None),
+    (&["gen", "5", "6"], None),
+    (&["gen", "--size", "5"], None),
+    (&["gen", "5", "--port", "80"], None),
+    (&["gen", "--pages", "5"], None),
+    (&["gen", "--pages", "7", "5"], Some(5)),
+    (&["gen", "5", "--pages", "7"], Some(5)),
+    (&["gen", "--", "5"], Some(5)),
+    (&["gen", "5", "--"], Some(5)),
+];
+
+#[test]
+fn crawls_have_numbers(rt: HostRuntime) -> Result<(), Fail> {
+    for (words, number) in NUMBERED {
+        assert_eq!(rt; number_of(rt.alloc(), words)?, number, "at {words:?}");
     }
     Ok(())
 }
@@ -473,7 +621,7 @@ fn a_thousand_words_are_refused(rt: HostRuntime) -> Result<(), Fail> {
 }
 
 // Words, what the help that they ask for has, and what it doesn't have; nothing where they ask for none.
-const HELPS: [(&[&str], &[&str], &str); 9] = [
+const HELPS: [(&[&str], &[&str], &str); 11] = [
     (
         &["seen", "--help"],
         &["irl DIR seen [OPTIONS]", "--cap <N>", "Exit status: 0 done"],
@@ -501,6 +649,27 @@ const HELPS: [(&[&str], &[&str], &str); 9] = [
             "2 a line refused",
         ],
         "--rule",
+    ),
+    (
+        &["crawl", "--help"],
+        &[
+            "irl DIR crawl --port N [OPTIONS]",
+            "at 127.0.0.1 on the",
+            "--port <N>",
+            "--agent <NAME>",
+            "2 a line refused",
+        ],
+        "--rule",
+    ),
+    (
+        &["gen", "-h"],
+        &[
+            "irl DIR gen N [OPTIONS]",
+            "<N>",
+            "--cap <N>",
+            "    pairs 44\n",
+        ],
+        "2 a line refused",
     ),
     (
         &["show", "--help"],

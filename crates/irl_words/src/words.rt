@@ -5,7 +5,8 @@ ghost use Rattle.irl_offer.specs.Settings.{AreValidSizes, settings_of};
 ghost use Rattle.irl_words.specs.Options.{budgets_options, rules_of, run_options, settings_options};
 ghost use Rattle.irl_words.specs.Rows.{AreInRange, AreMatches};
 ghost use Rattle.irl_words.specs.Words.{asked_for as asked_for_of, checked as checked_of, decided, has_most_below_base};
-ghost use Rattle.irl_words.specs.Words.{checked_run, run_in, with_budgets, with_settings};
+ghost use Rattle.irl_words.specs.Words.{checked_run, crawl_in, run_in, with_budgets, with_settings};
+ghost use Rattle.irl_words.specs.declared.command.Command.TheVariants.{Replay};
 ghost use Rattle.irl_words.specs.Words.{is_agent as is_agent_of, is_token as is_token_of};
 ghost use Rattle.irl_words.specs.Words.{is_token_byte as is_token_byte_of};
 ghost use Rattle.irl_words.specs.Words.{command_named, command_of, number_in, rule_in, AreRunOptions};
@@ -21,13 +22,15 @@ use std::alloc::{AllocError, Global};
 
 /// Reads the words behind the folder's. The first picks the command, and the others are its options: each takes one
 /// value, as `--name VALUE` or `--name=VALUE`, and is given at most once. An option that isn't named asks nothing of a
-/// store, and in a run is its default.
+/// store, and in a run is its default; only `--port` of `crawl` has to be named. `gen` also takes a word, its number of
+/// pages.
 ///
-/// Words that are no command are refused with one of them: `-` where there is none; the first where it names no command,
-/// or where an option is unknown, given twice, without a value or with a value out of its range, and where a further word
-/// stands. Where all the words are taken it is `--buckets` where that number is no power of two, `--most` where it is
-/// below that of `--base`, `--agent` where that is no name of an agent, or `--workers` where that is another number than
-/// 1, the first of these. Want of memory may come at any time.
+/// Words that are no command are refused with one of them: `-` where there is none; the first where it names no
+/// command, or where an option is unknown, given twice, without a value or with a value out of its range, where one
+/// that has to be there isn't, and where a further word stands. Where all the words are taken it is `--buckets` where
+/// that number is no power of two, `--most` where it is below that of `--base`, `--agent` where that is no name of an
+/// agent, or `--workers` where that is another number than 1, the first of these. Want of memory may come at any
+/// time.
 pub fn read_words(alloc: Global, words: &[&str]) -> Result<Command, WordFault>
     ensures command { IfOk result (λ command. command_of (map (λ word. word.now) words.now) ≡ Ok command) }
     ensures range { IfOk result IsInRange }
@@ -100,13 +103,40 @@ fn decide(alloc: Global, name: Name, word: &str, matches: &ArgMatches) -> Result
             None => Err(refusal(alloc, word)),
         },
         Name::Replay => {
-            let asked = settings(asked_for(Kind::Crawl, None), matches);
-            let asked = checked(alloc, budgets(asked, matches))?;
-            Ok(Command::Replay(asked, run(alloc, matches)?))
+            let (asked, options) = crawl(alloc, matches)?;
+            Ok(Command::Replay(asked, options))
         }
+        Name::Crawl => match small_number(matches, "port") {
+            Some(port) => {
+                let (asked, options) = crawl(alloc, matches)?;
+                Ok(Command::Crawl(asked, options, port))
+            }
+            None => Err(refusal(alloc, word)),
+        },
+        Name::Gen => match number(matches, "size") {
+            Some(pages) => {
+                let (asked, options) = crawl(alloc, matches)?;
+                Ok(Command::Gen(asked, options, pages))
+            }
+            None => Err(refusal(alloc, word)),
+        },
         Name::Show => Ok(Command::Show),
         Name::List => Ok(Command::List),
     }
+}
+
+// What a crawl asks of a store and how it is run, or the option with which they are refused: the first of these.
+fn crawl(alloc: Global, matches: &ArgMatches) -> Result<(Asked, RunOptions), WordFault>
+    requires settings { AreInRange settings_options (rows_of (found_of matches.now)) }
+    requires budgets { AreInRange budgets_options (rows_of (found_of matches.now)) }
+    requires run { AreInRange run_options (rows_of (found_of matches.now)) }
+    ensures crawl { IfOk result (λ crawl. crawl_in (rows_of (found_of matches.now)) ≡ Ok crawl) }
+    ensures range { IfOk result (λ crawl. IsInRange (Replay crawl.0 crawl.1)) }
+    ensures refused { IfErr result (IsRefusedBy (crawl_in (rows_of (found_of matches.now)))) }
+{
+    let asked = settings(asked_for(Kind::Crawl, None), matches);
+    let asked = checked(alloc, budgets(asked, matches))?;
+    Ok((asked, run(alloc, matches)?))
 }
 
 // What is asked of a store, or the option with which it is refused: the first of these.
@@ -251,6 +281,14 @@ fn number(matches: &ArgMatches, option: &str) -> Option<u32>
     ensures { result ≡ number_in option.now (rows_of (found_of matches.now)) }
 {
     matches.get_one::<u32>(option)
+}
+
+// The same of an option that takes smaller ones.
+fn small_number(matches: &ArgMatches, option: &str) -> Option<u16>
+    requires { IfSome (one_of option.now (rows_of (found_of matches.now))) (IsUnsignedIn 0 65535) }
+    ensures { result ≡ number_in option.now (rows_of (found_of matches.now)) }
+{
+    matches.get_one::<u16>(option)
 }
 
 // The same of an option that takes larger ones.

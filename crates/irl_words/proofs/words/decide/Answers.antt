@@ -3,7 +3,7 @@ use Rattle.clap.specs.Words.{first_of, found_of, rows_of}
 use Rattle.clap.proofs.WalkLemmas.{first_value-rows}
 use Rattle.irl_words.specs.Words.{IsRefusedBy, decided, rule_in, with_settings}
 use Rattle.irl_words.proofs.Deciding.{drum_asks, drum_refused, drum_refuses, refused_with}
-use Rattle.irl_words.proofs.Taking.{replay_in_range}
+use Rattle.irl_words.proofs.Taking.{pages_in_range, port_in_range}
 use Rattle.irl_words.proofs.words.decide.Goals as goal
 
 pub returns-in_err-checked-in-Some-clause-refused : goal.returns-in_err-checked-in-Some-clause-refused
@@ -28,10 +28,12 @@ returns-in-None-clause-refused c =
     let read : c.rule.result ≡ rule_in (first_of (codes "rule") rows) = c.rule.ensures ∙ ap rule_in (c.get_str.ensures ∙ first_value-rows (found_of c.args.matches.now) (codes "rule")) in
     refused_with _ c.args.word.now c.refusal.result (drum_refused c.args.name c.args.word.now rows c.in-Drum.is (sym read ∙ c.in-None.is)) c.refusal.ensures
 
-pub returns-in_ok-run-in-Replay-clause-range : goal.returns-in_ok-run-in-Replay-clause-range
-returns-in_ok-run-in-Replay-clause-range c =
-    let rows = rows_of (found_of c.args.matches.now) in
-    let sized = c.settings-asked-in-Replay.ensures.value ∙ ap (with_settings rows) c.asked_for-in-Replay.ensures in
-    let asked = c.in_ok-asked-in-Replay.ensures.same ∙ c.budgets.ensures in
-    replay_in_range c.args.name _ _ _ rows c.in-Replay.is c.requires sized asked c.in_ok-asked-in-Replay.ensures.buckets
-    c.settings-asked-in-Replay.ensures.range c.in_ok-asked-in-Replay.ensures.budgets c.in_ok-run-in-Replay.ensures.range
+pub returns-in_ok-asked-in-Some-small_number-clause-range : goal.returns-in_ok-asked-in-Some-small_number-clause-range
+returns-in_ok-asked-in-Some-small_number-clause-range c =
+    port_in_range c.args.name _ _ c.in-Some-small_number.port (rows_of (found_of c.args.matches.now)) c.in-Crawl.is c.requires
+    (sym c.small_number.ensures ∙ c.in-Some-small_number.is) c.in_ok-asked-in-Some-small_number.ensures.range
+
+pub returns-in_ok-asked-in-Some-number-clause-range : goal.returns-in_ok-asked-in-Some-number-clause-range
+returns-in_ok-asked-in-Some-number-clause-range c =
+    pages_in_range c.args.name _ _ c.in-Some-number.pages (rows_of (found_of c.args.matches.now)) c.in-Gen.is c.requires
+    (sym c.number.ensures ∙ c.in-Some-number.is) c.in_ok-asked-in-Some-number.ensures.range

@@ -2,7 +2,7 @@ use Rattle.std.proofs.Common.{rules, ◌≡◌, ◌∙◌, ap, Some}
 use Rattle.std.specs.Range.{range_inclusive_start, range_inclusive_end}
 use Rattle.clap.specs.declared.builder.value_parser.ValueParser.TheVariants.{Unsigned}
 use Rattle.irl_words.proofs.Tables.{ranged}
-use Rattle.irl_words.proofs.options.LongOption.arg.Goals as goal
+use Rattle.irl_words.proofs.options.Argument.valued.Goals as goal
 
 pub returns-in-Number-clause-rule : goal.returns-in-Number-clause-rule
 returns-in-Number-clause-rule c =
