@@ -8,6 +8,7 @@ use Rattle.irl_files.specs.declared.failure.Failure.{Failure}
 use Rattle.irl_words.specs.Help.{asks_help}
 use Rattle.irl_top.specs.Message.{Says, refusal}
 use Rattle.irl_top.specs.Outside.{Outside}
+use Rattle.irl_top.specs.Ports.{Port}
 use Rattle.irl_top.specs.Run.{Runs}
 use Rattle.irl_top.specs.Stream.{Stream}
 use Rattle.irl.specs.Words.{folder_in, refusing_word}
@@ -29,11 +30,12 @@ streams left input_faults written output_faults said error_faults input output e
       errors = record { bytes = said errors; faults = error_faults errors };
     }
 
--- the same with the files, of which only the count of faults is known
-abbrev pub outside_of : Streams → ℕ → Outside
-outside_of told faults = record {
+-- the same with the files, of which only the count of faults is known, and with the ports
+abbrev pub outside_of : Streams → ℕ → List Port → Outside
+outside_of told faults ports = record {
   lent = record { store = silent faults; input = told.input; output = told.output };
   errors = told.errors;
+  ports = ports;
 }
 
 -- the line that tells of a failure in a store over this folder
@@ -55,7 +57,7 @@ TellsFault folder first before after =
 -- the words of a command were run over the files of a folder, which tell nothing and had not failed before
 abbrev pub RunsOverFiles : List (List ℕ) → Streams → Streams → ℕ → Type 0
 RunsOverFiles words before after status =
-    (faults : ℕ) × Runs words (outside_of before 0) (outside_of after faults) status
+    (faults : ℕ) × (olds news : List Port) × Runs words (outside_of before 0 olds) (outside_of after faults news) status
 
 -- They were, and behind the line of the run the error stream was given one that tells of what failed first, at status 4
 -- alone.

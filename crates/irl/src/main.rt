@@ -1,7 +1,7 @@
 //! The program `irl`: a web crawler over a store in a folder.
 #![tactic(auto)]
 
-ghost use Rattle.std.specs.Prelude.{◌≡◌, ◌≢◌, map, drop, IfOk, OnOk, OnErr, IsErr, string_bytes};
+ghost use Rattle.std.specs.Prelude.{◌≡◌, ◌≢◌, length, map, drop, IfOk, OnOk, OnErr, IsErr, string_bytes};
 ghost use Rattle.std.specs.Io.KnownBytes.{Appends};
 ghost use Rattle.irl_base.specs.Faults.{Rose, HasCause};
 ghost use Rattle.irl_io.specs.Written.{AppendsPrefix};
@@ -16,14 +16,18 @@ mod words;
 
 use irl_files::{Failure, FileStore, Lockable};
 use irl_io::{Failed, ReadSource, Sink, Source, WriteSink};
+use irl_record::WireFetch;
 use irl_top::run;
+use irl_wire::Wire;
 use irl_words::help;
 use std::alloc::{AllocError, Global};
 use std::io::{self, Error, ErrorKind};
+use std::net::Net;
 use std::process::ExitCode;
 use std::rt::{Env, Files};
 use std::sync::Wait;
 use std::thread::Threads;
+use std::time::Clock;
 use std::{env, fs};
 use words::{Request, folder_and_command, refusing_word};
 
@@ -41,7 +45,9 @@ Commands that keep what standard input gives:
         verdict
 
 Commands that crawl:
+  crawl   crawls sites that answer on this machine, and prints a report
   replay  crawls the pages of a tape on standard input, and prints a report
+  gen     crawls a made-up site of N pages, and prints a report
 
 Commands that look at what is kept, and change nothing:
   show  prints how much there is
@@ -55,6 +61,9 @@ Options:
 ";
 
 const VERSION: &str = "irl 0.1.0\n";
+
+/// How many workers there may be, each with a port.
+const PORTS: usize = 64;
 
 /// A device that has no bytes.
 const NULL_DEVICE: &str = "/dev/null";
@@ -187,6 +196,19 @@ where
     FileStore::new(rt, rt.alloc(), folder)
 }
 
+/// As many ports as there may be workers. Nothing is connected yet.
+fn new_ports<R: Net + Clock + Drop + AllocGlobal>(
+    rt: &R,
+) -> Result<Vec<WireFetch<Wire<&R>>>, AllocError>
+    ensures { IfOk result (λ ports. length ports.items ≡ PORTS) }
+{
+    let mut ports = Vec::new(rt.alloc());
+    for _ in 0..PORTS {
+        ports.push(WireFetch::new(rt.alloc(), Wire::new(rt)))?;
+    }
+    Ok(ports)
+}
+
 /// Runs the command over the folder that the first word names, and gives the exit status and what failed first.
 fn run_files<R, I, O, E>(
     rt: &R,
@@ -196,7 +218,7 @@ fn run_files<R, I, O, E>(
     errors: &mut E,
 ) -> Result<(u8, Option<Failure>), AllocError>
 where
-    R: Files + AllocGlobal + Threads + Wait + Sync,
+    R: Files + Net + Clock + Drop + AllocGlobal + Threads + Wait + Sync,
     R::File: Lockable,
     I: Source,
     O: Sink,
@@ -208,7 +230,17 @@ where
 {
     let (_, command) = folder_and_command(words);
     let store = store_in_folder(rt, words)?;
-    let (status, store) = run(rt, rt.alloc(), command, input, output, errors, store);
+    let mut ports = new_ports(rt)?;
+    let (status, store) = run(
+        rt,
+        rt.alloc(),
+        command,
+        input,
+        output,
+        errors,
+        store,
+        &mut ports,
+    );
     let first = store.first_failure();
     drop(store);
     Ok((status, first))
@@ -224,7 +256,7 @@ fn run_in_folder<R, I, O, E>(
     errors: &mut E,
 ) -> Result<u8, AllocError>
 where
-    R: Files + AllocGlobal + Threads + Wait + Sync,
+    R: Files + Net + Clock + Drop + AllocGlobal + Threads + Wait + Sync,
     R::File: Lockable,
     I: Source,
     O: Sink,
@@ -249,7 +281,7 @@ fn command<R, I, O, E>(
     errors: &mut E,
 ) -> Result<u8, AllocError>
 where
-    R: Files + AllocGlobal + Threads + Wait + Sync,
+    R: Files + Net + Clock + Drop + AllocGlobal + Threads + Wait + Sync,
     R::File: Lockable,
     I: Source,
     O: Sink,
@@ -276,7 +308,7 @@ fn obey<R, I, O, E>(
     errors: &mut E,
 ) -> Result<u8, AllocError>
 where
-    R: Files + AllocGlobal + Threads + Wait + Sync,
+    R: Files + Net + Clock + Drop + AllocGlobal + Threads + Wait + Sync,
     R::File: Lockable,
     I: Source,
     O: Sink,
@@ -303,7 +335,7 @@ fn answer<R, I, O, E>(
     errors: &mut E,
 ) -> Result<u8, AllocError>
 where
-    R: Env + Files + AllocGlobal + Threads + Wait + Sync,
+    R: Env + Files + Net + Clock + Drop + AllocGlobal + Threads + Wait + Sync,
     R::File: Lockable,
     I: Source,
     O: Sink,

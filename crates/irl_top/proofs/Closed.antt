@@ -31,11 +31,11 @@ use Rattle.irl_yard.proofs.Entering.{enters_keeps, enters_records}
 use Rattle.irl_schedule.specs.Feeding.{list_at}
 use Rattle.irl_top.specs.declared.line.LineKind.{LineKind}
 use Rattle.irl_top.specs.Input.{offered}
-use Rattle.irl_top.specs.Message.{ending_of_open, IsAllPrinted, IsUnopened}
+use Rattle.irl_top.specs.Message.{ending_of_open, IsAllPrinted, IsLate, IsUnopened}
 use Rattle.irl_top.specs.Outside.{Lent}
 use Rattle.irl_top.specs.Printed.{before_last, judged_count, added}
 use Rattle.irl_top.specs.Records.{AddsUnevenRecords}
-use Rattle.irl_top.specs.Run.{line_task, settings_in, Reaches, IsLegal, Extends, Ran, IsLate}
+use Rattle.irl_top.specs.Run.{line_task, settings_in, Reaches, IsLegal, Extends, Ran}
 use Rattle.irl_top.specs.Stream.{Stream}
 use Rattle.irl_top.specs.declared.ending.Ending.TheVariants.{Done, BadSettings, LineRefused, NotOurs, OtherSettings, DiskFault, InputFault, OutputFault, Full, Damaged}
 use Rattle.irl_top.proofs.Growing.{starts}

@@ -19,7 +19,9 @@ use Rattle.irl_report.specs.Report.{report_of}
 use Rattle.irl_yard.specs.declared.parts.Parts.{Parts}
 use Rattle.irl_yard.specs.Holding.{HoldsState, IsSound}
 use Rattle.irl_yard.specs.Passing.{AreCounts}
-use Rattle.irl_top.specs.Crawled.{CrawlTask, CrawlsInput, Crawled, GoesOver, GoesTo, IsCrawlEnding, IsInput, IsOpenEnding, MayCrawl, ending_of_tape}
+use Rattle.irl_record.specs.Widening.{Answers, Widens}
+use Rattle.irl_words.specs.declared.command.RunOptions.{RunOptions}
+use Rattle.irl_top.specs.Crawled.{CrawlTask, part_task, suffixes_for, CrawlsInput, CrawlsTape, Crawled, GoesOver, GoesTo, IsCrawled, IsCrawlEnding, IsOpenEnding, IsPlayEnding, MayCrawl, PrintsCrawl, ending_of_tape}
 use Rattle.irl_top.specs.Listing.{IsWriteEnding}
 use Rattle.irl_top.specs.Message.{ending_of}
 use Rattle.irl_top.specs.Outside.{Lent}
@@ -27,6 +29,7 @@ use Rattle.irl_top.specs.Shown.{HasCounts}
 use Rattle.irl_top.specs.Stream.{Stream}
 use Rattle.irl_top.specs.declared.ending.Ending.{Ending}
 use Rattle.irl_top.specs.declared.ending.Ending.TheVariants.{Done, BadSettings, LineRefused, NotOurs, Damaged, OtherSettings, DiskFault, InputFault, OutputFault, NoMemory, Full}
+use Rattle.irl_top.proofs.Beginning.{only_wider}
 use Rattle.irl_top.proofs.CrawlRuns.{no_text}
 use Rattle.irl_top.proofs.Shows.{Printed, at_done, narrow, refused_as}
 
@@ -72,14 +75,14 @@ not_tape : (fault : TapeFault) (ending : Ending) → ending_of_tape fault ≡ en
 not_tape fault ending is = subst IsTapeEnding is (tape_kind fault)
 
 pub goes_unread : (task : CrawlTask) (fault : TapeFault) (parts : Parts) (now : Told) (old new output : Stream) → IsConsistent now → IsDrum parts.urls → IsSound parts
-    → ((n : ℕ) → fault ≡ BadRecord n → ForSome old.bytes (λ bytes. task.reads bytes ≡ Err n)) → HasCause (fault ≡ TapeFailed) old.faults new.faults
+    → ((n : ℕ) → fault ≡ BadRecord n → task.reads old.bytes (Err n)) → HasCause (fault ≡ TapeFailed) old.faults new.faults
     → GoesOver task parts parts (at now old output) (at now new output) (ending_of_tape fault)
 goes_unread task fault parts now old new output law drum sound line cause =
     let ending = ending_of_tape fault in
     record {
       text = [];
       written = Appends-nil output.bytes;
-      leads = leads_none (ending ≡ DiskFault) (MayCrawl task old.bytes) (GoesTo task parts.urls.settings old.bytes ending []) parts now law drum sound (not_tape fault DiskFault) (λ x held. record {
+      leads = leads_none (ending ≡ DiskFault) (MayCrawl task parts.urls.settings old.bytes) (GoesTo task parts.urls.settings old.bytes ending []) parts now law drum sound (not_tape fault DiskFault) (λ x held. record {
         may = inl refl;
         done = λ is. absurd (not_tape fault Done is);
         full = λ n is. absurd (not_tape fault (Full n) is);
@@ -95,46 +98,49 @@ goes_unread task fault parts now old new output law drum sound line cause =
       output = record { later = omega arith; rose = λ is. absurd (not_tape fault OutputFault is) };
     }
 
+-- memory ran out before the crawl
+pub goes_nowhere : (task : CrawlTask) (parts : Parts) (now : Told) (old new output : Stream) → IsConsistent now → IsDrum parts.urls → IsSound parts → old.faults ≤ new.faults
+    → GoesOver task parts parts (at now old output) (at now new output) NoMemory
+goes_nowhere task parts now old new output law drum sound later = goes_unread task TapeMemory parts now old new output law drum sound
+    (λ n no. let never : ⊥ = cc in absurd never) (record { later = later; rose = λ no. let never : ⊥ = cc in absurd never })
+
 -- ---- the crawl is refused
-crawl_open : (ending : Ending) → IsCrawlEnding ending → IsOpenEnding ending
-crawl_open Done kind = tt
-crawl_open (BadSettings n) kind = kind
-crawl_open (LineRefused n) kind = tt
-crawl_open (NotOurs at) kind = kind
-crawl_open (Damaged f at) kind = tt
-crawl_open (OtherSettings n kept wanted) kind = tt
-crawl_open DiskFault kind = tt
-crawl_open InputFault kind = tt
-crawl_open OutputFault kind = tt
-crawl_open NoMemory kind = tt
-crawl_open (Full n) kind = tt
+crawl_play : (ending : Ending) → IsCrawlEnding ending → IsPlayEnding ending
+crawl_play Done kind = tt
+crawl_play (BadSettings n) kind = kind
+crawl_play (LineRefused n) kind = kind
+crawl_play (NotOurs at) kind = kind
+crawl_play (Damaged f at) kind = tt
+crawl_play (OtherSettings n kept wanted) kind = tt
+crawl_play DiskFault kind = tt
+crawl_play InputFault kind = kind
+crawl_play OutputFault kind = tt
+crawl_play NoMemory kind = tt
+crawl_play (Full n) kind = tt
 
 err_one : (a b : Ending) → IsErrOf {T = Unit {0}} {E = Ending} (Err a) b → a ≡ b
 err_one a b is = cc
 
-pub goes_refused : (task : CrawlTask) (input : Taped) (ending : Ending) (was now : Parts) (before after : Told) (old new output : Stream) → IsInput task old.bytes input → IsCrawlEnding ending
-    → old.faults ≤ new.faults → Leads (IsErrOf {T = Unit {0}} {E = Ending} (Err ending) DiskFault) (CrawlsInput task input) (Crawled (Err ending) task was.urls.settings input) was now before after
-    → GoesOver task was now (at before old output) (at after new output) ending
-goes_refused task input ending was now before after old new output is_input kind later leads =
+pub tape_refused : (task : CrawlTask) (input : Taped) (ending : Ending) (was now : Parts) (before after : Told) (output : Stream) → IsCrawlEnding ending
+    → Leads (IsErrOf {T = Unit {0}} {E = Ending} (Err ending) DiskFault) (CrawlsInput task was.urls.settings input) (Crawled (Err ending) task was.urls.settings input) was now before after
+    → CrawlsTape task input was now before after output output ending
+tape_refused task input ending was now before after output kind leads =
     let not : (e : Ending) → ending ≡ e → IsCrawlEnding e = λ e is. subst IsCrawlEnding is kind in
     record {
       text = [];
       written = Appends-nil output.bytes;
       leads = leads_more_failed (IsErrOf {T = Unit {0}} {E = Ending} (Err ending) DiskFault) (ending ≡ DiskFault) _ _ was now before after (err_one ending DiskFault) (λ is. ap Err is)
-          (leads_wide _ _ _ (MayCrawl task old.bytes) (GoesTo task was.urls.settings old.bytes ending []) was now before after leads (λ x y held front crawls. inr (input, is_input, crawls))
+          (leads_wide _ _ _ (CrawlsInput task was.urls.settings input) (PrintsCrawl task was.urls.settings input ending []) was now before after leads (λ x y held front crawls. crawls)
           (λ x y held held_now front is. record {
-            may = inr (input, is_input, is.crawls);
+            crawls = is.crawls;
             done = λ e. absurd (not Done e);
             full = λ n e. is.full n (ap Err e);
             whole = λ f at e. is.whole f at (ap Err e);
-            other = λ n kept wanted e. let has = is.other n kept wanted (ap Err e) in (has.0, (input, is_input, has.1));
+            other = λ n kept wanted e. is.other n kept wanted (ap Err e);
             prints = no_text ending y (λ e. absurd (not Done e));
           }));
       silent = λ is. refl;
-      read = λ is. absurd (not Done is);
-      line = λ n is. absurd (not (LineRefused n) is);
-      kinds = crawl_open ending kind;
-      input = record { later = later; rose = λ is. absurd (not InputFault is) };
+      kinds = crawl_play ending kind;
       output = record { later = omega arith; rose = λ is. absurd (not OutputFault is) };
     }
 
@@ -157,31 +163,30 @@ write_kind (Ok done) kinds = tt
 write_kind (Err ending) (inl is) = subst IsPrintedEnding (sym is) tt
 write_kind (Err ending) (inr is) = subst IsPrintedEnding (sym is) tt
 
-write_open : (r : Result (Unit {0}) Ending) → IfErr r IsWriteEnding → IsOpenEnding (ending_of r)
-write_open (Ok done) kinds = tt
-write_open (Err ending) (inl is) = subst IsOpenEnding (sym is) tt
-write_open (Err ending) (inr is) = subst IsOpenEnding (sym is) tt
+write_play : (r : Result (Unit {0}) Ending) → IfErr r IsWriteEnding → IsPlayEnding (ending_of r)
+write_play (Ok done) kinds = tt
+write_play (Err ending) (inl is) = subst IsPlayEnding (sym is) tt
+write_play (Err ending) (inr is) = subst IsPlayEnding (sym is) tt
 
 ok_never : (ending : Ending) → IsErrOf {T = Unit {0}} {E = Ending} (Ok tt) ending → ⊥
 ok_never ending is = cc
 
-pub goes_printed : (task : CrawlTask) (input : Taped) (r : Result (Unit {0}) Ending) (counts : Counts) (was now : Parts) (before after : Told) (old new output sink : Stream)
-    → IsInput task old.bytes input → ForSome old.bytes (λ _. new.bytes ≡ Some []) → old.faults ≤ new.faults
-    → Leads (IsErrOf {T = Unit {0}} {E = Ending} (Ok tt) DiskFault) (CrawlsInput task input) (Crawled (Ok tt) task was.urls.settings input) was now before after
+pub tape_printed : (task : CrawlTask) (input : Taped) (r : Result (Unit {0}) Ending) (counts : Counts) (was now : Parts) (before after : Told) (output sink : Stream)
+    → Leads (IsErrOf {T = Unit {0}} {E = Ending} (Ok tt) DiskFault) (CrawlsInput task was.urls.settings input) (Crawled (Ok tt) task was.urls.settings input) was now before after
     → ((y : State) → HoldsState after.images now y → AreCounts now.urls.settings y counts) → Printed r (report_of counts) output sink
-    → GoesOver task was now (at before old output) (at after new sink) (ending_of r)
-goes_printed task input r counts was now before after old new output sink is_input read later leads count printed =
+    → CrawlsTape task input was now before after output sink (ending_of r)
+tape_printed task input r counts was now before after output sink leads count printed =
     let wide = narrow r printed.kinds in
     let not : (e : Ending) → ending_of r ≡ e → IsPrintedEnding e = λ e is. subst IsPrintedEnding is (write_kind r printed.kinds) in
     record {
       text = printed.text;
       written = printed.written;
       leads = leads_more_failed (IsErrOf {T = Unit {0}} {E = Ending} (Ok tt) DiskFault) (ending_of r ≡ DiskFault) _ _ was now before after (λ is. absurd (ok_never DiskFault is)) (λ is. absurd (not DiskFault is))
-          (leads_wide _ _ _ (MayCrawl task old.bytes) (GoesTo task was.urls.settings old.bytes (ending_of r) printed.text) was now before after leads
-          (λ x y held front crawls. inr (input, is_input, crawls))
+          (leads_wide _ _ _ (CrawlsInput task was.urls.settings input) (PrintsCrawl task was.urls.settings input (ending_of r) printed.text) was now before after leads
+          (λ x y held front crawls. crawls)
           (λ x y held held_now front is. record {
-            may = inr (input, is_input, is.crawls);
-            done = λ e. (input, is_input, is.done);
+            crawls = is.crawls;
+            done = λ e. is.done;
             full = λ n e. absurd (not (Full n) e);
             whole = λ f at e. not (Damaged f at) e;
             other = λ n kept wanted e. absurd (not (OtherSettings n kept wanted) e);
@@ -193,9 +198,61 @@ goes_printed task input r counts was now before after old new output sink is_inp
             );
           }));
       silent = λ is. absurd (not DiskFault is);
-      read = λ is. read;
-      line = λ n is. absurd (not (LineRefused n) is);
-      kinds = write_open r printed.kinds;
-      input = record { later = later; rose = λ is. absurd (not InputFault is) };
+      kinds = write_play r printed.kinds;
       output = cause_for (IsErrOf r OutputFault) (ending_of r ≡ OutputFault) output.faults sink.faults (refused_as r OutputFault (λ e. cc)) printed.output;
     }
+
+-- ---- a task that has it as its part
+play_open : (ending : Ending) → IsPlayEnding ending → IsOpenEnding ending
+play_open Done kind = tt
+play_open (BadSettings n) kind = kind
+play_open (LineRefused n) kind = tt
+play_open (NotOurs at) kind = kind
+play_open (Damaged f at) kind = tt
+play_open (OtherSettings n kept wanted) kind = tt
+play_open DiskFault kind = tt
+play_open InputFault kind = tt
+play_open OutputFault kind = tt
+play_open NoMemory kind = tt
+play_open (Full n) kind = tt
+
+-- one by these options that gives more
+abbrev pub wider_task : RunOptions → (Option (List ℕ) → Result Taped ℕ → Type 0) → (Stream → Stream → Type 0) → (Taped → Answers) → CrawlTask
+wider_task options reads ends gives = record { reads = reads; ends = ends; gives = gives; agent = options.agent; pages = options.pages; batch = options.batch }
+
+module _ (options : RunOptions) (reads : Option (List ℕ) → Result Taped ℕ → Type 0) (ends : Stream → Stream → Type 0) (gives : Taped → Answers) (given : Answers) (input : Taped)
+    (wider : Widens given (gives input)) where
+  abbrev task : CrawlTask
+  task = wider_task options reads ends gives
+
+  abbrev crawls_more : (settings : Settings) (x y : State) → CrawlsInput (part_task options given) settings input x y → CrawlsInput task settings input x y
+  crawls_more settings x y = only_wider given (gives input) options.agent (suffixes_for x input) input.seeds settings 1 options.pages options.batch x y wider
+
+  crawled_more : (settings : Settings) (x y : State) → IsCrawled (part_task options given) settings input x y → IsCrawled task settings input x y
+  crawled_more settings x y is = record { crawls = crawls_more settings x y is.crawls; whole = is.whole; ends = is.ends }
+
+  -- an input was read, and then crawled
+  pub goes_crawled : (ending : Ending) (was now : Parts) (before after : Told) (old new output sink : Stream) → reads old.bytes (Ok input) → ends old new → old.faults ≤ new.faults
+      → CrawlsTape (part_task options given) input was now before after output sink ending → GoesOver task was now (at before old output) (at after new sink) ending
+  goes_crawled ending was now before after old new output sink is_input read later tape =
+      let not : (e : Ending) → ending ≡ e → IsPlayEnding e = λ e is. subst IsPlayEnding is tape.kinds in
+      record {
+        text = tape.text;
+        written = tape.written;
+        leads = leads_wide _ _ _ (MayCrawl task was.urls.settings old.bytes) (GoesTo task was.urls.settings old.bytes ending tape.text) was now before after tape.leads
+            (λ x y held front crawls. inr (input, is_input, crawls_more was.urls.settings x y crawls, front))
+            (λ x y held held_now front is. record {
+              may = inr (input, is_input, crawls_more was.urls.settings x y is.crawls, front);
+              done = λ e. (input, is_input, crawled_more was.urls.settings x y (is.done e));
+              full = λ n e. let full = is.full n e in (input, is_input, (crawls_more was.urls.settings x y full.0, full.1));
+              whole = is.whole;
+              other = λ n kept wanted e. let has = is.other n kept wanted e in (has.0, (input, is_input, has.1));
+              prints = is.prints;
+            });
+        silent = tape.silent;
+        read = λ is. read;
+        line = λ n is. absurd (not (LineRefused n) is);
+        kinds = play_open ending tape.kinds;
+        input = record { later = later; rose = λ is. absurd (not InputFault is) };
+        output = tape.output;
+      }

@@ -1,6 +1,6 @@
 -- What beginning a crawl and crawling an input make of an open store.
-use Rattle.std.proofs.Common.{◌≡◌, ◌≢◌, ◌∙◌, ◌⊎◌, inl, inr, ℕ, ◌≤◌, List, [], length, Option, None, Some, true, false, refl, sym, ap, subst, arith}
-use Rattle.std.specs.Prelude.{Result, Ok, Err, OnOk, OnErr, IfErr, IsErrOf, is_some, unwrap_or}
+use Rattle.std.proofs.Common.{◌≡◌, ◌≢◌, ◌∙◌, ◌⊎◌, inl, inr, ℕ, ◌≤◌, List, [], ◌++◌, length, Option, None, Some, true, false, refl, sym, ap, subst, arith}
+use Rattle.std.specs.Prelude.{Result, Ok, Err, OnOk, OnErr, IfErr, IsErrOf, flat_map, is_some, unwrap_or}
 use Rattle.irl_base.specs.declared.fault.Fault.{Fault}
 use Rattle.irl_base.specs.declared.fault.Fault.TheVariants.{Failed as StoreFailed, Memory as StoreMemory, Full as StoreFull, Damaged as StoreDamaged}
 use Rattle.irl_bay.specs.Drum.{Drum, IsDrum}
@@ -26,8 +26,7 @@ use Rattle.irl_offer.specs.declared.settings.Kind.TheVariants.{Crawl as CrawlKin
 use Rattle.irl_offer.specs.declared.settings.Settings.{Settings}
 use Rattle.irl_pld.specs.Names.{bad_line}
 use Rattle.irl_reach.specs.Along.{settled_in}
-use Rattle.irl_reach.specs.Crawls.{IsStore}
-use Rattle.irl_record.specs.Fetched.{by_tape}
+use Rattle.irl_reach.specs.Crawls.{IsStore, found_by, seed_offers}
 use Rattle.irl_record.specs.Taped.{Taped}
 use Rattle.irl_record.specs.Widening.{Answers, Widens}
 use Rattle.irl_words.specs.declared.command.RunOptions.{RunOptions}
@@ -44,7 +43,7 @@ use Rattle.irl_yard.proofs.CallsLead.{event_leads}
 use Rattle.irl_yard.proofs.Leading.{fails_wider}
 use Rattle.irl_yard.proofs.StoreOfCrawl.{held_crawl}
 use Rattle.irl_yard.proofs.States.{state_both}
-use Rattle.irl_top.specs.Crawled.{CrawlTask, replay_task, suffixes_for, Begins, BeginsAt, Crawled, CrawlsInput, HasOtherSuffixes, IsCrawled, IsCrawlEnding, IsPlanOf, ending_of_crawl}
+use Rattle.irl_top.specs.Crawled.{CrawlTask, part_task, suffixes_for, Begins, BeginsAt, Crawled, CrawlsInput, HasOtherSuffixes, IsCrawled, IsCrawlEnding, IsFullBy, IsPlanOf, ending_of_crawl}
 use Rattle.irl_top.specs.Message.{ending_of_store}
 use Rattle.irl_top.specs.declared.ending.Ending.{Ending}
 use Rattle.irl_top.specs.declared.ending.Ending.TheVariants.{DiskFault, Damaged, Full, NoMemory, OtherSettings}
@@ -236,7 +235,7 @@ other_begun text kept k w x is k_is w_is differ named = record {
 -- ---- a crawl over an open one
 -- an input was crawled whole, by some suffixes
 record IsWhole (task : CrawlTask) (settings : Settings) (input : Taped) (suffixes : List ℕ) (x y : State) : Type 0 where
-  only : OnlyCrawls (task.gives input) task.agent suffixes input.seeds task.pages task.batch x y
+  only : OnlyCrawls (task.gives input) task.agent suffixes input.seeds settings 1 task.pages task.batch x y
   whole : CrawlsWhole suffixes input.seeds settings only.visits x y
   ends : NoneWaits settings y ⊎ (length (settled_in (events_since x y)) ≡ task.pages)
 
@@ -249,16 +248,21 @@ crawled_of task settings input suffixes x y same is =
 whole_of : (task : CrawlTask) (settings : Settings) (input : Taped) (x y : State) → IsCrawled task settings input x y → IsWhole task settings input (suffixes_for x input) x y
 whole_of task settings input x y is = record { only = is.crawls; whole = is.whole; ends = is.ends }
 
+-- an offer of a crawl by some suffixes doesn't fit
+abbrev IsFullIn : CrawlTask → Settings → Taped → List ℕ → State → State → ℕ → Type 0
+IsFullIn task settings input suffixes x y n = (only : OnlyCrawls (task.gives input) task.agent suffixes input.seeds settings 1 task.pages task.batch x y)
+    × IsFullAt settings (seed_offers input ++ flat_map (found_by suffixes y.urls) only.visits) x y n
+
 -- by the answer of the crawl
 to_whole : (task : CrawlTask) (settings : Settings) (input : Taped) (suffixes : List ℕ) (gives : Answers) (x y : State) → Widens gives (task.gives input) → (ended : Ended)
-    → CrawlsTo ended gives task.agent suffixes input.seeds settings task.pages task.batch x y → OnOk (ending_of_crawl ended) (IsWhole task settings input suffixes x y)
+    → CrawlsTo ended gives task.agent suffixes input.seeds settings 1 task.pages task.batch x y → OnOk (ending_of_crawl ended) (IsWhole task settings input suffixes x y)
 to_whole task settings input suffixes gives x y wider CrawlDone to = record {
-  only = only_wider gives (task.gives input) task.agent suffixes input.seeds task.pages task.batch x y wider to.only;
+  only = only_wider gives (task.gives input) task.agent suffixes input.seeds settings 1 task.pages task.batch x y wider to.only;
   whole = (to.done refl).0;
   ends = inl (to.done refl).1;
 }
 to_whole task settings input suffixes gives x y wider CrawlLimit to = record {
-  only = only_wider gives (task.gives input) task.agent suffixes input.seeds task.pages task.batch x y wider to.only;
+  only = only_wider gives (task.gives input) task.agent suffixes input.seeds settings 1 task.pages task.batch x y wider to.only;
   whole = (to.limit refl).0;
   ends = inr (to.limit refl).1;
 }
@@ -298,47 +302,54 @@ module _ (task : CrawlTask) (input : Taped) (ended : Ended) (suffixes : List ℕ
   same_for : (x : State) → HoldsState before.images was x → suffixes_for x input ≡ suffixes
   same_for x held = ap (λ (o : Option (List ℕ)). unwrap_or o input.suffixes) (sym (suffixes_held before.images was x kind held) ∙ named)
 
-  only_for : (x y : State) → HoldsState before.images was x → OnlyCrawls gives task.agent suffixes input.seeds task.pages task.batch x y → CrawlsInput task input x y
-  only_for x y held only = subst (λ (s : List ℕ). OnlyCrawls (task.gives input) task.agent s input.seeds task.pages task.batch x y) (sym (same_for x held))
-      (only_wider gives (task.gives input) task.agent suffixes input.seeds task.pages task.batch x y wider only)
+  only_for : (x y : State) → HoldsState before.images was x → OnlyCrawls gives task.agent suffixes input.seeds was.urls.settings 1 task.pages task.batch x y
+      → CrawlsInput task was.urls.settings input x y
+  only_for x y held only = subst (λ (s : List ℕ). OnlyCrawls (task.gives input) task.agent s input.seeds was.urls.settings 1 task.pages task.batch x y) (sym (same_for x held))
+      (only_wider gives (task.gives input) task.agent suffixes input.seeds was.urls.settings 1 task.pages task.batch x y wider only)
 
-  crawled_to : (x y : State) → HoldsState before.images was x → CrawlsTo ended gives task.agent suffixes input.seeds was.urls.settings task.pages task.batch x y
+  full_for : (x y : State) (n : ℕ) → HoldsState before.images was x → (to : CrawlsTo ended gives task.agent suffixes input.seeds was.urls.settings 1 task.pages task.batch x y)
+      → IsErrOf (ending_of_crawl ended) (Full n) → IsFullBy task was.urls.settings input x y n
+  full_for x y n held to is = subst (λ (s : List ℕ). IsFullIn task was.urls.settings input s x y n) (sym (same_for x held))
+      (only_wider gives (task.gives input) task.agent suffixes input.seeds was.urls.settings 1 task.pages task.batch x y wider to.only, to.ground.full n (crawl_full ended n is))
+
+  crawled_to : (x y : State) → HoldsState before.images was x → CrawlsTo ended gives task.agent suffixes input.seeds was.urls.settings 1 task.pages task.batch x y
       → Crawled (ending_of_crawl ended) task was.urls.settings input x y
   crawled_to x y held to = record {
     crawls = only_for x y held to.only;
     done = on_ok (ending_of_crawl ended) (to_whole task was.urls.settings input suffixes gives x y wider ended to) (crawled_of task was.urls.settings input suffixes x y (same_for x held));
-    full = λ n is. to.ground.full n (crawl_full ended n is);
+    full = λ n is. full_for x y n held to is;
     whole = λ f at is. to.ground.whole f at (crawl_damaged ended f at is);
     other = λ n kept wanted is. absurd (crawl_other ended n kept wanted is);
   }
 
-  pub played : Leads (ended ≡ CrawlFault StoreFailed) (OnlyCrawls gives task.agent suffixes input.seeds task.pages task.batch)
-      (CrawlsTo ended gives task.agent suffixes input.seeds was.urls.settings task.pages task.batch) was now before after
-      → Leads (IsErrOf (ending_of_crawl ended) DiskFault) (CrawlsInput task input) (Crawled (ending_of_crawl ended) task was.urls.settings input) was now before after
+  pub played : Leads (ended ≡ CrawlFault StoreFailed) (OnlyCrawls gives task.agent suffixes input.seeds was.urls.settings 1 task.pages task.batch)
+      (CrawlsTo ended gives task.agent suffixes input.seeds was.urls.settings 1 task.pages task.batch) was now before after
+      → Leads (IsErrOf (ending_of_crawl ended) DiskFault) (CrawlsInput task was.urls.settings input) (Crawled (ending_of_crawl ended) task was.urls.settings input) was now before after
   played leads = leads_more_failed (ended ≡ CrawlFault StoreFailed) (IsErrOf (ending_of_crawl ended) DiskFault) _ _ was now before after (λ is. ap ending_of_crawl is) (crawl_failed ended)
       (leads_wide _ _ _ _ _ was now before after leads (λ x y held front only. only_for x y held only) (λ x y held later front to. crawled_to x y held to))
 
 -- by what a tape and the options of a run ask
 pub played_by : (options : RunOptions) (input : Taped) (plan : Plan) (ended : Ended) (suffixes : List ℕ) (gives : Answers) (was now : Parts) (before after : Told)
-    → IsPlanOf input options plan → was.urls.settings.kind ≡ CrawlKind → Widens gives (by_tape input) → suffixes_in was.rest ≡ Some suffixes
-    → Leads (ended ≡ CrawlFault StoreFailed) (OnlyCrawls gives plan.agent suffixes plan.seeds.items plan.pages plan.batch)
-    (CrawlsTo ended gives plan.agent suffixes plan.seeds.items was.urls.settings plan.pages plan.batch) was now before after
-    → Leads (IsErrOf (ending_of_crawl ended) DiskFault) (CrawlsInput (replay_task options) input) (Crawled (ending_of_crawl ended) (replay_task options) was.urls.settings input) was now before after
-played_by options input plan ended suffixes gives was now before after is kind wider named leads =
+    → IsPlanOf input options plan → was.urls.settings.kind ≡ CrawlKind → suffixes_in was.rest ≡ Some suffixes
+    → Leads (ended ≡ CrawlFault StoreFailed) (OnlyCrawls gives plan.agent suffixes plan.seeds.items was.urls.settings 1 plan.pages plan.batch)
+    (CrawlsTo ended gives plan.agent suffixes plan.seeds.items was.urls.settings 1 plan.pages plan.batch) was now before after
+    → Leads (IsErrOf (ending_of_crawl ended) DiskFault) (CrawlsInput (part_task options gives) was.urls.settings input)
+    (Crawled (ending_of_crawl ended) (part_task options gives) was.urls.settings input) was now before after
+played_by options input plan ended suffixes gives was now before after is kind named leads =
     let P : List ℕ → List (List ℕ) → ℕ → ℕ → Type 0 =
-    λ agent seeds pages batch. Leads (ended ≡ CrawlFault StoreFailed) (OnlyCrawls gives agent suffixes seeds pages batch)
-    (CrawlsTo ended gives agent suffixes seeds was.urls.settings pages batch) was now before after in
+    λ agent seeds pages batch. Leads (ended ≡ CrawlFault StoreFailed) (OnlyCrawls gives agent suffixes seeds was.urls.settings 1 pages batch)
+    (CrawlsTo ended gives agent suffixes seeds was.urls.settings 1 pages batch) was now before after in
     let one = subst (λ (b : ℕ). P plan.agent plan.seeds.items plan.pages b) is.batch leads in
     let two = subst (λ (p : ℕ). P plan.agent plan.seeds.items p options.batch) is.pages one in
     let three = subst (λ (s : List (List ℕ)). P plan.agent s options.pages options.batch) is.seeds two in
     let four = subst (λ (a : List ℕ). P a input.seeds options.pages options.batch) is.agent three in
-    played (replay_task options) input ended suffixes gives was now before after kind wider named four
+    played (part_task options gives) input ended suffixes gives was now before after kind (λ url want answer given. given) named four
 
 -- memory ran out before it
 pub unplayed : (task : CrawlTask) (input : Taped) (parts : Parts) (now : Told) → IsConsistent now → IsDrum parts.urls → IsSound parts
-    → Leads (IsErrOf {T = Unit {0}} {E = Ending} (Err NoMemory) DiskFault) (CrawlsInput task input) (Crawled (Err NoMemory) task parts.urls.settings input) parts parts now now
+    → Leads (IsErrOf {T = Unit {0}} {E = Ending} (Err NoMemory) DiskFault) (CrawlsInput task parts.urls.settings input) (Crawled (Err NoMemory) task parts.urls.settings input) parts parts now now
 unplayed task input parts now law drum sound = leads_none _ _ _ parts now law drum sound (λ no. let never : ⊥ = cc in never) (λ x held. record {
-  crawls = only_none (task.gives input) task.agent (suffixes_for x input) input.seeds task.pages task.batch x;
+  crawls = only_none (task.gives input) task.agent (suffixes_for x input) input.seeds parts.urls.settings 1 task.pages task.batch x;
   done = tt;
   full = λ n no. let never : ⊥ = cc in absurd never;
   whole = λ f at no. let never : ⊥ = cc in never;
@@ -346,7 +357,7 @@ unplayed task input parts now law drum sound = leads_none _ _ _ parts now law dr
 })
 
 -- ---- a beginning, and the crawl behind it
-module _ (task : CrawlTask) (input : Taped) (x y z : State) (store : IsStore x) (begun : IsStore y) (front : IsFrontState x y) (goes : IsFrontState y z) where
+module _ (task : CrawlTask) (settings : Settings) (input : Taped) (x y z : State) (store : IsStore x) (begun : IsStore y) (front : IsFrontState x y) (goes : IsFrontState y z) where
   after_same : (P : State → State → Type 0) → y ≡ x → P y z → P x z
   after_same P is has = subst (λ (s : State). P s z) is has
 
@@ -370,42 +381,59 @@ module _ (task : CrawlTask) (input : Taped) (x y z : State) (store : IsStore x) 
     goes_start : IsFrontState start z
     goes_start = subst (λ (s : State). IsFrontState s z) is goes
 
-    only_start : CrawlsInput task input y z → OnlyCrawls (task.gives input) task.agent input.suffixes input.seeds task.pages task.batch start z
-    only_start crawls = subst (λ (s : State). OnlyCrawls (task.gives input) task.agent input.suffixes input.seeds task.pages task.batch s z) is
-        (subst (λ (t : List ℕ). OnlyCrawls (task.gives input) task.agent t input.seeds task.pages task.batch y z) (for_both y named ∙ named_x) crawls)
+    only_start : CrawlsInput task settings input y z → OnlyCrawls (task.gives input) task.agent input.suffixes input.seeds settings 1 task.pages task.batch start z
+    only_start crawls = subst (λ (s : State). OnlyCrawls (task.gives input) task.agent input.suffixes input.seeds settings 1 task.pages task.batch s z) is
+        (subst (λ (t : List ℕ). OnlyCrawls (task.gives input) task.agent t input.seeds settings 1 task.pages task.batch y z) (for_both y named ∙ named_x) crawls)
 
-    begin_only : CrawlsInput task input y z → CrawlsInput task input x z
-    begin_only crawls = subst (λ (t : List ℕ). OnlyCrawls (task.gives input) task.agent t input.seeds task.pages task.batch x z) (sym named_x)
-        (only_behind (task.gives input) task.agent input.suffixes input.seeds task.pages task.batch x z store begun_start front_start goes_start (only_start crawls))
+    begin_only : CrawlsInput task settings input y z → CrawlsInput task settings input x z
+    begin_only crawls = subst (λ (t : List ℕ). OnlyCrawls (task.gives input) task.agent t input.seeds settings 1 task.pages task.batch x z) (sym named_x)
+        (only_behind (task.gives input) task.agent input.suffixes input.seeds settings 1 task.pages task.batch x z store begun_start front_start goes_start (only_start crawls))
 
-    begin_whole : (settings : Settings) → IsCrawled task settings input y z → IsCrawled task settings input x z
-    begin_whole settings crawled =
+    begin_whole : IsCrawled task settings input y z → IsCrawled task settings input x z
+    begin_whole crawled =
         let has = subst (λ (s : State). IsWhole task settings input input.suffixes s z) is
         (subst (λ (t : List ℕ). IsWhole task settings input t y z) (for_both y named ∙ named_x) (whole_of task settings input y z crawled)) in
-        let only = only_behind (task.gives input) task.agent input.suffixes input.seeds task.pages task.batch x z store begun_start front_start goes_start has.only in
+        let only = only_behind (task.gives input) task.agent input.suffixes input.seeds settings 1 task.pages task.batch x z store begun_start front_start goes_start has.only in
         crawled_of task settings input input.suffixes x z named_x (record {
           only = only;
-          whole = whole_behind (task.gives input) task.agent input.suffixes input.seeds task.pages task.batch x z store begun_start front_start goes_start has.only settings has.whole;
+          whole = whole_behind (task.gives input) task.agent input.suffixes input.seeds settings 1 task.pages task.batch x z store begun_start front_start goes_start has.only has.whole;
           ends = elim has.ends [
             | inl none ↦ inl none
             | inr all ↦ inr (ap (λ (ds : List (ℕ × Outcome)). length ds)
-                (settled_behind (task.gives input) task.agent input.suffixes input.seeds task.pages task.batch x z store begun_start front_start goes_start has.only) ∙ all)
+                (settled_behind (task.gives input) task.agent input.suffixes input.seeds settings 1 task.pages task.batch x z store begun_start front_start goes_start has.only) ∙ all)
           ];
         })
 
+    begin_full : (n : ℕ) → IsFullBy task settings input y z n → IsFullBy task settings input x z n
+    begin_full n full =
+        let has : IsFullIn task settings input input.suffixes start z n = subst (λ (s : State). IsFullIn task settings input input.suffixes s z n) is
+        (subst (λ (t : List ℕ). IsFullIn task settings input t y z n) (for_both y named ∙ named_x) full) in
+        let at : IsFullAt settings (seed_offers input ++ flat_map (found_by input.suffixes z.urls) has.0.visits) x z n = elim has.1 [
+          | inl urls ↦ inl urls
+          | inr pairs ↦ inr (pairs.0, pairs.1, pairs.2, pairs.3, state_both x start pairs.3 front_start pairs.4, pairs.5, pairs.6)
+        ] in
+        subst (λ (t : List ℕ). IsFullIn task settings input t x z n) (sym named_x)
+        (only_behind (task.gives input) task.agent input.suffixes input.seeds settings 1 task.pages task.batch x z store begun_start front_start goes_start has.0, at)
+
 -- by what the beginning made
-module _ (task : CrawlTask) (input : Taped) (x y z : State) (store : IsStore x) (begun : IsStore y) (front : IsFrontState x y) (goes : IsFrontState y z)
+module _ (task : CrawlTask) (settings : Settings) (input : Taped) (x y z : State) (store : IsStore x) (begun : IsStore y) (front : IsFrontState x y) (goes : IsFrontState y z)
     (begins : Begins (Ok tt) input.suffixes x y) where
-  pub crawls_behind : CrawlsInput task input y z → CrawlsInput task input x z
+  pub crawls_behind : CrawlsInput task settings input y z → CrawlsInput task settings input x z
   crawls_behind crawls = elim begins.at [
-    | inl same ↦ subst (λ (s : State). CrawlsInput task input s z) same crawls
-    | inr new ↦ begin_only task input x y z store begun front goes new.0 new.1 begins.begun crawls
+    | inl same ↦ subst (λ (s : State). CrawlsInput task settings input s z) same crawls
+    | inr new ↦ begin_only task settings input x y z store begun front goes new.0 new.1 begins.begun crawls
   ]
 
-  crawled_behind : (settings : Settings) → IsCrawled task settings input y z → IsCrawled task settings input x z
-  crawled_behind settings crawled = elim begins.at [
+  crawled_behind : IsCrawled task settings input y z → IsCrawled task settings input x z
+  crawled_behind crawled = elim begins.at [
     | inl same ↦ subst (λ (s : State). IsCrawled task settings input s z) same crawled
-    | inr new ↦ begin_whole task input x y z store begun front goes new.0 new.1 begins.begun settings crawled
+    | inr new ↦ begin_whole task settings input x y z store begun front goes new.0 new.1 begins.begun crawled
+  ]
+
+  full_behind : (n : ℕ) → IsFullBy task settings input y z n → IsFullBy task settings input x z n
+  full_behind n full = elim begins.at [
+    | inl same ↦ subst (λ (s : State). IsFullBy task settings input s z n) same full
+    | inr new ↦ begin_full task settings input x y z store begun front goes new.0 new.1 begins.begun n full
   ]
 
   -- the suffixes that it began with weren't others
@@ -419,16 +447,11 @@ module _ (task : CrawlTask) (input : Taped) (x y z : State) (store : IsStore x) 
         absurd (other.differ same)
   ]
 
-  pub all_behind : (r : Result Unit Ending) (settings : Settings) → Crawled r task settings input y z → Crawled r task settings input x z
-  all_behind r settings is = record {
+  pub all_behind : (r : Result Unit Ending) → Crawled r task settings input y z → Crawled r task settings input x z
+  all_behind r is = record {
     crawls = crawls_behind is.crawls;
-    done = on_ok r is.done (crawled_behind settings);
-    full = λ n no.
-        let full = is.full n no in
-        elim full [
-          | inl urls ↦ inl urls
-          | inr pairs ↦ inr (pairs.0, pairs.1, pairs.2, pairs.3, state_both x y pairs.3 front pairs.4, pairs.5, pairs.6)
-        ];
+    done = on_ok r is.done crawled_behind;
+    full = λ n no. full_behind n (is.full n no);
     whole = is.whole;
     other = λ n kept wanted no. let has = is.other n kept wanted no in (has.0, other_behind n kept wanted has.1);
   }
@@ -436,23 +459,24 @@ module _ (task : CrawlTask) (input : Taped) (x y z : State) (store : IsStore x) 
 -- the beginning, and the crawl behind it
 pub leads_behind : (task : CrawlTask) (input : Taped) (r : Result Unit Ending) (was mid now : Parts) (before between after : Told) → IsDrum was.urls → IsDrum mid.urls
     → was.urls.settings.kind ≡ CrawlKind → Leads (IsErrOf {T = Unit {0}} {E = Ending} (Ok tt) DiskFault) (BeginsAt input.suffixes) (Begins (Ok tt) input.suffixes) was mid before between
-    → Leads (IsErrOf r DiskFault) (CrawlsInput task input) (Crawled r task mid.urls.settings input) mid now between after
-    → Leads (IsErrOf r DiskFault) (CrawlsInput task input) (Crawled r task was.urls.settings input) was now before after
+    → Leads (IsErrOf r DiskFault) (CrawlsInput task mid.urls.settings input) (Crawled r task mid.urls.settings input) mid now between after
+    → Leads (IsErrOf r DiskFault) (CrawlsInput task was.urls.settings input) (Crawled r task was.urls.settings input) was now before after
 leads_behind task input r was mid now before between after drum later kind first second =
     let same : mid.urls.settings ≡ was.urls.settings = first.settings in
     let kind_mid : mid.urls.settings.kind ≡ CrawlKind = ap (λ (s : Settings). s.kind) same ∙ kind in
-    leads_then (IsErrOf {T = Unit {0}} {E = Ending} (Ok tt) DiskFault) (IsErrOf r DiskFault) (BeginsAt input.suffixes) (Begins (Ok tt) input.suffixes) (CrawlsInput task input)
-    (Crawled r task mid.urls.settings input) (CrawlsInput task input) (Crawled r task was.urls.settings input) was mid now before between after first (λ no. let never : ⊥ = cc in never) second
+    leads_then (IsErrOf {T = Unit {0}} {E = Ending} (Ok tt) DiskFault) (IsErrOf r DiskFault) (BeginsAt input.suffixes) (Begins (Ok tt) input.suffixes) (CrawlsInput task mid.urls.settings input)
+    (Crawled r task mid.urls.settings input) (CrawlsInput task was.urls.settings input) (Crawled r task was.urls.settings input) was mid now before between after first (λ no. let never : ⊥ = cc in never) second
     (λ x y z held held_mid front goes begins is.
     subst (λ (s : Settings). Crawled r task s input x z) same
-    (all_behind task input x y z (store_held before.images was x drum kind held) (store_held between.images mid y later kind_mid held_mid) front goes begins r mid.urls.settings is))
+    (all_behind task mid.urls.settings input x y z (store_held before.images was x drum kind held) (store_held between.images mid y later kind_mid held_mid) front goes begins r is))
     (λ x y z held held_mid front goes begins crawls.
-    crawls_behind task input x y z (store_held before.images was x drum kind held) (store_held between.images mid y later kind_mid held_mid) front goes begins crawls)
+    subst (λ (s : Settings). CrawlsInput task s input x z) same
+    (crawls_behind task mid.urls.settings input x y z (store_held before.images was x drum kind held) (store_held between.images mid y later kind_mid held_mid) front goes begins crawls))
 
 -- one that wasn't begun
 pub leads_unbegun : (task : CrawlTask) (input : Taped) (ending : Ending) (was now : Parts) (before after : Told) → IsDrum was.urls → was.urls.settings.kind ≡ CrawlKind
     → IsDrum now.urls → Leads (IsErrOf {T = Unit {0}} {E = Ending} (Err ending) DiskFault) (BeginsAt input.suffixes) (Begins (Err ending) input.suffixes) was now before after
-    → Leads (IsErrOf {T = Unit {0}} {E = Ending} (Err ending) DiskFault) (CrawlsInput task input) (Crawled (Err ending) task was.urls.settings input) was now before after
+    → Leads (IsErrOf {T = Unit {0}} {E = Ending} (Err ending) DiskFault) (CrawlsInput task was.urls.settings input) (Crawled (Err ending) task was.urls.settings input) was now before after
 leads_unbegun task input ending was now before after drum kind later first =
     leads_wide _ _ _ _ _ was now before after first
     (λ x y held front at. only_at x y at)
@@ -464,9 +488,12 @@ leads_unbegun task input ending was now before after drum kind later first =
       other = begins.other;
     })
   where
-    only_at : (x y : State) → BeginsAt input.suffixes x y → CrawlsInput task input x y
-    only_at x y (inl same) = subst (CrawlsInput task input x) (sym same) (only_none (task.gives input) task.agent (suffixes_for x input) input.seeds task.pages task.batch x)
+    settings : Settings
+    settings = was.urls.settings
+
+    only_at : (x y : State) → BeginsAt input.suffixes x y → CrawlsInput task settings input x y
+    only_at x y (inl same) = subst (CrawlsInput task settings input x) (sym same) (only_none (task.gives input) task.agent (suffixes_for x input) input.seeds settings 1 task.pages task.batch x)
     only_at x y (inr new) =
         let named : suffixes_for x input ≡ input.suffixes = ap (λ (o : Option (List ℕ)). unwrap_or o input.suffixes) new.0 in
-        subst (CrawlsInput task input x) (sym new.1) (subst (λ (t : List ℕ). OnlyCrawls (task.gives input) task.agent t input.seeds task.pages task.batch x
-        (with_event (Begin input.suffixes) [] x)) (sym named) (only_begun (task.gives input) task.agent input.suffixes input.seeds task.pages task.batch x))
+        subst (CrawlsInput task settings input x) (sym new.1) (subst (λ (t : List ℕ). OnlyCrawls (task.gives input) task.agent t input.seeds settings 1 task.pages task.batch x
+        (with_event (Begin input.suffixes) [] x)) (sym named) (only_begun (task.gives input) task.agent input.suffixes input.seeds settings 1 task.pages task.batch x))

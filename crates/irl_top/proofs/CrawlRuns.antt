@@ -7,18 +7,19 @@ use Rattle.std.proofs.KnownBytes.{Appends-nil}
 use Rattle.irl_base.specs.Faults.{HasCause}
 use Rattle.irl_bay.specs.Drum.{IsDrum}
 use Rattle.irl_core.specs.States.{begun_with}
-use Rattle.irl_crawl.specs.Leading.{IsFullAt, Leads}
+use Rattle.irl_crawl.specs.Leading.{Leads}
 use Rattle.irl_crawl.proofs.Leading.{leads_more_failed, leads_none, leads_wide}
 use Rattle.irl_disk.specs.Disk.{Files}
 use Rattle.irl_disk.specs.Images.{IsConsistent, Leaves, Told}
 use Rattle.irl_disk.proofs.Effects.{cause_for, cause_then}
-use Rattle.irl_disk.proofs.Stretches.{joins, widens}
+use Rattle.irl_disk.proofs.Stretches.{joins, left_now, widens}
 use Rattle.irl_events.specs.State.{State, IsFrontState, blank_state}
 use Rattle.irl_head.specs.Asking.{Agrees}
 use Rattle.irl_head.specs.Head.{kind_number}
 use Rattle.irl_head.specs.Opening.{DeniesState, IsBlank, IsUnwanted}
 use Rattle.irl_head.specs.declared.open_fault.OpenFault.{OpenFault}
 use Rattle.irl_head.specs.declared.open_fault.OpenFault.TheVariants.{NotOurs as OpenNotOurs, Damaged as OpenDamaged, OtherSettings as OpenOtherSettings, BadSettings as OpenBadSettings, Failed as OpenFailed, Memory as OpenMemory}
+use Rattle.irl_head.proofs.Asking.{new_agrees}
 use Rattle.irl_offer.specs.Settings.{settings_of}
 use Rattle.irl_offer.specs.declared.settings.Asked.{Asked}
 use Rattle.irl_offer.specs.declared.settings.Kind.{Kind}
@@ -39,8 +40,9 @@ use Rattle.irl_yard.specs.Standing.{HasState}
 use Rattle.irl_yard.proofs.Grounds.{entered_made}
 use Rattle.irl_yard.proofs.Holding.{held_has}
 use Rattle.irl_yard.proofs.States.{entered_front, state_both, state_same}
-use Rattle.irl_top.specs.Crawled.{CrawlTask, CrawlRun, CrawlsInput, CrawlsStore, Crawled, GoesOver, GoesTo, HasOtherSuffixes, IsCrawled, IsCrawlEnding, IsInput, IsOpenEnding, MayCrawl, PrintsReport, ending_of_tape, settings_for}
-use Rattle.irl_top.specs.Message.{ending_of, ending_of_open}
+use Rattle.irl_top.specs.Crawled.{CrawlTask, CrawlRun, CrawlsInput, CrawlsStore, Crawled, GoesOver, GoesTo, HasOtherSuffixes, IsCrawled, IsCrawlEnding, IsFullBy, IsInput, IsOpenEnding, MayCrawl, PrintsReport, ending_of_tape, settings_for}
+use Rattle.irl_top.specs.Message.{IsLate, ending_of, ending_of_open}
+use Rattle.irl_top.specs.Opened.{IsOpenable}
 use Rattle.irl_top.specs.Outside.{Lent}
 use Rattle.irl_top.specs.Shown.{IsReportOf, HasCounts}
 use Rattle.irl_top.specs.Stream.{Stream}
@@ -119,10 +121,10 @@ blank_image x image is (inr (settings, made)) = let no : None ≡ Some settings 
 -- unless a call failed the state stays
 keeps_closed : (asked : Asked) (fault : OpenFault) (before after : Told) (files : Files) (x : State) → OpeningRefused asked fault before after → EntersStore asked (fault ≡ OpenFailed) before after
     → before.files ≡ Some files → HasState x files
-    → (most : State) × ((most ≡ x) ⊎ (most ≡ entered_state asked x)) × (fault ≢ OpenFailed → most ≡ x) × KeepsState x most before after
+    → (most : State) × ((most ≡ x) ⊎ (most ≡ entered_state asked x)) × (fault ≢ OpenFailed → most ≡ x) × KeepsState x most before after × ((most ≡ x) ⊎ (x ≡ blank_state))
 keeps_closed asked fault before after files x refused entered is (inr (settings, made)) =
     let same = entered_made asked settings x made.settings_are in
-    (entered_state asked x, inr refl, (λ fine. same), keeps_told asked fault before after files x refused entered is (inr (settings, made)) after.files refl)
+    (entered_state asked x, inr refl, (λ fine. same), keeps_told asked fault before after files x refused entered is (inr (settings, made)) after.files refl, inl same)
 keeps_closed asked fault before after files x refused entered is (inl blank) = ⊎_elim
     (λ fine. (
       x,
@@ -136,8 +138,9 @@ keeps_closed asked fault before after files x refused entered is (inl blank) = �
         stops = λ each. widens before after _ _ (refused.blank_stops fine (λ image left. blank_image x image blank.1 (each image left)))
             (λ image still. (x, inl (still, blank.1), state_same x, state_same x));
       },
+      inl refl,
     ))
-    (λ failed. (entered_state asked x, inr refl, (λ fine. absurd (fine failed)), keeps_told asked fault before after files x refused entered is (inl blank) after.files refl))
+    (λ failed. (entered_state asked x, inr refl, (λ fine. absurd (fine failed)), keeps_told asked fault before after files x refused entered is (inl blank) after.files refl, inr blank.1))
     (failed_or fault)
 
 no_done : (fault : OpenFault) → ending_of_open fault ≢ Done
@@ -146,9 +149,9 @@ no_done fault = λ is. open_late fault (inl is)
 no_full : (fault : OpenFault) (n : ℕ) → ending_of_open fault ≡ Full n → ⊥
 no_full fault n is = open_late fault (inr (inr (inr (inr (n, is)))))
 
-store_refused : (task : CrawlTask) (asked : Asked) (before after : Lent) (fault : OpenFault) → IsClosed asked fault before after → (files : Files) (x : State) → before.store.files ≡ Some files → HasState x files
+store_refused : (task : CrawlTask) (asked : Asked) (before after : Lent) (fault : OpenFault) → IsConsistent after.store → IsClosed asked fault before after → (files : Files) (x : State) → before.store.files ≡ Some files → HasState x files
     → CrawlsStore task asked before after (ending_of_open fault) x
-store_refused task asked before after fault closed files x is has =
+store_refused task asked before after fault law closed files x is has =
     let found = keeps_closed asked fault before.store after.store files x closed.refused closed.entered is has in
     let keeps = found.3 in
     record {
@@ -169,6 +172,9 @@ store_refused task asked before after fault closed files x is has =
       written = wrote_none before.output after.output closed.output;
       prints = no_text (ending_of_open fault) x (no_done fault);
       stops = keeps.stops;
+      agrees = ⊎_elim (λ same. inl same) (λ (blank : x ≡ blank_state). inr (subst (λ (s : State). Agrees asked (settings_for asked (entered_state asked s))) (sym blank) (new_agrees asked))) found.4;
+      now = λ late image left. ⊎_elim (λ (l : IsLate (ending_of_open fault)). absurd (open_late fault l))
+          (λ each. left_now before.store after.store (HasOneBetween x found.0) law (keeps.stops each) image left) late;
     }
 
 ground_as : (asked : Asked) (told : Option Files) (fault other : OpenFault) → fault ≡ other → HasGround asked told fault → HasGround asked told other
@@ -181,18 +187,20 @@ unwanted : (fault : OpenFault) → ((n : ℕ) × (ending_of_open fault ≡ BadSe
 unwanted fault (inl bad) = subst IsUnwanted (sym (open_bad fault bad.0 bad.1)) tt
 unwanted fault (inr ours) = subst IsUnwanted (sym (open_ours fault ours.0 ours.1)) tt
 
-pub run_refused : (task : CrawlTask) (asked : Asked) (before after : Lent) (fault : OpenFault) → OpeningRefused asked fault before.store after.store
+pub run_refused : (task : CrawlTask) (asked : Asked) (before after : Lent) (fault : OpenFault) → IsConsistent after.store → OpeningRefused asked fault before.store after.store
     → EntersStore asked (fault ≡ OpenFailed) before.store after.store → after.input ≡ before.input → after.output ≡ before.output → CrawlRun task asked before after (ending_of_open fault)
-run_refused task asked before after fault refused entered input output =
+run_refused task asked before after fault law refused entered input output =
     let told = before.store.files in
     record {
-      crawls = λ files is x has. store_refused task asked before after fault (record { refused = refused; entered = entered; input = input; output = output }) files x is has;
+      crawls = λ files is x has. store_refused task asked before after fault law (record { refused = refused; entered = entered; input = input; output = output }) files x is has;
+      opened = inr (record { files = entered.files; steps = entered.steps; input = input; output = output; late = open_late fault });
       unopened = λ is. (refused.same (unwanted fault is), input, output);
       read = λ is. absurd (no_done fault is);
       bad = λ n is. (ground_as asked told fault (OpenBadSettings n) (open_bad fault n is) refused.ground).0;
       bad_asked = λ n is. (ground_as asked told fault (OpenBadSettings n) (open_bad fault n is) refused.ground).1;
       line = λ n is. absurd (open_late fault (inr (inl (n, is))));
       not_ours = λ at is. ground_as asked told fault (OpenNotOurs at) (open_ours fault at is) refused.ground;
+      damaged = λ f at is. inl (ground_as asked told fault (OpenDamaged f at) (open_damaged fault f at is) refused.ground);
       other = λ n kept wanted is. inl (ground_as asked told fault (OpenOtherSettings n kept wanted) (open_other fault n kept wanted is) refused.ground);
       whole = λ f at is. refused.whole (denies_as fault (OpenDamaged f at) (open_damaged fault f at is) tt);
       whole_ours = λ at is. refused.whole (denies_as fault (OpenNotOurs at) (open_ours fault at is) tt);
@@ -238,11 +246,16 @@ module _ (task : CrawlTask) (asked : Asked) (before mid after : Lent) (was now :
       either))
       (widens mid.store after.store _ _ stops (λ image between. (between.0, between.1, state_both x (entered_state asked x) between.0 (entered_front asked x) between.2, between.3)))
 
-  may_in : (x y : State) → MayCrawl task mid.input.bytes (entered_state asked x) y → MayCrawl task before.input.bytes (entered_state asked x) y
-  may_in x y may = subst (λ (s : Stream). MayCrawl task s.bytes (entered_state asked x) y) input may
-
   settings_is : (x : State) (files : Files) → before.store.files ≡ Some files → HasState x files → was.urls.settings ≡ settings_for asked (entered_state asked x)
   settings_is x files is has = sym (ap (λ (o : Option Settings). unwrap_or o (settings_of asked)) (opened.holds files is x has).urls.settings)
+
+  may_in : (x y : State) (files : Files) → before.store.files ≡ Some files → HasState x files → MayCrawl task was.urls.settings mid.input.bytes (entered_state asked x) y
+      → MayCrawl task (settings_for asked (entered_state asked x)) before.input.bytes (entered_state asked x) y
+  may_in x y files is has may = subst (λ (s : Stream). MayCrawl task (settings_for asked (entered_state asked x)) s.bytes (entered_state asked x) y) input
+      (subst (λ (s : Settings). MayCrawl task s mid.input.bytes (entered_state asked x) y) (settings_is x files is has) may)
+
+  agrees_in : (x : State) (files : Files) → before.store.files ≡ Some files → HasState x files → Agrees asked (settings_for asked (entered_state asked x))
+  agrees_in x files is has = subst (Agrees asked) (settings_is x files is has) opened.agrees
 
   written_in : Appends before.output.bytes after.output.bytes over.text
   written_in = subst (λ (s : Stream). Appends s.bytes after.output.bytes over.text) output over.written
@@ -259,8 +272,10 @@ module _ (task : CrawlTask) (asked : Asked) (before mid after : Lent) (was now :
         state = fails.state;
         most = fails.most;
         told = fails.told;
-        may_kept = inr (may_in x fails.kept fails.may_kept);
-        may_most = inr (may_in x fails.most fails.may_most);
+        may_kept = inr (may_in x fails.kept files is has fails.may_kept);
+        may_most = inr (may_in x fails.most files is has fails.may_most);
+        agrees = inr (agrees_in x files is has);
+        now = λ late image left. fails.now image left;
         first = state_both x (entered_state asked x) fails.kept (entered_front asked x) fails.first;
         fronts = fails.fronts;
         settled = λ fine. absurd (fine failed);
@@ -284,8 +299,10 @@ module _ (task : CrawlTask) (asked : Asked) (before mid after : Lent) (was now :
         state = y;
         most = y;
         told = λ f told. held_has after.store.images now.urls y f over.leads.goes_on.drum to.holds.urls (law.told f told);
-        may_kept = inr (may_in x y goes.may);
-        may_most = inr (may_in x y goes.may);
+        may_kept = inr (may_in x y files is has goes.may);
+        may_most = inr (may_in x y files is has goes.may);
+        agrees = inr (agrees_in x files is has);
+        now = λ late image left. (y, held_has after.store.images now.urls y image over.leads.goes_on.drum to.holds.urls left, state_same y, state_same y);
         first = state_both x (entered_state asked x) y (entered_front asked x) to.front;
         fronts = (state_same y, state_same y);
         settled = λ still. (refl, refl);
@@ -295,7 +312,12 @@ module _ (task : CrawlTask) (asked : Asked) (before mid after : Lent) (was now :
               subst (λ (s : Stream). IsInput task s.bytes crawled.0) input crawled.1,
               subst (λ (s : Settings). IsCrawled task s crawled.0 (entered_state asked x) y) (settings_is x files is has) crawled.2,
             );
-        full = λ n full. subst (λ (s : Settings). IsFullAt s (entered_state asked x) y n) (settings_is x files is has) (goes.full n full);
+        full = λ n full.
+            let found = goes.full n full in (
+              found.0,
+              subst (λ (s : Stream). IsInput task s.bytes found.0) input found.1,
+              subst (λ (s : Settings). IsFullBy task s found.0 (entered_state asked x) y n) (settings_is x files is has) found.2,
+            );
         text = over.text;
         written = written_in;
         prints = goes.prints;
@@ -324,14 +346,26 @@ module _ (task : CrawlTask) (asked : Asked) (before mid after : Lent) (was now :
         ),
       )
 
+  openable : ForSome before.store.files (IsOpenable asked)
+  openable files told = record {
+    settings = was.urls.settings;
+    has = opened.settings files told;
+    valid = drum.settings;
+    agrees = opened.agrees;
+    ours = opened.ours files told;
+    undamaged = opened.undamaged files told;
+  }
+
   pub run_opened : CrawlRun task asked before after ending
   run_opened = record {
     crawls = λ files is x has. ⊎_elim (store_led x files is has) (store_failed x files is has) (disk_or ending);
+    opened = inl openable;
+    damaged = λ f at is. inr openable;
     unopened = λ is. absurd (⊎_elim (λ (b : (n : ℕ) × (ending ≡ BadSettings n)). never_bad ending b.0 over.kinds b.1) (λ (o : (at : ℕ) × (ending ≡ NotOurs at)). never_ours ending o.0 over.kinds o.1) is);
-    read = λ is. subst (λ (s : Stream). ForSome s.bytes (λ _. after.input.bytes ≡ Some [])) input (over.read is);
+    read = λ is. subst (λ (s : Stream). task.ends s after.input) input (over.read is);
     bad = λ n is. absurd (never_bad ending n over.kinds is);
     bad_asked = λ n is. absurd (never_bad ending n over.kinds is);
-    line = λ n is. subst (λ (s : Stream). ForSome s.bytes (λ bytes. task.reads bytes ≡ Err n)) input (over.line n is);
+    line = λ n is. subst (λ (s : Stream). task.reads s.bytes (Err n)) input (over.line n is);
     not_ours = λ at is. absurd (never_ours ending at over.kinds is);
     other = λ n kept wanted is. inr (λ files told x has. others x files told has n kept wanted is);
     whole = λ f at is files told x has. none_whole x files told has f at is;

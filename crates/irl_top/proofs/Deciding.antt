@@ -16,7 +16,7 @@ use Rattle.irl_offer.specs.declared.settings.Kind.TheVariants.{Crawl as CrawlKin
 use Rattle.irl_words.specs.Words.{AreRunOptions, IsInRange}
 use Rattle.irl_words.specs.declared.command.Command.{Command}
 use Rattle.irl_words.specs.declared.command.RunOptions.{RunOptions}
-use Rattle.irl_words.specs.declared.command.Command.TheVariants.{Seen, Drum as DrumOf, Replay, Show, List as Listing}
+use Rattle.irl_words.specs.declared.command.Command.TheVariants.{Seen, Drum as DrumOf, Replay, Crawl, Gen, Show, List as Listing}
 use Rattle.irl_yard.specs.Standing.{HasState}
 use Rattle.irl_head.specs.Asking.{Agrees, IsBadAsked}
 use Rattle.irl_head.specs.Opening.{IsBadStore, IsKeptOtherwise}
@@ -26,6 +26,7 @@ use Rattle.irl_head.proofs.HeadBytes.{valid_numbers}
 use Rattle.irl_schedule.specs.Feeding.{list_at, length_at}
 use Rattle.irl_top.specs.Message.{Says, status_of, refused_status}
 use Rattle.irl_top.specs.Outside.{Lent}
+use Rattle.irl_top.specs.Ports.{Port}
 use Rattle.irl_top.specs.Run.{Task, line_task, settings_in, Reaches, TakesIn, Ran, Completes, Filtered, Does, WaitsForNobody}
 use Rattle.irl_top.specs.Shown.{IsListingOf, IsReportOf, IsShowEnding, Shown}
 use Rattle.irl_top.specs.Stream.{Stream}
@@ -57,14 +58,14 @@ not_refused task before after NoMemory ran valid = λ is. omega (arith, is)
 not_refused task before after (Full b) ran valid = λ is. omega (arith, is)
 
 -- a store that can be made isn't refused for a setting
-not_bad : (asked : Asked) (files : Files) (x : State) (n : ℕ) → HasState x files → AreValid (settings_in asked x) → IsBadStore asked files n → ⊥
+pub not_bad : (asked : Asked) (files : Files) (x : State) (n : ℕ) → HasState x files → AreValid (settings_in asked x) → IsBadStore asked files n → ⊥
 not_bad asked files x n has valid bad =
     let blank = (blank_has x files bad.0.head has).1 in
     let fresh : AreValid (settings_of asked) = subst (λ (s : State). AreValid (settings_in asked s)) blank valid in
     not_bad_asked (settings_of asked) n fresh bad.1
 
 -- one that was made as is asked isn't refused for another
-not_other : (asked : Asked) (files : Files) (x : State) (n kept wanted : ℕ) → HasState x files → Agrees asked (settings_in asked x) → IsKeptOtherwise asked files n kept wanted → ⊥
+pub not_other : (asked : Asked) (files : Files) (x : State) (n kept wanted : ℕ) → HasState x files → Agrees asked (settings_in asked x) → IsKeptOtherwise asked files n kept wanted → ⊥
 not_other asked files x n kept wanted has agrees other =
     let made = made_has other.0 x files other.1 has in
     let same : settings_in asked x ≡ other.0 = ap (λ (o : Option Settings). unwrap_or o (settings_of asked)) made.settings_are in
@@ -126,19 +127,22 @@ completes task before after (Full b) ran = λ files x input told has known agree
 filtered : (task : Task) (before after : Lent) (ending : Ending) → Ran task before after ending → Filtered task before after ending
 filtered task before after ending ran = record { ran = ran; completes = completes task before after ending ran }
 
-pub does_seen : (command : Command) (asked : Asked) (before after : Lent) (ending : Ending) → command ≡ Seen asked → Ran (line_task TextLine asked) before after ending
-    → Does command before after ending
-does_seen command asked before after ending is ran = subst (λ (c : Command). Does c before after ending) (sym is) (filtered (line_task TextLine asked) before after ending ran)
+pub does_seen : (command : Command) (asked : Asked) (olds news : List Port) (before after : Lent) (ending : Ending) → command ≡ Seen asked → Ran (line_task TextLine asked) before after ending
+    → Does command olds news before after ending
+does_seen command asked olds news before after ending is ran =
+    subst (λ (c : Command). Does c olds news before after ending) (sym is) (filtered (line_task TextLine asked) before after ending ran)
 
-pub does_drum : (command : Command) (asked : Asked) (before after : Lent) (ending : Ending) → command ≡ DrumOf asked → Ran (line_task TupleLine asked) before after ending
-    → Does command before after ending
-does_drum command asked before after ending is ran = subst (λ (c : Command). Does c before after ending) (sym is) (filtered (line_task TupleLine asked) before after ending ran)
+pub does_drum : (command : Command) (asked : Asked) (olds news : List Port) (before after : Lent) (ending : Ending) → command ≡ DrumOf asked → Ran (line_task TupleLine asked) before after ending
+    → Does command olds news before after ending
+does_drum command asked olds news before after ending is ran =
+    subst (λ (c : Command). Does c olds news before after ending) (sym is) (filtered (line_task TupleLine asked) before after ending ran)
 
-pub does_show : (command : Command) (before after : Lent) (ending : Ending) → command ≡ Show → Shown IsReportOf before after ending → Does command before after ending
-does_show command before after ending is shown = subst (λ (c : Command). Does c before after ending) (sym is) shown
+pub does_show : (command : Command) (olds news : List Port) (before after : Lent) (ending : Ending) → command ≡ Show → Shown IsReportOf before after ending → Does command olds news before after ending
+does_show command olds news before after ending is shown = subst (λ (c : Command). Does c olds news before after ending) (sym is) shown
 
-pub does_list : (command : Command) (before after : Lent) (ending : Ending) → command ≡ Listing → Shown IsListingOf before after ending → Does command before after ending
-does_list command before after ending is shown = subst (λ (c : Command). Does c before after ending) (sym is) shown
+pub does_list : (command : Command) (olds news : List Port) (before after : Lent) (ending : Ending) → command ≡ Listing → Shown IsListingOf before after ending
+    → Does command olds news before after ending
+does_list command olds news before after ending is shown = subst (λ (c : Command). Does c olds news before after ending) (sym is) shown
 
 -- one that only looks is refused no setting
 look_accepted : (ending : Ending) → IsShowEnding ending → status_of ending ≢ refused_status
@@ -155,24 +159,57 @@ look_accepted NoMemory kind = λ is. omega (arith, is)
 look_accepted (Full b) kind = absurd kind
 
 -- one that is in range is never refused as words are
-pub accepted : (command : Command) (before after : Lent) (ending : Ending) → Does command before after ending → IsInRange command → WaitsForNobody command → status_of ending ≢ refused_status
-accepted (Seen asked) before after ending does range plain = not_refused (line_task TextLine asked) before after ending does.ran range.valid
-accepted (DrumOf asked) before after ending does range plain = not_refused (line_task TupleLine asked) before after ending does.ran range.valid
-accepted (Replay asked options) before after ending does range plain = absurd plain
-accepted Show before after ending does range plain = look_accepted ending does.kinds
-accepted Listing before after ending does range plain = look_accepted ending does.kinds
+pub accepted : (command : Command) (olds news : List Port) (before after : Lent) (ending : Ending) → Does command olds news before after ending → IsInRange command → WaitsForNobody command
+    → status_of ending ≢ refused_status
+accepted (Seen asked) olds news before after ending does range plain = not_refused (line_task TextLine asked) before after ending does.ran range.valid
+accepted (DrumOf asked) olds news before after ending does range plain = not_refused (line_task TupleLine asked) before after ending does.ran range.valid
+accepted (Replay asked options) olds news before after ending does range plain = absurd plain
+accepted (Crawl asked options number) olds news before after ending does range plain = absurd plain
+accepted (Gen asked options pages) olds news before after ending does range plain = absurd plain
+accepted Show olds news before after ending does range plain = look_accepted ending does.kinds
+accepted Listing olds news before after ending does range plain = look_accepted ending does.kinds
+
+-- a command that waits for nobody does so whatever ports tell, and calls none
+pub does_plain : (command : Command) (olds news others mores : List Port) (before after : Lent) (ending : Ending) → WaitsForNobody command → Does command olds news before after ending
+    → Does command others mores before after ending
+does_plain (Seen asked) olds news others mores before after ending plain does = does
+does_plain (DrumOf asked) olds news others mores before after ending plain does = does
+does_plain (Replay asked options) olds news others mores before after ending plain does = absurd plain
+does_plain (Crawl asked options number) olds news others mores before after ending plain does = absurd plain
+does_plain (Gen asked options pages) olds news others mores before after ending plain does = absurd plain
+does_plain Show olds news others mores before after ending plain does = does
+does_plain Listing olds news others mores before after ending plain does = does
 
 -- a command that isn't a crawl waits for nobody
-pub waits_not : (command : Command) → ((asked : Asked) (options : RunOptions) → command ≡ Replay asked options → ⊥) → WaitsForNobody command
-waits_not (Seen asked) not = tt
-waits_not (DrumOf asked) not = tt
-waits_not (Replay asked options) not = not asked options refl
-waits_not Show not = tt
-waits_not Listing not = tt
+pub waits_not : (command : Command) → ((asked : Asked) (options : RunOptions) → command ≡ Replay asked options → ⊥)
+    → ((asked : Asked) (options : RunOptions) (number : ℕ) → command ≡ Crawl asked options number → ⊥)
+    → ((asked : Asked) (options : RunOptions) (pages : ℕ) → command ≡ Gen asked options pages → ⊥) → WaitsForNobody command
+waits_not (Seen asked) not_replay not_crawl not_gen = tt
+waits_not (DrumOf asked) not_replay not_crawl not_gen = tt
+waits_not (Replay asked options) not_replay not_crawl not_gen = not_replay asked options refl
+waits_not (Crawl asked options number) not_replay not_crawl not_gen = not_crawl asked options number refl
+waits_not (Gen asked options pages) not_replay not_crawl not_gen = not_gen asked options pages refl
+waits_not Show not_replay not_crawl not_gen = tt
+waits_not Listing not_replay not_crawl not_gen = tt
 
-pub never_waits : (command : Command) (asked : Asked) (options : RunOptions) → command ≡ Replay asked options → WaitsForNobody command → ⊥
-never_waits command asked options is plain = subst WaitsForNobody is plain
+pub replay_waits : (command : Command) (asked : Asked) (options : RunOptions) → command ≡ Replay asked options → WaitsForNobody command → ⊥
+replay_waits command asked options is plain = subst WaitsForNobody is plain
+
+pub crawl_waits : (command : Command) (asked : Asked) (options : RunOptions) (number : ℕ) → command ≡ Crawl asked options number → WaitsForNobody command → ⊥
+crawl_waits command asked options number is plain = subst WaitsForNobody is plain
+
+pub gen_waits : (command : Command) (asked : Asked) (options : RunOptions) (pages : ℕ) → command ≡ Gen asked options pages → WaitsForNobody command → ⊥
+gen_waits command asked options pages is plain = subst WaitsForNobody is plain
 
 -- what a command that crawls asks
-pub crawl_asked : (asked : Asked) (options : RunOptions) → IsInRange (Replay asked options) → (asked.kind ≡ CrawlKind) × AreRunOptions options
-crawl_asked asked options range = let kind : Some asked.kind ≡ Some CrawlKind = range.kind in let same : asked.kind ≡ CrawlKind = cc in (same, range.run)
+kind_of : (asked : Asked) → Some asked.kind ≡ Some CrawlKind → asked.kind ≡ CrawlKind
+kind_of asked is = cc
+
+pub replay_asked : (asked : Asked) (options : RunOptions) → IsInRange (Replay asked options) → (asked.kind ≡ CrawlKind) × AreRunOptions options
+replay_asked asked options range = (kind_of asked range.kind, range.run)
+
+pub crawl_asked : (asked : Asked) (options : RunOptions) (number : ℕ) → IsInRange (Crawl asked options number) → (asked.kind ≡ CrawlKind) × AreRunOptions options
+crawl_asked asked options number range = (kind_of asked range.kind, range.run)
+
+pub gen_asked : (asked : Asked) (options : RunOptions) (pages : ℕ) → IsInRange (Gen asked options pages) → (asked.kind ≡ CrawlKind) × AreRunOptions options
+gen_asked asked options pages range = (kind_of asked range.kind, range.run)

@@ -1,6 +1,8 @@
+pub mod AlongTapes
 pub mod Beginning
 pub mod Calls
 pub mod Closed
+pub mod CompletesCrawl
 pub mod CrawlInputs
 pub mod CrawlParts
 pub mod CrawlRuns
@@ -10,6 +12,7 @@ pub mod Going
 pub mod Growing
 pub mod InputLines
 pub mod Listed
+pub mod Obeying
 pub mod Opened
 pub mod Ranges
 pub mod Shows

@@ -45,7 +45,8 @@ use Rattle.irl_top.specs.declared.line.LineKind.{LineKind}
 use Rattle.irl_top.specs.Input.{offered}
 use Rattle.irl_top.specs.Outside.{Lent}
 use Rattle.irl_top.specs.Records.{AddsUnevenRecords}
-use Rattle.irl_top.specs.Run.{line_task, settings_in, Reaches, HasReached, TakesIn, Extends, Ran, IsStoreFile, IsOpenable}
+use Rattle.irl_top.specs.Run.{line_task, settings_in, Reaches, HasReached, TakesIn, Extends, Ran, IsStoreFile}
+use Rattle.irl_top.specs.Opened.{IsOpenable}
 use Rattle.irl_top.specs.Printed.{before_last, judged_count}
 use Rattle.irl_top.specs.Session.{Place, HoldsAt, ArePrinted, unprinted, Ends, EndsWith, HasReason, HasRead}
 use Rattle.irl_top.specs.Stream.{Stream}

@@ -1,10 +1,11 @@
 -- What a command that crawls does: it enters a store, reads its input whole, leads the store on by the answers that its
 -- fetches are given, and prints the report.
-use Rattle.std.specs.Prelude.{◌≡◌, ◌≢◌, ◌⊎◌, ℕ, List, [], length, true, Option, None, Some, Result, Ok, Err, unwrap_or}
-use Rattle.std.specs.Prelude.{OnOk, IsErrOf, ⊤}
+use Rattle.std.specs.Prelude.{◌≡◌, ◌≢◌, ◌⊎◌, ◌↔◌, ℕ, ◌+◌, ◌<◌, ◌≤◌, Bool, true, false, List, [], ◌++◌, flat_map, length, map, Option, None, Some, Result, Ok, Err}
+use Rattle.std.specs.Prelude.{OnOk, IsErrOf, unwrap_or, ⊤}
+use Rattle.std.specs.List.{Contains}
 use Rattle.std.specs.Option.{ForSome}
 use Rattle.std.specs.Io.KnownBytes.{Appends}
-use Rattle.irl_base.specs.Faults.{HasCause}
+use Rattle.irl_base.specs.Faults.{HasCause, Rose}
 use Rattle.irl_core.specs.States.{begun_with}
 use Rattle.irl_crawl.specs.Crawling.{CrawlsWhole, IsPlan, NoneWaits, OnlyCrawls}
 use Rattle.irl_crawl.specs.declared.plan.Ended.{Ended}
@@ -13,39 +14,53 @@ use Rattle.irl_crawl.specs.declared.plan.Plan.{Plan}
 use Rattle.irl_crawl.specs.Leading.{IsFullAt, Leads}
 use Rattle.irl_crawl.specs.Turning.{events_since}
 use Rattle.irl_disk.specs.Disk.{Files}
-use Rattle.irl_disk.specs.Images.{Leaves}
+use Rattle.irl_disk.specs.Images.{Leaves, Told}
 use Rattle.irl_events.specs.Events.{Begin}
 use Rattle.irl_events.specs.State.{State, IsFrontState}
-use Rattle.irl_head.specs.Asking.{IsBadAsked}
+use Rattle.irl_fate.specs.Fates.{fate_of}
+use Rattle.irl_fate.specs.declared.fate.Fate.TheVariants.{Done as DoneFate}
+use Rattle.irl_head.specs.Asking.{Agrees, IsBadAsked}
 use Rattle.irl_head.specs.Opening.{IsBadStore, IsKeptOtherwise, IsNotOursAt}
 use Rattle.irl_key.specs.Key.{key_of}
-use Rattle.irl_model.specs.Book.{IsPrefixOf}
-use Rattle.irl_offer.specs.Settings.{settings_of}
+use Rattle.irl_model.specs.Book.{IsPrefixOf, part, uniques}
+use Rattle.irl_offer.specs.Settings.{AreValid, settings_of}
+use Rattle.irl_offer.specs.declared.outcome.Outcome.{Outcome}
 use Rattle.irl_offer.specs.declared.settings.Asked.{Asked}
 use Rattle.irl_offer.specs.declared.settings.Settings.{Settings}
-use Rattle.irl_reach.specs.Along.{settled_in}
+use Rattle.irl_reach.specs.Along.{IsAlong, settled_in}
+use Rattle.irl_offer.specs.Tuple.{Tuple}
+use Rattle.irl_reach.specs.Crawls.{Visit, found_by, numbers_in, seed_offers}
+use Rattle.irl_reach.specs.Reached.{Reached}
 use Rattle.irl_record.specs.Fetched.{by_tape}
 use Rattle.irl_record.specs.Reading.{tape_of}
+use Rattle.irl_record.specs.Site.{site_text}
 use Rattle.irl_record.specs.Taped.{Taped}
 use Rattle.irl_record.specs.declared.reading.TapeFault.{TapeFault}
 use Rattle.irl_record.specs.declared.reading.TapeFault.TheVariants.{BadRecord, Failed as TapeFailed, Memory as TapeMemory}
 use Rattle.irl_record.specs.Widening.{Answers}
 use Rattle.irl_words.specs.declared.command.RunOptions.{RunOptions}
+use Rattle.irl_schedule.specs.Feeding.{list_at}
 use Rattle.irl_yard.specs.declared.parts.Parts.{Parts}
 use Rattle.irl_yard.specs.Adding.{with_event}
 use Rattle.irl_yard.specs.Leading.{HasOneBetween}
-use Rattle.irl_yard.specs.Opening.{entered_state}
+use Rattle.irl_yard.specs.Opening.{IsDamageAt, entered_state}
+use Rattle.irl_yard.specs.Passing.{come}
 use Rattle.irl_yard.specs.Standing.{HasState}
 use Rattle.irl_top.specs.declared.ending.Ending.{Ending}
 use Rattle.irl_top.specs.declared.ending.Ending.TheVariants.{Done, BadSettings, LineRefused, NotOurs, Damaged, OtherSettings, DiskFault, InputFault, OutputFault, NoMemory, Full}
-use Rattle.irl_top.specs.Message.{ending_of_store}
+use Rattle.irl_top.specs.Message.{IsLate, ending_of_store}
+use Rattle.irl_top.specs.Opened.{IsOpenable, StaysClosed}
 use Rattle.irl_top.specs.Outside.{Lent}
+use Rattle.irl_top.specs.Ports.{Port, given_on}
 use Rattle.irl_top.specs.Shown.{IsReportOf}
+use Rattle.irl_top.specs.Stream.{Stream}
 
 -- ---- what is asked
 pub record CrawlTask : Type 1 where
-  -- what an input is, or the number of its first line that is refused
-  pub reads : List ℕ → Result Taped ℕ
+  -- what an input is, or the number of its first line that is refused, by the bytes of the source, where they are told
+  pub reads : Option (List ℕ) → Result Taped ℕ → Type 0
+  -- what the source tells before a run and after it, where all is done
+  pub ends : Stream → Stream → Type 0
   -- the answers that fetches may be given
   pub gives : Taped → Answers
   -- the product token for which robots files are read, how many URLs are settled at most, and in one turn
@@ -53,19 +68,47 @@ pub record CrawlTask : Type 1 where
   pub pages : ℕ
   pub batch : ℕ
 
--- that of `replay`: a tape with pages, which gives the answers
-abbrev pub replay_task : RunOptions → CrawlTask
-replay_task options = record {
-  reads = tape_of true;
-  gives = by_tape;
+-- the source has such an input, or one that is refused at this line
+abbrev pub IsReadBy : (List ℕ → Result Taped ℕ) → Option (List ℕ) → Result Taped ℕ → Type 0
+IsReadBy reads bytes result = ForSome bytes (λ text. reads text ≡ result)
+
+-- it is read to its end
+abbrev pub IsReadWhole : Stream → Stream → Type 0
+IsReadWhole old new = ForSome old.bytes (λ _. new.bytes ≡ Some [])
+
+-- that over a tape, with pages or without them, by these options
+abbrev pub tape_task : Bool → RunOptions → (Taped → Answers) → CrawlTask
+tape_task pages options gives = record {
+  reads = IsReadBy (tape_of pages);
+  ends = IsReadWhole;
+  gives = gives;
   agent = options.agent;
   pages = options.pages;
   batch = options.batch;
 }
 
--- the input is this one, where its bytes are told
+-- that of `replay`: a tape with pages, which gives the answers
+abbrev pub replay_task : RunOptions → CrawlTask
+replay_task options = tape_task true options by_tape
+
+-- that of `crawl`: a tape without pages, and answers that ports gave on connections to this number of a port
+abbrev pub crawl_task : RunOptions → ℕ → List Port → List Port → CrawlTask
+crawl_task options number before after = tape_task false options (λ _. given_on number options.agent before after)
+
+-- that of `gen`: a site of so many pages, whose tape gives the answers; nothing is read
+abbrev pub site_task : RunOptions → ℕ → CrawlTask
+site_task options pages = record (replay_task options) {
+  reads = λ _ result. tape_of true (site_text pages) ≡ result;
+  ends = λ old new. new ≡ old;
+}
+
+-- a part of one by these options, where these answers are given: it reads nothing itself
+abbrev pub part_task : RunOptions → Answers → CrawlTask
+part_task options gives = tape_task false options (λ _. gives)
+
+-- the input is this one
 abbrev pub IsInput : CrawlTask → Option (List ℕ) → Taped → Type 0
-IsInput task bytes input = ForSome bytes (λ text. task.reads text ≡ Ok input)
+IsInput task bytes input = task.reads bytes (Ok input)
 
 -- ---- states
 -- the settings of an open store's state, or those that a store is made with
@@ -77,19 +120,29 @@ abbrev pub suffixes_for : State → Taped → List ℕ
 suffixes_for state input = unwrap_or (begun_with state.events) input.suffixes
 
 -- An input was crawled from a state on: some URLs were visited, and nothing is offered but the seeds and what the
--- visits name.
-abbrev pub CrawlsInput : CrawlTask → Taped → State → State → Type 0
-CrawlsInput task input x y = OnlyCrawls (task.gives input) task.agent (suffixes_for x input) input.seeds task.pages
-    task.batch x y
+-- visits name. One merge of each book may come before a bucket has enough new offers for the seeds, and one a turn.
+abbrev pub CrawlsInput : CrawlTask → Settings → Taped → State → State → Type 0
+CrawlsInput task settings input x y = OnlyCrawls (task.gives input) task.agent (suffixes_for x input) input.seeds
+    settings 1 task.pages task.batch x y
 
 -- a state that a run over an open store's may leave: it itself, or one that a crawl of the input leads it to
-abbrev pub MayCrawl : CrawlTask → Option (List ℕ) → State → State → Type 0
-MayCrawl task bytes x y = (y ≡ x) ⊎ ((input : Taped) × IsInput task bytes input × CrawlsInput task input x y)
+abbrev pub MayCrawl : CrawlTask → Settings → Option (List ℕ) → State → State → Type 0
+MayCrawl task settings bytes x y = (y ≡ x)
+    ⊎ ((input : Taped) × IsInput task bytes input × CrawlsInput task settings input x y × IsFrontState x y)
+
+-- what such a crawl handed in: the seeds, and what the visits found
+abbrev pub handed_by : Taped → State → State → List Visit → List Tuple
+handed_by input x y visits = seed_offers input ++ flat_map (found_by (suffixes_for x input) y.urls) visits
+
+-- an offer of it doesn't fit
+abbrev pub IsFullBy : CrawlTask → Settings → Taped → State → State → ℕ → Type 0
+IsFullBy task settings input x y n = (crawls : CrawlsInput task settings input x y)
+    × IsFullAt settings (handed_by input x y crawls.visits) x y n
 
 -- What came of each visit is settled, all is judged and the pairs are sent, and either no URL waits or as many are
 -- settled as were asked for.
 pub record IsCrawled (task : CrawlTask) (settings : Settings) (input : Taped) (x y : State) : Type 0 where
-  pub crawls : CrawlsInput task input x y
+  pub crawls : CrawlsInput task settings input x y
   pub whole : CrawlsWhole (suffixes_for x input) input.seeds settings crawls.visits x y
   pub ends : NoneWaits settings y ⊎ (length (settled_in (events_since x y)) ≡ task.pages)
 
@@ -118,9 +171,9 @@ pub record Begins (result : Result Unit Ending) (suffixes : List ℕ) (x y : Sta
 -- an input was crawled, by the answer
 pub record Crawled (result : Result Unit Ending) (task : CrawlTask) (settings : Settings) (input : Taped) (x y : State)
     : Type 0 where
-  pub crawls : CrawlsInput task input x y
+  pub crawls : CrawlsInput task settings input x y
   pub done : OnOk result (IsCrawled task settings input x y)
-  pub full : (n : ℕ) → IsErrOf result (Full n) → IsFullAt settings x y n
+  pub full : (n : ℕ) → IsErrOf result (Full n) → IsFullBy task settings input x y n
   pub whole : (f at : ℕ) → IsErrOf result (Damaged f at) → ⊥
   pub other : (n kept wanted : ℕ) → IsErrOf result (OtherSettings n kept wanted)
       → (n ≡ 12) × HasOtherSuffixes x input.suffixes kept wanted
@@ -160,6 +213,20 @@ IsCrawlEnding OutputFault = ⊥
 IsCrawlEnding NoMemory = ⊤
 IsCrawlEnding (Full n) = ⊤
 
+-- an ending of a crawl of an input with its report
+abbrev pub IsPlayEnding : Ending → Type 0
+IsPlayEnding Done = ⊤
+IsPlayEnding (BadSettings n) = ⊥
+IsPlayEnding (LineRefused n) = ⊥
+IsPlayEnding (NotOurs at) = ⊥
+IsPlayEnding (Damaged f at) = ⊤
+IsPlayEnding (OtherSettings n kept wanted) = ⊤
+IsPlayEnding DiskFault = ⊤
+IsPlayEnding InputFault = ⊥
+IsPlayEnding OutputFault = ⊤
+IsPlayEnding NoMemory = ⊤
+IsPlayEnding (Full n) = ⊤
+
 -- an ending of a run over an open store
 abbrev pub IsOpenEnding : Ending → Type 0
 IsOpenEnding Done = ⊤
@@ -180,12 +247,36 @@ abbrev pub PrintsReport : Ending → State → List ℕ → Type 0
 PrintsReport ending y text = (whole : List ℕ) × IsReportOf y whole × IsPrefixOf text whole
     × (ending ≡ Done → text ≡ whole)
 
+-- An input was crawled over an open store and the report printed, where the store didn't fail and this is written.
+pub record PrintsCrawl (task : CrawlTask) (settings : Settings) (input : Taped) (ending : Ending) (text : List ℕ)
+    (x y : State) : Type 0 where
+  pub crawls : CrawlsInput task settings input x y
+  pub done : ending ≡ Done → IsCrawled task settings input x y
+  pub full : (n : ℕ) → ending ≡ Full n → IsFullBy task settings input x y n
+  pub whole : (f at : ℕ) → ending ≡ Damaged f at → ⊥
+  pub other : (n kept wanted : ℕ) → ending ≡ OtherSettings n kept wanted
+      → (n ≡ 12) × HasOtherSuffixes x input.suffixes kept wanted
+  pub prints : PrintsReport ending y text
+
+-- The same between what is told before and after it.
+pub record CrawlsTape (task : CrawlTask) (input : Taped) (was now : Parts) (before after : Told) (old new : Stream)
+    (ending : Ending) : Type 0 where
+  pub text : List ℕ
+  pub written : Appends old.bytes new.bytes text
+  pub leads : Leads (ending ≡ DiskFault) (CrawlsInput task was.urls.settings input)
+      (PrintsCrawl task was.urls.settings input ending text)
+      was now before after
+  -- where the store failed nothing is written
+  pub silent : ending ≡ DiskFault → text ≡ []
+  pub kinds : IsPlayEnding ending
+  pub output : HasCause (ending ≡ OutputFault) old.faults new.faults
+
 -- What a run over an open store makes of its state, where the store didn't fail and this is written.
 pub record GoesTo (task : CrawlTask) (settings : Settings) (bytes : Option (List ℕ)) (ending : Ending) (text : List ℕ)
     (x y : State) : Type 0 where
-  pub may : MayCrawl task bytes x y
+  pub may : MayCrawl task settings bytes x y
   pub done : ending ≡ Done → (input : Taped) × IsInput task bytes input × IsCrawled task settings input x y
-  pub full : (n : ℕ) → ending ≡ Full n → IsFullAt settings x y n
+  pub full : (n : ℕ) → ending ≡ Full n → (input : Taped) × IsInput task bytes input × IsFullBy task settings input x y n
   pub whole : (f at : ℕ) → ending ≡ Damaged f at → ⊥
   pub other : (n kept wanted : ℕ) → ending ≡ OtherSettings n kept wanted
       → (n ≡ 12) × ((input : Taped) × IsInput task bytes input × HasOtherSuffixes x input.suffixes kept wanted)
@@ -195,12 +286,12 @@ pub record GoesTo (task : CrawlTask) (settings : Settings) (bytes : Option (List
 pub record GoesOver (task : CrawlTask) (was now : Parts) (before after : Lent) (ending : Ending) : Type 0 where
   pub text : List ℕ
   pub written : Appends before.output.bytes after.output.bytes text
-  pub leads : Leads (ending ≡ DiskFault) (MayCrawl task before.input.bytes)
+  pub leads : Leads (ending ≡ DiskFault) (MayCrawl task was.urls.settings before.input.bytes)
       (GoesTo task was.urls.settings before.input.bytes ending text) was now before.store after.store
   -- where the store failed nothing is written
   pub silent : ending ≡ DiskFault → text ≡ []
-  pub read : ending ≡ Done → ForSome before.input.bytes (λ _. after.input.bytes ≡ Some [])
-  pub line : (n : ℕ) → ending ≡ LineRefused n → ForSome before.input.bytes (λ bytes. task.reads bytes ≡ Err n)
+  pub read : ending ≡ Done → task.ends before.input after.input
+  pub line : (n : ℕ) → ending ≡ LineRefused n → task.reads before.input.bytes (Err n)
   pub kinds : IsOpenEnding ending
   pub input : HasCause (ending ≡ InputFault) before.input.faults after.input.faults
   pub output : HasCause (ending ≡ OutputFault) before.output.faults after.output.faults
@@ -214,39 +305,50 @@ pub record CrawlsStore (task : CrawlTask) (asked : Asked) (before after : Lent) 
     pub state : State
     pub most : State
     pub told : ForSome after.store.files (HasState state)
-    pub may_kept : (kept ≡ x) ⊎ MayCrawl task before.input.bytes (entered_state asked x) kept
-    pub may_most : (most ≡ x) ⊎ MayCrawl task before.input.bytes (entered_state asked x) most
+    pub may_kept : (kept ≡ x)
+        ⊎ MayCrawl task (settings_for asked (entered_state asked x)) before.input.bytes (entered_state asked x) kept
+    pub may_most : (most ≡ x)
+        ⊎ MayCrawl task (settings_for asked (entered_state asked x)) before.input.bytes (entered_state asked x) most
     pub first : IsFrontState x kept
     pub fronts : IsFrontState kept state × IsFrontState state most
+    -- a store that was made otherwise than is asked stays as it is
+    pub agrees : (most ≡ x) ⊎ Agrees asked (settings_for asked (entered_state asked x))
     -- they differ only where the store failed
     pub settled : ending ≢ DiskFault → (state ≡ kept) × (most ≡ kept)
     pub done : ending ≡ Done → (input : Taped) × IsInput task before.input.bytes input
         × IsCrawled task (settings_for asked (entered_state asked x)) input (entered_state asked x) kept
-    pub full : (n : ℕ) → ending ≡ Full n
-        → IsFullAt (settings_for asked (entered_state asked x)) (entered_state asked x) kept n
+    pub full : (n : ℕ) → ending ≡ Full n → (input : Taped) × IsInput task before.input.bytes input
+        × IsFullBy task (settings_for asked (entered_state asked x)) input (entered_state asked x) kept n
     -- what is written is its report at Done, and else a prefix of it
     pub text : List ℕ
     pub written : Appends before.output.bytes after.output.bytes text
     pub prints : PrintsReport ending kept text
-    -- where each joint image stood for the state, a stop at any moment leaves one between it and the greatest
+    -- where each joint image stood for the state, a stop at any moment leaves one between it and the greatest,
     pub stops : ((image : Files) → before.store.images image → HasState x image)
         → Leaves before.store after.store (HasOneBetween x most)
+    -- and a stop from now on no less than what was acknowledged, also where the store was opened
+    pub now : IsLate ending ⊎ ((image : Files) → before.store.images image → HasState x image)
+        → (image : Files) → after.store.images image → HasOneBetween kept most image
 
 -- One run of a command that crawls, between what is told before it and after it.
 pub record CrawlRun (task : CrawlTask) (asked : Asked) (before after : Lent) (ending : Ending) : Type 0 where
   pub crawls : ForSome before.store.files (λ files. (x : State) → HasState x files
       → CrawlsStore task asked before after ending x)
+  -- over any it is opened, or it stays closed
+  pub opened : ForSome before.store.files (IsOpenable asked) ⊎ StaysClosed asked before after ending
   -- a store that is refused as it is keeps its files, and nothing is read or written
   pub unopened : ((n : ℕ) × (ending ≡ BadSettings n)) ⊎ ((at : ℕ) × (ending ≡ NotOurs at))
       → (after.store.files ≡ before.store.files) × (after.input ≡ before.input) × (after.output ≡ before.output)
   -- at Done the input was read to its end
-  pub read : ending ≡ Done → ForSome before.input.bytes (λ _. after.input.bytes ≡ Some [])
+  pub read : ending ≡ Done → task.ends before.input after.input
   -- the cause of each other ending; want of memory alone has none
   pub bad : (n : ℕ) → ending ≡ BadSettings n → ForSome before.store.files (λ files. IsBadStore asked files n)
   pub bad_asked : (n : ℕ) → ending ≡ BadSettings n → IsBadAsked (settings_of asked) n
-  pub line : (n : ℕ) → ending ≡ LineRefused n
-      → ForSome before.input.bytes (λ bytes. task.reads bytes ≡ Err n)
+  pub line : (n : ℕ) → ending ≡ LineRefused n → task.reads before.input.bytes (Err n)
   pub not_ours : (at : ℕ) → ending ≡ NotOurs at → ForSome before.store.files (λ files. IsNotOursAt files at)
+  -- what shows where it is opened, or a damage of an open store
+  pub damaged : (f at : ℕ) → ending ≡ Damaged f at → ForSome before.store.files (λ files. IsDamageAt asked files f at)
+      ⊎ ForSome before.store.files (IsOpenable asked)
   -- settings that differ, or of a crawl that has begun the text of its suffixes
   pub other : (n kept wanted : ℕ) → ending ≡ OtherSettings n kept wanted
       → ForSome before.store.files (λ files. IsKeptOtherwise asked files n kept wanted)
@@ -260,3 +362,77 @@ pub record CrawlRun (task : CrawlTask) (asked : Asked) (before after : Lent) (en
   pub disk : HasCause (ending ≡ DiskFault) before.store.faults after.store.faults
   pub input : HasCause (ending ≡ InputFault) before.input.faults after.input.faults
   pub output : HasCause (ending ≡ OutputFault) before.output.faults after.output.faults
+
+-- ---- where nothing fails
+-- each list of URLs is within the cap with all of these that are of its bucket
+abbrev pub HasRoom : Settings → State → List Tuple → Type 0
+HasRoom settings x handed = (b : ℕ) → b < settings.buckets
+    → length (list_at x.urls b) + length (part settings.buckets b handed) ≤ settings.cap
+
+-- Over a store that stands for a state and was made, or can be made, as is asked, by an input that isn't refused and
+-- names no other suffixes, where nothing fails, each list of URLs has room for all that a crawl of the input hands in,
+-- and no bucket of pairs is full.
+pub record MayComplete (task : CrawlTask) (asked : Asked) (before after : Lent) (ending : Ending) (x : State) : Type 0
+  where
+    pub read : (n : ℕ) → task.reads before.input.bytes (Err n) → ⊥
+    pub agrees : Agrees asked (settings_for asked (entered_state asked x))
+    pub valid : AreValid (settings_for asked (entered_state asked x))
+    pub suffixes : (input : Taped) (kept wanted : ℕ) → IsInput task before.input.bytes input
+        → HasOtherSuffixes x input.suffixes kept wanted → ⊥
+    pub room : (input : Taped) (y : State) → IsInput task before.input.bytes input
+        → (crawls : CrawlsInput task (settings_for asked (entered_state asked x)) input (entered_state asked x) y)
+        → HasRoom (settings_for asked (entered_state asked x)) (entered_state asked x)
+        (handed_by input (entered_state asked x) y crawls.visits)
+    pub pairs : (b : ℕ) → ending ≡ Full (64 + b) → ⊥
+    pub store : Rose before.store.faults after.store.faults → ⊥
+    pub input : Rose before.input.faults after.input.faults → ⊥
+    pub output : Rose before.output.faults after.output.faults → ⊥
+
+-- there a run is done, or memory ran out
+abbrev pub CompletesCrawl : CrawlTask → Asked → Lent → Lent → Ending → Type 0
+CompletesCrawl task asked before after ending = (files : Files) (x : State) → before.store.files ≡ Some files
+    → HasState x files → MayComplete task asked before after ending x → (ending ≡ NoMemory) ⊎ (ending ≡ Done)
+
+-- ---- along a tape
+-- each unique URL of a state is done
+abbrev pub AreAllDone : State → Type 0
+AreAllDone state = (settings : Settings) (number : ℕ) → state.settings ≡ Some settings
+    → Contains (numbers_in state.urls) number
+    → (outcome : Outcome) × (fate_of (come settings state) number ≡ DoneFate outcome)
+
+-- the keys of the unique URLs are exactly those that a crawl of the tape reaches
+abbrev pub HasReached : Taped → List ℕ → State → Type 0
+HasReached tape agent state = (key : ℕ)
+    → Contains (map (λ p. p.1.key) (uniques state.urls)) key ↔ Reached tape agent key
+
+-- What a run over a tape leaves of a store that was along it.
+pub record StaysAlong (tape : Taped) (agent : List ℕ) (before after : Lent) (ending : Ending) (x : State) : Type 0 where
+  -- what the files stand for then is along it,
+  pub told : ForSome after.store.files (λ files. (y : State) → HasState y files → IsAlong tape agent y)
+  -- and so is what a stop at any moment left, where each joint image stood for the state
+  pub stops : ((image : Files) → before.store.images image → HasState x image)
+      → Leaves before.store after.store (λ image. (z : State) → HasState z image → IsAlong tape agent z)
+  -- at Done, where each unique URL is done, all that is reached is unique, and nothing else
+  pub reached : ending ≡ Done → ForSome after.store.files (λ files. (y : State) → HasState y files → AreAllDone y
+      → HasReached tape agent y)
+
+-- the input is this one, and no other, as where the source tells its bytes
+abbrev pub IsOnlyInput : CrawlTask → Option (List ℕ) → Taped → Type 0
+IsOnlyInput task bytes input = IsInput task bytes input
+    × ((other : Taped) → IsInput task bytes other → other ≡ input)
+
+abbrev pub KeepsAlong : CrawlTask → Lent → Lent → Ending → Type 0
+KeepsAlong task before after ending = (tape : Taped) → IsOnlyInput task before.input.bytes tape
+    → ForSome before.store.files (λ files. (x : State) → HasState x files → IsAlong tape task.agent x
+    → StaysAlong tape task.agent before after ending x)
+
+-- ---- the whole
+-- one run of a command that crawls, and how it ends where nothing failed
+pub record CrawlsThrough (task : CrawlTask) (asked : Asked) (before after : Lent) (ending : Ending) : Type 0 where
+  pub run : CrawlRun task asked before after ending
+  pub completes : CompletesCrawl task asked before after ending
+
+-- the same of one over a tape that gives the answers, by which a store stays along it
+pub record PlaysTape (task : CrawlTask) (asked : Asked) (before after : Lent) (ending : Ending) : Type 0 where
+  pub through : CrawlsThrough task asked before after ending
+  pub along : KeepsAlong task before after ending

@@ -2,7 +2,9 @@ pub mod Crawled
 pub mod Input
 pub mod Listing
 pub mod Message
+pub mod Opened
 pub mod Outside
+pub mod Ports
 pub mod Printed
 pub mod Reading
 pub mod Records

@@ -39,6 +39,11 @@ IsEndOfInput ending = (ending ≡ Done) ⊎ ((n : ℕ) × (ending ≡ LineRefuse
 abbrev pub IsAllPrinted : Ending → Type 0
 IsAllPrinted ending = IsEndOfInput ending ⊎ ((b : ℕ) × (ending ≡ Full b))
 
+-- an ending that comes only once the store is opened
+abbrev pub IsLate : Ending → Type 0
+IsLate ending = (ending ≡ Done) ⊎ ((n : ℕ) × (ending ≡ LineRefused n)) ⊎ (ending ≡ InputFault) ⊎ (ending ≡ OutputFault)
+    ⊎ ((b : ℕ) × (ending ≡ Full b))
+
 -- the exit status of refused words
 abbrev pub refused_status : ℕ
 refused_status = 1

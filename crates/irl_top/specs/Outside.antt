@@ -2,6 +2,7 @@
 use Rattle.std.specs.Prelude.{◌≡◌, ℕ, List, Option}
 use Rattle.irl_disk.specs.Disk.{Files}
 use Rattle.irl_disk.specs.Images.{Told}
+use Rattle.irl_top.specs.Ports.{Port}
 use Rattle.irl_top.specs.Stream.{Stream}
 
 -- what a command is lent tells at one moment
@@ -10,10 +11,11 @@ pub record Lent : Type 1 where
   pub input : Stream
   pub output : Stream
 
--- and of all that a run is handed, the error sink with it
+-- and of all that a run is handed, the error sink and the ports with it
 pub record Outside : Type 1 where
   pub lent : Lent
   pub errors : Stream
+  pub ports : List Port
 
 -- what a sink tells
 abbrev pub stream : {O : Type 0} → (O → Option (List ℕ)) → (O → ℕ) → O → Stream
@@ -35,11 +37,12 @@ lent told left input_faults written output_faults store input output =
     }
 
 abbrev pub outside : {S I O E : Type 0} → (S → Told) → (I → Option (List ℕ)) → (I → ℕ) → (O → Option (List ℕ)) → (O → ℕ)
-    → (E → Option (List ℕ)) → (E → ℕ) → S → I → O → E → Outside
-outside told left input_faults written output_faults said error_faults store input output errors =
+    → (E → Option (List ℕ)) → (E → ℕ) → S → I → O → E → List Port → Outside
+outside told left input_faults written output_faults said error_faults store input output errors ports =
     record {
       lent = lent told left input_faults written output_faults store input output;
       errors = record { bytes = said errors; faults = error_faults errors };
+      ports = ports;
     }
 
 -- nothing was called: what is told and what a stop leaves is as it was, and the clock stands

@@ -27,15 +27,17 @@ use Rattle.irl_yard.specs.Opening.{entered_state, IsStoreDamagedAt}
 use Rattle.irl_schedule.specs.Feeding.{Grows, list_at, length_at}
 use Rattle.irl_words.specs.Words.{command_of}
 use Rattle.irl_words.specs.declared.command.Command.{Command}
-use Rattle.irl_words.specs.declared.command.Command.TheVariants.{Seen, Drum as DrumOf, Replay, Show, List as Listing}
+use Rattle.irl_words.specs.declared.command.Command.TheVariants.{Seen, Drum as DrumOf, Replay, Crawl, Gen, Show, List as Listing}
 use Rattle.irl_top.specs.declared.line.LineKind.{LineKind}
 use Rattle.irl_top.specs.declared.line.LineKind.TheVariants.{Text as TextLine, Tuple as TupleLine}
 use Rattle.irl_top.specs.declared.ending.Ending.{Ending}
 use Rattle.irl_top.specs.declared.ending.Ending.TheVariants.{Done, BadSettings, LineRefused, NotOurs, Damaged, OtherSettings, DiskFault, InputFault, OutputFault, NoMemory, Full}
-use Rattle.irl_top.specs.Crawled.{CrawlRun, replay_task}
+use Rattle.irl_top.specs.Crawled.{CrawlsThrough, PlaysTape, crawl_task, replay_task, site_task}
 use Rattle.irl_top.specs.Input.{refused, offered}
-use Rattle.irl_top.specs.Message.{Says, message, refusal, status_of, refused_status, IsAllPrinted, IsUnopened}
+use Rattle.irl_top.specs.Message.{Says, message, refusal, status_of, refused_status, IsAllPrinted, IsLate, IsUnopened}
+use Rattle.irl_top.specs.Opened.{IsOpenable, StaysClosed}
 use Rattle.irl_top.specs.Outside.{Lent, Outside, IsUntouched}
+use Rattle.irl_top.specs.Ports.{Port}
 use Rattle.irl_top.specs.Printed.{before_last, added}
 use Rattle.irl_top.specs.Records.{AddsUnevenRecords}
 use Rattle.irl_top.specs.Shown.{Shown, IsReportOf, IsListingOf}
@@ -87,11 +89,6 @@ FitsCap asked x offers = (b : ℕ) → b < (settings_in asked x).buckets
     ≤ (settings_in asked x).cap)
 
 -- ---- what a run leaves
--- an ending that comes only once the store is opened
-abbrev pub IsLate : Ending → Type 0
-IsLate ending = (ending ≡ Done) ⊎ ((n : ℕ) × (ending ≡ LineRefused n)) ⊎ (ending ≡ InputFault) ⊎ (ending ≡ OutputFault)
-    ⊎ ((b : ℕ) × (ending ≡ Full b))
-
 -- What a run takes in of an input over the first state, where the second was acknowledged last.
 pub record TakesIn (task : Task) (x kept : State) (input : List ℕ) (ending : Ending) : Type 0 where
   -- the offers that were taken in are the first of the input's
@@ -163,25 +160,6 @@ pub record Extends (task : Task) (before after : Lent) (ending : Ending) (x : St
 -- the files of a store of lines or tuples
 abbrev pub IsStoreFile : ℕ → Type 0
 IsStoreFile f = (f ≡ head_file) ⊎ IsFileOf urls_base 64 f
-
--- a store that is opened: it is of our make and shows no damage, and it was made as is asked, or it wasn't made yet and
--- can be
-pub record IsOpenable (asked : Asked) (files : Files) : Type 0 where
-  pub settings : Settings
-  pub has : HasSettings asked files settings
-  pub valid : AreValid settings
-  pub agrees : Agrees asked settings
-  pub ours : (at : ℕ) → IsNotOursAt files at → ⊥
-  pub undamaged : (f at : ℕ) → IsStoreDamagedAt asked files f at → ⊥
-
--- One that isn't: it is entered at most, which a store that is of another make or damaged bears, and nothing is read or
--- written.
-pub record StaysClosed (asked : Asked) (before after : Lent) (ending : Ending) : Type 0 where
-  pub files : TellsBy (Enters asked before.store.files) before.store.files after.store.files
-  pub steps : LeavesBy (Enters asked before.store.files) before.store after.store
-  pub input : after.input ≡ before.input
-  pub output : after.output ≡ before.output
-  pub late : IsLate ending → ⊥
 
 -- what is told of an open bay, which is as long as the bay says, breaks its form at this place
 pub record IsBrokenBay (asked : Asked) (old : Option Files) (f at : ℕ) (files : Files) : Type 0 where
@@ -255,22 +233,40 @@ abbrev pub WaitsForNobody : Command → Type 0
 WaitsForNobody (Seen asked) = ⊤
 WaitsForNobody (DrumOf asked) = ⊤
 WaitsForNobody (Replay asked options) = ⊥
+WaitsForNobody (Crawl asked options number) = ⊥
+WaitsForNobody (Gen asked options pages) = ⊥
 WaitsForNobody Show = ⊤
 WaitsForNobody Listing = ⊤
 
--- what it does, between what is told before it and after it
-abbrev pub Does : Command → Lent → Lent → Ending → Type 0
-Does (Seen asked) before after ending = Filtered (line_task TextLine asked) before after ending
-Does (DrumOf asked) before after ending = Filtered (line_task TupleLine asked) before after ending
-Does (Replay asked options) before after ending = CrawlRun (replay_task options) asked before after ending
-Does Show before after ending = Shown IsReportOf before after ending
-Does Listing before after ending = Shown IsListingOf before after ending
+-- it makes connections
+abbrev pub IsOnline : Command → Type 0
+IsOnline (Seen asked) = ⊥
+IsOnline (DrumOf asked) = ⊥
+IsOnline (Replay asked options) = ⊥
+IsOnline (Crawl asked options number) = ⊤
+IsOnline (Gen asked options pages) = ⊥
+IsOnline Show = ⊥
+IsOnline Listing = ⊥
+
+-- what it does, by what ports tell before it and after it, between what is told of all else
+abbrev pub Does : Command → List Port → List Port → Lent → Lent → Ending → Type 0
+Does (Seen asked) olds news before after ending = Filtered (line_task TextLine asked) before after ending
+Does (DrumOf asked) olds news before after ending = Filtered (line_task TupleLine asked) before after ending
+Does (Replay asked options) olds news before after ending = PlaysTape (replay_task options) asked before after ending
+Does (Crawl asked options number) olds news before after ending =
+    CrawlsThrough (crawl_task options number olds news) asked before after ending
+Does (Gen asked options pages) olds news before after ending =
+    PlaysTape (site_task options pages) asked before after ending
+Does Show olds news before after ending = Shown IsReportOf before after ending
+Does Listing olds news before after ending = Shown IsListingOf before after ending
 
 -- a command was carried out
 pub record Obeys (command : Command) (before after : Outside) (status : ℕ) : Type 0 where
   pub ending : Ending
   pub status_is : status ≡ status_of ending
-  pub does : Does command before.lent after.lent ending
+  pub does : Does command before.ports after.ports before.lent after.lent ending
+  -- no other command calls a port
+  pub offline : IsOnline command ⊎ (after.ports ≡ before.ports)
   -- the error sink is given the ending's line, or a prefix of it where the sink failed
   pub says : Says (message ending) before.errors after.errors
 
@@ -278,12 +274,14 @@ pub record Obeys (command : Command) (before after : Outside) (status : ℕ) : T
 pub record Refuses (word : List ℕ) (before after : Outside) (status : ℕ) : Type 0 where
   pub status_is : status ≡ refused_status
   pub untouched : IsUntouched before.lent after.lent
+  pub ports : after.ports ≡ before.ports
   pub says : Says (refusal word) before.errors after.errors
 
 -- memory ran out while the words were read, and nothing is called but the error sink
 pub record GivesUp (before after : Outside) (status : ℕ) : Type 0 where
   pub status_is : status ≡ status_of NoMemory
   pub untouched : IsUntouched before.lent after.lent
+  pub ports : after.ports ≡ before.ports
   pub says : Says (message NoMemory) before.errors after.errors
 
 -- what is done with words that are a command, or are refused

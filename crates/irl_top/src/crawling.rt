@@ -7,9 +7,12 @@ ghost use Rattle.irl_offer.specs.declared.settings.Kind.TheVariants.{Crawl as Cr
 ghost use Rattle.irl_words.specs.Words.{AreRunOptions};
 ghost use Rattle.irl_yard.specs.Holding.{IsSound};
 ghost use Rattle.irl_crawl.specs.Leading.{IsOpen, Leads};
-ghost use Rattle.irl_top.specs.Crawled.{replay_task, Begins, BeginsAt, Crawled, CrawlsInput, CrawlRun, GoesOver, IsCrawlEnding, IsPlanOf};
+ghost use Rattle.irl_crawl.specs.Workers.{AllGoOn, IsGivenBy};
+ghost use Rattle.irl_top.specs.Crawled.{crawl_task, part_task, replay_task, site_task, Begins, BeginsAt, Crawled, CrawlsInput, CrawlsTape, CrawlRun, GoesOver, IsCrawlEnding, IsPlanOf};
 ghost use Rattle.irl_top.specs.Crawled.{ending_of_crawl, ending_of_tape};
-ghost use Rattle.irl_top.specs.Outside.{lent};
+ghost use Rattle.irl_top.specs.Outside.{lent, lent_beside, stream};
+ghost use Rattle.irl_top.specs.Ports.{ports_of};
+ghost use Rattle.irl_top.specs.Stream.{Stream};
 ghost use Rattle.irl_top.specs.declared.ending.Ending.TheVariants.{DiskFault as DiskEnding};
 
 use crate::Ending;
@@ -17,10 +20,11 @@ use crate::showing::print_report;
 use irl_crawl::{Ended, Plan, crawl};
 use irl_disk::Store;
 use irl_fetch::NoGate;
+use irl_http::Link;
 use irl_io::{Sink, Source};
 use irl_key::{Web, key_of};
 use irl_offer::{Asked, Text};
-use irl_record::{Tape, TapeFault, TapeFetch};
+use irl_record::{Fetch, Tape, TapeFault, TapeFetch, WireFetch, site};
 use irl_words::RunOptions;
 use irl_yard::Yard;
 use std::alloc::{AllocError, Global};
@@ -56,12 +60,12 @@ where
         Ok(yard) => yard,
         Err((fault, store)) => return (fault.into(), store),
     };
-    let (ending, yard) = crawl_input(rt, alloc, yard, options, input, output);
+    let (ending, yard) = replay_over(rt, alloc, yard, options, input, output);
     (ending, yard.into_store())
 }
 
-// Reads a tape whole, crawls it over an open store, and prints the report.
-fn crawl_input<R, I, O, S>(
+// The same over an open store.
+fn replay_over<R, I, O, S>(
     rt: &R,
     alloc: Global,
     yard: Yard<S>,
@@ -86,7 +90,165 @@ where
         Ok(tape) => tape,
         Err(fault) => return (ending_of_tape(fault), yard),
     };
-    let (crawled, yard) = crawl_tape(rt, alloc, yard, &tape, options);
+    let mut fetchers = [TapeFetch::new(&tape)];
+    crawl_tape(rt, alloc, yard, &tape, options, &mut fetchers, output)
+}
+
+/// Crawls a made-up site of so many pages, and prints the report. Nothing is read.
+pub fn crawl_site<R, O, S>(
+    rt: &R,
+    alloc: Global,
+    asked: &Asked,
+    options: &RunOptions,
+    pages: u32,
+    output: &mut O,
+    store: S,
+) -> (Ending, S)
+where
+    R: Threads + Wait + Sync,
+    O: Sink,
+    S: Store,
+    requires kind { asked.now.kind ≡ CrawlKind }
+    requires options { AreRunOptions options.now }
+    ensures { (input : Stream) → let tells = lent_beside input S.told O.written O.faults in
+        CrawlRun (site_task options.now pages) asked.now (tells store output.old) (tells result.1 output.new) result.0 }
+{
+    let yard = match Yard::enter(alloc, store, asked) {
+        Ok(yard) => yard,
+        Err((fault, store)) => return (fault.into(), store),
+    };
+    let (ending, yard) = crawl_site_over(rt, alloc, yard, options, pages, output);
+    (ending, yard.into_store())
+}
+
+// The same over an open store.
+fn crawl_site_over<R, O, S>(
+    rt: &R,
+    alloc: Global,
+    yard: Yard<S>,
+    options: &RunOptions,
+    pages: u32,
+    output: &mut O,
+) -> (Ending, Yard<S>)
+where
+    R: Threads + Wait + Sync,
+    O: Sink,
+    S: Store,
+    requires sound { IsSound yard.parts }
+    requires kind { yard.parts.urls.settings.kind ≡ CrawlKind }
+    requires options { AreRunOptions options.now }
+    ensures { (input : Stream) → let tells = lent_beside input S.told O.written O.faults in
+        GoesOver (site_task options.now pages) yard.parts result.1.parts (tells yard.store output.old)
+        (tells result.1.store output.new) result.0 }
+{
+    let _is_sound = yard.is_sound();
+    let tape = match site(alloc, pages) {
+        Ok(tape) => tape,
+        Err(_) => return (Ending::NoMemory, yard),
+    };
+    let mut fetchers = [TapeFetch::new(&tape)];
+    crawl_tape(rt, alloc, yard, &tape, options, &mut fetchers, output)
+}
+
+/// Crawls the sites that a tape's seeds lead to, over ports that connect to this number, and prints the report. The tape has
+/// no pages.
+pub fn crawl_ports<R, I, O, S, P>(
+    rt: &R,
+    alloc: Global,
+    asked: &Asked,
+    options: &RunOptions,
+    number: u16,
+    input: &mut I,
+    output: &mut O,
+    store: S,
+    ports: &mut [WireFetch<P>],
+) -> (Ending, S)
+where
+    R: Threads + Wait + Sync,
+    I: Source,
+    O: Sink,
+    S: Store,
+    P: Link,
+    requires kind { asked.now.kind ≡ CrawlKind }
+    requires options { AreRunOptions options.now }
+    requires some { 1 ≤ length ports.old }
+    ensures { let tells = lent S.told I.left I.faults O.written O.faults in
+        let told = ports_of P.connections P.faults in
+        CrawlRun (crawl_task options.now number (told ports.old) (told ports.new)) asked.now
+        (tells store input.old output.old) (tells result.1 input.new output.new) result.0 }
+{
+    let yard = match Yard::enter(alloc, store, asked) {
+        Ok(yard) => yard,
+        Err((fault, store)) => return (fault.into(), store),
+    };
+    let (ending, yard) = crawl_ports_over(rt, alloc, yard, options, number, input, output, ports);
+    (ending, yard.into_store())
+}
+
+// The same over an open store.
+fn crawl_ports_over<R, I, O, S, P>(
+    rt: &R,
+    alloc: Global,
+    yard: Yard<S>,
+    options: &RunOptions,
+    number: u16,
+    input: &mut I,
+    output: &mut O,
+    ports: &mut [WireFetch<P>],
+) -> (Ending, Yard<S>)
+where
+    R: Threads + Wait + Sync,
+    I: Source,
+    O: Sink,
+    S: Store,
+    P: Link,
+    requires sound { IsSound yard.parts }
+    requires kind { yard.parts.urls.settings.kind ≡ CrawlKind }
+    requires options { AreRunOptions options.now }
+    requires some { 1 ≤ length ports.old }
+    ensures { let tells = lent S.told I.left I.faults O.written O.faults in
+        let told = ports_of P.connections P.faults in
+        GoesOver (crawl_task options.now number (told ports.old) (told ports.new)) yard.parts result.1.parts
+        (tells yard.store input.old output.old) (tells result.1.store input.new output.new) result.0 }
+{
+    let _is_sound = yard.is_sound();
+    let tape = match Tape::read(alloc, input, false) {
+        Ok(tape) => tape,
+        Err(fault) => return (ending_of_tape(fault), yard),
+    };
+    let Ok(agent) = options.agent.copy(alloc) else {
+        return (Ending::NoMemory, yard);
+    };
+    ports[0].aim(number, agent);
+    crawl_tape(rt, alloc, yard, &tape, options, &mut ports[..1], output)
+}
+
+// Crawls a tape over an open store by one fetcher, and prints the report.
+fn crawl_tape<R, S, F, O>(
+    rt: &R,
+    alloc: Global,
+    yard: Yard<S>,
+    tape: &Tape,
+    options: &RunOptions,
+    fetchers: &mut [F],
+    output: &mut O,
+) -> (Ending, Yard<S>)
+where
+    R: Threads + Wait + Sync,
+    S: Store,
+    F: Fetch,
+    O: Sink,
+    requires sound { IsSound yard.parts }
+    requires kind { yard.parts.urls.settings.kind ≡ CrawlKind }
+    requires options { AreRunOptions options.now }
+    requires one { length fetchers.old ≡ 1 }
+    ensures tape { CrawlsTape (part_task options.now (IsGivenBy F.asked F.gives fetchers.old fetchers.new)) tape.now
+        yard.parts result.1.parts (S.told yard.store) (S.told result.1.store)
+        (stream O.written O.faults output.old) (stream O.written O.faults output.new) result.0 }
+    ensures fetchers { AllGoOn F.asked F.gives F.faults F.last F.aim fetchers.old fetchers.new }
+{
+    let _is_sound = yard.is_sound();
+    let (crawled, yard) = begin_and_play(rt, alloc, yard, tape, options, fetchers);
     match crawled {
         Ok(()) => {
             let printed = print_report(alloc, &yard.counts(), output);
@@ -96,29 +258,34 @@ where
     }
 }
 
-// Crawls a tape over an open store.
-fn crawl_tape<R, S>(
+// Crawls a tape over an open store, which begins a crawl or goes on with one.
+fn begin_and_play<R, S, F>(
     rt: &R,
     alloc: Global,
     yard: Yard<S>,
     tape: &Tape,
     options: &RunOptions,
+    fetchers: &mut [F],
 ) -> (Result<(), Ending>, Yard<S>)
 where
     R: Threads + Wait + Sync,
     S: Store,
+    F: Fetch,
     requires sound { IsSound yard.parts }
     requires kind { yard.parts.urls.settings.kind ≡ CrawlKind }
     requires options { AreRunOptions options.now }
-    ensures leads { Leads (IsErrOf result.0 DiskEnding) (CrawlsInput (replay_task options.now) tape.now)
-        (Crawled result.0 (replay_task options.now) yard.parts.urls.settings tape.now) yard.parts result.1.parts
+    requires one { length fetchers.old ≡ 1 }
+    ensures leads { let task = part_task options.now (IsGivenBy F.asked F.gives fetchers.old fetchers.new) in
+        Leads (IsErrOf result.0 DiskEnding) (CrawlsInput task yard.parts.urls.settings tape.now)
+        (Crawled result.0 task yard.parts.urls.settings tape.now) yard.parts result.1.parts
         (S.told yard.store) (S.told result.1.store) }
     ensures kinds { IfErr result.0 IsCrawlEnding }
+    ensures fetchers { AllGoOn F.asked F.gives F.faults F.last F.aim fetchers.old fetchers.new }
 {
     let _is_sound = yard.is_sound();
     let mut yard = yard;
     match begin(&mut yard, tape.suffixes()) {
-        Ok(()) => play(rt, alloc, yard, tape, options),
+        Ok(()) => play(rt, alloc, yard, tape, options, fetchers),
         Err(ending) => (Err(ending), yard),
     }
 }
@@ -154,30 +321,34 @@ fn fits(suffixes: &[u8], kept: &[u8]) -> bool
 }
 
 // Crawls a tape over a crawl that has begun.
-fn play<R, S>(
+fn play<R, S, F>(
     rt: &R,
     alloc: Global,
     yard: Yard<S>,
     tape: &Tape,
     options: &RunOptions,
+    fetchers: &mut [F],
 ) -> (Result<(), Ending>, Yard<S>)
 where
     R: Threads + Wait + Sync,
     S: Store,
+    F: Fetch,
     requires open { IsOpen yard.parts }
     requires options { AreRunOptions options.now }
-    ensures leads { Leads (IsErrOf result.0 DiskEnding) (CrawlsInput (replay_task options.now) tape.now)
-        (Crawled result.0 (replay_task options.now) yard.parts.urls.settings tape.now) yard.parts result.1.parts
+    requires one { length fetchers.old ≡ 1 }
+    ensures leads { let task = part_task options.now (IsGivenBy F.asked F.gives fetchers.old fetchers.new) in
+        Leads (IsErrOf result.0 DiskEnding) (CrawlsInput task yard.parts.urls.settings tape.now)
+        (Crawled result.0 task yard.parts.urls.settings tape.now) yard.parts result.1.parts
         (S.told yard.store) (S.told result.1.store) }
     ensures kinds { IfErr result.0 IsCrawlEnding }
+    ensures fetchers { AllGoOn F.asked F.gives F.faults F.last F.aim fetchers.old fetchers.new }
 {
     let _is_sound = yard.is_sound();
     let plan = match plan_of(alloc, tape, options) {
         Ok(plan) => plan,
         Err(_) => return (Err(Ending::NoMemory), yard),
     };
-    let mut fetchers = [TapeFetch::new(tape)];
-    let (ended, yard) = crawl(rt, alloc, yard, &mut fetchers, &mut [NoGate], &plan);
+    let (ended, yard) = crawl(rt, alloc, yard, fetchers, &mut [NoGate], &plan);
     (ending_of_crawl(ended), yard)
 }
 

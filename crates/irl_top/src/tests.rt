@@ -1,10 +1,15 @@
+mod ports;
 mod shown;
 mod sides;
 mod spoilt;
 
+ghost use Rattle.std.specs.Prelude.{◌≡◌, length, IfOk};
+
 use crate::run;
 use irl_disk::{MemStore, Part, Store};
+use irl_http::MemLink;
 use irl_io::{MemSink, MemSource};
+use irl_record::WireFetch;
 use std::alloc::{AllocError, Global};
 use std::process::Abort;
 use std::sync::Wait;
@@ -77,6 +82,26 @@ fn new_store(alloc: Global, failing: Failing) -> Result<MemStore, AllocError> {
     Ok(MemStore::new(alloc, numbers(alloc, failing.store)?))
 }
 
+// Ports, the first of which has these connections and the others none.
+fn new_ports(alloc: Global, first: MemLink) -> Result<Vec<WireFetch<MemLink>>, AllocError>
+    ensures { IfOk result (λ ports. length ports.items ≡ 64) }
+{
+    let mut ports = Vec::new(alloc);
+    ports.push(WireFetch::new(alloc, first))?;
+    for _ in 0..63_usize {
+        let link = MemLink::new(alloc, Vec::new(alloc), Vec::new(alloc));
+        ports.push(WireFetch::new(alloc, link))?;
+    }
+    Ok(ports)
+}
+
+// Ports without connections.
+fn no_ports(alloc: Global) -> Result<Vec<WireFetch<MemLink>>, AllocError>
+    ensures { IfOk result (λ ports. length ports.items ≡ 64) }
+{
+    new_ports(alloc, MemLink::new(alloc, Vec::new(alloc), Vec::new(alloc)))
+}
+
 // What a run answers and writes, and the store that it leaves.
 #[derive(Drop)]
 struct Left {
@@ -98,6 +123,7 @@ fn run_over<R: Threads + Wait + Sync + AllocGlobal>(
     let mut source = MemSource::new(input.to_vec(alloc)?, numbers(alloc, failing.input)?);
     let mut output = MemSink::new(alloc, numbers(alloc, failing.output)?);
     let mut errors = MemSink::new(alloc, Vec::new(alloc));
+    let mut ports = no_ports(alloc)?;
     let (status, store) = run(
         rt,
         alloc,
@@ -106,6 +132,7 @@ fn run_over<R: Threads + Wait + Sync + AllocGlobal>(
         &mut output,
         &mut errors,
         store,
+        &mut ports,
     );
     Ok(Left {
         status,

@@ -2,7 +2,9 @@ ghost use Rattle.std.specs.Prelude.{Some};
 ghost use Rattle.irl_disk.specs.Memory.{counts_of, fault_count, told_by};
 ghost use Rattle.irl_disk.specs.MemoryLaws.{consistent};
 
-use super::{Case, NEW_OF_ROW, NONE, ONE_BUCKET, ROW, SEEN, check, new_store, refusal, writes};
+use super::{
+    Case, NEW_OF_ROW, NONE, ONE_BUCKET, ROW, SEEN, check, new_store, no_ports, refusal, writes,
+};
 use crate::run;
 use irl_disk::{Failed, MemStore, Store};
 use irl_io::{MemSink, MemSource};
@@ -139,6 +141,7 @@ fn seen_in_blocks<R: Threads + Wait + Sync + AllocGlobal>(
     let mut output = MemSink::new(alloc, Vec::new(alloc));
     let mut errors = MemSink::new(alloc, Vec::new(alloc));
     let words = ["seen", "--buckets", "4", "--block", "2"];
+    let mut ports = no_ports(alloc)?;
     Ok(run(
         rt,
         alloc,
@@ -147,6 +150,7 @@ fn seen_in_blocks<R: Threads + Wait + Sync + AllocGlobal>(
         &mut output,
         &mut errors,
         store,
+        &mut ports,
     ))
 }
 

@@ -2,7 +2,7 @@ ghost use Rattle.std.specs.Prelude.{◌≡◌, ◌+◌, ◌^◌, ◌<◌, length
 ghost use Rattle.std.proofs.Common.{rules};
 ghost use Rattle.irl_disk.specs.Images.{silent};
 
-use super::{NONE, new_store};
+use super::{NONE, new_store, no_ports};
 use crate::run;
 use irl_disk::{Failed, MemStore, Store};
 use irl_io::{MemSink, MemSource};
@@ -105,6 +105,7 @@ fn check_spoilt<R: Threads + Wait + Sync + Abort + AllocGlobal>(
     let mut output = MemSink::new(alloc, Vec::new(alloc));
     let mut errors = MemSink::new(alloc, Vec::new(alloc));
     let words = ["seen", "--buckets=1", "--array=1", "--trigger=1"];
+    let mut ports = no_ports(alloc)?;
     let (status, _) = run(
         rt,
         alloc,
@@ -113,6 +114,7 @@ fn check_spoilt<R: Threads + Wait + Sync + Abort + AllocGlobal>(
         &mut output,
         &mut errors,
         store,
+        &mut ports,
     );
     assert_eq!(rt; output.bytes(), case.output, "{} {}", case.file, case.place);
     assert_eq!(rt; errors.bytes(), case.errors, "{} {}", case.file, case.place);

@@ -1,30 +1,43 @@
-use Rattle.std.proofs.Common.{◌≡◌, List, ℕ, Ok, Err, Result, subst}
-use Rattle.std.specs.Prelude.{IsErrOf}
+use Rattle.std.proofs.Common.{◌≡◌, Ok, Err, subst}
+use Rattle.std.specs.Prelude.{IfErr, IsErrOf, Result}
 use Rattle.irl_crawl.specs.Leading.{Leads}
-use Rattle.irl_top.specs.Crawled.{replay_task, Begins, BeginsAt}
+use Rattle.irl_crawl.specs.Workers.{IsGivenBy}
+use Rattle.irl_report.specs.Report.{report_of}
+use Rattle.irl_top.specs.Crawled.{part_task, Crawled, CrawlsInput, IsCrawlEnding}
+use Rattle.irl_top.specs.Outside.{stream}
 use Rattle.irl_top.specs.declared.ending.Ending.{Ending}
 use Rattle.irl_top.specs.declared.ending.Ending.TheVariants.{DiskFault}
-use Rattle.irl_top.proofs.CrawlParts.{leads_behind, leads_unbegun}
+use Rattle.irl_top.proofs.CrawlInputs.{tape_printed, tape_refused}
+use Rattle.irl_top.proofs.Shows.{printed_of}
 use Rattle.irl_top.proofs.crawling.crawl_tape.Goals as goal
 
-pub returns-in-Ok-clause-leads : goal.returns-in-Ok-clause-leads
-returns-in-Ok-clause-leads g c =
+pub returns-in-Ok-clause-tape : goal.returns-in-Ok-clause-tape
+returns-in-Ok-clause-tape g c =
     let tells = g.S.Store.told in
+    let sink = stream g.O.Sink.written g.O.Sink.faults in
     let was = c.args.yard in
-    let mid = c.begin.new.yard in
-    let now = c.play.result.1 in
-    let first = subst (λ (t : List ℕ). Leads (IsErrOf {T = Unit {0}} {E = Ending} (Ok tt) DiskFault) (BeginsAt t) (Begins (Ok tt) t) was.parts mid.parts (tells was.store) (tells mid.store)) c.suffixes.ensures.value
-    c.in-Ok.ensures.leads in
-    leads_behind (replay_task c.args.options.now) c.args.tape.now c.play.result.0 was.parts mid.parts now.parts (tells was.store) (tells mid.store) (tells now.store) c.is_sound-is_sound.ensures.drum
-    c.in-Ok.ensures.leads.goes_on.drum c.requires.kind first c.play.ensures.leads
+    let now = c.begin_and_play-crawled.result.1 in
+    let task = part_task c.args.options.now (IsGivenBy g.F.Fetch.asked g.F.Fetch.gives c.args.fetchers.now c.begin_and_play-crawled.new.fetchers) in
+    let tape = c.args.tape.now in
+    let leads = subst (λ (r : Result Unit Ending). Leads (IsErrOf r DiskFault) (CrawlsInput task was.parts.urls.settings tape) (Crawled r task was.parts.urls.settings tape) was.parts now.parts
+    (tells was.store) (tells now.store)) c.in-Ok.is c.begin_and_play-crawled.ensures.leads in
+    let r = c.print_report-printed.result in
+    let h = c.print_report-printed.ensures in
+    let out = c.print_report-printed.new.output in
+    let printed = printed_of r (sink c.args.output.now) (sink out) (report_of c.counts.result) h.ok h.err h.kinds h.cause in
+    rw c.of.ensures
+    (tape_printed task tape r c.counts.result was.parts now.parts (tells was.store) (tells now.store) (sink c.args.output.now) (sink out) leads c.counts.ensures printed)
 
-pub returns-in-Err-clause-leads : goal.returns-in-Err-clause-leads
-returns-in-Err-clause-leads g c =
+pub returns-in-Err-clause-tape : goal.returns-in-Err-clause-tape
+returns-in-Err-clause-tape g c =
     let tells = g.S.Store.told in
+    let sink = stream g.O.Sink.written g.O.Sink.faults in
     let was = c.args.yard in
-    let now = c.begin.new.yard in
+    let now = c.begin_and_play-crawled.result.1 in
+    let task = part_task c.args.options.now (IsGivenBy g.F.Fetch.asked g.F.Fetch.gives c.args.fetchers.now c.begin_and_play-crawled.new.fetchers) in
+    let tape = c.args.tape.now in
     let ending = c.in-Err.ending in
-    let first = subst (λ (t : List ℕ). Leads (IsErrOf {T = Unit {0}} {E = Ending} (Err ending) DiskFault) (BeginsAt t) (Begins (Err ending) t) was.parts now.parts (tells was.store) (tells now.store)) c.suffixes.ensures.value
-    c.in-Err.ensures.leads in
-    leads_unbegun (replay_task c.args.options.now) c.args.tape.now ending was.parts now.parts (tells was.store) (tells now.store) c.is_sound-is_sound.ensures.drum c.requires.kind
-    c.in-Err.ensures.leads.goes_on.drum first
+    let leads = subst (λ (r : Result Unit Ending). Leads (IsErrOf r DiskFault) (CrawlsInput task was.parts.urls.settings tape) (Crawled r task was.parts.urls.settings tape) was.parts now.parts
+    (tells was.store) (tells now.store)) c.in-Err.is c.begin_and_play-crawled.ensures.leads in
+    let kind = subst (λ (r : Result Unit Ending). IfErr r IsCrawlEnding) c.in-Err.is c.begin_and_play-crawled.ensures.kinds in
+    tape_refused task tape ending was.parts now.parts (tells was.store) (tells now.store) (sink c.args.output.now) kind leads

@@ -10,26 +10,26 @@ use Rattle.irl_top.proofs.crawling.replay.Goals as goal
 abbrev told : (g : Over) → g.row.S.Denot → g.row.I.Denot → g.row.O.Denot → Lent
 told g store input output = lent g.S.Store.told g.I.Source.left g.I.Source.faults g.O.Sink.written g.O.Sink.faults store input output
 
-pub crawl_input-ending-requires-clause-kind : goal.crawl_input-ending-requires-clause-kind
-crawl_input-ending-requires-clause-kind g c =
+pub replay_over-ending-requires-clause-kind : goal.replay_over-ending-requires-clause-kind
+replay_over-ending-requires-clause-kind g c =
     search (rules, kind_agrees c.args.asked.now c.in-Ok.yard.parts.urls.settings c.in-Ok.ensures.opened.agrees c.requires.kind)
 
 pub returns-in-Err : goal.returns-in-Err
 returns-in-Err g c =
     let before = told g c.args.store c.args.input.now c.args.output.now in
     let after = told g c.in-Err.store c.args.input.now c.args.output.now in
-    rw c.into.ensures (run_refused (replay_task c.args.options.now) c.args.asked.now before after c.in-Err.fault c.in-Err.ensures.refused c.in-Err.ensures.entered_err refl refl)
+    rw c.into.ensures (run_refused (replay_task c.args.options.now) c.args.asked.now before after c.in-Err.fault (g.met.S.Store.is_consistent c.in-Err.store) c.in-Err.ensures.refused c.in-Err.ensures.entered_err refl refl)
 
 pub returns : goal.returns
 returns g c =
     let yard = c.in-Ok.yard in
-    let later = c.crawl_input-ending.result.1 in
-    let ending = c.crawl_input-ending.result.0 in
+    let later = c.replay_over-ending.result.1 in
+    let ending = c.replay_over-ending.result.0 in
     let before = told g c.args.store c.args.input.now c.args.output.now in
     let mid = told g yard.store c.args.input.now c.args.output.now in
-    let after = told g later.store c.crawl_input-ending.new.input c.crawl_input-ending.new.output in
+    let after = told g later.store c.replay_over-ending.new.input c.replay_over-ending.new.output in
     let law = g.met.S.Store.is_consistent later.store in
     let entered = c.in-Ok.ensures.entered in
-    subst (λ (s : g.row.S.Denot). CrawlRun (replay_task c.args.options.now) c.args.asked.now before (told g s c.crawl_input-ending.new.input c.crawl_input-ending.new.output) ending) (sym c.into_store.ensures)
+    subst (λ (s : g.row.S.Denot). CrawlRun (replay_task c.args.options.now) c.args.asked.now before (told g s c.replay_over-ending.new.input c.replay_over-ending.new.output) ending) (sym c.into_store.ensures)
     (run_opened (replay_task c.args.options.now) c.args.asked.now before mid after yard.parts later.parts ending law c.in-Ok.ensures.opened.drum c.in-Ok.ensures.opened entered
-    (λ files is. told_on _ before.store.files mid.store.files files entered.files is) refl refl c.crawl_input-ending.ensures)
+    (λ files is. told_on _ before.store.files mid.store.files files entered.files is) refl refl c.replay_over-ending.ensures)

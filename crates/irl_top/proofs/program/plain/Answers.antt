@@ -1,4 +1,4 @@
-use Rattle.std.proofs.Common.{◌∙◌, sym}
+use Rattle.std.proofs.Common.{◌∙◌, inr, refl, sym}
 use Rattle.irl_top.proofs.Deciding.{accepted, says_of}
 use Rattle.irl_top.proofs.program.plain.Goals as goal
 
@@ -7,8 +7,9 @@ returns-clause-obeys g c = record {
   ending = c.carry_out-ending.result.0;
   status_is = c.status.ensures;
   does = c.carry_out-ending.ensures;
+  offline = inr refl;
   says = says_of c.tell.result _ _ _ c.tell.ensures.ok c.tell.ensures.err c.tell.ensures.cause;
 }
 
 pub returns-clause-accepted : goal.returns-clause-accepted
-returns-clause-accepted g c = λ is. accepted c.args.command.now _ _ c.carry_out-ending.result.0 c.carry_out-ending.ensures c.requires.range c.requires.plain (sym c.status.ensures ∙ is)
+returns-clause-accepted g c = λ is. accepted c.args.command.now _ _ _ _ c.carry_out-ending.result.0 c.carry_out-ending.ensures c.requires.range c.requires.plain (sym c.status.ensures ∙ is)

@@ -1,0 +1,52 @@
+use Rattle.std.proofs.Common.{◌≡◌, ◌∙◌, List, get_or, Err, false, ℕ, ap, refl, subst, sym}
+use Rattle.irl_disk.proofs.Effects.{cause_for}
+use Rattle.irl_record.specs.Reading.{tape_of}
+use Rattle.irl_record.specs.declared.reading.TapeFault.TheVariants.{Failed as TapeFailed}
+use Rattle.irl_top.specs.Crawled.{crawl_task, IsReadBy, IsReadWhole}
+use Rattle.irl_top.specs.Outside.{stream}
+use Rattle.irl_top.specs.Ports.{ports_of}
+use Rattle.irl_top.specs.Stream.{Stream}
+use Rattle.irl_top.proofs.CrawlInputs.{goes_crawled, goes_nowhere, goes_unread}
+use Rattle.irl_top.proofs.Giving.{given_by_first}
+use Rattle.irl_top.proofs.crawling.crawl_ports_over.Goals as goal
+
+pub returns-in-Err : goal.returns-in-Err
+returns-in-Err g c =
+    let tells = g.S.Store.told in
+    let told = ports_of g.P.Link.connections g.P.Link.faults in
+    let yard = c.args.yard in
+    let old : Stream = record { bytes = g.I.Source.left c.args.input.now; faults = g.I.Source.faults c.args.input.now } in
+    let new : Stream = record { bytes = g.I.Source.left c.read.new.source; faults = g.I.Source.faults c.read.new.source } in
+    let sink = stream g.O.Sink.written g.O.Sink.faults c.args.output.now in
+    let fault = c.in-Err.fault in
+    let law = g.met.S.Store.is_consistent yard.store in
+    let task = crawl_task c.args.options.now c.args.number (told c.args.ports.now) (told c.args.ports.now) in
+    rw c.ending_of_tape.ensures
+    (goes_unread task fault yard.parts (tells yard.store) old new sink law c.is_sound-is_sound.ensures.drum c.requires.sound (λ n is. c.in-Err.ensures.refused n (ap Err is))
+    (cause_for _ (fault ≡ TapeFailed) old.faults new.faults (λ is. ap Err is) c.in-Err.ensures.cause))
+
+pub returns-in_default : goal.returns-in_default
+returns-in_default g c =
+    let tells = g.S.Store.told in
+    let told = ports_of g.P.Link.connections g.P.Link.faults in
+    let yard = c.args.yard in
+    let old : Stream = record { bytes = g.I.Source.left c.args.input.now; faults = g.I.Source.faults c.args.input.now } in
+    let new : Stream = record { bytes = g.I.Source.left c.read.new.source; faults = g.I.Source.faults c.read.new.source } in
+    let sink = stream g.O.Sink.written g.O.Sink.faults c.args.output.now in
+    let law = g.met.S.Store.is_consistent yard.store in
+    let task = crawl_task c.args.options.now c.args.number (told c.args.ports.now) (told c.args.ports.now) in
+    goes_nowhere task yard.parts (tells yard.store) old new sink law c.is_sound-is_sound.ensures.drum c.requires.sound c.in-Ok.ensures.cause.later
+
+pub returns : goal.returns
+returns g c =
+    let tells = g.S.Store.told in
+    let was = c.args.yard in
+    let now = c.crawl_tape.result.1 in
+    let old : Stream = record { bytes = g.I.Source.left c.args.input.now; faults = g.I.Source.faults c.args.input.now } in
+    let new : Stream = record { bytes = g.I.Source.left c.read.new.source; faults = g.I.Source.faults c.read.new.source } in
+    let sink = stream g.O.Sink.written g.O.Sink.faults in
+    let aimed = c.aim.ensures ∙ ap (λ (a : List ℕ). record (get_or c.args.ports.now 0 c.index-ports-0.result) { number = c.args.number; agent = a }) c.in-Ok-copy.ensures in
+    let wider = given_by_first g.P.Link.connections g.P.Link.faults c.args.number c.args.options.now.agent c.args.ports.now c.index-ports-0.result c.aim.new.self c.crawl_tape.new.fetchers
+    c.requires.some aimed c.crawl_tape.ensures.fetchers in
+    goes_crawled c.args.options.now (IsReadBy (tape_of false)) IsReadWhole _ _ c.in-Ok.tape wider c.crawl_tape.result.0 was.parts now.parts (tells was.store) (tells now.store) old new
+    (sink c.args.output.now) (sink c.crawl_tape.new.output) c.in-Ok.ensures.value c.in-Ok.ensures.end c.in-Ok.ensures.cause.later c.crawl_tape.ensures.tape
