@@ -8,8 +8,8 @@
 # Prints a table in milliseconds of the processor, with what each doubling multiplies; where a BENCH is named, its rows alone.
 # The word FOLDER stands for a folder in memory that is made anew for each run; for such a bench the last columns have by how
 # many bytes a URL the least peak of its memory passes that of the stage before, at each size.
-# Fails where an answer is wrong, and where a doubling multiplies by more than 2.5, or 2.3 for a yard; less than a tenth of a
-# millisecond counts as a tenth.
+# Fails where an answer is wrong, and where a doubling multiplies by more than 2.5, or 2.3 for a yard, or 4.5 for a head, of which
+# each read looks at all bytes again; less than a tenth of a millisecond counts as a tenth.
 set -euo pipefail
 runs=${1:-9}
 only=${2:-}
@@ -32,6 +32,8 @@ reply 262144 made done 10 plain 1 10
 reply 262144 made done 200 chunked 16384 200
 reply 262144 made done 200 chunked 1024 200
 reply 262144 made done 10 chunked 1 10
+reply 4096 made done 10 head 1 10
+reply 4096 made done 10 interim 1 10
 robots 2500 made loaded 10 ordinary 10
 robots 2500 loaded done 10 ordinary 10
 robots 125 made loaded 10 one-run 10
@@ -74,8 +76,8 @@ awk '
   FNR == 1 { printf "%-7s %-9s %-20s %8s %10s %10s %10s %7s %7s\n", "bench", "stage", "of", "size", "ms", "twice", "4 times", "times", "times" }
   {
     words = bytes = ""
-    bound = $1 == "yard" ? 2.3 : 2.5
     for (i = 6; i <= NF; i++) words = words " " $i
+    bound = $1 == "yard" ? 2.3 : words ~ /^ head/ ? 4.5 : 2.5
     for (k = 0; k < 3; k++) {
       size = $2 * 2 ^ k
       late = $1 " " size " " $4 words

@@ -9,6 +9,7 @@ ghost use Rattle.irl_bench.specs.Words.{begins_with_name};
 mod crawl;
 mod fates;
 mod front;
+mod parse;
 mod reply;
 mod robots;
 mod score;
@@ -17,8 +18,8 @@ mod words;
 mod yard;
 
 use irl_files::Lockable;
-use irl_io::{Sink, WriteSink};
-use score::Score;
+use irl_io::{ReadSource, Sink, Source, WriteSink};
+use score::{Beside, Score};
 use std::alloc::{AllocError, Global};
 use std::env;
 use std::process::ExitCode;
@@ -29,8 +30,11 @@ use words::{Bench, Stage, number};
 const SMALL: &str = "\
 fates 300
 front 10
+parse 3
 reply 5000 done plain 1024 2
 reply 5000 done chunked 1 2
+reply 5000 done head 1 2
+reply 5000 done interim 1 2
 robots 40 done ordinary 2
 robots 5 done one-run 1
 robots 5 done many-stars 1
@@ -44,7 +48,8 @@ words refused. These name benches, where STAGE is made, loaded or done:
   all
   fates EVENTS [STAGE]
   front HOSTS [STAGE]
-  reply BYTES [STAGE [plain | chunked  PIECE ROUNDS]]
+  parse PAGES [STAGE], of the tape on standard input
+  reply BYTES [STAGE [plain | chunked | head | interim  PIECE ROUNDS]]
   robots RULES [STAGE [ordinary | one-run | many-stars | short  ROUNDS]]
   yard URLS [STAGE [FOLDER DOMAINS BASE MOST]]
 ";
@@ -62,7 +67,11 @@ const OUTPUT_FAULT: u8 = 6;
 const NO_MEMORY: u8 = 7;
 
 // Runs the bench that these words name. None where they name none.
-fn run<R: Files + AllocGlobal>(rt: &R, words: &[&str]) -> Result<Option<Score>, AllocError>
+fn run<R: Files + AllocGlobal, I: Source>(
+    rt: &R,
+    words: &[&str],
+    input: &mut I,
+) -> Result<Option<Score>, AllocError>
 where
     R::File: Lockable,
     ensures odd { begins_with_name (map (λ word. word.now) words.now) ≡ false → result ≡ Ok None }
@@ -76,12 +85,13 @@ where
     let (Some(size), Some((stage, choices))) = (number(size), stage_of(choices)) else {
         return Ok(None);
     };
-    run_bench(rt, bench, size, stage, choices)
+    run_bench(rt, input, bench, size, stage, choices)
 }
 
 // Runs a bench up to a stage. None where these further words are none of its choices.
-fn run_bench<R: Files + AllocGlobal>(
+fn run_bench<R: Files + AllocGlobal, I: Source>(
     rt: &R,
+    input: &mut I,
     bench: Bench,
     size: u32,
     stage: Stage,
@@ -94,6 +104,7 @@ where
     match bench {
         Bench::Fates if choices.is_empty() => Ok(Some(fates::run(alloc, size, stage)?)),
         Bench::Front if choices.is_empty() => Ok(Some(front::run(alloc, size, stage)?)),
+        Bench::Parse if choices.is_empty() => Ok(Some(parse::run(alloc, input, size, stage)?)),
         Bench::Reply => match reply::Manner::from_words(choices) {
             Some(manner) => Ok(Some(reply::run(alloc, size, stage, manner)?)),
             None => Ok(None),
@@ -124,7 +135,12 @@ fn tell<O: Sink>(alloc: Global, output: &mut O, words: &str, score: Score) -> Re
     ensures known { result ≢ Ok WORDS_REFUSED }
 {
     let beside = match score.beside {
-        Some(beside) => { format!(in alloc; ", {} pairs, {} passes", beside.pairs, beside.passes)? }
+        Some(Beside::Crawl { pairs, passes }) => {
+            format!(in alloc; ", {pairs} pairs, {passes} passes")?
+        }
+        Some(Beside::Links { links, keys }) => {
+            format!(in alloc; ", {links} links, keys {keys:016x}")?
+        }
         None => String::new(alloc),
     };
     let line = format!(in alloc; "{words}: {} of {}{beside}\n", score.right, score.calls)?;
@@ -135,14 +151,18 @@ fn tell<O: Sink>(alloc: Global, output: &mut O, words: &str, score: Score) -> Re
 }
 
 // Runs every bench at a small size, up to the first whose status isn't 0, and gives the exit status.
-fn run_all<R: Files + AllocGlobal, O: Sink>(rt: &R, output: &mut O) -> Result<u8, AllocError>
+fn run_all<R: Files + AllocGlobal, I: Source, O: Sink>(
+    rt: &R,
+    input: &mut I,
+    output: &mut O,
+) -> Result<u8, AllocError>
 where
     R::File: Lockable,
     ensures known { result ≢ Ok WORDS_REFUSED }
 {
     for line in SMALL.lines() {
         let words: Vec<&str> = line.split(' ').collect(rt.alloc())?;
-        let Some(score) = run(rt, &words)? else {
+        let Some(score) = run(rt, &words, input)? else {
             return Ok(WRONG_ANSWER);
         };
         let status = tell(rt.alloc(), output, line, score)?;
@@ -165,9 +185,10 @@ fn refuse<E: Sink>(errors: &mut E) -> u8
 
 // Does what the words ask for, and gives the exit status. Words that name no bench are refused by a line, and nothing else
 // is done for them.
-fn obey<R: Files + AllocGlobal, O: Sink, E: Sink>(
+fn obey<R: Files + AllocGlobal, I: Source, O: Sink, E: Sink>(
     rt: &R,
     words: &[&str],
+    input: &mut I,
     output: &mut O,
     errors: &mut E,
 ) -> Result<u8, AllocError>
@@ -180,8 +201,8 @@ where
     ensures quiet { result ≢ Ok WORDS_REFUSED → errors.new ≡ errors.old }
 {
     match words {
-        [word] if *word == "all" => run_all(rt, output),
-        _ => match run(rt, words)? {
+        [word] if *word == "all" => run_all(rt, input, output),
+        _ => match run(rt, words, input)? {
             Some(score) => tell(
                 rt.alloc(),
                 output,
@@ -194,8 +215,9 @@ where
 }
 
 // Does what the words of the command line ask for, and gives the exit status. Words that are no text are refused.
-fn answer<R: Env + Files + AllocGlobal, O: Sink, E: Sink>(
+fn answer<R: Env + Files + AllocGlobal, I: Source, O: Sink, E: Sink>(
     rt: &R,
+    input: &mut I,
     output: &mut O,
     errors: &mut E,
 ) -> Result<u8, AllocError>
@@ -210,13 +232,14 @@ where
     for argument in &arguments {
         words.push(argument.as_str())?;
     }
-    obey(rt, &words, output, errors)
+    obey(rt, &words, input, output, errors)
 }
 
 fn main(rt: HostRuntime) -> ExitCode {
+    let mut input = ReadSource::new(rt.stdin());
     let mut output = WriteSink::new(rt.stdout());
     let mut errors = WriteSink::new(rt.stderr());
-    match answer(&rt, &mut output, &mut errors) {
+    match answer(&rt, &mut input, &mut output, &mut errors) {
         Ok(status) => ExitCode::from(status),
         Err(_) => {
             let _ = errors.write(b"no memory\n");

@@ -1,4 +1,4 @@
-//! A reply whose body comes in pieces.
+//! A reply that comes in pieces.
 
 ghost use Rattle.std.specs.Prelude.{◌≡◌, None, IfOk, refl};
 
@@ -12,34 +12,47 @@ use std::alloc::{AllocError, Global};
 /// How many bytes a chunk has.
 const CHUNK: u32 = 1_024;
 
-/// Where the body ends.
+/// The head of an interim reply.
+const INTERIM: &[u8] = b"HTTP/1.1 100 Continue\r\n\r\n";
+
+/// How many bytes that has.
+const INTERIM_LENGTH: u32 = 25;
+
+/// How many bytes the head of a reply has at least.
+const LEAST_HEAD: u32 = 24;
+
+/// What a reply has of its bytes.
 #[derive(Clone, Copy)]
-enum Body {
-    /// Where the peer closes.
+enum Form {
+    /// A body that ends where the peer closes.
     Plain,
-    /// Behind a last chunk.
+    /// A body in chunks.
     Chunked,
+    /// A head alone.
+    Head,
+    /// A head alone behind those of interim replies.
+    Interim,
 }
 
-/// How a body comes, and how often it is read.
+/// What a reply is made of, how it comes, and how often it is read.
 #[derive(Clone, Copy)]
 pub struct Manner {
-    body: Body,
+    form: Form,
     piece: u32,
     rounds: u32,
 }
 
 impl Manner {
-    /// What these words name: where the body ends, how many bytes each read gives, and how often all of them are read.
+    /// What these words name: the form of the reply, how many bytes each read gives, and how often all of them are read.
     pub fn from_words(words: &[&str]) -> Option<Manner> {
         match words {
             [] => Some(Manner {
-                body: Body::Chunked,
+                form: Form::Chunked,
                 piece: 1_024,
                 rounds: 1,
             }),
-            [body, piece, rounds] => Some(Manner {
-                body: body_of(body)?,
+            [form, piece, rounds] => Some(Manner {
+                form: form_of(form)?,
                 piece: number(piece)?,
                 rounds: number(rounds)?,
             }),
@@ -96,17 +109,19 @@ impl Clock for Pieces {
     fn wait_till(&mut self, _moment: u64) {}
 }
 
-/// Reads a reply with so many bytes: how often it had all of them. There is nothing to load.
+/// Reads a reply with so many bytes: how often its body had all that it should. There is nothing to load.
 pub fn run(alloc: Global, size: u32, stage: Stage, manner: Manner) -> Result<Score, AllocError>
     ensures calls { IfOk result (λ score. score.calls ≡ manner.rounds) }
 {
-    let bytes = match manner.body {
-        Body::Plain => plain(alloc, size)?,
-        Body::Chunked => chunked(alloc, size)?,
+    let (bytes, body) = match manner.form {
+        Form::Plain => (plain(alloc, size)?, size),
+        Form::Chunked => (chunked(alloc, size)?, size),
+        Form::Head => (head(alloc, size)?, 0),
+        Form::Interim => (interim(alloc, size)?, 0),
     };
     let calls = u64::from(manner.rounds);
     let right = match stage {
-        Stage::Done => whole_readings(alloc, bytes, size, manner)?,
+        Stage::Done => whole_readings(alloc, bytes, body, manner)?,
         _ => all_if(bytes.len() >= size as usize, calls),
     };
     Ok(Score {
@@ -116,10 +131,12 @@ pub fn run(alloc: Global, size: u32, stage: Stage, manner: Manner) -> Result<Sco
     })
 }
 
-fn body_of(word: &str) -> Option<Body> {
+fn form_of(word: &str) -> Option<Form> {
     match word {
-        "plain" => Some(Body::Plain),
-        "chunked" => Some(Body::Chunked),
+        "plain" => Some(Form::Plain),
+        "chunked" => Some(Form::Chunked),
+        "head" => Some(Form::Head),
+        "interim" => Some(Form::Interim),
         _ => None,
     }
 }
@@ -156,11 +173,39 @@ fn push_chunk(alloc: Global, bytes: &mut Vec<u8>, size: u32) -> Result<(), Alloc
     Ok(())
 }
 
-// How often the reply has all its bytes, of so many readings.
+// A reply without a body, whose head has so many bytes.
+fn head(alloc: Global, size: u32) -> Result<Vec<u8>, AllocError> {
+    let mut bytes = Vec::new(alloc);
+    push_head(&mut bytes, size)?;
+    Ok(bytes)
+}
+
+// A reply without a body, whose head has so many bytes with those of the interim replies before it, as many as fit.
+fn interim(alloc: Global, size: u32) -> Result<Vec<u8>, AllocError> {
+    let mut bytes = Vec::new(alloc);
+    let more = size.saturating_sub(LEAST_HEAD);
+    for _ in 0..more / INTERIM_LENGTH {
+        bytes.extend_from_slice(INTERIM)?;
+    }
+    push_head(&mut bytes, LEAST_HEAD + more % INTERIM_LENGTH)?;
+    Ok(bytes)
+}
+
+// A head of so many bytes.
+fn push_head(bytes: &mut Vec<u8>, size: u32) -> Result<(), AllocError> {
+    bytes.extend_from_slice(b"HTTP/1.1 404 No\r\na: ")?;
+    for _ in LEAST_HEAD..size {
+        bytes.push(b'a')?;
+    }
+    bytes.extend_from_slice(b"\r\n\r\n")?;
+    Ok(())
+}
+
+// How often the reply has all bytes of its body, of so many readings.
 fn whole_readings(
     alloc: Global,
     bytes: Vec<u8>,
-    size: u32,
+    body: u32,
     manner: Manner,
 ) -> Result<u64, AllocError> {
     let mut link = Pieces {
@@ -172,7 +217,7 @@ fn whole_readings(
     for _ in 0..manner.rounds {
         link.at = 0;
         if let Answer::Reply(reply) = read_reply(alloc, &mut link, Want::Page)?
-            && reply.body.bytes().len() == size as usize
+            && reply.body.bytes().len() == body as usize
         {
             whole = whole.saturating_add(1);
         }

@@ -7,16 +7,26 @@ pub struct Score {
     pub right: u64,
     /// How many calls there were to make.
     pub calls: u64,
-    /// What a crawl counted beside.
+    /// What was counted beside.
     pub beside: Option<Beside>,
 }
 
-/// What a crawl counted beside its pages.
+/// What a bench counted beside its calls.
 #[derive(Clone, Copy)]
-pub struct Beside {
-    /// Links from one domain to another, each counted once.
-    pub pairs: u64,
-    pub passes: u64,
+pub enum Beside {
+    /// Of a crawl.
+    Crawl {
+        /// Links from one domain to another, each counted once.
+        pairs: u64,
+        passes: u64,
+    },
+    /// Of the pages of a tape.
+    Links {
+        /// How many links are web pages.
+        links: u64,
+        /// The sum of their keys.
+        keys: u64,
+    },
 }
 
 impl Score {

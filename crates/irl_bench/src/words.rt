@@ -8,6 +8,8 @@ pub enum Bench {
     Fates,
     /// The turns of a front.
     Front,
+    /// A tape and the links of its pages.
+    Parse,
     /// A reply in pieces.
     Reply,
     /// A robots file and questions to it.
@@ -24,6 +26,7 @@ impl Bench {
         match word {
             "fates" => Some(Bench::Fates),
             "front" => Some(Bench::Front),
+            "parse" => Some(Bench::Parse),
             "reply" => Some(Bench::Reply),
             "robots" => Some(Bench::Robots),
             "yard" => Some(Bench::Yard),

@@ -86,7 +86,7 @@ fn crawled<S: Store + Drop>(
         let right = all_if(crawl.yard.has_begun(), u64::from(pages));
         return Ok((
             right,
-            Beside {
+            Beside::Crawl {
                 pairs: 0,
                 passes: 0,
             },
@@ -97,7 +97,7 @@ fn crawled<S: Store + Drop>(
     let counts = crawl.yard.counts();
     Ok((
         counts.page,
-        Beside {
+        Beside::Crawl {
             pairs: counts.pairs,
             passes,
         },
