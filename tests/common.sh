@@ -62,6 +62,15 @@ tells_fault() {
     [ "$(head -n 1 err) $(wc -l <err)" = 'disk fault 2' ] || fail "it told '$(tr '\n' '|' <err)'"
 }
 
+# A report, of the numbers of its 18 lines.
+report() {
+    set -- $1
+    for line in offers judged unique pairs fresh queued last front done page moved status denied shut lost bad large coded; do
+        printf '%s %s|' "$line" "$1"
+        shift
+    done
+}
+
 # Ends a case that is right.
 right() {
     passed=$((passed + 1))

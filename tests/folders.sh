@@ -46,8 +46,14 @@ try 'a damaged journal' 'a|'
 "$program" damaged seen <in >out 2>err
 gives 0 'a|' ''
 printf '\245\377\0\0\0\0' >damaged/0600
-"$program" damaged seen <in >out 2>err
-gives 3 '' 'damaged: byte 0 of file 0600|'
+for command in seen show list; do
+    "$program" damaged "$command" <in >out 2>err
+    gives 3 '' 'damaged: byte 0 of file 0600|'
+done
+"$program" damaged drum <in >out 2>err
+gives 3 '' 'other setting 1: kept 1, asked 2|'
+"$program" damaged replay <in >out 2>err
+gives 3 '' 'other setting 1: kept 1, asked 3|'
 printf '\245' >damaged/0600
 reads_again damaged 'a|b|' 'b|'
 right
@@ -85,7 +91,7 @@ right
 try 'a folder that may not be read' 'a|'
 if [ "$(id -u)" -ne 0 ]; then
     mkdir shut && chmod 0 shut
-    for command in seen show list; do
+    for command in seen replay show list; do
         "$program" shut "$command" <in >out 2>err
         status=$?
         has out ''

@@ -3,15 +3,6 @@
 
 . "$(dirname -- "$0")/common.sh"
 
-# A report, of the numbers of its 18 lines.
-report() {
-    set -- $1
-    for line in offers judged unique pairs fresh queued last front done page moved status denied shut lost bad large coded; do
-        printf '%s %s|' "$line" "$1"
-        shift
-    done
-}
-
 # Writes a tape of six URLs, one that a robots file denies and one that leads elsewhere among them.
 tape() {
     cat >in <<'TAPE'
@@ -62,6 +53,25 @@ gives 0 "$whole" ''
 gives 0 "$whole" ''
 "$program" taped list >out 2>err
 gives 0 "$listing" ''
+right
+
+# To which domains those of other domains lead, as the texts of the pairs say that were judged unique: b.test and c.test have two,
+# and a.test one. An entry of the judged file has 48 bytes: its third is 1 where it is unique, the length of its text begins at
+# the fifth and the place at the 41st.
+try 'the domains that others lead to' ''
+od -An -v -tu1 taped/0303 | awk '
+    { for (i = 1; i <= NF; i++) byte[count++] = $i }
+    END { for (at = 0; at < count; at += 48) if (byte[at + 2] == 1) print byte[at + 40] + 256 * byte[at + 41], byte[at + 4] }
+' | while read -r place length; do
+    printf '%s\n' "$(head -c "$((place + length))" taped/0304 | tail -c "$length")"
+done | sort | uniq -c | awk '{ print $2, $1 }' >out
+has out 'a.test 1|b.test 2|c.test 2|'
+right
+
+try 'a link that lies across two pieces' ''
+printf '%s\n' 'suffix test' 'seed http://a.test/' 'page 200 html http://a.test/' '+<a hr' '|ef="/x">' 'end' >in
+"$program" pieces replay <in >out 2>err
+gives 0 "$(report '2 2 2 0 0 0 0 0 2 1 0 1 0 0 0 0 0 0')" ''
 right
 
 try 'a tape at the defaults' ''
@@ -118,6 +128,19 @@ sed '$d' in >shorter
 gives 2 '' 'line 31 refused|'
 right
 
+# Of another system, and of which a line is too long: nothing of it is crawled.
+try 'a tape with other lines' ''
+tape
+sed "s/\$/$(printf '\r')/" in >other
+"$program" lined replay <other >out 2>err
+gives 2 '' 'line 1 refused|'
+{ cat in && head -c 2049 /dev/zero | tr '\0' '#'; } >other
+"$program" lined replay <other >out 2>err
+gives 2 '' 'line 32 refused|'
+"$program" lined show >out 2>err
+gives 0 "$(report '0 0 0 0 0 0 0 0 0 0 0 0 0 0 0 0 0 0')" ''
+right
+
 try 'another text of suffixes' ''
 tape
 "$program" suffixed replay <in >/dev/null 2>err || fail "status $?"
@@ -171,6 +194,56 @@ tape
 status=$?
 [ "$status" -eq 6 ] || fail "status $status, and not 6"
 "$program" closed show >out 2>err
+gives 0 "$whole" ''
+right
+
+try 'output that is full or read by nobody' ''
+tape
+if [ -c /dev/full ]; then
+    "$program" brim replay <in >/dev/full 2>err
+    gives 6 '' 'output fault|'
+    "$program" brim show >out 2>err
+    gives 0 "$whole" ''
+    : >out
+fi
+mkfifo gone
+{
+    cat gone
+    "$program" unheard replay <in 2>err
+    printf '%s\n' "$?" >status
+} | {
+    exec <&-
+    : >gone
+}
+rm gone
+has status '6|'
+has err 'output fault|'
+"$program" unheard show >out 2>err
+gives 0 "$whole" ''
+right
+
+try 'other streams that are closed' ''
+tape
+"$program" closed-errors replay <in >out 2>&-
+gives 0 "$whole" ''
+: >out
+sed '$d' in >shorter
+"$program" closed-errors replay <shorter >out 2>&-
+gives 2 '' ''
+"$program" closed-both replay <in >&- 2>&-
+gives 6 '' ''
+"$program" closed-both show >out 2>err
+gives 0 "$whole" ''
+"$program" closed-input replay <&- >out 2>err
+gives 0 "$(report '0 0 0 0 0 0 0 0 0 0 0 0 0 0 0 0 0 0')" ''
+right
+
+# A pipe gives a tape in pieces, here byte by byte, and its last line may end without a line feed.
+try 'a tape from a pipe' ''
+tape
+dd if=in bs=1 2>/dev/null | "$program" piped replay >out 2>err
+gives 0 "$whole" ''
+printf '%s' "$(cat in)" | "$program" piped-on replay >out 2>err
 gives 0 "$whole" ''
 right
 

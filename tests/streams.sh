@@ -39,6 +39,13 @@ gives 6 '' 'output fault|'
 reads_again closed-output 'a|b|c|' 'c|'
 right
 
+try 'what a closed output did not get' 'a|b|a|'
+"$program" unprinted seen --buckets 1 <in >&- 2>err
+gives 6 '' 'output fault|'
+"$program" unprinted list >out 2>err
+gives 0 '0 fresh a|1 fresh b|' ''
+right
+
 try 'a closed error stream' 'a|b|a|'
 "$program" closed-errors seen <in >out 2>&-
 gives 0 'a|b|' ''

@@ -27,6 +27,41 @@ for command in show list; do
     [ "$(grep -c '^ *\$ ' out)" -ge 2 ] || fail "the help of $command has no examples"
     if awk 'length > 100' out | grep -q .; then fail "the help of $command has long lines"; fi
 done
+"$program" unmade crawl --help >out 2>err
+grep -qxF 'Usage: irl DIR crawl --port N [OPTIONS]' out || fail 'the help of crawl has no usage'
+grep -qF '127.0.0.1' out || fail 'the help of crawl does not say where it looks'
+"$program" unmade gen -h >out 2>err
+grep -qxF 'Usage: irl DIR gen N [OPTIONS]' out || fail 'the help of gen has no usage'
+is_absent unmade
+right
+
+# A crawl of this machine has to have a port, and one of a made-up site its number of pages. No store is made by any of these.
+try 'words that a crawl does not take' 'seed http://a.test/|'
+for words in '' 80 '--port' '--port 0' '--port 65536' '--port=-80' '--port 80 --port 80' '--port 80 x' '--buckets 3' \
+    '--port 80 --rule add' '--port 80 --workers 65' '--port 80 --help'; do
+    "$program" unmade crawl $words <in >out 2>err
+    gives 1 '' 'words refused: crawl|'
+done
+for words in '' 0 100001 -5 x '5 6' '--size 5' '--pages 5' '--workers 2' '5 --port 80' '5 --help'; do
+    "$program" unmade gen $words <in >out 2>err
+    gives 1 '' 'words refused: gen|'
+done
+"$program" unmade gen '' <in >out 2>err
+gives 1 '' 'words refused: gen|'
+is_absent unmade
+right
+
+try 'options that a crawl refuses' 'seed http://a.test/|'
+for command in 'crawl --port 80' 'gen 5'; do
+    "$program" unmade $command --workers 2 --agent 1 --most 1 --base 2 --buckets 3 <in >out 2>err
+    gives 1 '' 'words refused: --buckets|'
+    "$program" unmade $command --workers 2 --agent 1 --most 1 --base 2 <in >out 2>err
+    gives 1 '' 'words refused: --most|'
+    "$program" unmade $command --workers 2 --agent 1 <in >out 2>err
+    gives 1 '' 'words refused: --agent|'
+    "$program" unmade $command --workers 2 <in >out 2>err
+    gives 1 '' 'words refused: --workers|'
+done
 is_absent unmade
 right
 

@@ -1,0 +1,460 @@
+#!/bin/sh
+# The command crawl, over servers on this machine: nginx, and small ones that answer with the bytes that they are told.
+
+. "$(dirname -- "$0")/common.sh"
+
+# The server that runs just now.
+server=
+leave() {
+    [ -z "$server" ] || kill "$server" 2>/dev/null
+    [ -z "$server" ] || wait "$server" 2>/dev/null
+    chmod -R u+rwx "$room"
+    rm -rf "$room"
+}
+trap leave EXIT
+
+# Ends the server once it has written all that it tells.
+stop() {
+    kill "-$1" "$server" 2>/dev/null
+    wait "$server" 2>/dev/null
+    server=
+}
+
+# Writes the lines of `list` of a folder without their numbers, in one order, into a file.
+fates() {
+    "$program" "$1" list >listed 2>err || fail "status $? of the list of $1: $(tr '\n' '|' <err)"
+    has err ''
+    cut -d ' ' -f 2- listed | LC_ALL=C sort >"$2"
+}
+
+# Whether two files have the same lines.
+same() {
+    cmp -s "$1" "$2" || fail "$1 and $2 differ: $(diff "$1" "$2" | head -n 20 | tr '\n' '|')"
+}
+
+# Without a server
+
+# Nothing listens at this port of any system that is used; where something does, the case is another one.
+try 'a port where nobody answers' 'suffix test|seed http://www.a.test/|'
+"$program" refused crawl --port 1 --delay 0 <in >out 2>err
+gives 0 "$(report '1 1 1 0 0 0 0 0 1 0 0 0 0 1 0 0 0 0')" ''
+"$program" refused list >out 2>err
+gives 0 '0 shut http://www.a.test/|' ''
+right
+
+try 'a tape that has pages' 'seed http://a.test/|page 200 html http://a.test/|end|'
+"$program" paged crawl --port 1 --delay 0 <in >out 2>err
+gives 2 '' 'line 2 refused|'
+text 'lost http://a.test/|' >in
+"$program" paged crawl --port 1 --delay 0 <in >out 2>err
+gives 2 '' 'line 1 refused|'
+right
+
+try 'no seed' ''
+"$program" unseeded crawl --port 1 <in >out 2>err
+gives 0 "$(report '0 0 0 0 0 0 0 0 0 0 0 0 0 0 0 0 0 0')" ''
+right
+
+# By a server that answers with files
+
+# For each connection it reads a request, keeps it, sends the file of the request's host and target as it is, and closes; where
+# there is none it answers 404. The file `port` tells its port. It ends by itself after so many connections, and else is stopped.
+cat >server.py <<'PYTHON'
+import os, socket, sys
+folder, most = sys.argv[1], int(sys.argv[2])
+listener = socket.socket()
+listener.bind(('127.0.0.1', 0))
+listener.listen(64)
+with open(folder + '/port.new', 'w') as file:
+    file.write(str(listener.getsockname()[1]))
+os.rename(folder + '/port.new', folder + '/port')
+count = 0
+while most == 0 or count < most:
+    peer, _ = listener.accept()
+    count += 1
+    request = b''
+    while not request.endswith(b'\r\n\r\n'):
+        piece = peer.recv(4096)
+        if not piece:
+            break
+        request += piece
+    with open(folder + '/requests', 'ab') as file:
+        file.write(request)
+    words = request.split()
+    name = (words[4] + words[1]).decode().replace('/', '!') if len(words) > 4 else 'none'
+    try:
+        with open(folder + '/' + name, 'rb') as file:
+            reply = file.read()
+    except OSError:
+        reply = b'HTTP/1.1 404 Not Found\r\nContent-Length: 0\r\n\r\n'
+    try:
+        peer.sendall(reply)
+    except OSError:
+        pass
+    peer.close()
+PYTHON
+
+# Starts the server over a folder, for so many connections, or without end.
+serve() {
+    python3 server.py "$1" "$2" 2>"$1/log" &
+    server=$!
+    for _ in $(seq 100); do
+        [ ! -s "$1/port" ] || break
+        sleep 0.1
+    done
+    [ -s "$1/port" ] || fail "the server did not start: $(tail -n 1 "$1/log")"
+    port=$(cat "$1/port")
+}
+
+# Puts the answer to a URL, of a host and a target, into a folder: the head's lines, each ended by CR LF, and then the body.
+reply() {
+    at="$1/$(printf '%s' "$2" | tr / '!')"
+    printf '%s' "$3|" | sed 's/|/\r\n/g' >"$at"
+    printf '\r\n' >>"$at"
+    text "$4" >>"$at"
+}
+
+# The same of a page with its length.
+page() {
+    reply "$1" "$2" "HTTP/1.1 200 OK|Content-Type: $3|Content-Length: $(printf '%s' "$4" | wc -c)" "$4"
+}
+
+# The request of a host and a target, by an agent.
+asks() {
+    printf 'GET %s HTTP/1.1\r\nHost: %s\r\nUser-Agent: %s\r\nAccept-Encoding: identity\r\nConnection: close\r\n\r\n' "$2" "$1" "$3"
+}
+
+# The pages of a small tape, as answers in a folder: all but the robots files of two hosts, and a page that is gone.
+small_site() {
+    mkdir "$1"
+    page "$1" www.a.test/robots.txt text/plain 'User-agent: *|Disallow: /private|'
+    page "$1" www.a.test/ text/html \
+        '<a href="/one">1</a>|<a href="/private/x">2</a>|<a href="http://b.test/">3</a>|<a href="/one#top">4</a>|'
+    reply "$1" www.a.test/one 'HTTP/1.1 301 Moved Permanently|Location: http://c.test/new|Content-Length: 0' ''
+    page "$1" b.test/ text/html \
+        '<a href="http://www.a.test/">a</a>|<a href="http://c.test/new">c</a>|<a href="https://c.test/secure">s</a>|<a href="/gone">g</a>|'
+    page "$1" c.test/new text/html '<a href="http://b.test/">b</a>|'
+}
+
+whole=$(report '10 10 6 5 0 0 0 0 6 3 1 1 1 0 0 0 0 0')
+listing='0 page http://www.a.test/|1 moved http://www.a.test/one|2 denied:2 http://www.a.test/private/x|3 page http://b.test/|5 page http://c.test/new|8 status:404 http://b.test/gone|'
+
+if command -v python3 >/dev/null 2>&1; then
+    # Eight connections, three of them for robots files. A further one would be refused, and change the report.
+    try 'a small site' 'suffix test|seed http://www.a.test/|'
+    small_site small
+    serve small 8
+    "$program" crawled crawl --buckets 1 --port "$port" --delay 0 <in >out 2>err
+    gives 0 "$whole" ''
+    "$program" crawled list >out 2>err
+    gives 0 "$listing" ''
+    wait "$server" || fail "the server ended with status $?: $(tail -n 1 small/log)"
+    server=
+    {
+        asks www.a.test /robots.txt irlbot
+        asks www.a.test / irlbot
+        asks www.a.test /one irlbot
+        asks b.test /robots.txt irlbot
+        asks b.test / irlbot
+        asks c.test /robots.txt irlbot
+        asks c.test /new irlbot
+        asks b.test /gone irlbot
+    } | LC_ALL=C sort >wanted
+    LC_ALL=C sort small/requests >asked
+    same wanted asked
+    right
+
+    # What was done is not asked for again: there is no server any more.
+    try 'a crawl that has nothing left' 'suffix test|seed http://www.a.test/|'
+    "$program" crawled crawl --port "$port" --delay 0 <in >out 2>err
+    gives 0 "$(report '11 11 6 5 0 0 0 0 6 3 1 1 1 0 0 0 0 0')" ''
+    right
+
+    try 'a small site at the defaults' 'suffix test|seed http://www.a.test/|'
+    small_site defaults
+    serve defaults 8
+    "$program" defaulted crawl --port "$port" --delay 0 <in >out 2>err
+    gives 0 "$whole" ''
+    stop TERM
+    right
+
+    # The request for the robots file starts first, and those for two pages a second later each: no run of them is shorter.
+    try 'a second between two fetches of a host' 'seed http://a.test/1|seed http://a.test/2|'
+    mkdir paused
+    serve paused 3
+    since=$(date +%s)
+    "$program" paused-store crawl --buckets 1 --port "$port" <in >out 2>err
+    gives 0 "$(report '2 2 2 0 0 0 0 0 2 0 0 2 0 0 0 0 0 0')" ''
+    [ $(($(date +%s) - since)) -ge 2 ] || fail "three fetches of a host took less than two seconds"
+    stop TERM
+    right
+
+    # Another agent has rules of its own, and tells its name.
+    try 'another agent' 'seed http://a.test/|'
+    mkdir agents
+    page agents a.test/robots.txt text/plain 'User-agent: irlbot|Disallow: /|User-agent: Other-Bot|Disallow: /x|'
+    page agents a.test/ text/html '<a href="/x">x</a>|'
+    serve agents 0
+    "$program" other crawl --buckets 1 --port "$port" --delay 0 --agent other-bot <in >out 2>err
+    gives 0 "$(report '2 2 2 0 0 0 0 0 2 1 0 0 1 0 0 0 0 0')" ''
+    { asks a.test /robots.txt other-bot && asks a.test / other-bot; } >wanted
+    same wanted agents/requests
+    "$program" own crawl --buckets 1 --port "$port" --delay 0 <in >out 2>err
+    gives 0 "$(report '1 1 1 0 0 0 0 0 1 0 0 0 1 0 0 0 0 0')" ''
+    stop TERM
+    right
+
+    # A robots file that closes early shuts its host; a page that does is lost; and so is one of which nothing came.
+    try 'servers that close early' 'seed http://a.test/|seed http://b.test/|seed http://b.test/nothing|seed http://b.test/head|'
+    mkdir closing
+    reply closing a.test/robots.txt 'HTTP/1.1 200 OK|Content-Length: 100' 'User-agent: *|'
+    reply closing b.test/ 'HTTP/1.1 200 OK|Content-Type: text/html|Content-Length: 100' '<a href="/x">x</a>|'
+    : >'closing/b.test!nothing'
+    printf 'HTTP/1.1 200 OK\r\nContent-' >'closing/b.test!head'
+    serve closing 0
+    "$program" early crawl --buckets 1 --port "$port" --delay 0 <in >out 2>err
+    gives 0 "$(report '4 4 4 0 0 0 0 0 4 0 0 0 0 1 3 0 0 0')" ''
+    fates early out
+    has out 'lost http://b.test/|lost http://b.test/head|lost http://b.test/nothing|shut http://a.test/|'
+    stop TERM
+    right
+
+    # The end of a connection is the end of a page without a length, and chunks end with the one of no bytes.
+    try 'answers of every kind' 'seed http://a.test/plain|seed http://a.test/chunks|seed http://a.test/bad|seed http://a.test/packed|seed http://a.test/secure|'
+    mkdir kinds
+    reply kinds a.test/plain 'HTTP/1.0 200 OK|Content-Type: text/html' '<a href="/from-plain">1</a>|'
+    reply kinds a.test/chunks 'HTTP/1.1 200 OK|Content-Type: text/html|Transfer-Encoding: chunked' ''
+    printf '%s\r\n' '9' '<a href="' '13' '/from-chunks">2</a>' '0' '' >>'kinds/a.test!chunks'
+    printf 'SSH-2.0-OpenSSH_9.2\r\n\r\n' >'kinds/a.test!bad'
+    reply kinds a.test/packed 'HTTP/1.1 200 OK|Transfer-Encoding: gzip' '<a href="/none">3</a>|'
+    reply kinds a.test/secure 'HTTP/1.1 301 Moved|Location: https://a.test/secure|Content-Length: 0' ''
+    serve kinds 0
+    "$program" kinds-store crawl --buckets 1 --port "$port" --delay 0 <in >out 2>err
+    gives 0 "$(report '7 7 7 0 0 0 0 0 7 2 0 3 0 0 0 1 0 1')" ''
+    fates kinds-store out
+    has out 'bad http://a.test/bad|coded http://a.test/packed|page http://a.test/chunks|page http://a.test/plain|status:301 http://a.test/secure|status:404 http://a.test/from-chunks|status:404 http://a.test/from-plain|'
+    stop TERM
+    right
+
+    # A host is its name with a port, where that isn't the one of http, and both are reached at the same place.
+    try 'hosts with ports' 'seed http://a.test:80/|seed http://a.test:8081/x|'
+    mkdir ports
+    page ports a.test:8081/robots.txt text/plain 'User-agent: *|Disallow: /|'
+    page ports a.test/ text/plain 'a|'
+    serve ports 3
+    "$program" ports-store crawl --buckets 1 --port "$port" --delay 0 <in >out 2>err
+    gives 0 "$(report '2 2 2 0 0 0 0 0 2 1 0 0 1 0 0 0 0 0')" ''
+    { asks a.test /robots.txt irlbot && asks a.test / irlbot && asks a.test:8081 /robots.txt irlbot; } | LC_ALL=C sort >wanted
+    LC_ALL=C sort ports/requests >asked
+    same wanted asked
+    stop TERM
+    right
+else
+    try 'small servers' ''
+    pass_over 'python3 is not installed'
+fi
+
+# By nginx
+
+# Makes three sites of 60 pages each that lead to one another, a folder for each, and the tape of all of them. Page I leads to the
+# pages 2 * I + 1 and 2 * I + 2 of its site, and to the page (7 * I + 3) mod 60 of the next one. Some pages lead to one that a
+# robots file denies, to one that has moved to another host, to one that is gone, to one that is packed, and to one that is too
+# long; the last two stand on the tape as pages without a text.
+sites() {
+    mkdir -p site/one.test site/two.test site/three.test
+    printf 'User-agent: *\nDisallow: /private\n' >site/one.test/robots.txt
+    awk '
+        function link(file, url) {
+            line = "<a href=\"" url "\">x</a>"
+            print line >file
+            print "|" line >"tape"
+        }
+        BEGIN {
+            n = split("one.test two.test three.test", host, " ")
+            print "suffix test\nseed http://one.test/p0" >"tape"
+            for (h = 1; h <= n; h++) for (i = 0; i < 60; i++) {
+                file = "site/" host[h] "/p" i
+                print "page 200 html http://" host[h] "/p" i >"tape"
+                if (2 * i + 1 < 60) link(file, "p" 2 * i + 1)
+                if (2 * i + 2 < 60) link(file, "/p" 2 * i + 2 "#top")
+                link(file, "http://" host[h % n + 1] "/p" (7 * i + 3) % 60)
+                if (h == 1 && i == 5) link(file, "/private/x")
+                if (h == 1 && i == 6) link(file, "/old")
+                if (h == 1 && i == 7) link(file, "/gone")
+                if (h == 2 && i == 8) link(file, "/packed")
+                if (h == 2 && i == 9) link(file, "/long")
+                print "end" >"tape"
+                close(file)
+            }
+        }'
+    cat >>tape <<'TAPE'
+page 200 other http://one.test/robots.txt
+|User-agent: *
+|Disallow: /private
+end
+page 500 html http://three.test/robots.txt
+end
+page 301 html http://one.test/old
+to http://two.test/new
+end
+page 200 html http://two.test/new
+|<a href="/newer">x</a>
+end
+page 200 other http://two.test/packed
+end
+page 200 other http://two.test/long
+end
+TAPE
+    echo '<a href="/newer">x</a>' >site/two.test/new
+    echo '<a href="/packed-in">x</a>' >site/two.test/packed
+    { echo '<a href="/far">x</a>' && head -c 1048576 /dev/zero | tr '\0' x; } >site/two.test/long
+    # What nobody may read.
+    mkdir site/one.test/private
+    echo '<a href="/secret">x</a>' >site/one.test/private/x
+}
+
+# Writes what nginx is told: the lines that stand in `http`, for a port.
+configure() {
+    mkdir -p temp
+    {
+        [ "$(id -u)" -ne 0 ] || echo 'user root;'
+        printf '%s\n' 'daemon off;' 'worker_processes 1;' 'pid nginx.pid;' 'error_log error.log;' 'events {}' 'http {'
+        printf '%s temp;\n' client_body_temp_path proxy_temp_path fastcgi_temp_path uwsgi_temp_path scgi_temp_path
+        sed "s/PORT/$1/"
+        echo '}'
+    } >nginx.conf
+}
+
+# Whether nginx listens, by the file nginx.conf.
+start() {
+    rm -f nginx.pid error.log
+    nginx -p "$room" -c nginx.conf >nginx.log 2>&1 &
+    server=$!
+    for _ in $(seq 100); do
+        [ ! -s nginx.pid ] || return 0
+        kill -0 "$server" 2>/dev/null || break
+        sleep 0.1
+    done
+    wait "$server" 2>/dev/null
+    server=
+    return 1
+}
+
+# Starts nginx at a port that is free, with the lines of the file http.conf in `http`, where PORT stands for the port.
+start_nginx() {
+    for turn in 1 2 3 4 5; do
+        port=$((20000 + ($$ * 7 + turn * 997) % 12000))
+        configure "$port" <http.conf
+        ! start || return 0
+    done
+    fail "nginx did not start: $(tail -n 1 nginx.log error.log 2>/dev/null | tr '\n' ' ')"
+}
+
+# What nginx is told of the three sites.
+three_sites() {
+    cat <<'HTTP'
+    log_format fetched '$host$request_uri $http_user_agent';
+    access_log fetched fetched;
+    default_type text/html;
+    types { text/plain txt; }
+    server {
+        listen 127.0.0.1:PORT;
+        root site/$host;
+        location = /old { return 301 http://two.test/new; }
+        location = /packed { add_header Content-Encoding gzip; }
+    }
+    server {
+        listen 127.0.0.1:PORT;
+        server_name three.test;
+        root site/three.test;
+        location = /robots.txt { return 500; }
+    }
+HTTP
+}
+
+if command -v nginx >/dev/null 2>&1; then
+    try 'three sites of nginx' ''
+    sites
+    head -n 2 tape >in
+    three_sites >http.conf
+    start_nginx
+    "$program" sites-crawled crawl --port "$port" --delay 0 <in >crawled-report 2>err || fail "status $?: $(tr '\n' '|' <err)"
+    has err ''
+    "$program" sites-taped replay --buckets 1 <tape >taped-report 2>err || fail "status $? of the tape: $(tr '\n' '|' <err)"
+    has err ''
+    for line in 'unique 187' 'done 187' 'page 121' 'moved 1' 'status 2' 'denied 1' 'shut 60' 'lost 0' 'bad 0' 'large 1' 'coded 1'; do
+        grep -qx "$line" crawled-report || fail "it has no '$line' but '$(tr '\n' '|' <crawled-report)'"
+    done
+    # Packed and too long, where the tape has pages.
+    sed -e 's/^page 123$/page 121/' -e 's/^large 0$/large 1/' -e 's/^coded 0$/coded 1/' taped-report >wanted
+    same wanted crawled-report
+    fates sites-crawled crawled-fates
+    fates sites-taped taped-fates
+    sed -e 's|^page http://two.test/packed$|coded http://two.test/packed|' \
+        -e 's|^page http://two.test/long$|large http://two.test/long|' taped-fates | LC_ALL=C sort >wanted
+    same wanted crawled-fates
+    right
+
+    try 'a crawl of three sites that goes on' ''
+    head -n 2 tape >in
+    "$program" sites-crawled crawl --port "$port" --delay 0 <in >again 2>err || fail "status $?: $(tr '\n' '|' <err)"
+    has err ''
+    # Of the seed there is one offer more.
+    awk '$1 == "offers" || $1 == "judged" { $2++ } { print }' crawled-report >wanted
+    same wanted again
+    right
+
+    # Each page that a robots file allows, and each robots file, once in both runs: no page of the host that is shut, nor what is
+    # denied.
+    try 'what nginx was asked for' ''
+    stop QUIT
+    {
+        printf '%s/robots.txt\n' one.test two.test three.test
+        sed -n -e '/^denied/d' -e '/^shut/d' -e 's|^[^ ]* http://||p' crawled-fates
+    } | sed 's/$/ irlbot/' | LC_ALL=C sort >wanted
+    LC_ALL=C sort fetched >told
+    same wanted told
+    right
+
+    # Wherever it is stopped, the next run goes on, and what comes of each page is the same.
+    try 'a crawl of three sites that is killed' ''
+    head -n 2 tape >in
+    three_sites >http.conf
+    start_nginx
+    for turn in 1 2 3; do
+        "$program" sites-killed crawl --port "$port" --delay 0 --batch 16 --buckets 1 <in >out 2>err &
+        crawler=$!
+        sleep 0.1
+        kill -KILL "$crawler" 2>/dev/null
+        wait "$crawler" 2>/dev/null
+    done
+    "$program" sites-killed crawl --port "$port" --delay 0 <in >out 2>err || fail "status $?: $(tr '\n' '|' <err)"
+    has err ''
+    fates sites-killed killed-fates
+    same crawled-fates killed-fates
+    stop QUIT
+    right
+
+    # The file that docs/GATEWAY.md gives, at another port: a folder is a site, and no folder shuts a host.
+    try 'the sites of the page on gateways' 'seed http://www.a.test/|'
+    mkdir -p pages/www.a.test/folder pages/b.test
+    echo '<a href="/one">1</a> <a href="folder">2</a> <a href="http://b.test/">3</a> <a href="http://c.test/">4</a>' \
+        >pages/www.a.test/index.html
+    echo one >pages/www.a.test/one
+    echo folder >pages/www.a.test/folder/index.html
+    echo b >pages/b.test/index.html
+    awk '/^```/ { block++; next } block == 1' "$top/docs/GATEWAY.md" |
+        sed -e '1,/^http {/d' -e '/_temp_path /d' -e '$d' -e 's/127.0.0.1:8080/127.0.0.1:PORT/' >http.conf
+    start_nginx
+    "$program" gateway crawl --buckets 1 --port "$port" --delay 0 <in >out 2>err
+    gives 0 "$(report '6 6 6 2 0 0 0 0 6 4 1 0 0 1 0 0 0 0')" ''
+    fates gateway out
+    has out 'moved http://www.a.test/folder|page http://b.test/|page http://www.a.test/|page http://www.a.test/folder/|page http://www.a.test/one|shut http://c.test/|'
+    stop QUIT
+    right
+else
+    try 'three sites of nginx' ''
+    pass_over 'nginx is not installed'
+fi
+
+finish
