@@ -178,6 +178,7 @@ offers_ended result suffixes from urls old new was now news s t empty front all 
       front = front;
       all = all;
       waits = waiting_at now;
+      few = λ b within. (feeding.arrays.each b within).few;
       runs = subst (λ (w : Waits). RunsSchedule result (IsSpoiltUrl s urls) 1 one_more news (moment s old w) (moment t new (waiting_at now))) same feeding.runs;
       emptied = emptied;
       judged_all = judged_all;
@@ -215,6 +216,7 @@ offers_nothing result suffixes from urls now s is consistent law is_open long =
       front = λ files told book holds. (links_of suffixes (judged_after from book), refl);
       all = on_err result Memory _ is;
       waits = no_waiting;
+      few = λ b within. omega arith;
       runs = runs_more result (IsSpoiltUrl s urls) 0 1 none_more one_more [] (moment s now no_waiting) (moment s now no_waiting) (omega arith) (λ b. omega arith)
           (runs_nothing result (IsSpoiltUrl s urls) (moment s now no_waiting) consistent law (λ failed. let same = alone Failed failed in let no : ⊥ = cc in absurd no)
           (λ n full. let same = alone (Full n) full in let no : ⊥ = cc in absurd no) (λ f at damaged. let same = alone (Damaged f at) damaged in let no : ⊥ = cc in absurd no));

@@ -1,5 +1,5 @@
 -- Sending the pairs of the links that judged URLs show.
-use Rattle.std.specs.Prelude.{◌≡◌, ◌⊎◌, ℕ, ◌+◌, ◌-◌, ◌*◌, ◌<◌, List, [], ◌∷◌, ◌++◌, map, take, drop, slice_get, unwrap_or, Option, None, Some, true, Result, IfOk, OnOk, IsErrOf}
+use Rattle.std.specs.Prelude.{◌≡◌, ◌⊎◌, ℕ, ◌+◌, ◌-◌, ◌*◌, ◌<◌, ◌≤◌, List, [], ◌∷◌, ◌++◌, map, length, take, drop, slice_get, unwrap_or, Option, None, Some, true, Result, IfOk, OnOk, IsErrOf}
 use Rattle.std.specs.List.{AllByRecursion}
 use Rattle.std.specs.Option.{ForSome}
 use Rattle.irl_base.specs.declared.fault.Fault.{Fault}
@@ -95,8 +95,9 @@ pub record OffersPairs (result : Result Unit Fault) (suffixes : List ℕ) (from 
       → IsPrefixOf news (links_of suffixes (judged_after from book)))
   pub all : OnOk result (ForSome before.files (λ _. (book : Book) → Holds before.images urls book
       → news ≡ links_of suffixes (judged_after from book)))
-  -- those of them that were in no list when it ended are gone
+  -- those of them that were in no list when it ended are gone, an array of a bucket at most
   pub waits : Waits
+  pub few : (b : ℕ) → b < new.settings.buckets → length (waits b) ≤ new.settings.array
   pub runs : RunsSchedule result (IsSpoiltUrl before urls) 1 one_more news (moment before old no_waiting)
       (moment after new waits)
   pub emptied : OnOk result ((b : ℕ) → waits b ≡ [])

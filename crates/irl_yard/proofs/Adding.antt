@@ -35,6 +35,7 @@ use Rattle.irl_ledger.specs.Holding.{FitsBays, HoldsLedger, IsFrontierOf, IsOpen
 use Rattle.irl_ledger.proofs.Adding.{begin_keeps, note_keeps, one_of_all}
 use Rattle.irl_ledger.proofs.Tables.{tables_begun, tables_other}
 use Rattle.irl_yard.specs.Holding.{HoldsState, HoldsUrls, HasOneOf, IsOpenRest, IsSoundRest}
+use Rattle.irl_yard.specs.Standing.{IsStateOf}
 use Rattle.irl_yard.proofs.Making.{on_ok_then}
 use Rattle.irl_yard.proofs.Appended as appended
 use Rattle.irl_yard.proofs.Appended.{ok_then, same_crawl}
@@ -125,6 +126,11 @@ module _ {S : Type 0} (tells : S → Told) (law : (s : S) → IsConsistent (tell
   stops_next was state was_urls was_rest is holds =
       appended.stops_next tells law result ((event, places) ∷ []) frontier suffixes before after urls old new drum open_crawl was_sound several was state was_urls was_rest (one_next state is) holds
 
+  pub legal_next : (was : Parts) (state : State) → was.urls ≡ urls → was.rest ≡ Crawl old → IsNextIn state → HoldsState (tells before).images was state
+      → IsStateOf urls.settings (with_event event places state)
+  legal_next was state was_urls was_rest is holds =
+      appended.legal_next tells law result ((event, places) ∷ []) frontier suffixes before after urls old new drum open_crawl was_sound several was state was_urls was_rest (one_next state is) holds
+
 -- a call that adds an event which gives no places
 module _ {S : Type 0} (tells : S → Told) (law : (s : S) → IsConsistent (tells s)) (result : Result Unit Fault) (event : Event) (suffixes : Option (List ℕ)) (before after : S) (urls : Drum)
     (old new : Ledger) (drum : IsDrum urls) (open_crawl : IsOpenLedger urls old (tells before).files) (was_sound : old.log.journal.is_sound ≡ true)
@@ -146,6 +152,9 @@ module _ {S : Type 0} (tells : S → Told) (law : (s : S) → IsConsistent (tell
         (λ state beside held. one_next tells law result event [] then suffixes before after urls old new drum open_crawl was_sound adds state (next state beside held)) holds)
         (adds.log other).acknowledged);
     stops = λ state holds. appended.stops_at tells law result ((event, []) ∷ []) then suffixes before after urls old new drum open_crawl was_sound event_adds
+        was state was_urls was_rest
+        (λ state beside held. one_next tells law result event [] then suffixes before after urls old new drum open_crawl was_sound adds state (next state beside held)) holds;
+    legal = λ state holds. appended.legal_at tells law result ((event, []) ∷ []) then suffixes before after urls old new drum open_crawl was_sound event_adds
         was state was_urls was_rest
         (λ state beside held. one_next tells law result event [] then suffixes before after urls old new drum open_crawl was_sound adds state (next state beside held)) holds;
     others = log_changes tells law result event [] then suffixes before after urls old new drum open_crawl was_sound adds;

@@ -40,7 +40,7 @@ use Rattle.irl_ledger.specs.Adding.{AddsAllToLog}
 use Rattle.irl_ledger.specs.Noting.{AreWithin, no_notes, note_places, noted_all}
 use Rattle.irl_ledger.proofs.Noting.{all_within, places_both}
 use Rattle.irl_yard.specs.Holding.{HoldsOpen, HoldsState, HoldsUrls, HasOneOf}
-use Rattle.irl_yard.specs.Standing.{HasRest, IsMade, IsRest}
+use Rattle.irl_yard.specs.Standing.{HasRest, IsMade, IsRest, IsStateOf}
 use Rattle.irl_yard.proofs.Grounds.{made_has}
 use Rattle.irl_yard.proofs.Holding.{held_has}
 use Rattle.irl_yard.proofs.RestFiles.{few}
@@ -122,6 +122,15 @@ module _ (old new : Told) (urls : Drum) (state : State) (more : List Happened) (
 
   more_legal : IsCrawlState urls.settings state.urls state.pairs (with_more more state).events
   more_legal = keeps is_legal
+
+  -- the state with the events keeps the laws of one
+  pub legal_more : IsStateOf urls.settings (with_more more state)
+  legal_more = record {
+    settings_are = holds.settings;
+    valid = law.settings;
+    book_is = holds.urls_hold.book_is;
+    rest = legal_with urls.settings kind state.pairs state.urls (with_more more state).events more_legal;
+  }
 
   -- each stop from then on leaves the events
   pub urls_more : LeavesBy (ChangesOnly IsLog) old new → ((image : Files) → new.images image → HasEvents urls.settings.buckets (image crawl_file) (events_of state.events ++ events_of more))
@@ -377,6 +386,15 @@ module _ {S : Type 0} (tells : S → Told) (law : (s : S) → IsConsistent (tell
       ((adds.log other).changes (events_of state.events) opened.1.log).stops)))
       (memory_or_not result)
 
+  pub legal_next : (was : Parts) (state : State) → was.urls ≡ urls → was.rest ≡ Crawl old → AreNextIn state → HoldsState (tells before).images was state
+      → IsStateOf urls.settings (with_more more state)
+  legal_next was state was_urls was_rest is holds =
+      let held = subst (λ (d : Drum). HoldsUrls (tells before).images d state) was_urls holds.urls in
+      let opened : HoldsOpen (tells before).images urls.settings (Crawl old) state.urls state.pairs state.events =
+      subst (λ (r : Rest). HoldsOpen (tells before).images urls.settings r state.urls state.pairs state.events) was_rest
+      (subst (λ (d : Drum). HoldsOpen (tells before).images d.settings was.rest state.urls state.pairs state.events) was_urls holds.open_rest) in
+      legal_more (tells before) (tells after) urls state more drum (law after) opened.0 held is.legal
+
   -- of each
   pub state_more : (was now : Parts) (state : State) → was.urls ≡ urls → was.rest ≡ Crawl old → now.rest ≡ Crawl new → now.urls ≡ urls → (IsErrOf result Memory → ⊥) → IsOk result
       → (new.frontier ≡ frontier) × (new.suffixes ≡ suffixes)
@@ -399,3 +417,13 @@ module _ {S : Type 0} (tells : S → Told) (law : (s : S) → IsConsistent (tell
       subst (λ (r : Rest). HoldsOpen (tells before).images urls.settings r state.urls state.pairs state.events) was_rest
       (subst (λ (d : Drum). HoldsOpen (tells before).images d.settings was.rest state.urls state.pairs state.events) was_urls holds.open_rest) in
       stops_next was state was_urls was_rest (next state held opened.1) holds
+
+  pub legal_at : (was : Parts) (state : State) → was.urls ≡ urls → was.rest ≡ Crawl old
+      → ((state : State) → HoldsUrls (tells before).images urls state → HoldsLedger (tells before).images urls.settings old state.urls state.pairs state.events → AreNextIn state)
+      → HoldsState (tells before).images was state → IsStateOf was.urls.settings (with_more more state)
+  legal_at was state was_urls was_rest next holds =
+      let held = subst (λ (d : Drum). HoldsUrls (tells before).images d state) was_urls holds.urls in
+      let opened : HoldsOpen (tells before).images urls.settings (Crawl old) state.urls state.pairs state.events =
+      subst (λ (r : Rest). HoldsOpen (tells before).images urls.settings r state.urls state.pairs state.events) was_rest
+      (subst (λ (d : Drum). HoldsOpen (tells before).images d.settings was.rest state.urls state.pairs state.events) was_urls holds.open_rest) in
+      subst (λ (d : Drum). IsStateOf d.settings (with_more more state)) (sym was_urls) (legal_next was state was_urls was_rest (next state held opened.1) holds)

@@ -1,5 +1,5 @@
 -- What the schedule makes of a book leads the state that has it.
-use Rattle.std.proofs.Common.{◌≡◌, ℕ, List, refl, sym, subst}
+use Rattle.std.proofs.Common.{◌≡◌, inr, ℕ, List, refl, sym, subst}
 use Rattle.irl_offer.specs.declared.settings.Settings.{Settings}
 use Rattle.irl_offer.specs.Tuple.{Tuple}
 use Rattle.irl_model.specs.Book.{Book, IsFront}
@@ -52,7 +52,8 @@ module _ (old new : Moment) (was now : Parts) (state : State) (early : ℕ) (une
     stops = widens old.store new.store _ _ (lifts.stops state.urls fed.book kept follows fed.stops) (λ image has. between_states old.drum.settings state state.urls fed.book image has);
   }
 
-module _ (old new : Moment) (state : State) (early : ℕ) (uneven : ℕ → ℕ) (news : List Tuple) (law : IsDrum old.drum) (consistent : IsConsistent new.store) (held : HoldsUrls old.store.images old.drum state)
+module _ (old new : Moment) (state : State) (early : ℕ) (uneven : ℕ → ℕ) (news : List Tuple) (law : IsDrum old.drum) (consistent : IsConsistent new.store)
+    (held : HoldsUrls old.store.images old.drum state)
     (still : Stays old new) (stranded : Stranded early uneven news old new state.urls) (follows : MayFollow old.drum.settings.kind state.urls stranded.most) where
   first_follows : MayFollow old.drum.settings.kind state.urls state.urls
   first_follows = follows_same old.drum.settings state.pairs state.events old.drum.settings.kind state.urls held.legal
@@ -66,6 +67,9 @@ module _ (old new : Moment) (state : State) (early : ℕ) (uneven : ℕ → ℕ)
   kept_follows : MayFollow old.drum.settings.kind state.urls stranded.kept
   kept_follows = later_follows stranded.kept stranded.kept_grows.front up
 
+  book_follows : MayFollow old.drum.settings.kind state.urls stranded.book
+  book_follows = later_follows stranded.book stranded.grows.front stranded.front
+
   lifted : LiftsBooks state old new
   lifted = lifts_books state old new consistent law held still
 
@@ -75,10 +79,15 @@ module _ (old new : Moment) (state : State) (early : ℕ) (uneven : ℕ → ℕ)
     state = with_urls stranded.book state;
     most = with_urls stranded.most state;
     may_kept = (stranded.kept, kept_follows, refl);
+    may_state = (stranded.book, book_follows, refl);
     may_most = (stranded.most, follows, refl);
-    told = lifted.told stranded.book (later_follows stranded.book stranded.grows.front stranded.front) stranded.told;
+    told = lifted.told stranded.book book_follows stranded.told;
     first = fronts_lifted state state.urls stranded.kept stranded.kept_grows.front;
     fronts = (fronts_lifted state stranded.kept stranded.book stranded.kept_front, fronts_lifted state stranded.book stranded.most stranded.front);
+    legal = (
+      inr (old.drum.settings, lifted.legal stranded.kept kept_follows stranded.kept_legal),
+      inr (old.drum.settings, lifted.legal stranded.most follows stranded.legal),
+    );
     stops = widens old.store new.store _ _ (lifted.stops state.urls stranded.most first_follows follows stranded.stops)
         (λ image has. between_states old.drum.settings state state.urls stranded.most image has);
     now = λ image left. between_states old.drum.settings state stranded.kept stranded.most image (lifted.now stranded.kept stranded.most image kept_follows follows left (stranded.now image left));

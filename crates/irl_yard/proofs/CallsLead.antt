@@ -1,5 +1,5 @@
 -- Where a call of a crawl leads the state that an open store held.
-use Rattle.std.proofs.Common.{◌≡◌, ℕ, [], List, Some, Result, Ok, Err, OnErr, OnOk, IsErrOf, inl, inr, refl, sym, subst}
+use Rattle.std.proofs.Common.{◌≡◌, ⊎_elim, ℕ, [], List, Some, Result, Ok, Err, OnErr, OnOk, IsErrOf, inl, inr, refl, sym, subst}
 use Rattle.irl_base.specs.declared.fault.Fault.{Fault}
 use Rattle.irl_base.specs.declared.fault.Fault.TheVariants.{Damaged, Failed, Full, Memory}
 use Rattle.irl_offer.specs.declared.note.Note.{Note}
@@ -15,9 +15,9 @@ use Rattle.irl_yard.specs.Adding.{AddsEvent, AddsNotes, notes_happened, with_eve
 use Rattle.irl_yard.specs.Holding.{HasOneOf, HoldsState}
 use Rattle.irl_yard.specs.Leading.{IsEither, LeadsOrStays, LeadsTo}
 use Rattle.irl_yard.specs.Passing.{PassesState, with_pass}
-use Rattle.irl_yard.specs.Standing.{HasState}
-use Rattle.irl_yard.proofs.Holding.{held_has}
-use Rattle.irl_yard.proofs.Leading.{fails_one, leads_one, leads_same}
+use Rattle.irl_yard.specs.Standing.{HasState, IsStateOf}
+use Rattle.irl_yard.proofs.Holding.{held_has, held_legal}
+use Rattle.irl_yard.proofs.Leading.{fails_one, fails_same, leads_one, leads_same}
 use Rattle.irl_yard.proofs.States.{event_front}
 
 -- notes come behind
@@ -29,15 +29,21 @@ ok_of : {A : Type 0} (result : Result A Fault) (P Q : Type 0) → OnOk result P 
 ok_of (Ok value) P Q has gives = gives has
 ok_of (Err fault) P Q has gives = tt
 
-pub pass_leads : {S : Type 0} (tells : S → Told) (result : Result ℕ Fault) (was now : Parts) (state : State) (before after : S) (files : Files) → IsConsistent (tells after) → (tells before).files ≡ Some files
-    → HoldsState (tells before).images was state → PassesState tells result was now before after
+pub pass_leads : {S : Type 0} (tells : S → Told) (result : Result ℕ Fault) (was now : Parts) (state : State) (before after : S) (files : Files) → IsDrum was.urls → IsConsistent (tells after)
+    → (tells before).files ≡ Some files → HoldsState (tells before).images was state → PassesState tells result was now before after
     → LeadsOrStays result state (with_pass was.urls.settings state) now (tells before) (tells after)
-pass_leads tells result was now state before after files law told holds passes = record {
+pass_leads tells result was now state before after files drum law told holds passes = record {
   done = ok_of result _ _ passes.holds (λ makes. leads_one state (with_pass was.urls.settings state) now (tells before) (tells after) (makes files told state holds) (event_front _ _ state)
       (passes.stops state holds));
   kept = kept_by result (λ is. passes.memory is state holds) (λ f at is. passes.damaged f at is state holds) (λ n is. passes.full n is) passes.still;
-  failed = λ failed. fails_one (IsEither state (with_pass was.urls.settings state)) state (with_pass was.urls.settings state) (tells before) (tells after) law (event_front _ _ state) (passes.stops state holds)
-      (inl refl) (inr refl);
+  failed = λ failed. ⊎_elim
+      (λ (legal : IsStateOf was.urls.settings (with_pass was.urls.settings state)).
+      fails_one (IsEither state (with_pass was.urls.settings state)) state (with_pass was.urls.settings state) (tells before) (tells after) law (event_front _ _ state) (passes.stops state holds)
+      (inl refl) (inr refl) (inr (was.urls.settings, held_legal (tells before).images was.urls state drum holds.urls), inr (was.urls.settings, legal)))
+      (λ (stays : Leaves (tells before) (tells after) (HasState state)).
+      fails_same (IsEither state (with_pass was.urls.settings state)) state (tells before) (tells after) law stays (inl refl)
+      (inr (was.urls.settings, held_legal (tells before).images was.urls state drum holds.urls)))
+      (passes.legal files told state holds);
 }
   where
     kept_by : (answer : Result ℕ Fault) → (IsErrOf answer Memory → HoldsState (tells after).images now state)
@@ -53,8 +59,8 @@ pass_leads tells result was now state before after files law told holds passes =
 -- a call that adds events, or changes nothing
 module _ {S : Type 0} (tells : S → Told) (law : (s : S) → IsConsistent (tells s)) (result : Result Unit Fault) (was now : Parts) (state later : State) (before after : S) (drum : IsDrum was.urls)
     (held : HoldsState (tells before).images was state) (front : IsFrontState state later) (makes : OnOk result (HoldsState (tells after).images now later))
-    (stops : Leaves (tells before) (tells after) (HasOneOf state later)) (none : IsErrOf result Memory → (after ≡ before) × (now ≡ was)) (not_full : (n : ℕ) → IsErrOf result (Full n) → ⊥)
-    (not_damaged : (f at : ℕ) → IsErrOf result (Damaged f at) → ⊥) where
+    (stops : Leaves (tells before) (tells after) (HasOneOf state later)) (legal : IsStateOf was.urls.settings later) (none : IsErrOf result Memory → (after ≡ before) × (now ≡ was))
+    (not_full : (n : ℕ) → IsErrOf result (Full n) → ⊥) (not_damaged : (f at : ℕ) → IsErrOf result (Damaged f at) → ⊥) where
   unchanged : LeadsTo state state was (tells before) (tells before)
   unchanged = leads_same state was (tells before) (tells before) held
       (stays (tells before) (HasState state) (law before) (λ image left. held_has (tells before).images was.urls state image drum held.urls left))
@@ -73,17 +79,20 @@ module _ {S : Type 0} (tells : S → Told) (law : (s : S) → IsConsistent (tell
   adds_lead = record {
     done = ok_of result _ _ makes (λ has. leads_one state later now (tells before) (tells after) has front stops);
     kept = kept_by result none not_full not_damaged;
-    failed = λ failed. fails_one (IsEither state later) state later (tells before) (tells after) (law after) front stops (inl refl) (inr refl);
+    failed = λ failed. fails_one (IsEither state later) state later (tells before) (tells after) (law after) front stops (inl refl) (inr refl)
+        (inr (was.urls.settings, held_legal (tells before).images was.urls state drum held.urls), inr (was.urls.settings, legal));
   }
 
-pub event_leads : {S : Type 0} (tells : S → Told) → ((s : S) → IsConsistent (tells s)) → (result : Result Unit Fault) (event : Event) (was now : Parts) (state : State) (before after : S) → IsDrum was.urls
+pub event_leads : {S : Type 0} (tells : S → Told) → ((s : S) → IsConsistent (tells s)) → (result : Result Unit Fault) (event : Event) (was now : Parts) (state : State) (before after : S)
+    → IsDrum was.urls
     → HoldsState (tells before).images was state → AddsEvent tells result event was now before after → LeadsOrStays result state (with_event event [] state) now (tells before) (tells after)
 event_leads tells law result event was now state before after drum held adds =
-    adds_lead tells law result was now state (with_event event [] state) before after drum held (event_front event [] state) (ok_of result _ _ adds.holds (λ makes. makes state held)) (adds.stops state held)
-    adds.memory adds.full adds.damaged
+    adds_lead tells law result was now state (with_event event [] state) before after drum held (event_front event [] state) (ok_of result _ _ adds.holds (λ makes. makes state held))
+    (adds.stops state held) (adds.legal state held) adds.memory adds.full adds.damaged
 
-pub notes_lead : {S : Type 0} (tells : S → Told) → ((s : S) → IsConsistent (tells s)) → (result : Result Unit Fault) (notes : List Note) (was now : Parts) (state : State) (before after : S) → IsDrum was.urls
+pub notes_lead : {S : Type 0} (tells : S → Told) → ((s : S) → IsConsistent (tells s)) → (result : Result Unit Fault) (notes : List Note) (was now : Parts) (state : State) (before after : S)
+    → IsDrum was.urls
     → HoldsState (tells before).images was state → AddsNotes tells result notes was now before after → LeadsOrStays result state (with_notes notes state) now (tells before) (tells after)
 notes_lead tells law result notes was now state before after drum held adds =
     adds_lead tells law result was now state (with_notes notes state) before after drum held (notes_front notes state) (ok_of result _ _ adds.holds (λ makes. makes state held)) (adds.stops state held)
-    adds.memory adds.full adds.damaged
+    (adds.legal state held) adds.memory adds.full adds.damaged

@@ -96,6 +96,10 @@ held_state images urls state book law holds legal is = record {
   rest = legal;
 }
 
+-- the state that is held
+pub held_legal : (images : Files → Type 0) (urls : Drum) (state : State) → IsDrum urls → HoldsUrls images urls state → IsStateOf urls.settings state
+held_legal images urls state law holds = held_state images urls state state.urls law holds holds.legal holds.urls_hold.book_is
+
 pub made_state : (settings : Settings) (state : State) (files : Files) → IsMade settings state files → IsStateOf settings state
 made_state settings state files made = record {
   settings_are = made.settings_are;

@@ -7,7 +7,7 @@ use Rattle.irl_events.specs.State.{State, IsFrontState}
 use Rattle.irl_yard.specs.declared.parts.Parts.{Parts}
 use Rattle.irl_yard.specs.Holding.{HasOneOf, HoldsState}
 use Rattle.irl_yard.specs.Leading.{FailsAt, HasOneBetween, LeadsTo}
-use Rattle.irl_yard.specs.Standing.{HasState}
+use Rattle.irl_yard.specs.Standing.{HasState, IsLegal}
 use Rattle.irl_yard.proofs.States.{state_both, state_same}
 
 -- ---- what lies between
@@ -35,36 +35,39 @@ pub leads_same : (x : State) (now : Parts) (before after : Told) → HoldsState 
 leads_same x now before after holds stops = record { holds = holds; front = state_same x; stops = widens before after _ _ stops (λ image has. same_between x image has) }
 
 -- the store failed, and left one of two states
-module _ (may : State → Type 0) (x y : State) (before after : Told) (law : IsConsistent after) (front : IsFrontState x y) (stops : Leaves before after (HasOneOf x y)) (may_x : may x) (may_y : may y) where
-  at_one : (state : State) → IsFrontState x state → IsFrontState state y → ((files : Files) → after.files ≡ Some files → HasState state files) → FailsAt may x before after
-  at_one state later earlier told = record {
+module _ (may : State → Type 0) (x y : State) (before after : Told) (law : IsConsistent after) (front : IsFrontState x y) (stops : Leaves before after (HasOneOf x y)) (may_x : may x) (may_y : may y)
+    (legal : IsLegal x × IsLegal y) where
+  at_one : (state : State) → may state → IsFrontState x state → IsFrontState state y → ((files : Files) → after.files ≡ Some files → HasState state files) → FailsAt may x before after
+  at_one state may_state later earlier told = record {
     kept = x;
     state = state;
     most = y;
     may_kept = may_x;
+    may_state = may_state;
     may_most = may_y;
     told = told;
     first = state_same x;
     fronts = (later, earlier);
+    legal = legal;
     stops = widens before after _ _ stops (λ image has. one_between x y image front has);
     now = λ image left. one_between x y image front (left_now before after _ law stops image left);
   }
 
   of_two : (files : Files) → after.files ≡ Some files → HasOneOf x y files → FailsAt may x before after
-  of_two files told (inl has) = at_one x (state_same x) front (λ others is. let both = sym told ∙ is in let same : files ≡ others = cc in subst (HasState x) same has)
-  of_two files told (inr has) = at_one y front (state_same y) (λ others is. let both = sym told ∙ is in let same : files ≡ others = cc in subst (HasState y) same has)
+  of_two files told (inl has) = at_one x may_x (state_same x) front (λ others is. let both = sym told ∙ is in let same : files ≡ others = cc in subst (HasState x) same has)
+  of_two files told (inr has) = at_one y may_y front (state_same y) (λ others is. let both = sym told ∙ is in let same : files ≡ others = cc in subst (HasState y) same has)
 
   of_told : (told : Option Files) → after.files ≡ told → FailsAt may x before after
-  of_told None none = at_one x (state_same x) front (λ files is. let both = sym none ∙ is in let no : ⊥ = cc in absurd no)
+  of_told None none = at_one x may_x (state_same x) front (λ files is. let both = sym none ∙ is in let no : ⊥ = cc in absurd no)
   of_told (Some files) told = of_two files told (left_now before after _ law stops files (law.told files told))
 
   pub fails_one : FailsAt may x before after
   fails_one = of_told after.files refl
 
 -- the store failed, and left the state
-pub fails_same : (may : State → Type 0) (x : State) (before after : Told) → IsConsistent after → Leaves before after (HasState x) → may x → FailsAt may x before after
-fails_same may x before after law stops is =
-    fails_one may x x before after law (state_same x) (widens before after _ _ stops (λ image has. inl has)) is is
+pub fails_same : (may : State → Type 0) (x : State) (before after : Told) → IsConsistent after → Leaves before after (HasState x) → may x → IsLegal x → FailsAt may x before after
+fails_same may x before after law stops is legal =
+    fails_one may x x before after law (state_same x) (widens before after _ _ stops (λ image has. inl has)) is is (legal, legal)
 
 -- ---- several
 pub leads_both : (x y z : State) (mid now : Parts) (before between after : Told) → LeadsTo x y mid before between → LeadsTo y z now between after → LeadsTo x z now before after
@@ -84,10 +87,12 @@ fails_then may x y mid before between after first second =
       state = second.state;
       most = second.most;
       may_kept = second.may_kept;
+      may_state = second.may_state;
       may_most = second.may_most;
       told = second.told;
       first = state_both x y second.kept first.front second.first;
       fronts = second.fronts;
+      legal = second.legal;
       stops = joins before between after (HasOneBetween x second.most)
           (widens before between _ _ first.stops (λ image has. between_later x y second.most image whole has))
           (widens between after _ _ second.stops (λ image has. between_before x y second.most image first.front has));
@@ -101,10 +106,12 @@ fails_wider may wide x before after wider fails = record {
   state = fails.state;
   most = fails.most;
   may_kept = wider fails.kept fails.may_kept;
+  may_state = wider fails.state fails.may_state;
   may_most = wider fails.most fails.may_most;
   told = fails.told;
   first = fails.first;
   fronts = fails.fronts;
+  legal = fails.legal;
   stops = fails.stops;
   now = fails.now;
 }

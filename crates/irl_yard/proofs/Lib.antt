@@ -25,6 +25,7 @@ pub mod MayAsk
 pub mod NoteStates
 pub mod NotesAdded
 pub mod OfItsLog
+pub mod PairRecords
 pub mod PassStates
 pub mod PassWhole
 pub mod Receipts

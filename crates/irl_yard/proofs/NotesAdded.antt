@@ -117,6 +117,7 @@ module _ {S : Type 0} (tells : S → Told) (law : (s : S) → IsConsistent (tell
             was now state was_urls was_rest now_rest now_urls other ok done gives next_in holds)
             (adds.log other).acknowledged);
         stops = λ state holds. appended.stops_at tells law result more old.frontier old.suffixes before after urls old new drum open_crawl was_sound adds was state was_urls was_rest next_in holds;
+        legal = λ state holds. appended.legal_at tells law result more old.frontier old.suffixes before after urls old new drum open_crawl was_sound adds was state was_urls was_rest next_in holds;
         others = appended.log_changes tells law result more old.frontier old.suffixes before after urls old new drum open_crawl was_sound adds;
         memory = λ is. ((adds.memory is).0, back (adds.memory is).1);
         full = λ n is. (adds.log (λ memory. cc)).records.full n is;

@@ -27,7 +27,8 @@ use Rattle.irl_yard.specs.Holding.{HoldsOpen}
 use Rattle.irl_yard.specs.Opening.{IsOfItsLog}
 
 -- one that was made has no event
-pub made_log : (told : Option Files) → ForSome told IsBlank → (images : Files → Type 0) (settings : Settings) (urls : Drum) (rest : Rest) (u p : Book) → urls.settings ≡ settings → HoldsOpen images settings rest u p [] → (ledger : Ledger) → rest ≡ Crawl ledger
+pub made_log : (told : Option Files) → ForSome told IsBlank → (images : Files → Type 0) (settings : Settings) (urls : Drum) (rest : Rest) (u p : Book) → urls.settings ≡ settings
+    → HoldsOpen images settings rest u p [] → (ledger : Ledger) → rest ≡ Crawl ledger
     → IsOfItsLog told urls ledger
 made_log told blank images settings urls rest u p same holds ledger is =
     let both : HoldsOpen images settings (Crawl ledger) u p [] = subst (λ (r : Rest). HoldsOpen images settings r u p []) is holds in
@@ -52,7 +53,8 @@ made_log told blank images settings urls rest u p same holds ledger is =
     }
 
 -- one that was opened has those that were kept
-pub opened_log : (told : Option Files) (settings : Settings) (urls : Drum) (log : OpenLog) (history : LogHistory) (ledger : Ledger) (late : Told) → urls.settings ≡ settings → ledger.log ≡ log → ledger.notes ≡ history.notes
+pub opened_log : (told : Option Files) (settings : Settings) (urls : Drum) (log : OpenLog) (history : LogHistory) (ledger : Ledger) (late : Told) → urls.settings ≡ settings → ledger.log ≡ log
+    → ledger.notes ≡ history.notes
     → TookEventsUpTo TakesAlone (blank_history settings.buckets) history settings.buckets 0 log.journal.end → (books : AreOfBooks settings urls history.events ledger late)
     → ForSome told (λ files. (events : List Event) → HasEvents settings.buckets (files crawl_file) events → TakesEvents TakesAlone (blank_history settings.buckets) (placed_events 0 events) history)
     → ForSome told (λ files. HasHead settings files → (u p : Book) → Stands urls_base settings u files → Stands pairs_base (pair_settings settings) p files
@@ -68,5 +70,6 @@ opened_log told settings urls log history ledger late same same_log same_notes t
   of_pairs = books.of_pairs;
   judged = subst (λ (s : Settings). ForSome told (λ files. HasHead s files → (u p : Book) → Stands urls_base s u files → Stands pairs_base (pair_settings s) p files
       → AreJudgedAt u books.of_urls × AreJudgedAt p books.of_pairs)) (sym same) judged;
-  happened = subst (λ (s : Settings). HaveHappened books.of_urls books.of_pairs urls ledger.pairs (map (λ e. e.1) history.events) (before_all s.queues s.buckets) ledger.frontier.progress) (sym same) books.happened;
+  happened = subst (λ (s : Settings). HaveHappened books.of_urls books.of_pairs urls ledger.pairs (map (λ e. e.1) history.events) (before_all s.queues s.buckets) ledger.frontier.progress) (sym same)
+      books.happened;
 }

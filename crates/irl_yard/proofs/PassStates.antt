@@ -35,7 +35,8 @@ use Rattle.irl_yard.specs.Adding.{with_event}
 use Rattle.irl_yard.specs.Holding.{HasOneOf, HoldsOpen, HoldsState, HoldsUrls, IsOpenRest}
 use Rattle.irl_yard.specs.Merges.{ReadsState}
 use Rattle.irl_yard.specs.Passing.{AddsPass, AreFresh, IsDue, suffixes_in, with_pass}
-use Rattle.irl_yard.proofs.Adding.{IsNext, IsNextIn, log_changes, state_next, still_open, stops_next, urls_long}
+use Rattle.irl_yard.specs.Standing.{IsStateOf}
+use Rattle.irl_yard.proofs.Adding.{IsNext, IsNextIn, legal_next, log_changes, state_next, still_open, stops_next, urls_long}
 use Rattle.irl_schedule.proofs.Outcomes.{by_answer}
 use Rattle.irl_yard.proofs.Appended.{from_ok, legal_as, on_err_then, same_crawl}
 use Rattle.irl_yard.proofs.Beside.{state_same}
@@ -197,6 +198,13 @@ module _ {S : Type 0} (tells : S → Told) (law : (s : S) → IsConsistent (tell
         subst (λ (y : State). Leaves (tells before) (tells after) (HasOneOf state y)) (same_after beside held)
         (stops_next tells law result (Pass sent) placed (told_then adds) old.suffixes before after urls old new drum open_crawl was_sound (call held) was state is.0 is.1 (next_in beside held) holds)
 
+    pass_legal : (was : Parts) → IsWas was → HoldsState (tells before).images was state → IsStateOf urls.settings (with_pass urls.settings state)
+    pass_legal was is holds =
+        let beside = urls_held was is holds in
+        let held = ledger_held was is holds in
+        subst (λ (y : State). IsStateOf urls.settings y) (same_after beside held)
+        (legal_next tells law result (Pass sent) placed (told_then adds) old.suffixes before after urls old new drum open_crawl was_sound (call held) was state is.0 is.1 (next_in beside held) holds)
+
   -- all of it
   pub adds_pass : (was now : Parts) → was.urls ≡ urls → was.rest ≡ Crawl old → now.rest ≡ Crawl new → now.urls ≡ urls → (now.rest ≡ was.rest → now ≡ was)
       → AddsPass tells result fresh was now before after
@@ -207,6 +215,8 @@ module _ {S : Type 0} (tells : S → Told) (law : (s : S) → IsConsistent (tell
             (pass_more state (subst (λ (r : Rest). AreFresh r fresh state.urls) was_rest are) was now (was_urls, was_rest) now_rest now_urls ok holds));
         stops = λ state holds are. subst (λ (s : Settings). Leaves (tells before) (tells after) (HasOneOf state (with_pass s state))) settings
             (pass_stops state (subst (λ (r : Rest). AreFresh r fresh state.urls) was_rest are) was (was_urls, was_rest) holds);
+        legal = λ state holds are. subst (λ (s : Settings). IsStateOf s (with_pass s state)) settings
+            (pass_legal state (subst (λ (r : Rest). AreFresh r fresh state.urls) was_rest are) was (was_urls, was_rest) holds);
         others = log_changes tells law result (Pass sent) [] (told_then some_adds) old.suffixes before after urls old new drum open_crawl was_sound some_call;
         memory = λ is. ((some_call.memory is).0, same (now_rest ∙ ap (λ (c : Ledger). Crawl c) (some_call.memory is).1 ∙ sym was_rest));
         full = λ n is. (some_call.log (λ memory. cc)).records.full n is;

@@ -1,5 +1,5 @@
 -- A pass of an open store, whole: what its reading and its event come to.
-use Rattle.std.proofs.Common.{◌≡◌, ◌∙◌, inl, ℕ, List, [], length, Option, None, Some, Result, Ok, Err, IsOk, IsErr, IsErrOf, OnOk, OnErr, refl, sym, ap, subst}
+use Rattle.std.proofs.Common.{◌≡◌, ◌∙◌, inl, inr, ℕ, List, [], length, Option, None, Some, Result, Ok, Err, IsOk, IsErr, IsErrOf, OnOk, OnErr, refl, sym, ap, subst}
 use Rattle.std.specs.Prelude.{IfOk}
 use Rattle.std.specs.Option.{ForSome}
 use Rattle.std.proofs.lemmas.Result.{IfOk-weaker}
@@ -29,7 +29,7 @@ use Rattle.irl_yard.specs.declared.parts.Rest.TheVariants.{Plain, Crawl}
 use Rattle.irl_yard.specs.Holding.{HasOneOf, HoldsOpen, HoldsState, HoldsUrls}
 use Rattle.irl_yard.specs.Merges.{ReadsState}
 use Rattle.irl_yard.specs.Passing.{AddsPass, AreFresh, PassesState, come, front_in, suffixes_in, with_pass}
-use Rattle.irl_yard.specs.Standing.{HasState, IsRest}
+use Rattle.irl_yard.specs.Standing.{HasState, IsRest, IsStateOf}
 use Rattle.irl_yard.proofs.Appended.{same_crawl}
 
 -- ---- answers
@@ -118,6 +118,7 @@ module _ {S : Type 0} (tells : S → Told) (law : (s : S) → IsConsistent (tell
     count = err_if result _ is;
     front = err_if result _ is;
     stops = λ state holds. widens (tells before) (tells after) (HasState state) _ (states.stops state holds) (λ image has. inl has);
+    legal = λ files told state holds. inr (states.stops state holds);
     others =
         let changes = read_only (IsJudgedFile was.urls) (IsErrOf read Failed) (tells before) (tells after) reads.reads in
         record { told = changes.told; stops = changes.stops; taken = changes.taken; cause = record { later = changes.cause.later; rose = λ e. changes.cause.rose (same Failed e) } };
@@ -180,6 +181,8 @@ module _ {S : Type 0} (tells : S → Told) (law : (s : S) → IsConsistent (tell
       count = count;
       front = IfOk-weaker result _ _ (λ n is state holds. is ∙ ap length (front_is (tells after).images now.urls now.rest state holds.urls holds.open_rest)) count;
       stops = λ state holds. stops_told (tells before).files refl state holds;
+      legal = λ files told state holds. inl (subst (λ (s : Settings). IsStateOf s (with_pass s state)) settings_same
+          (adds.legal state (read_holds state holds) (then_fresh state (found files told state holds))));
       others =
           let changes = read_then (IsJudgedFile was.urls) failed (IsErrOf added Failed) (tells before) (tells between) (tells after) (law between) reads adds.others in
           record { told = changes.told; stops = changes.stops; taken = changes.taken; cause = record { later = changes.cause.later; rose = λ e. changes.cause.rose (same Failed e) } };

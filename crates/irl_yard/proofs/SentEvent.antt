@@ -37,11 +37,12 @@ use Rattle.irl_yard.specs.declared.parts.Rest.TheVariants.{Crawl}
 use Rattle.irl_yard.specs.Adding.{with_event}
 use Rattle.irl_yard.specs.Holding.{HasOneOf, HoldsOpen, HoldsState, HoldsUrls}
 use Rattle.irl_yard.specs.Sending.{ArePairsSent, HasSentCuts, KeepsCrawl, LogsPairs, OnlyThese, sent_of, sent_state}
-use Rattle.irl_yard.proofs.Adding.{IsNext, IsNextIn, begun_more, log_changes, only_log, state_next, still_open, stops_next, told_log, urls_long}
+use Rattle.irl_yard.specs.Standing.{IsStateOf}
+use Rattle.irl_yard.proofs.Adding.{IsNext, IsNextIn, begun_more, legal_next, log_changes, only_log, state_next, still_open, stops_next, told_log, urls_long}
 use Rattle.irl_schedule.proofs.Outcomes.{by_answer, ok_gives, ok_weaker}
-use Rattle.irl_yard.proofs.Holding.{held_has}
+use Rattle.irl_yard.proofs.Holding.{held_has, held_legal}
 use Rattle.irl_yard.proofs.Appended.{same_crawl}
-use Rattle.irl_yard.proofs.SentStates.{keeps_crawl, on_ok}
+use Rattle.irl_yard.proofs.SentStates.{keeps_crawl, on_ok, pairs_stay}
 
 -- ---- the numbers of the event
 whole_judged : (settings : Settings) (book : Book) → IsBookOf settings book → length (judged book) ≡ judged_by book (cut_count book)
@@ -162,6 +163,8 @@ module _ {S : Type 0} (tells : S → Told) (law : (s : S) → IsConsistent (tell
           (ok_gives result value (adds.log other).acknowledged is) (next_in state holds sent) holds));
       stops = λ state holds sent. subst (λ (x : State). Leaves (tells before) (tells after) (HasOneOf state x)) (sym (sent_is state holds))
           (stops_next tells law result event [] then old.suffixes before after was.urls old new drum opened sound adds was state refl was_rest (next_in state holds sent) holds);
+      legal = λ state holds sent. subst (λ (x : State). IsStateOf was.urls.settings x) (sym (sent_is state holds))
+          (legal_next tells law result event [] then old.suffixes before after was.urls old new drum opened sound adds was state refl was_rest (next_in state holds sent) holds);
       memory = λ is. ((adds.memory is).0, same_parts (now_rest ∙ ap (λ (l : Ledger). Crawl l) (adds.memory is).1 ∙ sym was_rest));
       full = λ n is. (adds.log (λ memory. cc)).records.full n is;
       damaged = λ f at is. (adds.log (λ memory. cc)).records.damaged f at is;
@@ -172,6 +175,7 @@ module _ {S : Type 0} (tells : S → Told) (law : (s : S) → IsConsistent (tell
       };
       urls = now_urls;
       tables = keeps kept_crawl;
+      pairs = pairs_stay was now old new was_rest now_rest adds.pairs;
       sent = ok_weaker result adds.done (λ done. knows (ap (λ (x : Frontier). x.progress.cuts) done.0));
     }
 
@@ -185,6 +189,7 @@ module _ {S : Type 0} (tells : S → Told) (law : (s : S) → IsConsistent (tell
             (subst (λ (p : Parts). HoldsState (tells after).images p state) (sym parts) (subst (λ (x : S). HoldsState (tells x).images was state) (sym none.2) holds)));
         stops = λ state holds sent. subst (λ (x : S). Leaves (tells before) (tells x) (HasOneOf state (sent_state was.urls.settings state))) (sym none.2)
             (stays (tells before) (HasOneOf state (sent_state was.urls.settings state)) (law before) (λ image left. inl (held_has (tells before).images was.urls state image drum holds.urls left)));
+        legal = λ state holds sent. subst (λ (x : State). IsStateOf was.urls.settings x) (sym (sent_is state holds)) (held_legal (tells before).images was.urls state drum holds.urls);
         memory = λ is. (none.2, parts);
         full = λ n is. ok_no_err result (Full n) none.0 is;
         damaged = λ f at is. ok_no_err result (Damaged f at) none.0 is;
@@ -202,6 +207,7 @@ module _ {S : Type 0} (tells : S → Told) (law : (s : S) → IsConsistent (tell
           front = ap (λ (l : Ledger). l.frontier.progress.front) none.1;
           begun = ap (λ (l : Ledger). l.frontier.progress.begun) none.1;
         });
+        pairs = pairs_stay was now old new was_rest now_rest (ap (λ (l : Ledger). l.pairs) none.1);
         sent = on_ok result _ (λ value is. knows (ap (λ (l : Ledger). l.frontier.progress.cuts) none.1 ∙ same));
       }
 

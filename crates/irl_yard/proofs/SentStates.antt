@@ -18,14 +18,14 @@ use Rattle.irl_disk.specs.Images.{Told, IsConsistent, Follows, Leaves, LeavesBy}
 use Rattle.irl_disk.proofs.Stretches.{left_now, widens}
 use Rattle.irl_journal.specs.Format.{HasRecords}
 use Rattle.irl_layout.specs.BayFiles.{IsFileOf}
-use Rattle.irl_bay.specs.Drum.{Drum, IsDrum}
+use Rattle.irl_bay.specs.Drum.{Drum, IsDrum, durable_at}
 use Rattle.irl_bay.specs.Holding.{Holds, IsLong}
 use Rattle.irl_bay.specs.Standing.{IsBookOf, Stands}
 use Rattle.irl_bay.proofs.Apart.{files_of_both, files_within, holds_beside, long_beside, stands_apart}
 use Rattle.irl_bay.specs.JudgedSpoilt.{IsJudgedSpoiltAt}
 use Rattle.irl_bay.proofs.Staying.{leaves_same, tells_same}
 use Rattle.irl_bay.proofs.Standing.{holds_stands}
-use Rattle.irl_schedule.specs.Schedule.{one_more}
+use Rattle.irl_schedule.specs.Schedule.{AddsUneven, HaveRecords, LeavesUneven, one_more}
 use Rattle.irl_schedule.specs.Feeding.{Fed, FewUnjudged, Grows, HasBetween, Moment, Stays, TakesWaiting, moment}
 use Rattle.irl_schedule.proofs.Between.{grows_between}
 use Rattle.irl_schedule.proofs.Chains.{few_both, few_same, tells_on}
@@ -45,8 +45,8 @@ use Rattle.irl_yard.specs.declared.parts.Rest.{Rest}
 use Rattle.irl_yard.specs.declared.parts.Rest.TheVariants.{Crawl}
 use Rattle.irl_yard.specs.Holding.{HoldsOpen, HoldsState, HoldsUrls, IsSoundRest, StaysSound}
 use Rattle.irl_yard.specs.Leading.{FailsAt, HasOneBetween, LeadsTo}
-use Rattle.irl_yard.specs.Sending.{ArePairsSent, HasBegun, HasToldAll, HasSentAll, HasSomeSent, IsSomeSent, KeepsCrawl, MayHaveSent, TellsState, links_in, OffersState, counted_behind, with_pairs}
-use Rattle.irl_yard.specs.Standing.{HasRest, HasState, IsRest}
+use Rattle.irl_yard.specs.Sending.{AddsPairRecords, ArePairsSent, HasBegun, HasToldAll, HasSentAll, HasSomeSent, IsSomeSent, KeepsCrawl, MayHaveSent, TellsState, links_in, OffersState, counted_behind, with_pairs}
+use Rattle.irl_yard.specs.Standing.{HasRest, HasState, IsRest, IsStateOf}
 use Rattle.irl_yard.proofs.Appended.{legal_as, same_crawl}
 use Rattle.irl_yard.proofs.Holding.{holds_same, stops_same}
 use Rattle.irl_yard.proofs.RestFiles.{few}
@@ -76,6 +76,10 @@ module _ (s t : Told) (urls : Drum) (state : State) (law : IsDrum urls) (consist
   legal : (book : Book) → MayHaveSent urls.settings state book → IsRest urls.settings.kind urls.settings state.urls book state.events
   legal book may = subst (λ (k : Kind). IsRest k urls.settings state.urls book state.events) (sym kind)
       (sent_legal urls.settings state.urls state.pairs state.events book holds.urls_hold.book_is crawl begun may)
+
+  -- so the state with it keeps the laws of one
+  pub pairs_state : (book : Book) → MayHaveSent urls.settings state book → IsStateOf urls.settings (with_pairs book state)
+  pairs_state book may = record { settings_are = holds.settings; valid = law.settings; book_is = holds.urls_hold.book_is; rest = legal book may }
 
   -- the rest of the files, where those of the pairs stand for the book
   rest_with : (book : Book) (old new : Files) → ChangesOnly among old new → Stands pairs_base (pair_settings urls.settings) book new
@@ -173,6 +177,11 @@ pub keeps_crawl : (was now : Parts) (old new : Ledger) → was.rest ≡ Crawl ol
 keeps_crawl was now old new was_rest now_rest keeps first second was_is now_is =
     subst (λ (x : Ledger). KeepsCrawl x second) (same_crawl old first (sym was_rest ∙ was_is)) (subst (KeepsCrawl old) (same_crawl new second (sym now_rest ∙ now_is)) keeps)
 
+pub pairs_stay : (was now : Parts) (old new : Ledger) → was.rest ≡ Crawl old → now.rest ≡ Crawl new → new.pairs ≡ old.pairs → (first second : Ledger) → was.rest ≡ Crawl first → now.rest ≡ Crawl second
+    → second.pairs ≡ first.pairs
+pairs_stay was now old new was_rest now_rest same first second was_is now_is =
+    ap (λ (l : Ledger). l.pairs) (sym (same_crawl new second (sym now_rest ∙ now_is))) ∙ same ∙ ap (λ (l : Ledger). l.pairs) (same_crawl old first (sym was_rest ∙ was_is))
+
 -- ---- the links are offered
 module _ (result : Result Unit Fault) (was now : Parts) (old new : Ledger) (s t : Told) (law : IsDrum was.urls) (lawful : IsConsistent t) (was_rest : was.rest ≡ Crawl old)
     (now_rest : now.rest ≡ Crawl new)
@@ -255,7 +264,8 @@ module _ (result : Result Unit Fault) (was now : Parts) (old new : Ledger) (s t 
 
     -- files that stand for a book between two, of which the second has only new links behind
     has_between : (x most : Book) → IsFront state.pairs x → FewUnjudged old.pairs.settings state.pairs x → GrowsBy most → TakesWaiting (pair_settings settings) state.pairs no_waiting most offers.news
-        → (image : Files) → Follows (ChangesOnly among_pairs) s.images image → HasBetween old.pairs.base old.pairs.settings x most image → HasOneBetween (with_pairs x state) (with_pairs most state) image
+        → (image : Files) → Follows (ChangesOnly among_pairs) s.images image → HasBetween old.pairs.base old.pairs.settings x most image
+        → HasOneBetween (with_pairs x state) (with_pairs most state) image
     has_between x most first few grows takes image from both =
         let stands = subst (λ (n : ℕ). Stands n (pair_settings settings) both.0 image) opened.base
         (subst (λ (p : Settings). Stands old.pairs.base p both.0 image) opened.settings both.1) in
@@ -295,13 +305,18 @@ module _ (result : Result Unit Fault) (was now : Parts) (old new : Ledger) (s t 
         let may : (x : Book) → IsBookOf old.pairs.settings x → Grows old.pairs.settings 1 state.pairs x → IsFront x strands.most → MayHaveSent settings state x = λ x is grows later.
         may_between settings state.urls state.pairs state.events x strands.most offers.news was_is (subst (λ (p : Settings). IsBookOf p x) opened.settings is) (grows_by x grows) later front takes in
         let up : IsFront strands.kept strands.most = front_both strands.kept strands.book strands.most strands.kept_front strands.front in
+        let kept_may = may strands.kept strands.kept_legal strands.kept_grows up in
+        let most_may = may strands.most strands.legal strands.may_grow (front_same strands.most) in
+        let later = tells_on _ s.files t.files files still.others told in
+        let legal : (x : Book) → MayHaveSent settings state x → IsStateOf settings (with_pairs x state) = pairs_state s t was.urls state law lawful kind holds.urls begun_events in
         let follows : (image : Files) → t.images image → Follows (ChangesOnly among_pairs) s.images image = λ image left. left_now s t _ lawful pairs_leave image left in
         record {
           kept = with_pairs strands.kept state;
           state = with_pairs strands.book state;
           most = with_pairs strands.most state;
-          may_kept = (strands.kept, may strands.kept strands.kept_legal strands.kept_grows up, refl);
-          may_most = (strands.most, may strands.most strands.legal strands.may_grow (front_same strands.most), refl);
+          may_kept = (strands.kept, kept_may, refl);
+          may_state = (strands.book, may strands.book (strands.told later.0 later.1).book_is strands.grows strands.front, refl);
+          may_most = (strands.most, most_may, refl);
           told = λ image is.
               let stands = strands.told image is in
               let moved = subst (λ (n : ℕ). Stands n (pair_settings settings) strands.book image) opened.base
@@ -310,6 +325,7 @@ module _ (result : Result Unit Fault) (was now : Parts) (old new : Ledger) (s t 
               (follows image (lawful.told image is)) moved;
           first = pairs_front state strands.kept strands.kept_grows.front;
           fronts = (pairs_front (with_pairs strands.kept state) strands.book strands.kept_front, pairs_front (with_pairs strands.book state) strands.most strands.front);
+          legal = (inr (settings, legal strands.kept kept_may), inr (settings, legal strands.most most_may));
           stops = stops_between strands.most (grows_by strands.most strands.may_grow) takes strands.stops;
           now = λ image left. has_between strands.kept strands.most strands.kept_grows.front strands.kept_grows.waits (grows_by strands.most strands.may_grow) takes image (follows image left)
               (strands.now image left);
@@ -340,7 +356,8 @@ module _ (result : Result Unit Fault) (was now : Parts) (old new : Ledger) (s t 
     stops = ⊎_elim
         (λ (failed : IsErrOf result Failed).
         let strands = offers.runs.stranded failed files told state.pairs held.pairs_hold in
-        between strands.most (grows_by strands.most strands.may_grow) (subst (λ (p : Settings). TakesWaiting p state.pairs no_waiting strands.most offers.news) opened.settings strands.takes) strands.stops)
+        between strands.most (grows_by strands.most strands.may_grow) (subst (λ (p : Settings). TakesWaiting p state.pairs no_waiting strands.most offers.news) opened.settings strands.takes)
+        strands.stops)
         (λ (not : IsErrOf result Failed → ⊥).
         let fed = offers.runs.fed not files told state.pairs held.pairs_hold in
         between fed.book (grows_by fed.book fed.grows) (fed_takes settings state.urls state.pairs state.events offers.news before after refl opened.settings fed) fed.stops)
@@ -359,6 +376,34 @@ module _ (result : Result Unit Fault) (was now : Parts) (old new : Ledger) (s t 
           subst (λ (p : Settings). b < p.buckets) opened.settings why.0,
           fed_full settings state.urls state.pairs state.events offers.news before after refl opened.settings fed still b why.0 front why.2,
         )
+
+    -- what becomes of the records of the live journals
+    pair_records : AddsPairRecords (IsErrOf (counted_behind result) Failed) was now s t
+    pair_records = record {
+      records = λ not first second was_is now_is records have.
+          let old_is = same_crawl old first (sym was_rest ∙ was_is) in
+          let new_is = same_crawl new second (sym now_rest ∙ now_is) in
+          let fed = offers.runs.fed (λ failed. not (failed_behind result failed)) files told state.pairs held.pairs_hold in
+          let gives = fed.records records (subst (λ (l : Ledger). HaveRecords s.images l.pairs records) (sym old_is) have) in (
+            gives.0,
+            subst (λ (l : Ledger). HaveRecords t.images l.pairs gives.0) new_is gives.1,
+            subst (λ (l : Ledger). AddsUneven one_more l.pairs.settings.buckets l.pairs.settings.array records gives.0) old_is gives.2,
+          );
+      stops = λ first was_is records have.
+          let old_is = same_crawl old first (sym was_rest ∙ was_is) in
+          let had = subst (λ (l : Ledger). HaveRecords s.images l.pairs records) (sym old_is) have in
+          subst (λ (l : Ledger). Leaves s t (LeavesUneven one_more l.pairs records)) old_is (⊎_elim
+          (λ (failed : IsErrOf result Failed). (offers.runs.stranded failed files told state.pairs held.pairs_hold).records_stop records had)
+          (λ (not : IsErrOf result Failed → ⊥). (offers.runs.fed not files told state.pairs held.pairs_hold).records_stop records had)
+          (failed_or_not result));
+    }
+
+  -- a bucket that is full takes no whole array more
+  no_room : (b : ℕ) → IsErrOf result (Full b) → new.pairs.settings.cap < durable_at new.pairs b + new.pairs.settings.array
+  no_room b is =
+      let why = offers.runs.full b is in
+      let few = offers.few b (subst (λ (p : Settings). b < p.buckets) (sym still.settings) why.0) in
+      omega (arith, why.2, few, ap (λ (p : Settings). p.cap) still.settings)
 
   -- what is open stays so
   pub sent_open : IsOpenLedger was.urls new t.files
@@ -383,6 +428,12 @@ module _ (result : Result Unit Fault) (was now : Parts) (old new : Ledger) (s t 
         let why = behind_full result n is in
         let many = too_many state holds files told why.0 why.2 in
         (why.0, why.1, many.0, many.1);
+    room = λ b ledger is rest.
+        let why = behind_full result (64 + b) is in
+        let same : why.0 ≡ b = omega (arith, why.1) in
+        subst (λ (l : Ledger). l.pairs.settings.cap < durable_at l.pairs b + l.pairs.settings.array) (same_crawl new ledger (sym now_rest ∙ rest))
+        (no_room b (subst (λ (n : ℕ). IsErrOf result (Full n)) same why.2));
+    records = λ files told state holds. pair_records state holds files told;
     damaged = λ f at is files told state holds. not_damaged state holds files told f at (behind_damaged result f at is);
     cause = record { later = offers.runs.cause.later; rose = λ failed. offers.runs.cause.rose (behind_failed result failed) };
     urls = now_urls;
@@ -461,6 +512,7 @@ module _ (result : Result Unit Fault) (was now : Parts) (old new : Ledger) (s t 
       front = ap (λ (x : Progress). x.front) tells.tells.progress;
       begun = ap (λ (x : Progress). x.begun) tells.tells.progress;
     });
+    pairs = pairs_stay was now old new was_rest now_rest (ap (λ (l : Ledger). l.pairs) tells.others);
   }
 
 pub told_of : (rest : Rest) (crawl : Ledger) → rest ≡ Crawl crawl → HasToldAll rest → crawl.frontier.told ≡ crawl.pairs.last.judged

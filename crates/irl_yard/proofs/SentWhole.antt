@@ -1,5 +1,5 @@
 -- Sending pairs: its three steps one after the other, over states.
-use Rattle.std.proofs.Common.{◌≡◌, ◌∙◌, inl, inr, ℕ, Bool, true, false, cond, List, [], Option, Some, Result, Ok, Err, OnOk, OnErr, IsErrOf, refl, sym, ap, subst, arith}
+use Rattle.std.proofs.Common.{◌≡◌, ◌∙◌, inl, inr, ℕ, ◌+◌, Bool, true, false, cond, List, [], Option, Some, Result, Ok, Err, OnOk, OnErr, IsErrOf, refl, sym, ap, subst, arith}
 use Rattle.std.specs.Option.{ForSome}
 use Rattle.irl_base.specs.declared.fault.Fault.{Fault}
 use Rattle.irl_base.specs.declared.fault.Fault.TheVariants.{Damaged, Failed, Full, Memory}
@@ -13,7 +13,7 @@ use Rattle.irl_bay.proofs.Staying.{leaves_both, only_wider, tells_both}
 use Rattle.irl_schedule.proofs.Chains.{tells_wider}
 use Rattle.irl_head.specs.StoreFiles.{crawl_file, pairs_base}
 use Rattle.irl_disk.proofs.Stretches.{joins, widens, widens_by}
-use Rattle.irl_bay.specs.Drum.{Drum}
+use Rattle.irl_bay.specs.Drum.{Drum, IsDrum}
 use Rattle.irl_schedule.proofs.Outcomes.{ok_gives}
 use Rattle.irl_events.specs.Events.{progress}
 use Rattle.irl_core.specs.States.{begun_with, cut_count}
@@ -31,7 +31,9 @@ use Rattle.irl_yard.specs.Holding.{HasLedger, HasOneOf, HoldsOpen, HoldsState, I
 use Rattle.irl_yard.specs.Leading.{LeadsTo}
 use Rattle.irl_yard.specs.Sending.{ArePairsSent, IsOnTheWay, IsSomeSent, HasSent, HasSentAll, HasBegun, IsSentFile, KeepsCrawl, LogsPairs, MayHaveSent, OffersState, OnlyThese, SendsPairs, TellsState, AreSentAlready, sent_of, sent_state, with_pairs}
 use Rattle.irl_yard.specs.Standing.{HasState}
+use Rattle.irl_yard.proofs.Holding.{held_legal}
 use Rattle.irl_yard.proofs.Leading.{fails_one, fails_same, fails_then, fails_wider, leads_both, leads_one, leads_same}
+use Rattle.irl_yard.proofs.PairRecords.{records_then}
 use Rattle.irl_yard.proofs.SentStates.{begun_of, on_ok}
 use Rattle.irl_yard.proofs.States.{event_front, state_same}
 
@@ -63,6 +65,10 @@ these_both among s t u consistent first second = record {
   stops = leaves_both among s t u consistent first.stops second.stops;
 }
 
+-- the log
+abbrev IsLog : ℕ → Type 0
+IsLog f = f ≡ crawl_file
+
 -- the event comes behind
 sent_front : (settings : Settings) (state : State) → IsFrontState state (sent_state settings state)
 sent_front settings state = by_count (nat_eq (progress settings.queues settings.buckets state.events).cuts (cut_count state.urls))
@@ -89,9 +95,12 @@ pub offers_alone : (result : Result Unit Fault) (fault : Fault) (was now : Parts
 offers_alone result fault was now s t is offers begun = record {
   done = on_ok_none result fault _ is;
   kept = on_err result fault _ is offers.holds;
-  failed = λ failed files told state holds. fails_wider (IsSomeSent was.urls.settings state) (IsOnTheWay was.urls.settings state) state s t (λ later some. inl some) (offers.failed failed files told state holds);
+  failed = λ failed files told state holds. fails_wider (IsSomeSent was.urls.settings state) (IsOnTheWay was.urls.settings state) state s t (λ later some. inl some)
+      (offers.failed failed files told state holds);
   stops = λ files told state holds. widens s t _ _ (offers.stops files told state holds) (λ image has. (has.0, has.1, inl has.2));
   full = offers.full;
+  room = offers.room;
+  records = offers.records;
   damaged = offers.damaged;
   spoilt = offers.spoilt;
   others = these_wider (IsFileOf pairs_base was.urls.settings.buckets) (IsSentFile was.urls.settings.buckets) s t (λ f is. inl is) offers.others;
@@ -103,8 +112,10 @@ offers_alone result fault was now s t is offers begun = record {
 }
 
 -- ---- where the tables are told then
-module _ (offered told : Result Unit Fault) (value : Unit) (was mid now : Parts) (s t u : Told) (lawful : IsConsistent t) (lawful_u : IsConsistent u) (was_ok : offered ≡ Ok value) (offers : OffersState offered was mid s t)
-    (mid_begun : HasBegun mid.rest) (tells : TellsState told mid now t u) (now_begun : HasBegun now.rest) where
+module _ (offered told : Result Unit Fault) (value : Unit) (was mid now : Parts) (s t u : Told) (mid_law : IsDrum mid.urls) (now_law : IsDrum now.urls) (lawful : IsConsistent t)
+    (lawful_u : IsConsistent u) (was_ok : offered ≡ Ok value) (offers : OffersState offered was mid s t)
+    (mid_begun : HasBegun mid.rest) (was_open : IsOpenRest was.urls was.rest s.files) (mid_open : IsOpenRest mid.urls mid.rest t.files) (tells : TellsState told mid now t u)
+    (now_begun : HasBegun now.rest) where
   -- what the offers left
   pub sent_first : (files : Files) → s.files ≡ Some files → (state : State) → HoldsState s.images was state
       → (book : Book) × HasSentAll was.urls.settings state book × LeadsTo state (with_pairs book state) mid s t × ArePairsSent (with_pairs book state)
@@ -141,6 +152,10 @@ module _ (offered told : Result Unit Fault) (value : Unit) (was mid now : Parts)
       let between = crawl_in mid.rest mid_begun in
       keeps_both old between.0 new (offers.tables old between.0 was_is between.1) (tells.tables between.0 new between.1 now_is)
 
+  -- no file of the pairs changes then
+  log_only : OnlyThese IsLog t u
+  log_only = these_wider (λ f. ⊥) IsLog t u (λ f is. absurd is) tells.others
+
   pub told_alone : (fault : Fault) → told ≡ Err fault → SendsPairs told was now s u
   told_alone fault is = record {
     done = on_ok_none told fault _ is;
@@ -150,9 +165,13 @@ module _ (offered told : Result Unit Fault) (value : Unit) (was mid now : Parts)
         let later = offers.told files here in
         let some : IsOnTheWay was.urls.settings state (with_pairs first.0 state) = inl (first.0, first.1.may, refl) in
         fails_then (IsOnTheWay was.urls.settings state) state (with_pairs first.0 state) mid s t u first.2
-        (fails_same (IsOnTheWay was.urls.settings state) (with_pairs first.0 state) t u lawful_u (tells.stops later.0 later.1 (with_pairs first.0 state) first.2.holds) some);
+        (fails_same (IsOnTheWay was.urls.settings state) (with_pairs first.0 state) t u lawful_u (tells.stops later.0 later.1 (with_pairs first.0 state) first.2.holds) some
+        (inr (mid.urls.settings, held_legal t.images mid.urls (with_pairs first.0 state) mid_law first.2.holds.urls)));
     stops = stops_first;
     full = λ n full. absurd (tells.full n full);
+    room = λ b ledger full. absurd (tells.full (64 + b) full);
+    records = λ files here state holds. records_then (IsErrOf offered Failed) (IsErrOf told Failed) was mid now s t u (no_failure offered value was_ok) lawful lawful_u was_open mid_open
+        (crawl_in mid.rest mid_begun) log_only.stops tells.pairs (offers.records files here state holds);
     damaged = λ f at damaged files here state holds.
         let first = sent_first files here state holds in
         let later = offers.told files here in
@@ -185,6 +204,14 @@ module _ (offered told : Result Unit Fault) (value : Unit) (was mid now : Parts)
     only_memory (Full n) is not = absurd (logs.full n is)
     only_memory (Damaged f at) is not = absurd (logs.damaged f at is)
 
+    log_after : OnlyThese IsLog t (tell after)
+    log_after = these_both IsLog t (tell before) (tell after) (subst (λ (x : Told). IsConsistent x) (sym is_u) lawful_u) (subst (λ (x : Told). OnlyThese IsLog t x) (sym is_u) log_only) logs.others
+
+    pairs_kept : (old new : Ledger) → mid.rest ≡ Crawl old → last.rest ≡ Crawl new → new.pairs ≡ old.pairs
+    pairs_kept old new mid_is last_is =
+        let between = crawl_in now.rest now_begun in
+        logs.pairs between.0 new between.1 last_is ∙ tells.pairs old between.0 mid_is between.1
+
     pub sends_whole : SendsPairs result was last s (tell after)
     sends_whole = record {
       done = on_ok result _ (λ v is files here state holds.
@@ -208,13 +235,17 @@ module _ (offered told : Result Unit Fault) (value : Unit) (was mid now : Parts)
           let way : State → Type 0 = IsOnTheWay was.urls.settings state in
           let end : way (sent_state now.urls.settings x) = inr (has.0, has.1, ap (λ (p : Settings). sent_state p x) same_settings) in
           fails_then way state x now s (tell before) (tell after) has.2
-          (fails_one way x (sent_state now.urls.settings x) (tell before) (tell after) lawful_after (sent_front now.urls.settings x) (logs.stops x has.2.holds has.3) (inl (has.0, has.1.may, refl)) end);
+          (fails_one way x (sent_state now.urls.settings x) (tell before) (tell after) lawful_after (sent_front now.urls.settings x) (logs.stops x has.2.holds has.3) (inl (has.0, has.1.may, refl)) end
+          (inr (now.urls.settings, held_legal (tell before).images now.urls x now_law has.2.holds.urls), inr (now.urls.settings, logs.legal x has.2.holds has.3)));
       stops = λ files here state holds.
           let has = held files here state holds in
           joins s (tell before) (tell after) (HasSent was.urls.settings state)
           (subst (λ (x : Told). Leaves s x (HasSent was.urls.settings state)) (sym is_u) (stops_first files here state holds))
           (widens (tell before) (tell after) _ _ (logs.stops (with_pairs has.0 state) has.2.holds has.3) (λ image one. on_the_way has.0 state image has.1 one));
       full = λ n full. absurd (logs.full n full);
+      room = λ b ledger full. absurd (logs.full (64 + b) full);
+      records = λ files here state holds. records_then (IsErrOf offered Failed) (IsErrOf result Failed) was mid last s t (tell after) (no_failure offered value was_ok) lawful lawful_after was_open
+          mid_open (crawl_in mid.rest mid_begun) log_after.stops pairs_kept (offers.records files here state holds);
       damaged = λ f at damaged. absurd (logs.damaged f at damaged);
       spoilt = λ f at damaged. absurd (logs.damaged f at damaged);
       others = these_both (IsSentFile was.urls.settings.buckets) s (tell before) (tell after) (subst (λ (x : Told). IsConsistent x) (sym is_u) lawful_u)

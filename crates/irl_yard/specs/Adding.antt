@@ -17,6 +17,7 @@ use Rattle.irl_ledger.specs.declared.ledger.Ledger.{Ledger}
 use Rattle.irl_yard.specs.declared.parts.Rest.{Rest}
 use Rattle.irl_yard.specs.declared.parts.Rest.TheVariants.{Plain, Crawl}
 use Rattle.irl_yard.specs.Holding.{HoldsState, HasOneOf}
+use Rattle.irl_yard.specs.Standing.{IsStateOf}
 
 -- the state with one event more, and the places that it gives
 abbrev pub with_event : Event → List Place → State → State
@@ -46,6 +47,9 @@ pub record AddsEvent {S : Type 0} (told : S → Told) (result : Result Unit Faul
   -- a stop at any moment leaves files that stand for the state, with the event or without
   pub stops : (state : State) → HoldsState (told before).images was state
       → Leaves (told before) (told after) (HasOneOf state (with_event event [] state))
+  -- the state with the event keeps the laws of one
+  pub legal : (state : State) → HoldsState (told before).images was state
+      → IsStateOf was.urls.settings (with_event event [] state)
   -- whatever the files stand for, only the log's changes, and no byte is read
   pub others : OnlyChanges (ChangesFile crawl_file (λ _ _. ⊤)) (IsErrOf result Failed) (told before) (told after)
   -- want of memory changes nothing, and else only a fault of the store is answered
@@ -82,6 +86,9 @@ pub record AddsNotes {S : Type 0} (told : S → Told) (result : Result Unit Faul
   -- a stop at any moment leaves files that stand for the state, with all of them or without any
   pub stops : (state : State) → HoldsState (told before).images was state
       → Leaves (told before) (told after) (HasOneOf state (with_notes notes state))
+  -- the state with them keeps the laws of one
+  pub legal : (state : State) → HoldsState (told before).images was state
+      → IsStateOf was.urls.settings (with_notes notes state)
   -- whatever the files stand for, only the log's changes, and no byte is read
   pub others : OnlyChanges (ChangesFile crawl_file (λ _ _. ⊤)) (IsErrOf result Failed) (told before) (told after)
   -- want of memory changes nothing, and else only a fault of the store is answered

@@ -9,7 +9,7 @@ use Rattle.irl_disk.specs.Images.{Told, Leaves}
 use Rattle.irl_events.specs.State.{State, IsFrontState}
 use Rattle.irl_yard.specs.declared.parts.Parts.{Parts}
 use Rattle.irl_yard.specs.Holding.{HoldsState}
-use Rattle.irl_yard.specs.Standing.{HasState}
+use Rattle.irl_yard.specs.Standing.{HasState, IsLegal}
 
 -- a joint image stands for a state that lies between two
 abbrev pub HasOneBetween : State → State → Files → Type 0
@@ -30,10 +30,13 @@ pub record FailsAt (may : State → Type 0) (x : State) (before after : Told) : 
   pub state : State
   pub most : State
   pub may_kept : may kept
+  pub may_state : may state
   pub may_most : may most
   pub told : ForSome after.files (HasState state)
   pub first : IsFrontState x kept
   pub fronts : IsFrontState kept state × IsFrontState state most
+  -- the first and the last of them keep the laws of a state
+  pub legal : IsLegal kept × IsLegal most
   -- a stop at any moment left a state between the first and the greatest, and one from now on no less than what was
   -- acknowledged
   pub stops : Leaves before after (HasOneBetween x most)
@@ -44,8 +47,8 @@ abbrev pub IsEither : State → State → State → Type 0
 IsEither x y z = (z ≡ x) ⊎ (z ≡ y)
 
 -- A call that makes one state of another, by its answer: refused, and not by the store, it leaves that.
-pub record LeadsOrStays {A : Type 0} (result : Result A Fault) (x y : State) (now : Parts) (before after : Told) : Type 0
-  where
-    pub done : OnOk result (LeadsTo x y now before after)
-    pub kept : OnErr result ((IsErrOf result Failed → ⊥) → LeadsTo x x now before after)
-    pub failed : IsErrOf result Failed → FailsAt (IsEither x y) x before after
+pub record LeadsOrStays {A : Type 0} (result : Result A Fault) (x y : State) (now : Parts)
+    (before after : Told) : Type 0 where
+  pub done : OnOk result (LeadsTo x y now before after)
+  pub kept : OnErr result ((IsErrOf result Failed → ⊥) → LeadsTo x x now before after)
+  pub failed : IsErrOf result Failed → FailsAt (IsEither x y) x before after

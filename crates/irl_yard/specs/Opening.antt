@@ -85,8 +85,8 @@ abbrev pub IsDamageAt : Asked → Files → ℕ → ℕ → Type 0
 IsDamageAt asked files f at = IsStoreDamagedAt asked files f at ⊎ HasStrangeEvents asked files f
 
 -- ---- what is opened
--- Whatever the store tells, a crawl is open of the events that its log took: with some places for its passes none of them
--- breaks a rule, the numbers of each are those of the bays, and together they bring it where it stands.
+-- Whatever the store tells, a crawl is open of the events that its log took: with some places for its passes none of
+-- them breaks a rule, the numbers of each are those of the bays, and together they bring it where it stands.
 pub record IsOfItsLog (told : Option Files) (urls : Drum) (ledger : Ledger) : Type 0 where
   pub history : LogHistory
   -- all events of the file, where files were told as these that have some

@@ -34,7 +34,7 @@ use Rattle.irl_yard.specs.declared.parts.Rest.{Rest}
 use Rattle.irl_yard.specs.declared.parts.Rest.TheVariants.{Plain, Crawl}
 use Rattle.irl_yard.specs.Adding.{with_event}
 use Rattle.irl_yard.specs.Holding.{HoldsState, HasOneOf}
-use Rattle.irl_yard.specs.Standing.{HasState}
+use Rattle.irl_yard.specs.Standing.{HasState, IsStateOf}
 
 -- ---- the state
 -- how far the crawl of a state has come, where the store has these settings
@@ -90,6 +90,9 @@ pub record AddsPass {S : Type 0} (told : S → Told) (result : Result Unit Fault
   -- a stop at any moment leaves files that stand for the state, with the pass or without
   pub stops : (state : State) → HoldsState (told before).images was state → AreFresh was.rest fresh state.urls
       → Leaves (told before) (told after) (HasOneOf state (with_pass was.urls.settings state))
+  -- the state after the pass keeps the laws of one
+  pub legal : (state : State) → HoldsState (told before).images was state → AreFresh was.rest fresh state.urls
+      → IsStateOf was.urls.settings (with_pass was.urls.settings state)
   -- whatever the files stand for, only the log's changes, and no byte is read
   pub others : OnlyChanges (ChangesFile crawl_file (λ _ _. ⊤)) (IsErrOf result Failed) (told before) (told after)
   -- want of memory changes nothing, and else only a fault of the store is answered
@@ -118,6 +121,10 @@ pub record PassesState {S : Type 0} (told : S → Told) (result : Result ℕ Fau
   -- a stop at any moment leaves files that stand for the state, with the pass or without
   pub stops : (state : State) → HoldsState (told before).images was state
       → Leaves (told before) (told after) (HasOneOf state (with_pass was.urls.settings state))
+  -- the state after the pass keeps the laws of one, or is never left
+  pub legal : ForSome (told before).files (λ _. (state : State) → HoldsState (told before).images was state
+      → IsStateOf was.urls.settings (with_pass was.urls.settings state)
+      ⊎ Leaves (told before) (told after) (HasState state))
   -- whatever the files stand for, only the log's changes, and only judged URLs are read
   pub others : ReadsAndChanges (IsJudgedFile was.urls) (ChangesFile crawl_file (λ _ _. ⊤)) (IsErrOf result Failed)
       (told before) (told after)

@@ -1,5 +1,5 @@
 -- Sending the pairs of the links that judged URLs show: what it asks, and what it makes of the state.
-use Rattle.std.specs.Prelude.{◌≡◌, ◌⊎◌, ℕ, ◌+◌, ◌<◌, [], length, nat_eq, if◌then◌else◌, unwrap_or, true, Some, Result, Ok, Err, OnOk, OnErr, IsErrOf}
+use Rattle.std.specs.Prelude.{◌≡◌, ◌⊎◌, ℕ, ◌+◌, ◌<◌, List, [], length, nat_eq, if◌then◌else◌, unwrap_or, true, Some, Result, Ok, Err, OnOk, OnErr, IsErrOf}
 use Rattle.std.specs.Option.{ForSome}
 use Rattle.irl_base.specs.Faults.{HasCause}
 use Rattle.irl_base.specs.declared.fault.Fault.{Fault}
@@ -19,7 +19,9 @@ use Rattle.irl_bay.specs.Spoilt.{IsSpoiltAt}
 use Rattle.irl_head.specs.StoreFiles.{crawl_file, pairs_base}
 use Rattle.irl_ledger.specs.declared.ledger.Ledger.{Ledger}
 use Rattle.irl_ledger.specs.Reading.{IsStrangeTextAt}
+use Rattle.irl_bay.specs.Drum.{durable_at}
 use Rattle.irl_schedule.specs.Feeding.{list_at}
+use Rattle.irl_schedule.specs.Schedule.{AddsUneven, HaveRecords, LeavesUneven, one_more}
 use Rattle.irl_ledger.specs.Crawling.{domain_of}
 use Rattle.irl_ledger.specs.Sending.{IsAllSent, MayBeSent, new_links}
 use Rattle.irl_yard.specs.declared.parts.Parts.{Parts}
@@ -28,7 +30,7 @@ use Rattle.irl_yard.specs.declared.parts.Rest.TheVariants.{Plain, Crawl}
 use Rattle.irl_yard.specs.Adding.{with_event}
 use Rattle.irl_yard.specs.Leading.{FailsAt, LeadsTo}
 use Rattle.irl_yard.specs.Holding.{HasOneOf, HoldsState}
-use Rattle.irl_yard.specs.Standing.{HasState}
+use Rattle.irl_yard.specs.Standing.{HasState, IsStateOf}
 
 -- a crawl that has begun
 abbrev pub HasBegun : Rest → Type 0
@@ -127,12 +129,27 @@ IsSpoiltFor was now before after f at =
     ForSome before.files (λ files. IsJudgedSpoiltAt was.urls files f at ⊎ IsStrangeTextAt before.images was.urls f at)
     ⊎ IsSpoiltPair now after f at
 
+-- the bucket of pairs, counted behind those of the URLs, takes no whole array more
+abbrev pub LacksRoom : Result Unit Fault → Parts → Type 0
+LacksRoom result now = (b : ℕ) (ledger : Ledger) → IsErrOf result (Full (64 + b)) → now.rest ≡ Crawl ledger
+    → ledger.pairs.settings.cap < durable_at ledger.pairs b + ledger.pairs.settings.array
+
+-- Where the live journals of the pairs had these records, each has at most one uneven record more then, unless the
+-- store failed, and so it had at any moment.
+pub record AddsPairRecords (failed : Type 0) (was now : Parts) (before after : Told) : Type 0 where
+  pub records : (failed → ⊥) → (old new : Ledger) → was.rest ≡ Crawl old → now.rest ≡ Crawl new
+      → (first : ℕ → List (List ℕ)) → HaveRecords before.images old.pairs first → (later : ℕ → List (List ℕ))
+      × HaveRecords after.images new.pairs later
+      × AddsUneven one_more old.pairs.settings.buckets old.pairs.settings.array first later
+  pub stops : (old : Ledger) → was.rest ≡ Crawl old → (first : ℕ → List (List ℕ))
+      → HaveRecords before.images old.pairs first → Leaves before after (LeavesUneven one_more old.pairs first)
+
 -- Offering the bay of pairs the new links, by the answer.
 pub record OffersState (result : Result Unit Fault) (was now : Parts) (before after : Told) : Type 0 where
   -- it leads to the state with a longer book of pairs,
   pub holds : (IsErrOf result Failed → ⊥) → ForSome before.files (λ _. (state : State) → HoldsState before.images was
-      state → (book : Book) × MayHaveSent was.urls.settings state book × LeadsTo state (with_pairs book state) now before
-      after)
+      state → (book : Book) × MayHaveSent was.urls.settings state book
+      × LeadsTo state (with_pairs book state) now before after)
   -- which has all of them where it isn't refused
   pub all : OnOk result (ForSome before.files (λ _. (state : State) → HoldsState before.images was state → (book : Book)
       × HasSentAll was.urls.settings state book × LeadsTo state (with_pairs book state) now before after
@@ -147,6 +164,10 @@ pub record OffersState (result : Result Unit Fault) (was now : Parts) (before af
   pub full : (n : ℕ) → IsErrOf result (Full n) → ForSome before.files (λ _. (state : State)
       → HoldsState before.images was state → (b : ℕ) × (n ≡ 64 + b) × (b < was.urls.settings.buckets)
       × (was.urls.settings.cap < links_in was.urls.settings state b))
+  pub room : LacksRoom result now
+  -- its journals are of whole arrays, but for one record a bucket
+  pub records : ForSome before.files (λ _. (state : State) → HoldsState before.images was state
+      → AddsPairRecords (IsErrOf result Failed) was now before after)
   -- damage is never named where a state is held
   pub damaged : (f at : ℕ) → IsErrOf result (Damaged f at) → ForSome before.files (λ _. (state : State)
       → HoldsState before.images was state → ⊥)
@@ -176,6 +197,7 @@ pub record TellsState (result : Result Unit Fault) (was now : Parts) (before aft
   pub told : (files : Files) → before.files ≡ Some files → after.files ≡ Some files
   -- and what is kept in memory stays, but for the degrees
   pub tables : (old new : Ledger) → was.rest ≡ Crawl old → now.rest ≡ Crawl new → KeepsCrawl old new
+  pub pairs : (old new : Ledger) → was.rest ≡ Crawl old → now.rest ≡ Crawl new → new.pairs ≡ old.pairs
 
 -- Adding the event that the pairs are sent, by the answer.
 pub record LogsPairs {S : Type 0} (told : S → Told) (result : Result Unit Fault) (was now : Parts)
@@ -184,6 +206,9 @@ pub record LogsPairs {S : Type 0} (told : S → Told) (result : Result Unit Faul
       → HoldsState (told after).images now (sent_state was.urls.settings state))
   pub stops : (state : State) → HoldsState (told before).images was state → ArePairsSent state
       → Leaves (told before) (told after) (HasOneOf state (sent_state was.urls.settings state))
+  -- the state with the event keeps the laws of one
+  pub legal : (state : State) → HoldsState (told before).images was state → ArePairsSent state
+      → IsStateOf was.urls.settings (sent_state was.urls.settings state)
   -- want of memory changes nothing, and else only a fault of the store is answered
   pub memory : IsErrOf result Memory → (after ≡ before) × (now ≡ was)
   pub full : (n : ℕ) → IsErrOf result (Full n) → ⊥
@@ -193,6 +218,7 @@ pub record LogsPairs {S : Type 0} (told : S → Told) (result : Result Unit Faul
   pub urls : now.urls ≡ was.urls
   -- the tables are told of the event alone, and after Ok they know of all cuts that their pairs are sent
   pub tables : (old new : Ledger) → was.rest ≡ Crawl old → now.rest ≡ Crawl new → KeepsCrawl old new
+  pub pairs : (old new : Ledger) → was.rest ≡ Crawl old → now.rest ≡ Crawl new → new.pairs ≡ old.pairs
   pub sent : OnOk result (HasSentCuts now)
 
 -- ---- the whole
@@ -227,6 +253,10 @@ pub record SendsPairs (result : Result Unit Fault) (was now : Parts) (before aft
   pub full : (n : ℕ) → IsErrOf result (Full n) → ForSome before.files (λ _. (state : State)
       → HoldsState before.images was state → (b : ℕ) × (n ≡ 64 + b) × (b < was.urls.settings.buckets)
       × (was.urls.settings.cap < links_in was.urls.settings state b))
+  pub room : LacksRoom result now
+  -- its journals are of whole arrays, but for one record a bucket
+  pub records : ForSome before.files (λ _. (state : State) → HoldsState before.images was state
+      → AddsPairRecords (IsErrOf result Failed) was now before after)
   -- damage is never named where a state is held
   pub damaged : (f at : ℕ) → IsErrOf result (Damaged f at) → ForSome before.files (λ _. (state : State)
       → HoldsState before.images was state → ⊥)

@@ -69,3 +69,7 @@ pub record IsStateOf (settings : Settings) (state : State) : Type 0 where
   pub valid : AreValid settings
   pub book_is : IsBookOf settings state.urls
   pub rest : IsRest settings.kind settings state.urls state.pairs state.events
+
+-- a state is that of a store that wasn't made yet, or keeps what one does that files stand for
+abbrev pub IsLegal : State → Type 0
+IsLegal state = (state ≡ blank_state) ⊎ ((settings : Settings) × IsStateOf settings state)

@@ -392,7 +392,8 @@ returns-clause-opened g c =
       long = λ files told. holds_long new urls (blank_book settings.buckets settings.rule) files (law c.write_head.new.store) held told;
       settings = λ files is. inr (blank files is, as_asked);
       agrees = subst (Agrees asked) (sym as_asked) (new_agrees asked);
-      legal = λ ledger is. made_log old.files blank rest.images settings urls c.in_ok-rest.rest (blank_book settings.buckets settings.rule) pairs same (besides.holds (blank_book settings.buckets settings.rule)) ledger is;
+      legal = λ ledger is. made_log old.files blank rest.images settings urls c.in_ok-rest.rest (blank_book settings.buckets settings.rule) pairs same
+          (besides.holds (blank_book settings.buckets settings.rule)) ledger is;
       ours = λ files is at. settings_ours asked files urls.settings at (inr (blank files is, as_asked));
       undamaged = λ files is f at. blank_undamaged asked files f at (blank files is);
     }

@@ -7,7 +7,8 @@ pub returns-clause-leads : goal.returns-clause-leads
 returns-clause-leads g c = λ waits later state early uneven news law holds still same fed follows.
     let before = c.args.before.now in
     let after = c.args.after.now in
-    books_lead (moment_at before waits) (moment_at after later) before.parts after.parts state early uneven news refl refl before.rest_is law (g.met.S.Store.is_consistent after.store) holds still same fed follows
+    books_lead (moment_at before waits) (moment_at after later) before.parts after.parts state early uneven news refl refl before.rest_is law (g.met.S.Store.is_consistent after.store) holds still same
+    fed follows
 
 pub returns-clause-fails : goal.returns-clause-fails
 returns-clause-fails g c = λ waits later state early uneven news law holds still stranded follows.

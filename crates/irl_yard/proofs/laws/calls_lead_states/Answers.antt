@@ -3,7 +3,7 @@ use Rattle.irl_yard.proofs.laws.calls_lead_states.Goals as goal
 
 pub returns-clause-pass : goal.returns-clause-pass
 returns-clause-pass g c = λ result was now state files law told holds passes.
-    pass_leads g.S.Store.told result was now state c.args.before.now c.args.after.now files (g.met.S.Store.is_consistent c.args.after.now) told holds passes
+    pass_leads g.S.Store.told result was now state c.args.before.now c.args.after.now files law (g.met.S.Store.is_consistent c.args.after.now) told holds passes
 
 pub returns-clause-event : goal.returns-clause-event
 returns-clause-event g c = λ result event was now state law holds adds.

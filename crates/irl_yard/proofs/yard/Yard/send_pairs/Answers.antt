@@ -25,8 +25,9 @@ returns-in_err-tell_pairs-clause-sends g c =
     let out = err_from_is_err_and c.from_residual-in_err-tell_pairs.result c.from_residual-in_err-tell_pairs.ensures.1 in
     let is = out.1 ∙ ap (λ e. Err e) out.2 in
     subst (λ (r : Result Unit Fault). SendsPairs r was.parts next.parts (tells was.store) (tells next.store)) (c.in_err-tell_pairs.was ∙ sym is)
-    (told_alone c.offer_pairs.result c.tell_pairs.result _ was.parts mid.parts next.parts (tells was.store) (tells mid.store) (tells next.store) (g.met.S.Store.is_consistent mid.store) (g.met.S.Store.is_consistent next.store)
-    c.in_ok-offer_pairs.was c.offer_pairs.ensures.offers c.offer_pairs.ensures.begun
+    (told_alone c.offer_pairs.result c.tell_pairs.result _ was.parts mid.parts next.parts (tells was.store) (tells mid.store) (tells next.store) c.offer_pairs.ensures.goes_on.drum
+    c.tell_pairs.ensures.goes_on.drum (g.met.S.Store.is_consistent mid.store) (g.met.S.Store.is_consistent next.store)
+    c.in_ok-offer_pairs.was c.offer_pairs.ensures.offers c.offer_pairs.ensures.begun was.rest_is mid.rest_is
     c.tell_pairs.ensures.tells c.tell_pairs.ensures.begun _ c.in_err-tell_pairs.was)
 
 pub returns-clause-sends : goal.returns-clause-sends
@@ -36,8 +37,9 @@ returns-clause-sends g c =
     let mid = c.offer_pairs.new.self in
     let next = c.tell_pairs.new.self in
     let last = c.log_pairs.new.self in
-    sends_whole c.offer_pairs.result c.tell_pairs.result _ was.parts mid.parts next.parts (tells was.store) (tells mid.store) (tells next.store) (g.met.S.Store.is_consistent mid.store) (g.met.S.Store.is_consistent next.store)
-    c.in_ok-offer_pairs.was c.offer_pairs.ensures.offers c.offer_pairs.ensures.begun
+    sends_whole c.offer_pairs.result c.tell_pairs.result _ was.parts mid.parts next.parts (tells was.store) (tells mid.store) (tells next.store) c.offer_pairs.ensures.goes_on.drum
+    c.tell_pairs.ensures.goes_on.drum (g.met.S.Store.is_consistent mid.store) (g.met.S.Store.is_consistent next.store)
+    c.in_ok-offer_pairs.was c.offer_pairs.ensures.offers c.offer_pairs.ensures.begun was.rest_is mid.rest_is
     c.tell_pairs.ensures.tells c.tell_pairs.ensures.begun tells c.log_pairs.result last.parts next.store last.store (g.met.S.Store.is_consistent last.store) refl _ c.in_ok-tell_pairs.was
     c.log_pairs.ensures.logs c.log_pairs.ensures.begun
 
