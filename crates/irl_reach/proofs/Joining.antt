@@ -28,7 +28,7 @@ use Rattle.irl_robots.specs.Leave.{leave}
 use Rattle.irl_reach.specs.Along.{notes_in, notes_of, outcomes_of, settled_in}
 use Rattle.irl_reach.specs.Crawls.{AreVisits, ComesOf, CrawlsOn, IsCrawlStore, IsKnown, IsSettled, IsStore, IsVisit, LeavesNone, Visit, added_to, found_by, numbers_in, with_seeds, without_seeds}
 use Rattle.irl_reach.proofs.Growing.{Grows, drop_front, grows, made_fronts}
-use Rattle.irl_reach.proofs.Members.{all_from, all_member, among_member, flat_append, flat_left, flat_member, flat_right, first_member, map_cases, map_member, no_member}
+use Rattle.irl_reach.proofs.Members.{all_from, all_member, among_member, flat_append, flat_left, flat_member, flat_right, first_member, map_cases, map_member, member_cases, no_member}
 use Rattle.irl_reach.proofs.Settled.{settled_number}
 use Rattle.irl_reach.proofs.Staying.{below_same_of, settle_below_of}
 
@@ -170,6 +170,15 @@ module _ (suffixes : List ℕ) (gives : Answers) (agent : List ℕ) where
       let f = found_by suffixes end.urls in
       let assoc : made ++ (f x ++ flat_map f xs) ≡ (made ++ f x) ++ flat_map f xs = sym (append_assoc made (f x) (flat_map f xs)) in
       (h.0, visits_append end (made ++ f x) xs ys h.1 (subst (λ l. AreVisits suffixes gives agent end l ys) assoc k))
+
+-- each is to a unique URL
+pub visits_unique : (suffixes : List ℕ) (gives : Answers) (agent : List ℕ) (x : State) (made : List Tuple) (visits : List Visit) → AreVisits suffixes gives agent x made visits
+    → (v : Visit) → Contains visits v → Contains (numbers_in x.urls) v.number
+visits_unique suffixes gives agent x made [] are v c = absurd (no_member v c)
+visits_unique suffixes gives agent x made (w ∷ visits) are v c = elim (member_cases w visits v c) [
+  | inl same ↦ subst (λ (u : Visit). Contains (numbers_in x.urls) u.number) same are.0.unique
+  | inr there ↦ visits_unique suffixes gives agent x (made ++ found_by suffixes x.urls w) visits are.1 v there
+]
 
 flat_both : {X Y : Type 0} (f : X → List Y) (xs ys : List X) → flat_map f (xs ++ ys) ≡ flat_map f xs ++ flat_map f ys
 flat_both f [] ys = refl
@@ -388,6 +397,10 @@ module _ (input : Taped) (gives : Answers) (agent : List ℕ) (few many : List (
   rest_of : (x : State) (hs more : List Happened) → x.events ≡ hs ++ more → drop (length hs) x.events ≡ more
   rest_of x hs more is = ap (drop (length hs)) is ∙ drop_front hs more
 
+  -- what came of a visit, by a state's URLs
+  abbrev came : State → Visit → ℕ × Outcome
+  came x v = (v.number, outcome_of (url_text x.urls v.number) v.answer)
+
   pub seeds_leave : LeavesNone (with_seeds few input) first start middle → LeavesNone (with_seeds many input) second middle end
       → LeavesNone (with_seeds (few ++ many) input) (first ++ second) start end
   seeds_leave g h = record {
@@ -395,24 +408,23 @@ module _ (input : Taped) (gives : Answers) (agent : List ℕ) (few many : List (
         (IsPermutation-trans parts ((of_seeds few ++ found_first) ++ (of_seeds many ++ found second)) (of_seeds (few ++ many) ++ found (first ++ second))
         (IsPermutation-append (added_to start.urls.lists middle.urls.lists) (of_seeds few ++ found_first)
         (added_to middle.urls.lists end.urls.lists) (of_seeds many ++ found second) g.offers h.offers) order);
-    settled = all_from (λ (v : Visit). Contains (map (λ d. d.0) (settled_in (drop (length start.events) end.events))) v.number) (first ++ second) (λ v c.
-        subst (λ hs. Contains (map (λ d. d.0) (settled_in hs)) v.number) (sym (rest_of end start.events (a.more ++ b.more) events)) (settled_both v c));
+    settled = all_from (λ (v : Visit). Contains (settled_in (drop (length start.events) end.events)) (came end v)) (first ++ second) (λ v c.
+        subst (λ hs. Contains (settled_in hs) (came end v)) (sym (rest_of end start.events (a.more ++ b.more) events)) (settled_both v c));
   }
     where
-      settled_both : (v : Visit) → Contains (first ++ second) v → Contains (map (λ d. d.0) (settled_in (a.more ++ b.more))) v.number
+      settled_both : (v : Visit) → Contains (first ++ second) v → Contains (settled_in (a.more ++ b.more)) (came end v)
       settled_both v c = elim (Contains-append_cases first second v c) [
         | inl old ↦
-            let there = all_member (λ (w : Visit). Contains (map (λ d. d.0) (settled_in (drop (length start.events) middle.events))) w.number) first v g.settled old in
-            let from = map_cases (λ (d : ℕ × Outcome). d.0) (settled_in a.more) v.number
-            (subst (λ hs. Contains (map (λ d. d.0) (settled_in hs)) v.number) (rest_of middle start.events a.more a.events) there) in
-            subst (λ n. Contains (map (λ d. d.0) (settled_in (a.more ++ b.more))) n) from.2
-            (map_member (λ (d : ℕ × Outcome). d.0) (settled_in (a.more ++ b.more)) from.0 (flat_left (λ (g : Happened). outcomes_of g.0) a.more b.more from.0 from.1))
+            let there = all_member (λ (w : Visit). Contains (settled_in (drop (length start.events) middle.events)) (came middle w)) first v g.settled old in
+            let there_more = subst (λ hs. Contains (settled_in hs) (came middle v)) (rest_of middle start.events a.more a.events) there in
+            let text : url_text end.urls v.number ≡ url_text middle.urls v.number =
+            later.texts v.number (visits_unique input.suffixes gives agent middle (offers_in start.urls ++ of_seeds few) first a.visited v old) in
+            subst (λ t. Contains (settled_in (a.more ++ b.more)) (v.number, outcome_of t v.answer)) (sym text)
+            (flat_left (λ (g : Happened). outcomes_of g.0) a.more b.more (came middle v) there_more)
         | inr new ↦
-            let there = all_member (λ (w : Visit). Contains (map (λ d. d.0) (settled_in (drop (length middle.events) end.events))) w.number) second v h.settled new in
-            let from = map_cases (λ (d : ℕ × Outcome). d.0) (settled_in b.more) v.number
-            (subst (λ hs. Contains (map (λ d. d.0) (settled_in hs)) v.number) (rest_of end middle.events b.more b.events) there) in
-            subst (λ n. Contains (map (λ d. d.0) (settled_in (a.more ++ b.more))) n) from.2
-            (map_member (λ (d : ℕ × Outcome). d.0) (settled_in (a.more ++ b.more)) from.0 (flat_right (λ (g : Happened). outcomes_of g.0) a.more b.more from.0 from.1))
+            let there = all_member (λ (w : Visit). Contains (settled_in (drop (length middle.events) end.events)) (came end w)) second v h.settled new in
+            flat_right (λ (g : Happened). outcomes_of g.0) a.more b.more (came end v)
+            (subst (λ hs. Contains (settled_in hs) (came end v)) (rest_of end middle.events b.more b.events) there)
       ]
 
 -- ---- where the first crawl offers all seeds, and where it offers none

@@ -8,6 +8,7 @@ use Rattle.std.proofs.lemmas.List.Elements.{All-append, Contains-append_left, Co
 use Rattle.std.proofs.lemmas.List.Kept.{AllPairs-cons}
 use Rattle.std.proofs.lemmas.List.Sorted.{IsPermutation-append_comm, IsPermutation-append_right}
 use Rattle.irl_answer.specs.Notes.{requests_of}
+use Rattle.irl_answer.specs.Outcomes.{outcome_of}
 use Rattle.irl_base.proofs.Among.{among_none}
 use Rattle.irl_base.specs.Among.{IsAmong}
 use Rattle.irl_core.specs.States.{url_text, offers_of as offers_in}
@@ -81,11 +82,11 @@ pub leaves_settled : (input : Taped) (visits : List Visit) (start end : State) �
 leaves_settled input visits start end is =
     let rest = drop (length start.events) end.events in
     all_from (λ (v : Visit). Contains (map (λ d. d.0) (settled_in end.events)) v.number) visits (λ v c.
-    let there = all_member (λ (w : Visit). Contains (map (λ d. d.0) (settled_in (drop (length start.events) end.events))) w.number) visits v is.settled c in
-    let from = map_cases (λ (d : ℕ × Outcome). d.0) (settled_in (drop (length start.events) end.events)) v.number there in
-    let at = flat_cases (λ (g : Happened). outcomes_of g.0) (drop (length start.events) end.events) from.0 from.1 in
-    let all = flat_member (λ (g : Happened). outcomes_of g.0) end.events at.0 from.0 (drop_member (length start.events) end.events at.0 at.1) at.2 in
-    subst (λ n. Contains (map (λ d. d.0) (settled_in end.events)) n) from.2 (map_member (λ (d : ℕ × Outcome). d.0) (settled_in end.events) from.0 all))
+    let came : ℕ × Outcome = (v.number, outcome_of (url_text end.urls v.number) v.answer) in
+    let there = all_member (λ (w : Visit). Contains (settled_in rest) (w.number, outcome_of (url_text end.urls w.number) w.answer)) visits v is.settled c in
+    let at = flat_cases (λ (g : Happened). outcomes_of g.0) rest came there in
+    map_member (λ (d : ℕ × Outcome). d.0) (settled_in end.events) came
+    (flat_member (λ (g : Happened). outcomes_of g.0) end.events at.0 came (drop_member (length start.events) end.events at.0 at.1) at.2))
 
 -- ---- nothing is visited
 none_twice : AllPairs (λ x y. x ≢ y) (map (λ (visit : Visit). visit.number) [])

@@ -185,5 +185,5 @@ with_suffixes suffixes tape = record tape { suffixes = suffixes }
 pub record LeavesNone (input : Taped) (visits : List Visit) (start end : State) : Type 0 where
   pub offers : IsPermutation (added_to start.urls.lists end.urls.lists)
       (seed_offers input ++ flat_map (found_by input.suffixes end.urls) visits)
-  pub settled : AllByRecursion (λ (visit : Visit).
-      Contains (map (λ d. d.0) (settled_in (drop (length start.events) end.events))) visit.number) visits
+  pub settled : AllByRecursion (λ (visit : Visit). Contains (settled_in (drop (length start.events) end.events))
+      (visit.number, outcome_of (url_text end.urls visit.number) visit.answer)) visits
