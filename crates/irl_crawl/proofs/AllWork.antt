@@ -27,11 +27,12 @@ use Rattle.irl_fetch.proofs.Handling.{handled_wider, noted_wider}
 use Rattle.irl_fetch.proofs.Jobs.{part_wider}
 use Rattle.irl_fetch.proofs.Results.{refused_err, refused_fault, refused_if}
 use Rattle.irl_fetch.proofs.Telling.{enters_as, enters_none, enters_then}
-use Rattle.irl_crawl.specs.Workers.{AllGoOn, AreFor, AreReady, IsGivenBy, IsMomentBy, IsStateAmong, loaded, schedules}
+use Rattle.irl_crawl.specs.Workers.{AllGoOn, AreFor, AreReady, Given, IsGivenBy, IsMomentBy, IsStateAmong, RoseBetween, given_by, loaded, schedules}
 use Rattle.irl_crawl.specs.Working.{AreByWorker, FinishAll, HasBegunOne, HaveWorked, KeepDelays, KnowAsNoted, KnowByMoment, StopAll, WorkAll}
 use Rattle.irl_crawl.specs.declared.crew.Crew.{Crew}
 use Rattle.irl_crawl.proofs.Workers.{IsSetAt, among_more, among_one, delays_more, delays_stay, front_at, fronts_set, is_set, know_more, know_none, knows_more, knows_same, same_at}
 use Rattle.irl_crawl.proofs.Going.{all_go_none}
+use Rattle.irl_crawl.proofs.Rising.{rose_between_one, rose_between_same, rose_between_then, unanswered, unanswered_both}
 use Rattle.irl_crawl.proofs.Workers.{given_by_one, given_more, moment_more, one_goes_on}
 
 abbrev works_of : List Handled → List Work
@@ -49,23 +50,25 @@ items_then all own rest left h1 h2 one two =
     ∙ ap (λ (works : List Work). works ++ (left ++ rest)) (sym (map-append (λ (one : Handled). one.work) h1 h2)) in
     subst (IsPermutation all) same (IsPermutation-trans all (works_of h1 ++ (own ++ rest)) (works_of h1 ++ ((works_of h2 ++ left) ++ rest)) one within)
 
-have_then : (gives more : Answers) (agent suffixes : List ℕ) (h1 h2 : List Handled) (n1 n2 : List Noted) (left rest : List Work) (a b : Fetcher) (befores : List Schedule) (at : ℕ)
-    (s t : Schedule) → Widens gives more → Widens (given_since a b) more → slice_get befores at ≡ Some s → s.agent ≡ agent → HaveWorked gives agent suffixes h1 n1 (s.items ++ rest) befores
-    → HasWorked suffixes h2 n2 left a b s t → HaveWorked more agent suffixes (h1 ++ h2) (n1 ++ n2) (left ++ rest) befores
-have_then gives more agent suffixes h1 h2 n1 n2 left rest a b befores at s t wider own stands for one two = record {
+have_then : (given more : Given) (agent suffixes : List ℕ) (h1 h2 : List Handled) (n1 n2 : List Noted) (left rest : List Work) (a b : Fetcher) (befores : List Schedule) (at : ℕ)
+    (s t : Schedule) → Widens given.gives more.gives → Widens (given_since a b) more.gives → (given.may_miss (unanswered h1 n1) → more.may_miss (unanswered (h1 ++ h2) (n1 ++ n2)))
+    → slice_get befores at ≡ Some s → s.agent ≡ agent → HaveWorked given agent suffixes h1 n1 (s.items ++ rest) befores → HasWorked suffixes h2 n2 left a b s t
+    → HaveWorked more agent suffixes (h1 ++ h2) (n1 ++ n2) (left ++ rest) befores
+have_then given more agent suffixes h1 h2 n1 n2 left rest a b befores at s t wider own rose stands for one two = record {
   items = items_then (loaded befores) s.items rest left h1 h2 one.items two.items;
-  each = All-append (IsHandled more (IsStateAmong agent befores (n1 ++ n2)) suffixes) h1 h2
-      (All-weaker (IsHandled gives (IsStateAmong agent befores n1) suffixes) (IsHandled more (IsStateAmong agent befores (n1 ++ n2)) suffixes)
-      (handled_wider gives more (IsStateAmong agent befores n1) (IsStateAmong agent befores (n1 ++ n2)) wider (among_more agent befores n1 n2) suffixes) h1 one.each)
-      (All-weaker (IsHandled (given_since a b) (IsStateOf s n2) suffixes) (IsHandled more (IsStateAmong agent befores (n1 ++ n2)) suffixes)
-      (handled_wider (given_since a b) more (IsStateOf s n2) (IsStateAmong agent befores (n1 ++ n2)) own (among_one agent befores n1 n2 at s stands for) suffixes) h2 two.each);
-  notes = All-append (IsNoted more) n1 n2
-      (All-weaker (IsNoted gives) (IsNoted more) (noted_wider gives more wider) n1 one.notes)
-      (All-weaker (IsNoted (given_since a b)) (IsNoted more) (noted_wider (given_since a b) more own) n2 two.notes);
+  each = All-append (IsHandled more.gives (IsStateAmong agent befores (n1 ++ n2)) suffixes) h1 h2
+      (All-weaker (IsHandled given.gives (IsStateAmong agent befores n1) suffixes) (IsHandled more.gives (IsStateAmong agent befores (n1 ++ n2)) suffixes)
+      (handled_wider given.gives more.gives (IsStateAmong agent befores n1) (IsStateAmong agent befores (n1 ++ n2)) wider (among_more agent befores n1 n2) suffixes) h1 one.each)
+      (All-weaker (IsHandled (given_since a b) (IsStateOf s n2) suffixes) (IsHandled more.gives (IsStateAmong agent befores (n1 ++ n2)) suffixes)
+      (handled_wider (given_since a b) more.gives (IsStateOf s n2) (IsStateAmong agent befores (n1 ++ n2)) own (among_one agent befores n1 n2 at s stands for) suffixes) h2 two.each);
+  notes = All-append (IsNoted more.gives) n1 n2
+      (All-weaker (IsNoted given.gives) (IsNoted more.gives) (noted_wider given.gives more.gives wider) n1 one.notes)
+      (All-weaker (IsNoted (given_since a b)) (IsNoted more.gives) (noted_wider (given_since a b) more.gives own) n2 two.notes);
+  missing_are = rose one.missing_are;
 }
 
-have_none : (gives : Answers) (agent suffixes : List ℕ) (befores : List Schedule) → HaveWorked gives agent suffixes [] [] (loaded befores) befores
-have_none gives agent suffixes befores = record { items = IsPermutation-refl (loaded befores); each = All-nil _; notes = All-nil _ }
+pub have_none : (given : Given) (agent suffixes : List ℕ) (befores : List Schedule) → given.may_miss 0 → HaveWorked given agent suffixes [] [] (loaded befores) befores
+have_none given agent suffixes befores may = record { items = IsPermutation-refl (loaded befores); each = All-nil _; notes = All-nil _; missing_are = may }
 
 -- what is left for this worker, and for those behind it
 loaded_rest : (fronts : List Schedule) (at : ℕ) (s : Schedule) → slice_get fronts at ≡ Some s → loaded (drop at fronts) ≡ s.items ++ loaded (drop (at + 1) fronts)
@@ -109,7 +112,7 @@ pub record SoFar {F O : Type 0} (asked : F → ℕ) (gives : F → ℕ → Answe
   pub noted : List Noted
   pub done : log.done.items ≡ map done_of handled
   pub notes : log.notes.items ≡ map (λ one. one.note) noted
-  pub worked : HaveWorked (IsGivenBy asked gives olds nows) agent suffixes handled noted (loaded (drop worker befores)) befores
+  pub worked : HaveWorked (given_by asked gives faults olds nows) agent suffixes handled noted (loaded (drop worker befores)) befores
   pub entered : Enters (flat_map entered_of handled) o p
   pub known : KnowAsNoted agent noted befores fronts
   pub knows : KnowByMoment noted befores fronts
@@ -125,14 +128,15 @@ pub record SoFar {F O : Type 0} (asked : F → ℕ) (gives : F → ℕ → Answe
   pub fronts_same : (at : ℕ) → worker ≤ at → slice_get fronts at ≡ slice_get befores at
   pub fetchers_same : (at : ℕ) → worker ≤ at → slice_get nows at ≡ slice_get olds at
 
-pub far_first : {F O : Type 0} (asked : F → ℕ) (gives : F → ℕ → Answers) (faults last : F → ℕ) (aim : F → List ℕ) (log : WorkLog) (agent suffixes : List ℕ) (olds : List F) (befores : List Schedule) (o : Offering O)
+pub far_first : {F O : Type 0} (asked : F → ℕ) (gives : F → ℕ → Answers) (faults last : F → ℕ) (aim : F
+    → List ℕ) (log : WorkLog) (agent suffixes : List ℕ) (olds : List F) (befores : List Schedule) (o : Offering O)
     → log.done.items ≡ [] → log.notes.items ≡ [] → AreFor agent befores → SoFar asked gives faults last aim log agent suffixes 0 olds olds befores befores o o
 far_first asked gives faults last aim log agent suffixes olds befores o done notes for = record {
   handled = [];
   noted = [];
   done = done;
   notes = notes;
-  worked = have_none (IsGivenBy asked gives olds olds) agent suffixes befores;
+  worked = have_none (given_by asked gives faults olds olds) agent suffixes befores (rose_between_same faults olds);
   entered = enters_none o;
   known = know_none agent befores;
   knows = knows_same befores;
@@ -154,7 +158,8 @@ inside_too : (worker : ℕ) (firsts fronts : List Held) → length (schedules fr
 inside_too worker firsts fronts same low = omega (arith, same, low, length-map firsts schedule, length-map fronts schedule)
 
 -- this worker went on, and no other
-pub record RunsOne {F : Type 0} (asked : F → ℕ) (gives : F → ℕ → Answers) (faults last : F → ℕ) (aim : F → List ℕ) (worker : ℕ) (x y : F) (nows laters : List F) (s t : Schedule) (fronts afters : List Schedule)
+pub record RunsOne {F : Type 0} (asked : F → ℕ) (gives : F → ℕ → Answers) (faults last : F → ℕ) (aim : F
+    → List ℕ) (worker : ℕ) (x y : F) (nows laters : List F) (s t : Schedule) (fronts afters : List Schedule)
     : Type 0 where
   pub stood : slice_get nows worker ≡ Some x
   pub fetcher_set : IsSetAt worker y nows laters
@@ -219,22 +224,28 @@ stood_first : (befores fronts : List Schedule) (worker : ℕ) (s : Schedule) →
     → slice_get befores worker ≡ Some s
 stood_first befores fronts worker s before stands = sym (before worker (omega arith)) ∙ stands
 
-worked_more : {F O : Type 0} (asked : F → ℕ) (gives : F → ℕ → Answers) (faults last : F → ℕ) (aim : F → List ℕ) (log : WorkLog) (agent suffixes : List ℕ) (worker : ℕ) (x y : F) (olds nows laters : List F)
+worked_more : {F O : Type 0} (asked : F → ℕ) (gives : F → ℕ → Answers) (faults last : F → ℕ) (aim : F
+    → List ℕ) (log : WorkLog) (agent suffixes : List ℕ) (worker : ℕ) (x y : F) (olds nows laters : List F)
     (s t : Schedule) (befores fronts afters : List Schedule) (o p : Offering O) (far : SoFar asked gives faults last aim log agent suffixes worker olds nows befores fronts o p)
     → RunsOne asked gives faults last aim worker x y nows laters s t fronts afters → (handled : List Handled) (noted : List Noted) (left : List Work)
     → HasWorked suffixes handled noted left (fetcher asked gives faults last aim x) (fetcher asked gives faults last aim y) s t
-    → HaveWorked (IsGivenBy asked gives olds laters) agent suffixes (far.handled ++ handled) (far.noted ++ noted) (left ++ loaded (drop (worker + 1) befores)) befores
+    → HaveWorked (given_by asked gives faults olds laters) agent suffixes (far.handled ++ handled) (far.noted ++ noted) (left ++ loaded (drop (worker + 1) befores)) befores
 worked_more asked gives faults last aim log agent suffixes worker x y olds nows laters s t befores fronts afters o p far runs handled noted left worked =
     let first : slice_get befores worker ≡ Some s = stood_first befores fronts worker s far.fronts_same runs.stands in
-    have_then (IsGivenBy asked gives olds nows) (IsGivenBy asked gives olds laters) agent suffixes far.handled handled far.noted noted left (loaded (drop (worker + 1) befores))
+    have_then (given_by asked gives faults olds nows) (given_by asked gives faults olds laters) agent suffixes far.handled handled far.noted noted left (loaded (drop (worker + 1) befores))
     (fetcher asked gives faults last aim x) (fetcher asked gives faults last aim y) befores worker s t
     (given_more asked gives faults last aim olds nows laters worker x y runs.fetcher_set runs.stood runs.goes_on)
     (given_by_one asked gives faults last aim olds laters worker x y (sym (far.fetchers_same worker (omega arith)) ∙ runs.stood) runs.fetcher_set.here)
+    (λ rose.
+    subst (RoseBetween faults olds laters) (sym (unanswered_both far.handled handled far.noted noted))
+    (rose_between_then faults olds nows laters (unanswered far.handled far.noted) (unanswered handled noted) far.goes_on.count runs.fetcher_set.count rose
+    (rose_between_one faults nows laters worker x y (unanswered handled noted) runs.fetcher_set runs.stood worked.lost)))
     first (agent_at agent fronts worker s far.agents runs.stands)
-    (subst (λ (left : List Work). HaveWorked (IsGivenBy asked gives olds nows) agent suffixes far.handled far.noted left befores) (loaded_rest befores worker s first) far.worked)
+    (subst (λ (left : List Work). HaveWorked (given_by asked gives faults olds nows) agent suffixes far.handled far.noted left befores) (loaded_rest befores worker s first) far.worked)
     worked
 
-moments_more : {F O : Type 0} (asked : F → ℕ) (gives : F → ℕ → Answers) (faults last : F → ℕ) (aim : F → List ℕ) (log : WorkLog) (agent suffixes : List ℕ) (worker : ℕ) (x y : F) (olds nows laters : List F)
+moments_more : {F O : Type 0} (asked : F → ℕ) (gives : F → ℕ → Answers) (faults last : F → ℕ) (aim : F
+    → List ℕ) (log : WorkLog) (agent suffixes : List ℕ) (worker : ℕ) (x y : F) (olds nows laters : List F)
     (s t : Schedule) (befores fronts afters : List Schedule) (o p : Offering O) → SoFar asked gives faults last aim log agent suffixes worker olds nows befores fronts o p
     → RunsOne asked gives faults last aim worker x y nows laters s t fronts afters → (noted : List Noted) (own all : List Note) → own ≡ map (λ one. one.note) noted → all ≡ log.notes.items ++ own
     → All (λ one. (last x ≤ one.note.when) × (one.note.when ≤ last y)) noted → All (λ note. IsMomentBy last olds laters note.when) all
@@ -250,7 +261,8 @@ moments_more asked gives faults last aim log agent suffixes worker x y olds nows
     (All-weaker (λ (one : Noted). (last x ≤ one.note.when) × (one.note.when ≤ last y)) (λ (one : Noted). IsOne one.note)
     (λ one when. record { at = worker; old = x; new = y; was = was; is = runs.fetcher_set.here; from = when.0; till = when.1 }) noted moments))))
 
-pub far_next : {F O : Type 0} {asked : F → ℕ} {gives : F → ℕ → Answers} {faults last : F → ℕ} {aim : F → List ℕ} {log part whole : WorkLog} {agent suffixes : List ℕ} {worker : ℕ} {x y : F} {olds nows laters : List F}
+pub far_next : {F O : Type 0} {asked : F → ℕ} {gives : F → ℕ → Answers} {faults last : F → ℕ} {aim : F
+    → List ℕ} {log part whole : WorkLog} {agent suffixes : List ℕ} {worker : ℕ} {x y : F} {olds nows laters : List F}
     {s t : Schedule} {befores fronts afters : List Schedule} {o p q : Offering O} → SoFar asked gives faults last aim log agent suffixes worker olds nows befores fronts o p
     → RunsOne asked gives faults last aim worker x y nows laters s t fronts afters
     → FinishesWork part suffixes (fetcher asked gives faults last aim x) (fetcher asked gives faults last aim y) s t p q → q.last_fault ≡ p.last_fault
@@ -283,7 +295,8 @@ far_next {asked} {gives} {faults} {last} {aim} {log} {part} {whole} {agent} {suf
       fetchers_same = same_more olds nows laters worker y runs.fetcher_set far.fetchers_same;
     }
 
-pub fetchers_more : {F O : Type 0} {asked : F → ℕ} {gives : F → ℕ → Answers} {faults last : F → ℕ} {aim : F → List ℕ} {log : WorkLog} {agent suffixes : List ℕ} {worker : ℕ} {x y : F} {olds nows laters : List F}
+pub fetchers_more : {F O : Type 0} {asked : F → ℕ} {gives : F → ℕ → Answers} {faults last : F → ℕ} {aim : F
+    → List ℕ} {log : WorkLog} {agent suffixes : List ℕ} {worker : ℕ} {x y : F} {olds nows laters : List F}
     {s t : Schedule} {befores fronts afters : List Schedule} {o p : Offering O} → SoFar asked gives faults last aim log agent suffixes worker olds nows befores fronts o p
     → RunsOne asked gives faults last aim worker x y nows laters s t fronts afters → AllGoOn asked gives faults last aim olds laters
 fetchers_more {asked} {gives} {faults} {last} {aim} {worker = worker} {x = x} {y = y} {olds = olds} {nows = nows} {laters = laters} far runs =
@@ -296,14 +309,14 @@ order_all befores worker done order all = subst (λ (fronts : List Schedule). Ar
 
 pub all_done : {F O : Type 0} {asked : F → ℕ} {gives : F → ℕ → Answers} {faults last : F → ℕ} {aim : F → List ℕ} {log : WorkLog} {agent suffixes : List ℕ} {worker : ℕ} {olds nows : List F}
     {befores fronts : List Schedule} {o p : Offering O} → SoFar asked gives faults last aim log agent suffixes worker olds nows befores fronts o p → length befores ≤ worker
-    → WorkAll (Ok log) (IsGivenBy asked gives olds nows) agent suffixes befores fronts o p
+    → WorkAll (Ok log) (given_by asked gives faults olds nows) agent suffixes befores fronts o p
 all_done {asked} {gives} {faults} {last} {aim} {log} {agent} {suffixes} {worker} {olds} {nows} {befores} {fronts} {o} {p} far all = record {
   finish = record {
     handled = far.handled;
     noted = far.noted;
     done = far.done;
     notes = far.notes;
-    worked = subst (λ (left : List Work). HaveWorked (IsGivenBy asked gives olds nows) agent suffixes far.handled far.noted left befores) (ap loaded (drop_all worker befores all)) far.worked;
+    worked = subst (λ (left : List Work). HaveWorked (given_by asked gives faults olds nows) agent suffixes far.handled far.noted left befores) (ap loaded (drop_all worker befores all)) far.worked;
     entered = far.entered;
     known = far.known;
     knows = far.knows;
@@ -335,10 +348,11 @@ begun_more asked gives faults last aim agent suffixes worker x y olds laters s b
       (given_by_one asked gives faults last aim olds laters worker x y was is) suffixes begun.work.web part begun.some;
 }
 
-stops_more : {F O : Type 0} (asked : F → ℕ) (gives : F → ℕ → Answers) (faults last : F → ℕ) (aim : F → List ℕ) (log : WorkLog) (agent suffixes : List ℕ) (worker : ℕ) (x y : F) (olds nows laters : List F)
+stops_more : {F O : Type 0} (asked : F → ℕ) (gives : F → ℕ → Answers) (faults last : F → ℕ) (aim : F
+    → List ℕ) (log : WorkLog) (agent suffixes : List ℕ) (worker : ℕ) (x y : F) (olds nows laters : List F)
     (s t : Schedule) (befores fronts afters : List Schedule) (o p q : Offering O) → SoFar asked gives faults last aim log agent suffixes worker olds nows befores fronts o p
     → RunsOne asked gives faults last aim worker x y nows laters s t fronts afters
-    → StopsWork suffixes (fetcher asked gives faults last aim x) (fetcher asked gives faults last aim y) s t p q → StopAll (IsGivenBy asked gives olds laters) agent suffixes befores o q
+    → StopsWork suffixes (fetcher asked gives faults last aim x) (fetcher asked gives faults last aim y) s t p q → StopAll (given_by asked gives faults olds laters) agent suffixes befores o q
 stops_more asked gives faults last aim log agent suffixes worker x y olds nows laters s t befores fronts afters o p q far runs stops = record {
   handled = far.handled ++ stops.handled;
   noted = far.noted ++ stops.noted;
@@ -356,15 +370,16 @@ stops_more asked gives faults last aim log agent suffixes worker x y olds nows l
 }
 
 -- a worker was refused
-pub all_stopped : {F O : Type 0} {asked : F → ℕ} {gives : F → ℕ → Answers} {faults last : F → ℕ} {aim : F → List ℕ} {result : Result WorkLog Fault} {fault : Fault} {log : WorkLog} {agent suffixes : List ℕ}
+pub all_stopped : {F O : Type 0} {asked : F → ℕ} {gives : F → ℕ → Answers} {faults last : F → ℕ} {aim : F
+    → List ℕ} {result : Result WorkLog Fault} {fault : Fault} {log : WorkLog} {agent suffixes : List ℕ}
     {worker : ℕ} {x y : F} {olds nows laters : List F} {s t : Schedule} {befores fronts afters : List Schedule} {o p q : Offering O} → result ≡ Err fault
     → SoFar asked gives faults last aim log agent suffixes worker olds nows befores fronts o p → RunsOne asked gives faults last aim worker x y nows laters s t fronts afters
     → StopsWork suffixes (fetcher asked gives faults last aim x) (fetcher asked gives faults last aim y) s t p q → q.last_fault ≡ fault_or p.last_fault fault
-    → WorkAll result (IsGivenBy asked gives olds laters) agent suffixes befores afters o q
+    → WorkAll result (given_by asked gives faults olds laters) agent suffixes befores afters o q
 all_stopped {asked} {gives} {faults} {last} {aim} {result} {fault} {log} {agent} {suffixes} {worker} {x} {y} {olds} {nows} {laters} {s} {t} {befores} {fronts} {afters} {o} {p} {q} is
     far runs stops ends = record {
-      finish = refused_if (λ (l : WorkLog). FinishAll l (IsGivenBy asked gives olds laters) agent suffixes befores afters o q) result fault is;
-      stop = refused_err (StopAll (IsGivenBy asked gives olds laters) agent suffixes befores o q) result fault is
+      finish = refused_if (λ (l : WorkLog). FinishAll l (given_by asked gives faults olds laters) agent suffixes befores afters o q) result fault is;
+      stop = refused_err (StopAll (given_by asked gives faults olds laters) agent suffixes befores o q) result fault is
           (stops_more asked gives faults last aim log agent suffixes worker x y olds nows laters s t befores fronts afters o p q far runs stops);
       fault = refused_fault result fault o q is (ends ∙ ap (λ last. fault_or last fault) far.calm);
       count = runs.front_set.count ∙ far.count;
@@ -373,11 +388,12 @@ all_stopped {asked} {gives} {faults} {last} {aim} {result} {fault} {log} {agent}
     }
 
 -- a worker finished, and there was no memory for what it did
-pub all_lacked : {F O : Type 0} {asked : F → ℕ} {gives : F → ℕ → Answers} {faults last : F → ℕ} {aim : F → List ℕ} {result : Result WorkLog Fault} {fault : Fault} {log part : WorkLog} {agent suffixes : List ℕ}
+pub all_lacked : {F O : Type 0} {asked : F → ℕ} {gives : F → ℕ → Answers} {faults last : F → ℕ} {aim : F
+    → List ℕ} {result : Result WorkLog Fault} {fault : Fault} {log part : WorkLog} {agent suffixes : List ℕ}
     {worker : ℕ} {x y : F} {olds nows laters : List F} {s t : Schedule} {befores fronts afters : List Schedule} {o p q : Offering O} → result ≡ Err fault → fault ≡ Memory
     → SoFar asked gives faults last aim log agent suffixes worker olds nows befores fronts o p → RunsOne asked gives faults last aim worker x y nows laters s t fronts afters
     → FinishesWork part suffixes (fetcher asked gives faults last aim x) (fetcher asked gives faults last aim y) s t p q → q.last_fault ≡ p.last_fault
-    → WorkAll result (IsGivenBy asked gives olds laters) agent suffixes befores afters o q
+    → WorkAll result (given_by asked gives faults olds laters) agent suffixes befores afters o q
 all_lacked {p = p} {q = q} is memory far runs does calm =
     all_stopped is far runs
     (record {

@@ -9,7 +9,7 @@ use Rattle.irl_base.specs.declared.fault.Fault.{Fault}
 use Rattle.irl_base.specs.declared.fault.Fault.TheVariants.{Damaged, Full}
 use Rattle.irl_bay.proofs.InBuckets.{all_back}
 use Rattle.irl_events.specs.Events.{Happened}
-use Rattle.irl_events.specs.State.{State, IsFrontState}
+use Rattle.irl_events.specs.State.{State}
 use Rattle.irl_ledger.specs.Crawling.{pair_settings}
 use Rattle.irl_model.specs.Book.{AreOfBuckets, ArePrefixes, Book, IsBook, IsFront, part}
 use Rattle.irl_offer.specs.Buckets.{bucket_of}
@@ -19,9 +19,9 @@ use Rattle.irl_reach.proofs.Growing.{drop_front}
 use Rattle.irl_reach.specs.Crawls.{added_to}
 use Rattle.irl_schedule.proofs.Chains.{grows_both, grows_more, grows_same}
 use Rattle.irl_schedule.specs.Feeding.{Grows, list_at}
-use Rattle.irl_yard.proofs.States.{state_both, state_same}
+use Rattle.irl_crawl.proofs.Sent.{OweAlike}
 use Rattle.irl_crawl.proofs.Spread.{part_here}
-use Rattle.irl_crawl.specs.Leading.{GrowsInBatches, HasGround, IsFullAt}
+use Rattle.irl_crawl.specs.Leading.{GrowsInBatches, HasGround, IsFullAt, NeedsNoGround}
 use Rattle.irl_crawl.specs.Turning.{turns_in, turns_of}
 
 -- ---- books that grow
@@ -92,7 +92,8 @@ added_long buckets first zero (x ∷ xs) (y ∷ ys) front of =
     let rest : drop (length x) y ≡ more = ap (drop (length x)) front.0.1 ∙ drop_front x more in
     let here : part buckets first (drop (length x) y) ≡ more =
     ap (part buckets first) rest
-    ∙ all_part buckets first more (all_back (λ (offer : Tuple). bucket_of buckets offer.key ≡ first) x more (subst (AllByRecursion (λ (offer : Tuple). bucket_of buckets offer.key ≡ first)) front.0.1 of.0)) in
+    ∙ all_part buckets first more (all_back (λ (offer : Tuple). bucket_of buckets offer.key ≡ first) x more
+    (subst (AllByRecursion (λ (offer : Tuple). bucket_of buckets offer.key ≡ first)) front.0.1 of.0)) in
     let at : part buckets (first + 0) (drop (length x) y ++ added_to xs ys) ≡ part buckets first (drop (length x) y ++ added_to xs ys) =
     ap (λ n. part buckets n (drop (length x) y ++ added_to xs ys)) (omega arith) in
     omega (
@@ -142,23 +143,32 @@ covers_append settings first later x y fills = λ n within.
     omega (arith, fill, part_both settings.buckets n first later)
 
 -- ---- grounds
-full_before : (settings : Settings) (later handed : List Tuple) (x y z : State) (n : ℕ) → IsFrontState x y → Covers settings later handed x y → IsFullAt settings later y z n
-    → IsFullAt settings handed x z n
-full_before settings later handed x y z n front covers (inl urls) = inl (urls.0, urls.1, let all = covers n urls.0 in omega (arith, urls.2, all))
-full_before settings later handed x y z n front covers (inr (b, is, within, w, first, second, full)) = inr (b, is, within, w, state_both x y w front first, second, full)
+full_before : (suffixes : List ℕ) (settings : Settings) (later handed : List Tuple) (x y z : State) (n : ℕ) → OweAlike suffixes settings x y z.urls → Covers settings later handed x y
+    → IsFullAt suffixes settings later y z n → IsFullAt suffixes settings handed x z n
+full_before suffixes settings later handed x y z n owe covers (inl urls) = inl (urls.0, urls.1, let all = covers n urls.0 in omega (arith, urls.2, all))
+full_before suffixes settings later handed x y z n owe covers (inr (b, is, within, lacks, full)) =
+    inr (b, is, within, lacks, subst (λ (l : List Tuple). settings.cap < length l) (sym (owe b within)) full)
 
 -- of a later part for both together
-pub ground_before : {A B : Type 0} (one : Result A Fault) (other : Result B Fault) (settings : Settings) (later handed : List Tuple) (x y z : State)
-    → ((fault : Fault) → IsErrOf other fault → IsErrOf one fault) → IsFrontState x y → Covers settings later handed x y → HasGround one settings later y z → HasGround other settings handed x z
-ground_before one other settings later handed x y z same front covers ground = record {
-  full = λ n is. full_before settings later handed x y z n front covers (ground.full n (same (Full n) is));
+pub ground_before : {A B : Type 0} (one : Result A Fault) (other : Result B Fault) (suffixes : List ℕ) (settings : Settings) (later handed : List Tuple) (x y z : State)
+    → ((fault : Fault) → IsErrOf other fault → IsErrOf one fault) → OweAlike suffixes settings x y z.urls → Covers settings later handed x y → HasGround one suffixes settings later y z
+    → HasGround other suffixes settings handed x z
+ground_before one other suffixes settings later handed x y z same owe covers ground = record {
+  full = λ n is. full_before suffixes settings later handed x y z n owe covers (ground.full n (same (Full n) is));
   whole = λ f at is. ground.whole f at (same (Damaged f at) is);
 }
 
-pub ground_then : {A : Type 0} (result : Result A Fault) (settings : Settings) (later handed : List Tuple) (x y z : State) → IsFrontState x y → Covers settings later handed x y
-    → HasGround result settings later y z → HasGround result settings handed x z
-ground_then result settings later handed x y z front covers ground = ground_before result result settings later handed x y z (λ fault is. is) front covers ground
+pub ground_then : {A : Type 0} (result : Result A Fault) (suffixes : List ℕ) (settings : Settings) (later handed : List Tuple) (x y z : State) → OweAlike suffixes settings x y z.urls
+    → Covers settings later handed x y → HasGround result suffixes settings later y z → HasGround result suffixes settings handed x z
+ground_then result suffixes settings later handed x y z owe covers ground = ground_before result result suffixes settings later handed x y z (λ fault is. is) owe covers ground
 
--- where nothing is handed in, anything may be
-pub ground_any : {A : Type 0} (result : Result A Fault) (settings : Settings) (handed : List Tuple) (x y : State) → HasGround result settings [] x y → HasGround result settings handed x y
-ground_any result settings handed x y ground = ground_then result settings [] handed x x y (state_same x) (λ n within. omega arith) ground
+-- from the same state on, with more that was handed in
+pub ground_more : {A : Type 0} (result : Result A Fault) (suffixes : List ℕ) (settings : Settings) (later handed : List Tuple) (x y : State) → IsAmong later handed
+    → HasGround result suffixes settings later x y → HasGround result suffixes settings handed x y
+ground_more result suffixes settings later handed x y among ground =
+    ground_then result suffixes settings later handed x x y (λ b within. refl) (covers_among settings later handed x x refl among) ground
+
+-- where no list is full and nothing is damaged, anything may have been handed in
+pub ground_none : {A : Type 0} (result : Result A Fault) (suffixes : List ℕ) (settings : Settings) (handed : List Tuple) (x y : State) → NeedsNoGround result
+    → HasGround result suffixes settings handed x y
+ground_none result suffixes settings handed x y none = record { full = λ n is. absurd (none.full n is); whole = none.whole }

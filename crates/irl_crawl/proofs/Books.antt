@@ -1,5 +1,5 @@
 -- What calls over the bay of URLs make of the states that an open store of a crawl held.
-use Rattle.std.proofs.Common.{◌≡◌, ◌∙◌, ℕ, ◌<◌, List, [], ◌++◌, length, Option, refl, sym, ap, subst, append-nil, arith}
+use Rattle.std.proofs.Common.{◌≡◌, ◌∙◌, ℕ, suc, ◌<◌, List, [], ◌∷◌, ◌++◌, length, Option, refl, sym, ap, subst, append-nil, arith}
 use Rattle.std.specs.Option.{ForSome}
 use Rattle.std.specs.List.{AllByRecursion}
 use Rattle.irl_base.specs.Faults.{HasCause}
@@ -9,8 +9,10 @@ use Rattle.irl_bay.specs.Standing.{IsBookOf}
 use Rattle.irl_disk.specs.Disk.{Files}
 use Rattle.irl_disk.specs.Images.{IsConsistent, Told}
 use Rattle.irl_events.specs.State.{State}
+use Rattle.irl_ledger.proofs.LastSent.{prefixes_at}
 use Rattle.irl_ledger.specs.Crawling.{AreTaken, MayFollow}
-use Rattle.irl_model.specs.Book.{Book, IsFront, IsPrefixOf, part}
+use Rattle.irl_model.proofs.FrontLaws.{prefix_both}
+use Rattle.irl_model.specs.Book.{ArePrefixes, Book, IsFront, IsPrefixOf, part}
 use Rattle.irl_offer.specs.Tuple.{Tuple}
 use Rattle.irl_offer.specs.declared.settings.Kind.{Kind}
 use Rattle.irl_offer.specs.declared.settings.Kind.TheVariants.{Crawl as CrawlKind}
@@ -75,6 +77,27 @@ module _ (settings : Settings) (early : ℕ) (news : List Tuple) (x : State) (wa
         subst (λ (l : List Tuple). IsPrefixOf (list_at book b) (l ++ part settings.buckets b news)) same (takes b within);
   }
 
+-- and so is one with a book before such a one
+lists_same : (xs ys : List (List Tuple)) → ArePrefixes xs ys → length xs ≡ length ys
+lists_same [] [] front = refl
+lists_same [] (y ∷ ys) front = absurd front
+lists_same (x ∷ xs) [] front = absurd front
+lists_same (x ∷ xs) (y ∷ ys) front = ap suc (lists_same xs ys front.1)
+
+adds_before : (settings : Settings) (early : ℕ) (news : List Tuple) (x : State) (book most : Book) → Grows settings early x.urls book → IsFront book most
+    → AddsSome settings early news x (with_urls most x) → AddsSome settings early news x (with_urls book x)
+adds_before settings early news x book most grows front adds =
+    let count : length book.lists ≡ settings.buckets = lists_same book.lists most.lists front.lists ∙ adds.count in
+    record {
+      others = refl;
+      grows = grows;
+      front = grows.front;
+      count = count;
+      takes = λ b within.
+          prefix_both (list_at book b) (list_at most b) (list_at x.urls b ++ part settings.buckets b news)
+          (prefixes_at book.lists most.lists b front.lists (omega (arith, within, count))) (adds.takes b within);
+    }
+
 -- ---- from one moment to a later one
 -- Nothing waited at the first, and these offers of pages were handed in since.
 module _ (early : ℕ) (uneven : ℕ → ℕ) (news : List Tuple) (was now : Parts) (s t : Told) (waits later : Waits) (none : (b : ℕ) → waits b ≡ []) (opened : IsOpenRest was.urls was.rest s.files)
@@ -112,8 +135,10 @@ module _ (early : ℕ) (uneven : ℕ → ℕ) (news : List Tuple) (was now : Par
       let most = adds_of was.urls.settings early news x waits none stranded.most stranded.legal stranded.may_grow stranded.takes in
       let kept = adds_of was.urls.settings early news x waits none stranded.kept stranded.kept_legal stranded.kept_grows
       (takes_kept was.urls.settings x.urls stranded.kept waits later news stranded.keeps) in
+      let state = adds_before was.urls.settings early news x stranded.book stranded.most stranded.grows stranded.front most in
       let fails = books_fail old new x early uneven news law consistent held.urls still stranded (follows x stranded.most held most) in
-      fails_as (IsWithBook was.urls.settings.kind x) may x s t fails.0 (subst may (sym fails.1) (is (with_urls stranded.kept x) kept)) (subst may (sym fails.3) (is (with_urls stranded.most x) most))
+      fails_as (IsWithBook was.urls.settings.kind x) may x s t fails.0 (subst may (sym fails.1) (is (with_urls stranded.kept x) kept)) (subst may (sym fails.2) (is (with_urls stranded.book x) state))
+      (subst may (sym fails.3) (is (with_urls stranded.most x) most))
 
   -- The states that were held are led to those with the books that the bay then holds.
   pub lifts : (failed : Type 0) (may did : State → State → Type 0) → StaysSound failed now → HasCause failed s.faults t.faults

@@ -4,8 +4,6 @@ use Rattle.std.specs.Prelude.{IfErr}
 use Rattle.std.specs.List.{All, AllByRecursion, flat_map}
 use Rattle.std.specs.Option.{option_map}
 use Rattle.std.proofs.lemmas.List.{append-nil}
-use Rattle.std.proofs.lemmas.List.Elements.{All-nil}
-use Rattle.std.proofs.lemmas.List.Sorted.{IsPermutation-refl}
 use Rattle.irl_base.proofs.Among.{among_none}
 use Rattle.irl_base.specs.Among.{IsAmong}
 use Rattle.irl_base.specs.declared.fault.Fault.{Fault}
@@ -21,7 +19,6 @@ use Rattle.irl_offer.specs.declared.receipt.Receipt.{Receipt}
 use Rattle.irl_offer.specs.declared.settings.Settings.{Settings}
 use Rattle.irl_polite.specs.Schedule.{Schedule}
 use Rattle.irl_reach.proofs.Turns.{added_same}
-use Rattle.irl_record.specs.Widening.{Answers}
 use Rattle.irl_schedule.proofs.Outcomes.{ok_gives}
 use Rattle.irl_yard.specs.declared.parts.Parts.{Parts}
 use Rattle.irl_yard.specs.Holding.{IsOpenRest, IsSound}
@@ -34,8 +31,9 @@ use Rattle.irl_desk.specs.Closing.{Closes, ended}
 use Rattle.irl_desk.specs.Serving.{IsFresh, Serves, Serving}
 use Rattle.irl_crawl.specs.Fetching.{Fetches, FetchesWhole, entries_of}
 use Rattle.irl_crawl.specs.Offering.{OffersSome, OnlyOffers}
-use Rattle.irl_crawl.specs.Workers.{AreFor, loaded}
+use Rattle.irl_crawl.specs.Workers.{AreFor, Given, loaded}
 use Rattle.irl_crawl.specs.Working.{HasBegunOne, HaveWorked, KnowAsNoted, WorkAll}
+use Rattle.irl_crawl.proofs.AllWork.{have_none}
 use Rattle.irl_crawl.proofs.Batches.{grown_same}
 use Rattle.irl_crawl.proofs.Leading.{leads_none}
 use Rattle.irl_crawl.proofs.Lifting.{IsBehind, closed_behind, closed_leads, hands, last_named, rest_kept, served_behind}
@@ -50,19 +48,19 @@ record IsWhole (log : WorkLog) (agent : List ℕ) (handled : List Handled) (note
   known : KnowAsNoted agent noted befores afters
   items : All (λ s. s.items ≡ []) afters
 
-record WasWorked {O : Type 0} (result : Result WorkLog Fault) (gives : Answers) (agent suffixes : List ℕ) (befores afters : List Schedule) (was now : Offering O) : Type 0 where
+record WasWorked {O : Type 0} (result : Result WorkLog Fault) (given : Given) (agent suffixes : List ℕ) (befores afters : List Schedule) (was now : Offering O) : Type 0 where
   handled : List Handled
   noted : List Noted
   left : List Work
   part : List Entered
-  worked : HaveWorked gives agent suffixes handled noted left befores
-  begun : (part ≡ []) ⊎ HasBegunOne gives agent suffixes noted left part befores
+  worked : HaveWorked given agent suffixes handled noted left befores
+  begun : (part ≡ []) ⊎ HasBegunOne given.gives agent suffixes noted left part befores
   entered : Enters (entries_of handled part) was now
   whole : IfOk result (λ log. IsWhole log agent handled noted left part befores afters)
 
-was_worked : {O : Type 0} (result : Result WorkLog Fault) (gives : Answers) (agent suffixes : List ℕ) (befores afters : List Schedule) (was now : Offering O)
-    → WorkAll result gives agent suffixes befores afters was now → WasWorked result gives agent suffixes befores afters was now
-was_worked (Ok log) gives agent suffixes befores afters was now all =
+was_worked : {O : Type 0} (result : Result WorkLog Fault) (given : Given) (agent suffixes : List ℕ) (befores afters : List Schedule) (was now : Offering O)
+    → WorkAll result given agent suffixes befores afters was now → WasWorked result given agent suffixes befores afters was now
+was_worked (Ok log) given agent suffixes befores afters was now all =
     let f = all.finish in
     record {
       handled = f.handled;
@@ -74,7 +72,7 @@ was_worked (Ok log) gives agent suffixes befores afters was now all =
       entered = enters_as (flat_map entered_of f.handled) (flat_map entered_of f.handled ++ []) was now (sym (append-nil (flat_map entered_of f.handled))) f.entered;
       whole = record { done = f.done; notes = f.notes; none_left = refl; no_part = refl; known = f.known; items = f.none_left };
     }
-was_worked (Err fault) gives agent suffixes befores afters was now all =
+was_worked (Err fault) given agent suffixes befores afters was now all =
     let s = all.stop in
     record { handled = s.handled; noted = s.noted; left = s.left; part = s.part; worked = s.worked; begun = s.begun; entered = s.entered; whole = tt }
 
@@ -119,8 +117,8 @@ whole_flushed (Ok log) agent handled noted left part befores afters now whole fl
 whole_flushed (Err fault) agent handled noted left part befores afters now whole flushed = tt
 
 -- ---- the whole
-module _ {S O : Type 0} (tells : S → Told) (law : (s : S) → IsConsistent (tells s)) (result : Result WorkLog Fault) (gives : Answers) (agent suffixes : List ℕ) (befores afters : List Schedule)
-    (was now : Offering O) (old mid : Serving S) (store : S) (parts : Parts) (all : WorkAll result gives agent suffixes befores afters was now) (fresh : IsFresh old)
+module _ {S O : Type 0} (tells : S → Told) (law : (s : S) → IsConsistent (tells s)) (result : Result WorkLog Fault) (given : Given) (agent suffixes : List ℕ) (befores afters : List Schedule)
+    (was now : Offering O) (old mid : Serving S) (store : S) (parts : Parts) (all : WorkAll result given agent suffixes befores afters was now) (fresh : IsFresh old)
     (served : (news : List Entered) → mid.entries ≡ old.entries ++ news → Serves tells news old mid)
     (was_entries : was.entries ≡ Some old.entries) (now_entries : now.entries ≡ Some mid.entries) (now_last : now.last_fault ≡ mid.last) (start : S) (first : Parts)
     (store_is : old.store ≡ start) (parts_are : old.parts ≡ first) (opened : IsOpenRest old.parts.urls old.parts.rest (tells old.store).files) (drum : IsDrum first.urls) (begun : HasBegun first.rest)
@@ -131,8 +129,8 @@ module _ {S O : Type 0} (tells : S → Told) (law : (s : S) → IsConsistent (te
   old_begun : HasBegun old.parts.rest
   old_begun = subst (λ (p : Parts). HasBegun p.rest) (sym parts_are) begun
 
-  it : WasWorked result gives agent suffixes befores afters was now
-  it = was_worked result gives agent suffixes befores afters was now all
+  it : WasWorked result given agent suffixes befores afters was now
+  it = was_worked result given agent suffixes befores afters was now all
 
   abbrev entries : List Entered
   entries = entries_of it.handled it.part
@@ -146,10 +144,10 @@ module _ {S O : Type 0} (tells : S → Told) (law : (s : S) → IsConsistent (te
   -- by the answer, where it is as good as the desk's
   fetched : (answer : Result WorkLog Fault) → IsBehind answer closed (ended mid closed store parts closes.arrays).last
       → IfOk answer (λ log. FetchesWhole log agent it.handled it.noted it.left it.part befores afters parts)
-      → Fetches answer gives agent suffixes befores afters first parts (tells start) (tells store)
+      → Fetches answer given agent suffixes befores afters first parts (tells start) (tells store)
   fetched answer behind whole =
-      subst (λ (p : Parts). Fetches answer gives agent suffixes befores afters p parts (tells start) (tells store)) parts_are
-      (subst (λ (s : S). Fetches answer gives agent suffixes befores afters old.parts parts (tells s) (tells store)) store_is (record {
+      subst (λ (p : Parts). Fetches answer given agent suffixes befores afters p parts (tells start) (tells store)) parts_are
+      (subst (λ (s : S). Fetches answer given agent suffixes befores afters old.parts parts (tells s) (tells store)) store_is (record {
         handled = it.handled;
         noted = it.noted;
         left = it.left;
@@ -164,7 +162,7 @@ module _ {S O : Type 0} (tells : S → Told) (law : (s : S) → IsConsistent (te
       }))
 
   -- the desk was closed: what the workers answer,
-  pub fetched_closed : (value : Unit {0}) → closed ≡ Ok value → Fetches result gives agent suffixes befores afters first parts (tells start) (tells store)
+  pub fetched_closed : (value : Unit {0}) → closed ≡ Ok value → Fetches result given agent suffixes befores afters first parts (tells start) (tells store)
   fetched_closed value is =
       fetched result
       (served_behind tells entries old mid closed store parts law opened old_drum old_begun fresh serves closes result value is
@@ -173,12 +171,12 @@ module _ {S O : Type 0} (tells : S → Told) (law : (s : S) → IsConsistent (te
       (ok_gives closed value (hands tells entries old mid closed store parts law opened old_drum old_begun fresh serves closes).flushed is))
 
   -- or its refusal
-  pub fetched_refused : (fault : Fault) → closed ≡ Err fault → Fetches (Err fault) gives agent suffixes befores afters first parts (tells start) (tells store)
+  pub fetched_refused : (fault : Fault) → closed ≡ Err fault → Fetches (Err fault) given agent suffixes befores afters first parts (tells start) (tells store)
   fetched_refused fault is = fetched (Err fault) (closed_behind tells entries old mid closed store parts law opened old_drum old_begun fresh serves closes (Err fault) fault is refl) tt
 
 -- there was no memory for a desk
-offers_none : {A : Type 0} (settings : Settings) (x : State) → OffersSome {A = A} (Err Memory) settings [] x x
-offers_none settings x = record {
+offers_none : {A : Type 0} (suffixes : List ℕ) (settings : Settings) (x : State) → OffersSome {A = A} (Err Memory) suffixes settings [] x x
+offers_none suffixes settings x = record {
   only = record { others = refl; grows = grown_same settings x; among = subst (λ (l : List Tuple). IsAmong l []) (sym (added_same x.urls.lists)) (among_none []) };
   all = tt;
   ground = record {
@@ -187,18 +185,20 @@ offers_none settings x = record {
   };
 }
 
-pub not_opened : (gives : Answers) (agent suffixes : List ℕ) (befores : List Schedule) (parts : Parts) (now : Told) → IsConsistent now → IsDrum parts.urls → IsSound parts → AreFor agent befores
-    → Fetches (Err Memory) gives agent suffixes befores befores parts parts now now
-not_opened gives agent suffixes befores parts now law drum sound agents = record {
+pub not_opened : (given : Given) (agent suffixes : List ℕ) (befores : List Schedule) (parts : Parts) (now : Told) → IsConsistent now → IsDrum parts.urls → IsSound parts → AreFor agent befores
+    → given.may_miss 0
+    → Fetches (Err Memory) given agent suffixes befores befores parts parts now now
+not_opened given agent suffixes befores parts now law drum sound agents none = record {
   handled = [];
   noted = [];
   left = loaded befores;
   part = [];
-  worked = record { items = IsPermutation-refl (loaded befores); each = All-nil _; notes = All-nil _ };
+  worked = have_none given agent suffixes befores none;
   begun = inl refl;
   whole = tt;
-  leads = leads_none (IsErrOf {T = WorkLog} {E = Fault} (Err Memory) Failed) (OnlyOffers parts.urls.settings []) (OffersSome {A = WorkLog} (Err Memory) parts.urls.settings []) parts now law drum sound
-      (λ is. cc) (λ x held. offers_none parts.urls.settings x);
+  leads = leads_none (IsErrOf {T = WorkLog} {E = Fault} (Err Memory) Failed) (OnlyOffers parts.urls.settings []) (OffersSome {A = WorkLog} (Err Memory) suffixes parts.urls.settings []) parts now law
+      drum sound
+      (λ is. cc) (λ x held. offers_none suffixes parts.urls.settings x);
   rest = refl;
   count = refl;
   agents = agents;

@@ -32,17 +32,20 @@ cause_none : (failed : Type 0) (faults : ℕ) → (failed → ⊥) → HasCause 
 cause_none failed faults none = record { later = omega arith; rose = λ is. absurd (none is) }
 
 -- ---- states that a store left as it failed
--- what was acknowledged last and the greatest are others too
-pub fails_as : (may other : State → Type 0) (x : State) (before after : Told) → (fails : FailsAt may x before after) → other fails.kept → other fails.most → FailsAt other x before after
-fails_as may other x before after fails kept most = record {
+-- what was acknowledged last, what the files stand for and the greatest are others too
+pub fails_as : (may other : State → Type 0) (x : State) (before after : Told) → (fails : FailsAt may x before after) → other fails.kept → other fails.state → other fails.most
+    → FailsAt other x before after
+fails_as may other x before after fails kept state most = record {
   kept = fails.kept;
   state = fails.state;
   most = fails.most;
   may_kept = kept;
+  may_state = state;
   may_most = most;
   told = fails.told;
   first = fails.first;
   fronts = fails.fronts;
+  legal = fails.legal;
   stops = fails.stops;
   now = fails.now;
 }
@@ -50,8 +53,9 @@ fails_as may other x before after fails kept most = record {
 -- and so is each that the first one leads to
 pub fails_wide : (may wide : State → Type 0) (x : State) (before after : Told) → ((y : State) → IsFrontState x y → may y → wide y) → FailsAt may x before after → FailsAt wide x before after
 fails_wide may wide x before after wider fails =
-    let up : IsFrontState fails.kept fails.most = state_both fails.kept fails.state fails.most fails.fronts.0 fails.fronts.1 in
-    fails_as may wide x before after fails (wider fails.kept fails.first fails.may_kept) (wider fails.most (state_both x fails.kept fails.most fails.first up) fails.may_most)
+    let at : IsFrontState x fails.state = state_both x fails.kept fails.state fails.first fails.fronts.0 in
+    fails_as may wide x before after fails (wider fails.kept fails.first fails.may_kept) (wider fails.state at fails.may_state)
+    (wider fails.most (state_both x fails.state fails.most at fails.fronts.1) fails.may_most)
 
 -- ---- one part behind another
 -- The first didn't fail, so both together fail just where the second does.

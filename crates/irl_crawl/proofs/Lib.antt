@@ -18,9 +18,12 @@ pub mod Numbers
 pub mod OneTurn
 pub mod PassLeads
 pub mod Passing
+pub mod Resting
+pub mod Rising
 pub mod Running
 pub mod Seeding
 pub mod SeedsRun
+pub mod Sent
 pub mod Settling
 pub mod Shares
 pub mod Spread
@@ -28,5 +31,6 @@ pub mod Stepping
 pub mod Stores
 pub mod Taking
 pub mod Turning
+pub mod Unsent
 pub mod Visits
 pub mod Workers

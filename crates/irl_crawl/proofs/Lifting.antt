@@ -106,8 +106,9 @@ module _ {S : Type 0} {A : Type 0} (told : S → Told) (entries : List Entered) 
   adds : (x : State) (fed : Fed 0 one_more news from to x.urls) → AddsSome settings 0 news x (with_urls fed.book x)
   adds = adds_fed 0 one_more news was now s t (waiting_at old.arrays) (waiting_at new.arrays) fresh.empty opened law (lawful new.store) begun pages hands.enters.stays hands.enters.rest
 
-  ground : (files : Files) → s.files ≡ Some files → (x : State) → HoldsState s.images was x → (fed : Fed 0 one_more news from to x.urls) → HasGround answer settings news x (with_urls fed.book x)
-  ground files told_now x held fed = record {
+  ground : (suffixes : List ℕ) (files : Files) → s.files ≡ Some files → (x : State) → HoldsState s.images was x → (fed : Fed 0 one_more news from to x.urls)
+      → HasGround answer suffixes settings news x (with_urls fed.book x)
+  ground suffixes files told_now x held fed = record {
     full = λ n is.
         let why = hands.enters.ground.full n (not_memory (Full n) new.last (new.last ≡ Some (Full n)) (full_memory n) (behind.named (Full n) is)) in
         let same = hands.enters.stays.settings in
@@ -126,9 +127,9 @@ module _ {S : Type 0} {A : Type 0} (told : S → Told) (entries : List Entered) 
         held.urls.urls_hold;
   }
 
-  gives_by : (files : Files) → s.files ≡ Some files → (x : State) → HoldsState s.images was x → (IsErrOf answer Failed → ⊥) → (r : Result A Fault) → answer ≡ r
-      → (fed : Fed 0 one_more news from to x.urls) × OffersSome answer settings entries x (with_urls fed.book x)
-  gives_by files told_now x held not (Ok value) is =
+  gives_by : (suffixes : List ℕ) (files : Files) → s.files ≡ Some files → (x : State) → HoldsState s.images was x → (IsErrOf answer Failed → ⊥) → (r : Result A Fault) → answer ≡ r
+      → (fed : Fed 0 one_more news from to x.urls) × OffersSome answer suffixes settings entries x (with_urls fed.book x)
+  gives_by suffixes files told_now x held not (Ok value) is =
       let closed = behind.done value is in
       let has = ok_gives result closed.0 hands.spread closed.1 files told_now x.urls held.urls.urls_hold in
       let y = with_urls has.0.book x in
@@ -141,30 +142,30 @@ module _ {S : Type 0} {A : Type 0} (told : S → Told) (entries : List Entered) 
                 (λ b within. has.1.lists b (subst (λ (n : ℕ). b < n) some.count within));
             stand = has.1.stand;
           });
-          ground = ground files told_now x held has.0;
+          ground = ground suffixes files told_now x held has.0;
         },
       )
-  gives_by files told_now x held not (Err fault) is =
+  gives_by suffixes files told_now x held not (Err fault) is =
       let fed = hands.enters.fed (λ failed. not (behind.failed failed)) files told_now x.urls held.urls.urls_hold in
       let y = with_urls fed.book x in
-      (fed, record { only = only x y (adds x fed); all = never answer fault (HasOffers entries x y) is; ground = ground files told_now x held fed })
+      (fed, record { only = only x y (adds x fed); all = never answer fault (HasOffers entries x y) is; ground = ground suffixes files told_now x held fed })
 
   failed_last : IsErrOf answer Failed → new.last ≡ Some Failed
   failed_last is = not_memory Failed new.last (new.last ≡ Some Failed) failed_memory (behind.named Failed is)
 
   -- What was offered is in the lists, by the answer.
-  pub desk_leads : Leads (IsErrOf answer Failed) (OnlyOffers settings entries) (OffersSome answer settings entries) was now s t
-  desk_leads =
+  pub desk_leads : (suffixes : List ℕ) → Leads (IsErrOf answer Failed) (OnlyOffers settings entries) (OffersSome answer suffixes settings entries) was now s t
+  desk_leads suffixes =
       lifts 0 one_more news was now s t (waiting_at old.arrays) (waiting_at new.arrays) fresh.empty opened law (lawful new.store) begun pages hands.enters.stays hands.enters.rest
       (IsErrOf answer Failed)
-      (OnlyOffers settings entries) (OffersSome answer settings entries)
+      (OnlyOffers settings entries) (OffersSome answer suffixes settings entries)
       (record {
         drum = hands.enters.sound.drum;
         sound = λ not. hands.enters.sound.sound (λ failed. not (behind.failed failed));
         unsound = λ failed. hands.enters.sound.unsound (failed_last failed);
       })
       (record { later = hands.enters.ground.cause.later; rose = λ failed. hands.enters.ground.cause.rose (failed_last failed) })
-      (λ not files told_now x held. gives_by files told_now x held not answer refl) (λ failed. hands.enters.broken (failed_last failed)) (λ x y held some. only x y some)
+      (λ not files told_now x held. gives_by suffixes files told_now x held not answer refl) (λ failed. hands.enters.broken (failed_last failed)) (λ x y held some. only x y some)
 
 -- ---- a desk that was served and then closed
 -- the last fault after one more
@@ -211,6 +212,6 @@ module _ {S : Type 0} (told : S → Told) (entries : List Entered) (old mid : Se
     failed = λ failed. absurd (never_failed value ok failed);
   }
 
-  pub closed_leads : {A : Type 0} (answer : Result A Fault) → IsBehind answer closed new.last
-      → Leads (IsErrOf answer Failed) (OnlyOffers old.parts.urls.settings entries) (OffersSome answer old.parts.urls.settings entries) old.parts parts (told old.store) (told store)
-  closed_leads answer behind = desk_leads told entries answer closed old new lawful opened law begun fresh hands behind
+  pub closed_leads : {A : Type 0} {suffixes : List ℕ} (answer : Result A Fault) → IsBehind answer closed new.last
+      → Leads (IsErrOf answer Failed) (OnlyOffers old.parts.urls.settings entries) (OffersSome answer suffixes old.parts.urls.settings entries) old.parts parts (told old.store) (told store)
+  closed_leads {suffixes = suffixes} answer behind = desk_leads told entries answer closed old new lawful opened law begun fresh hands behind suffixes

@@ -40,7 +40,7 @@ load_refused result fault settings agent olds news was now before after law drum
       same = refl;
       texts = refused_ok _ result fault is;
       known = refused_ok _ result fault is;
-      ground = looks_ground result settings was now before after files x told holds looks;
+      ground = looks_ground result was now before after files x told holds looks;
     })
 
 -- ---- one by one
@@ -91,5 +91,5 @@ module _ (works : List Work) (empty shares : List Share) (olds news : List Sched
         same = refl;
         texts = texts_are x (texts files told x holds);
         known = λ noted. taken_noted agent x.events shares olds news taken (notes files (first.files ∙ told) x (first.holds x holds) (notes_none x.events empty none)) are noted;
-        ground = looks_ground done settings was now before after files x told holds looks;
+        ground = looks_ground done was now before after files x told holds looks;
       })

@@ -1,5 +1,5 @@
 -- Calls that only look at an open store, one behind the other, and what they make of a state.
-use Rattle.std.proofs.Common.{◌≡◌, ◌∙◌, ℕ, List, [], Option, Some, Result, Ok, Err, IsErrOf, refl, sym, ap, subst, arith}
+use Rattle.std.proofs.Common.{◌≡◌, ◌∙◌, inr, ℕ, List, Option, Some, Result, Ok, Err, IsErrOf, refl, sym, ap, subst, arith}
 use Rattle.std.specs.Option.{ForSome}
 use Rattle.std.specs.Prelude.{IsOkUnless}
 use Rattle.irl_base.specs.declared.fault.Fault.{Fault}
@@ -10,7 +10,6 @@ use Rattle.irl_disk.proofs.Effects.{cause_then}
 use Rattle.irl_disk.proofs.Stretches.{reads_on, stays}
 use Rattle.irl_bay.specs.Drum.{Drum, IsDrum}
 use Rattle.irl_events.specs.State.{State}
-use Rattle.irl_offer.specs.declared.settings.Settings.{Settings}
 use Rattle.irl_ledger.specs.Reading.{ReadsUrls}
 use Rattle.irl_model.specs.Book.{Book}
 use Rattle.irl_offer.specs.declared.note.Note.{Note}
@@ -18,10 +17,10 @@ use Rattle.irl_yard.specs.Holding.{HoldsState, IsSound, StaysSound}
 use Rattle.irl_yard.specs.Merges.{ReadsState}
 use Rattle.irl_yard.specs.Noting.{ReadsLastNote}
 use Rattle.irl_yard.specs.declared.parts.Parts.{Parts}
-use Rattle.irl_yard.proofs.Holding.{stops_same}
+use Rattle.irl_yard.proofs.Holding.{held_legal, stops_same}
 use Rattle.irl_yard.proofs.Leading.{fails_same, leads_same}
 use Rattle.irl_crawl.specs.Dealing.{OnlyLooks}
-use Rattle.irl_crawl.specs.Leading.{HasGround, Leads}
+use Rattle.irl_crawl.specs.Leading.{Leads, NeedsNoGround}
 
 -- ---- answers
 -- one that is Ok, or want of memory, names nothing else
@@ -143,11 +142,10 @@ looks_front result gives is_of was now before after reads states rest goes = rec
 }
 
 -- ---- what they make of a state
-pub looks_ground : {A : Type 0} (result : Result A Fault) (settings : Settings) (was now : Parts) (before after : Told) (files : Files) (x : State) → before.files ≡ Some files
-    → HoldsState before.images was x
-    → OnlyLooks result was now before after → HasGround result settings [] x x
-looks_ground result settings was now before after files x told holds looks = record {
-  full = λ n is. absurd (looks.full n is);
+pub looks_ground : {A : Type 0} (result : Result A Fault) (was now : Parts) (before after : Told) (files : Files) (x : State) → before.files ≡ Some files → HoldsState before.images was x
+    → OnlyLooks result was now before after → NeedsNoGround result
+looks_ground result was now before after files x told holds looks = record {
+  full = looks.full;
   whole = λ f at is. looks.whole f at is files told x holds;
 }
 
@@ -157,7 +155,8 @@ pub looks_lead : {A : Type 0} (result : Result A Fault) (did : State → State �
     → ((IsErrOf result Failed → ⊥) → ForSome before.files (λ _. (x : State) → HoldsState before.images was x → did x x)) → Leads (IsErrOf result Failed) (λ x y. y ≡ x) did was now before after
 looks_lead result did was now before after law drum looks does = record {
   leads = λ no files told x holds. (x, does no files told x holds, leads_same x now before after (looks.holds x holds) (stops_same before after was.urls x drum holds.urls looks.stops));
-  fails = λ failed files told x holds. fails_same (λ y. y ≡ x) x before after law (stops_same before after was.urls x drum holds.urls looks.stops) refl;
+  fails = λ failed files told x holds. fails_same (λ y. y ≡ x) x before after law (stops_same before after was.urls x drum holds.urls looks.stops) refl
+      (inr (was.urls.settings, held_legal before.images was.urls x drum holds.urls));
   told = λ files told. (files, looks.files ∙ told);
   settings = ap (λ (d : Drum). d.settings) looks.urls;
   goes_on = record { drum = subst IsDrum (sym looks.urls) drum; sound = looks.sound; unsound = looks.unsound };

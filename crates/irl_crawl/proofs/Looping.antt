@@ -1,27 +1,29 @@
 -- The steps of a run, over the states that an open store held.
-use Rattle.std.proofs.Common.{◌≡◌, ◌∙◌, ℕ, ◌+◌, ◌-◌, ◌≤◌, List, [], length, Option, Some, Result, Ok, Err, IsErrOf, refl, sym, ap, subst, arith, inr}
+use Rattle.std.proofs.Common.{◌≡◌, ◌∙◌, ℕ, ◌-◌, ◌≤◌, List, [], length, Some, Result, Ok, Err, IsErrOf, sym, ap, subst, arith, inr}
 use Rattle.std.specs.List.{flat_map}
 use Rattle.irl_base.specs.declared.fault.Fault.{Fault as FaultValue}
 use Rattle.irl_base.specs.declared.fault.Fault.TheVariants.{Damaged, Failed, Full, Memory}
 use Rattle.irl_bay.specs.Drum.{IsDrum}
-use Rattle.irl_disk.specs.Disk.{Files}
 use Rattle.irl_disk.specs.Images.{IsConsistent, Told}
 use Rattle.irl_events.specs.State.{State, IsFrontState}
 use Rattle.irl_offer.specs.declared.settings.Settings.{Settings}
 use Rattle.irl_polite.specs.Schedule.{Schedule}
 use Rattle.irl_offer.specs.Tuple.{Tuple}
 use Rattle.irl_reach.specs.Crawls.{IsCrawlStore, IsStore, Visit, found_by}
-use Rattle.irl_record.specs.Widening.{Answers, Widens}
+use Rattle.irl_record.specs.Widening.{Answers}
 use Rattle.irl_schedule.proofs.Outcomes.{same_refusal}
 use Rattle.irl_yard.specs.declared.parts.Parts.{Parts}
-use Rattle.irl_yard.specs.Holding.{HoldsState, IsSound}
+use Rattle.irl_yard.specs.Holding.{HoldsState}
 use Rattle.irl_yard.specs.Passing.{suffixes_in}
 use Rattle.irl_yard.specs.Sending.{HasBegun}
 use Rattle.irl_crawl.proofs.Batches.{ground_then}
-use Rattle.irl_crawl.proofs.Giving.{AreEarlier, given_first, given_second}
+use Rattle.irl_crawl.proofs.Giving.{AreEarlier}
 use Rattle.irl_crawl.proofs.Going.{all_go_none, all_go_then}
 use Rattle.irl_crawl.proofs.Leading.{leads_more_failed, leads_none, leads_then, leads_wide}
-use Rattle.irl_crawl.proofs.Running.{SoFar, far_more, far_none, far_wider, more_covers, turn_more, turns_wider}
+use Rattle.irl_crawl.proofs.Resting.{Joins, joined_given}
+use Rattle.irl_crawl.proofs.Rising.{rose_between_same}
+use Rattle.irl_crawl.proofs.Running.{SoFar, far_more, far_none, more_covers, turn_more}
+use Rattle.irl_crawl.proofs.Sent.{owe_then}
 use Rattle.irl_crawl.proofs.Stores.{held_is_crawl}
 use Rattle.irl_crawl.specs.declared.plan.Ended.{Ended}
 use Rattle.irl_crawl.specs.declared.plan.Ended.TheVariants.{Done, Fault, Limit}
@@ -29,30 +31,31 @@ use Rattle.irl_crawl.specs.Crawling.{NoneWaits, OnlyCrawls}
 use Rattle.irl_crawl.specs.Judging.{IsJudged}
 use Rattle.irl_crawl.specs.Leading.{HasGround, IsOpen, IsSent, KeepsBegun, Leads}
 use Rattle.irl_crawl.specs.Running.{MayRun, Runs, Steps}
-use Rattle.irl_crawl.specs.Turning.{MayTurn, OnlyTurns, Turns, TurnsWhole}
-use Rattle.irl_crawl.specs.Workers.{AllGoOn, AreIdle, AreNotedIn, IsGivenBy}
+use Rattle.irl_crawl.specs.Turning.{MayTurn, OnlyTurns, Turns}
+use Rattle.irl_crawl.specs.Workers.{AllGoOn, AreIdle, AreNotedIn, Given, given_by}
 
 -- ---- grounds
 -- the same fault, answered otherwise
-pub ground_fault : {A B : Type 0} (fault : FaultValue) (settings : Settings) (handed : List Tuple) (x y : State) → HasGround {A = A} (Err fault) settings handed x y
-    → HasGround {A = B} (Err fault) settings handed x y
-ground_fault {A} {B} fault settings handed x y ground = record {
+pub ground_fault : {A B : Type 0} (fault : FaultValue) (suffixes : List ℕ) (settings : Settings) (handed : List Tuple) (x y : State)
+    → HasGround {A = A} (Err fault) suffixes settings handed x y → HasGround {A = B} (Err fault) suffixes settings handed x y
+ground_fault {A} {B} fault suffixes settings handed x y ground = record {
   full = λ n is. ground.full n (same_refusal {T = B} {U = A} fault (Full n) is);
   whole = λ f at is. ground.whole f at (same_refusal {T = B} {U = A} fault (Damaged f at) is);
 }
 
-pub ground_memory : {A : Type 0} (settings : Settings) (handed : List Tuple) (x y : State) → HasGround {A = A} (Err Memory) settings handed x y
-ground_memory settings handed x y = record { full = λ n is. let no : ⊥ = cc in absurd no; whole = λ f at is. let no : ⊥ = cc in absurd no }
+pub ground_memory : {A : Type 0} (suffixes : List ℕ) (settings : Settings) (handed : List Tuple) (x y : State) → HasGround {A = A} (Err Memory) suffixes settings handed x y
+ground_memory suffixes settings handed x y = record { full = λ n is. let no : ⊥ = cc in absurd no; whole = λ f at is. let no : ⊥ = cc in absurd no }
 
-pub ground_ok : {A : Type 0} (value : A) (settings : Settings) (handed : List Tuple) (x y : State) → HasGround (Ok value) settings handed x y
-ground_ok value settings handed x y = record { full = λ n is. let no : ⊥ = cc in absurd no; whole = λ f at is. let no : ⊥ = cc in absurd no }
+pub ground_ok : {A : Type 0} (value : A) (suffixes : List ℕ) (settings : Settings) (handed : List Tuple) (x y : State) → HasGround (Ok value) suffixes settings handed x y
+ground_ok value suffixes settings handed x y = record { full = λ n is. let no : ⊥ = cc in absurd no; whole = λ f at is. let no : ⊥ = cc in absurd no }
 
 -- ---- a run
 -- how far it came, in memory and over the states
-pub record RunsOn {F : Type 0} (asked : F → ℕ) (gives : F → ℕ → Answers) (faults last : F → ℕ) (aim : F → List ℕ) (agent suffixes : List ℕ) (pages batch left : ℕ) (fronts : List Schedule) (olds nows : List F)
+pub record RunsOn {F : Type 0} (asked : F → ℕ) (gives : F → ℕ → Answers) (faults last : F → ℕ) (aim : F
+    → List ℕ) (agent suffixes : List ℕ) (pages batch left : ℕ) (fronts : List Schedule) (olds nows : List F)
     (was now : Parts) (before after : Told) : Type 0 where
-  pub leads : Leads ⊥ (MayRun (IsGivenBy asked gives olds nows) agent suffixes was.urls.settings pages batch)
-      (λ x y. IsJudged was.urls.settings x → SoFar (IsGivenBy asked gives olds nows) agent suffixes was.urls.settings pages batch left fronts x y) was now before after
+  pub leads : Leads ⊥ (MayRun (given_by asked gives faults olds nows) agent suffixes was.urls.settings pages batch)
+      (λ x y. IsJudged was.urls.settings x → SoFar (given_by asked gives faults olds nows) agent suffixes was.urls.settings pages batch left fronts x y) was now before after
   pub drum : IsDrum was.urls
   pub first : HasBegun was.rest
   pub begun : HasBegun now.rest
@@ -63,10 +66,12 @@ pub record RunsOn {F : Type 0} (asked : F → ℕ) (gives : F → ℕ → Answer
 
 module _ {F : Type 0} {asked : F → ℕ} {gives : F → ℕ → Answers} {faults last : F → ℕ} {aim : F → List ℕ} {agent suffixes : List ℕ} {pages batch : ℕ} where
   pub runs_first : {fronts : List Schedule} {olds : List F} {was : Parts} {before : Told} → IsConsistent before → IsDrum was.urls → IsOpen was → IsSent was → suffixes_in was.rest ≡ Some suffixes
-      → AreIdle (length olds) agent fronts → ((x : State) → AreNotedIn agent x.events fronts) → RunsOn asked gives faults last aim agent suffixes pages batch pages fronts olds olds was was before before
+      → AreIdle (length olds) agent fronts → ((x : State) → AreNotedIn agent x.events fronts)
+      → RunsOn asked gives faults last aim agent suffixes pages batch pages fronts olds olds was was before before
   runs_first {fronts} {olds} {was} {before} law drum opened sent same idle unknown = record {
     leads = leads_none ⊥ _ _ was before law drum opened.sound (λ no. no)
-        (λ x held judged. far_none (IsGivenBy asked gives olds olds) agent suffixes was.urls.settings pages batch fronts x judged (unknown x));
+        (λ x held judged. far_none (given_by asked gives faults olds olds) (rose_between_same faults olds) agent suffixes was.urls.settings pages batch fronts x
+        (held_is_crawl before.images was x drum opened.begun held) judged (unknown x));
     drum = drum;
     first = opened.begun;
     begun = opened.begun;
@@ -85,8 +90,8 @@ module _ {F : Type 0} {asked : F → ℕ} {gives : F → ℕ → Answers} {fault
     -- it ends so, where the answers are given from its beginning
     abbrev EndsAt : List F → Parts → Told → Ended → Type 0
     EndsAt news now after ended =
-        Leads (ended ≡ Fault Failed) (MayRun (IsGivenBy asked gives olds news) agent suffixes settings pages batch)
-        (Runs ended (IsGivenBy asked gives olds news) agent suffixes settings pages batch) was now before after
+        Leads (ended ≡ Fault Failed) (MayRun (given_by asked gives faults olds news) agent suffixes settings pages batch)
+        (Runs ended (given_by asked gives faults olds news) agent suffixes settings pages batch) was now before after
 
     pub runs_done : ((y : State) → HoldsState between.images mid y → NoneWaits mid.urls.settings y) → EndsAt mids mid between Done
     runs_done none = leads_more_failed ⊥ (Done ≡ Fault Failed) _ _ was mid before between (λ no. absurd no) (λ is. cc)
@@ -96,7 +101,7 @@ module _ {F : Type 0} {asked : F → ℕ} {gives : F → ℕ → Answers} {fault
           only = was_far.only;
           done = λ is. (was_far.whole, subst (λ (s : Settings). NoneWaits s y) far.leads.settings (none y later));
           limit = λ is. let no : ⊥ = cc in absurd no;
-          ground = ground_ok tt settings (flat_map (found_by suffixes y.urls) was_far.only.visits) x y;
+          ground = ground_ok tt suffixes settings (flat_map (found_by suffixes y.urls) was_far.only.visits) x y;
         }))
 
     pub runs_limit : left ≡ 0 → ((y : State) → HoldsState between.images mid y → NoneWaits mid.urls.settings y → ⊥) → EndsAt mids mid between Limit
@@ -108,21 +113,30 @@ module _ {F : Type 0} {asked : F → ℕ} {gives : F → ℕ → Answers} {fault
           only = was_far.only;
           done = λ is. let no : ⊥ = cc in absurd no;
           limit = λ is. (was_far.whole, omega (arith, count, zero), λ none. some y later (subst (λ (s : Settings). NoneWaits s y) (sym far.leads.settings) none));
-          ground = ground_ok tt settings (flat_map (found_by suffixes y.urls) was_far.only.visits) x y;
+          ground = ground_ok tt suffixes settings (flat_map (found_by suffixes y.urls) was_far.only.visits) x y;
         }))
 
     -- ---- a step more
     -- what it makes of the states, for these workers and under these settings
     abbrev StepsAt : ℕ → Result ℕ FaultValue → List Schedule → List F → Parts → Told → List ℕ → List ℕ → Settings → Type 0
     StepsAt most result afters news now after agent suffixes settings =
-        Leads (IsErrOf result Failed) (MayTurn (IsGivenBy asked gives mids news) agent suffixes settings most fronts)
-        (Steps result (IsGivenBy asked gives mids news) agent suffixes settings most fronts afters) mid now between after
+        Leads (IsErrOf result Failed) (MayTurn (given_by asked gives faults mids news) agent suffixes settings most fronts)
+        (Steps result (given_by asked gives faults mids news) agent suffixes settings most fronts afters) mid now between after
 
     module _ (earlier : AreEarlier gives) (most : ℕ) (result : Result ℕ FaultValue) (afters : List Schedule) (news : List F) (now : Parts) (after : Told) (crew_agent crew_suffixes : List ℕ)
         (same_agent : crew_agent ≡ agent) (same_suffixes : crew_suffixes ≡ suffixes) (step : StepsAt most result afters news now after crew_agent crew_suffixes mid.urls.settings)
         (on : AllGoOn asked gives faults last aim mids news) (within : most ≤ left) (small : most ≤ batch) where
-      abbrev given : Answers
-      given = IsGivenBy asked gives olds news
+      abbrev first : Given
+      first = given_by asked gives faults olds mids
+
+      abbrev own : Given
+      own = given_by asked gives faults mids news
+
+      abbrev given : Given
+      given = given_by asked gives faults olds news
+
+      joins : Joins first own given
+      joins = joined_given asked gives faults last aim olds mids news far.goes_on on earlier
 
       step_at : StepsAt most result afters news now after agent suffixes settings
       step_at =
@@ -138,32 +152,27 @@ module _ {F : Type 0} {asked : F → ℕ} {gives : F → ℕ → Answers} {fault
 
       -- how far it came before
       abbrev Far : State → State → Type 0
-      Far x y = SoFar (IsGivenBy asked gives olds mids) agent suffixes settings pages batch left fronts x y
-
-      wide : (x y : State) → Far x y → SoFar given agent suffixes settings pages batch left fronts x y
-      wide x y = far_wider (IsGivenBy asked gives olds mids) given agent suffixes settings pages batch left fronts x y (given_first asked gives faults last aim olds mids news far.goes_on on)
+      Far x y = SoFar first agent suffixes settings pages batch left fronts x y
 
       abbrev Turn : State → State → Type 0
-      Turn y z = OnlyTurns (IsGivenBy asked gives mids news) agent suffixes settings most y z
-
-      abbrev turned : (y z : State) → Turn y z → OnlyTurns given agent suffixes settings most y z
-      turned y z = turns_wider (IsGivenBy asked gives mids news) given (given_second asked gives faults last aim olds mids news far.goes_on on earlier) agent suffixes settings most y z
+      Turn y z = OnlyTurns own agent suffixes settings most y z
 
       abbrev more : (x y z : State) → HoldsState before.images was x → HoldsState between.images mid y → IsFrontState x y → IsFrontState y z → Far x y → Turn y z
           → OnlyCrawls given agent suffixes [] settings 0 pages batch x z
       more x y z held later one two far_y turn =
-          turn_more given agent suffixes settings pages batch left most fronts x y z (stood x held) (made y later) one two (wide x y far_y) (turned y z turn) within small
+          turn_more first own given joins agent suffixes settings pages batch left most fronts x y z (stood x held) (made y later) one two far_y turn within small
 
       -- what the visits of the turn found, and of all
       abbrev found : State → List Visit → List Tuple
       found z visits = flat_map (found_by suffixes z.urls) visits
 
-      ground_more : (fault : FaultValue) (x y z : State) (held : HoldsState before.images was x) (later : HoldsState between.images mid y) (one : IsFrontState x y) (two : IsFrontState y z)
-          (far_y : Far x y) (turn : Turn y z) → HasGround {A = Unit {0}} (Err fault) settings (found z turn.visits) y z
-          → HasGround {A = Unit {0}} (Err fault) settings (found z (more x y z held later one two far_y turn).visits) x z
-      ground_more fault x y z held later one two far_y turn ground =
-          ground_then (Err fault) settings (found z turn.visits) (found z (more x y z held later one two far_y turn).visits) x y z one
-          (more_covers given agent suffixes settings pages batch left most fronts x y z (stood x held) (made y later) one two (wide x y far_y) (turned y z turn) within small) ground
+      ground_turn : (fault : FaultValue) (x y z : State) (held : HoldsState before.images was x) (later : HoldsState between.images mid y) (one : IsFrontState x y) (two : IsFrontState y z)
+          (far_y : Far x y) (turn : Turn y z) → HasGround {A = Unit {0}} (Err fault) suffixes settings (found z turn.visits) y z
+          → HasGround {A = Unit {0}} (Err fault) suffixes settings (found z (more x y z held later one two far_y turn).visits) x z
+      ground_turn fault x y z held later one two far_y turn ground =
+          ground_then (Err fault) suffixes settings (found z turn.visits) (found z (more x y z held later one two far_y turn).visits) x y z
+          (owe_then suffixes settings x y z (stood x held) (made y later) one two far_y.whole.judged.sent.0 far_y.whole.sent)
+          (more_covers first own given joins agent suffixes settings pages batch left most fronts x y z (stood x held) (made y later) one two far_y turn within small) ground
 
       -- Err
       pub runs_stop : (fault : FaultValue) → result ≡ Err fault → EndsAt news now after (Fault fault)
@@ -178,8 +187,9 @@ module _ {F : Type 0} {asked : F → ℕ} {gives : F → ℕ → Answers} {fault
             only = more x y z held later one two far_y turn.only;
             done = λ no. let not : ⊥ = cc in absurd not;
             limit = λ no. let not : ⊥ = cc in absurd not;
-            ground = ground_more fault x y z held later one two far_y turn.only
-                (ground_fault fault settings (found z turn.only.visits) y z (subst (λ (r : Result ℕ FaultValue). HasGround r settings (found z turn.only.visits) y z) is turn.ground));
+            ground = ground_turn fault x y z held later one two far_y turn.only
+                (ground_fault fault suffixes settings (found z turn.only.visits) y z
+                (subst (λ (r : Result ℕ FaultValue). HasGround r suffixes settings (found z turn.only.visits) y z) is turn.ground));
           })
           (λ x y z held later one two did may judged. let far_y = did judged in more x y z held later one two far_y (may far_y.known)))
 
@@ -191,9 +201,9 @@ module _ {F : Type 0} {asked : F → ℕ} {gives : F → ℕ → Answers} {fault
             (leads_then ⊥ (IsErrOf result Failed) _ _ _ _ _ _ was mid now before between after far.leads (λ no. no) step_at
             (λ x y z held later one two did turns judged.
             let far_y = did judged in
-            let all = subst (λ (r : Result ℕ FaultValue). Turns r (IsGivenBy asked gives mids news) agent suffixes settings most fronts afters y z) is (turns far_y.whole.judged) in
+            let all = subst (λ (r : Result ℕ FaultValue). Turns r own agent suffixes settings most fronts afters y z) is (turns far_y.whole.judged) in
             let turn = all far_y.known in
-            far_more given agent suffixes settings pages batch left most fronts x y z (stood x held) (made y later) one two (wide x y far_y) (turned y z turn.only) within small count afters turn.whole)
+            far_more first own given joins agent suffixes settings pages batch left most fronts x y z (stood x held) (made y later) one two far_y turn.only within small count afters turn.whole)
             (λ x y z held later one two did may judged. let far_y = did judged in more x y z held later one two far_y (may far_y.known)));
         drum = far.drum;
         first = far.first;

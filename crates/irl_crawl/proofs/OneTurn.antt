@@ -7,7 +7,7 @@ use Rattle.std.specs.List.Sorted.{IsPermutation}
 use Rattle.std.proofs.lemmas.List.{append-nil, length-map}
 use Rattle.std.proofs.lemmas.List.Sorted.{IsPermutation-map, IsPermutation-sym, IsPermutation-trans}
 use Rattle.irl_base.specs.declared.fault.Fault.{Fault}
-use Rattle.irl_base.specs.declared.fault.Fault.TheVariants.{Failed}
+use Rattle.irl_base.specs.declared.fault.Fault.TheVariants.{Damaged, Failed, Full}
 use Rattle.irl_bay.specs.Drum.{Drum}
 use Rattle.irl_disk.specs.Disk.{Files}
 use Rattle.irl_disk.specs.Images.{Told}
@@ -32,7 +32,7 @@ use Rattle.irl_key.specs.Web.{IsHost}
 use Rattle.irl_log.specs.Form.{IsNote}
 use Rattle.irl_offer.specs.declared.settings.Settings.{Settings}
 use Rattle.irl_polite.specs.Schedule.{Schedule}
-use Rattle.irl_record.specs.Widening.{Answers, Widens}
+use Rattle.irl_record.specs.Widening.{Answers}
 use Rattle.irl_reach.specs.Crawls.{IsCrawlStore, added_to, found_by}
 use Rattle.irl_schedule.proofs.Outcomes.{same_refusal}
 use Rattle.irl_yard.specs.declared.parts.Parts.{Parts}
@@ -43,7 +43,7 @@ use Rattle.irl_yard.specs.Holding.{HoldsOpen, HoldsState}
 use Rattle.irl_yard.specs.Passing.{front_in, suffixes_in}
 use Rattle.irl_yard.specs.Settling.{MaySettle}
 use Rattle.irl_yard.proofs.PassWhole.{front_is}
-use Rattle.irl_yard.proofs.States.{state_both, state_same}
+use Rattle.irl_yard.proofs.States.{state_both}
 use Rattle.irl_fetch.specs.Handling.{Handled, IsNoted, Noted, done_of, entered_of}
 use Rattle.irl_fetch.proofs.Notes.{host_short, host_some, text_short}
 use Rattle.irl_fetch.specs.declared.working.WorkLog.{WorkLog}
@@ -54,14 +54,17 @@ use Rattle.irl_crawl.specs.Loading.{AreNext, Loads}
 use Rattle.irl_crawl.specs.Offering.{HasOffers, OffersSome, OnlyOffers, offers_in}
 use Rattle.irl_crawl.specs.Settling.{IsSettling, Settles, settled_state}
 use Rattle.irl_crawl.specs.Turning.{MayTurn, OnlyTurns, Turns, TurnsWhole}
-use Rattle.irl_crawl.specs.Workers.{AreIdle, AreNotedIn, loaded}
+use Rattle.irl_crawl.specs.Sending.{SendsAll}
+use Rattle.irl_crawl.specs.Workers.{AreIdle, AreNotedIn, Given, loaded}
 use Rattle.irl_crawl.specs.Working.{HasBegunOne, HaveWorked}
 use Rattle.irl_crawl.proofs.Batches.{Covers, covers_among, covers_none, fills_among, ground_before}
 use Rattle.irl_crawl.proofs.Fronts.{AreTaken, taken_of_front}
-use Rattle.irl_crawl.proofs.Running.{turns_wider}
 use Rattle.irl_crawl.proofs.Leading.{leads_more_failed, leads_then, leads_wide}
-use Rattle.irl_crawl.proofs.Turning.{judges_turn, offers_found, offers_turn, turns_none, whole_notes_turn, whole_offers_turn, whole_turn}
-use Rattle.irl_crawl.proofs.Visits.{TurnOf, notes_from}
+use Rattle.irl_crawl.proofs.Rising.{MayMissFewer, WidensGiven}
+use Rattle.irl_crawl.proofs.Turning.{judges_turn, offers_found, offers_turn, turns_none, turns_wider, whole_notes_turn, whole_offers_turn, whole_turn}
+use Rattle.irl_crawl.proofs.Sent.{OweAlike}
+use Rattle.irl_crawl.proofs.Unsent.{owes, unsent_offered}
+use Rattle.irl_crawl.proofs.Visits.{TurnOf, begun_answered, begun_some, notes_from}
 
 -- ---- what may be settled
 numbers_done : (handled : List Handled) → map (λ (d : Done). d.number) (map done_of handled) ≡ map (λ (work : Work). work.number) (map (λ (one : Handled). one.work) handled)
@@ -109,21 +112,22 @@ ok_failed : {A : Type 0} (value : A) → IsErrOf {T = A} {E = Fault} (Ok value) 
 ok_failed value is = cc
 
 -- by equal settings
-pub offers_by : {A : Type 0} (result : Result A Fault) (entries : List Entered) (was now : Parts) (before after : Told) (settings other : Settings) → settings ≡ other
-    → Leads (IsErrOf result Failed) (OnlyOffers settings entries) (OffersSome result settings entries) was now before after
-    → Leads (IsErrOf result Failed) (OnlyOffers other entries) (OffersSome result other entries) was now before after
-offers_by result entries was now before after settings other same leads =
-    subst (λ (s : Settings). Leads (IsErrOf result Failed) (OnlyOffers s entries) (OffersSome result s entries) was now before after) same leads
+pub offers_by : {A : Type 0} (suffixes : List ℕ) (result : Result A Fault) (entries : List Entered) (was now : Parts) (before after : Told) (settings other : Settings) → settings ≡ other
+    → Leads (IsErrOf result Failed) (OnlyOffers settings entries) (OffersSome result suffixes settings entries) was now before after
+    → Leads (IsErrOf result Failed) (OnlyOffers other entries) (OffersSome result suffixes other entries) was now before after
+offers_by suffixes result entries was now before after settings other same leads =
+    subst (λ (s : Settings). Leads (IsErrOf result Failed) (OnlyOffers s entries) (OffersSome result suffixes s entries) was now before after) same leads
 
-pub settles_by : (result : Result ℕ Fault) (notes : List Note) (done : List Done) (was now : Parts) (before after : Told) (settings other : Settings) → settings ≡ other
-    → Leads (IsErrOf result Failed) (IsSettling settings notes done) (Settles result settings notes done) was now before after
-    → Leads (IsErrOf result Failed) (IsSettling other notes done) (Settles result other notes done) was now before after
-settles_by result notes done was now before after settings other same leads =
-    subst (λ (s : Settings). Leads (IsErrOf result Failed) (IsSettling s notes done) (Settles result s notes done) was now before after) same leads
+pub settles_by : (suffixes : List ℕ) (result : Result ℕ Fault) (notes : List Note) (done : List Done) (was now : Parts) (before after : Told) (settings other : Settings) → settings ≡ other
+    → Leads (IsErrOf result Failed) (IsSettling suffixes settings notes done) (Settles result suffixes settings notes done) was now before after
+    → Leads (IsErrOf result Failed) (IsSettling suffixes other notes done) (Settles result suffixes other notes done) was now before after
+settles_by suffixes result notes done was now before after settings other same leads =
+    subst (λ (s : Settings). Leads (IsErrOf result Failed) (IsSettling suffixes s notes done) (Settles result suffixes s notes done) was now before after) same leads
 
 -- ---- the whole
-module _ (agent suffixes : List ℕ) (most : ℕ) (olds befores afters : List Schedule) (gives wide : Answers) (wider : Widens gives wide) (first mid : Parts) (start loaded_then : Told)
-    (store : (x : State) → HoldsState start.images first x → IsCrawlStore first.urls.settings x) (suffixes_are : suffixes_in first.rest ≡ Some suffixes) where
+module _ (agent suffixes : List ℕ) (most : ℕ) (olds befores afters : List Schedule) (given wide : Given) (wider : WidensGiven given wide) (fewer : MayMissFewer given) (first mid : Parts)
+    (start loaded_then : Told)
+    (none_missed : wide.may_miss 0) (store : (x : State) → HoldsState start.images first x → IsCrawlStore first.urls.settings x) (suffixes_are : suffixes_in first.rest ≡ Some suffixes) where
   abbrev settings : Settings
   settings = first.urls.settings
 
@@ -134,7 +138,7 @@ module _ (agent suffixes : List ℕ) (most : ℕ) (olds befores afters : List Sc
   Did result = Turns result wide agent suffixes settings most olds afters
 
   unturned : (x y : State) → y ≡ x → OnlyTurns wide agent suffixes settings most x y
-  unturned x y same = subst (OnlyTurns wide agent suffixes settings most x) (sym same) (turns_none wide agent suffixes settings most x)
+  unturned x y same = subst (OnlyTurns wide agent suffixes settings most x) (sym same) (turns_none wide agent suffixes settings most x none_missed)
 
   -- what the visits of a turn found
   abbrev found : (x y : State) → OnlyTurns wide agent suffixes settings most x y → List Tuple
@@ -151,7 +155,7 @@ module _ (agent suffixes : List ℕ) (most : ℕ) (olds befores afters : List Sc
       record {
         only = only;
         whole = tt;
-        ground = ground_before (Err fault) (Err fault) settings [] (found x y only) x x y (λ other. same_refusal fault other) (state_same x) (λ n within. omega arith) loads.ground;
+        ground = record { full = λ n is. absurd (loads.ground.full n (same_refusal fault (Full n) is)); whole = λ f at is. loads.ground.whole f at (same_refusal fault (Damaged f at) is) };
       }))
 
   -- they are loaded,
@@ -161,8 +165,8 @@ module _ (agent suffixes : List ℕ) (most : ℕ) (olds befores afters : List Sc
     Loaded = Loads (Ok value) settings agent olds befores
 
     turn_of : (x y : State) → HoldsState start.images first x → Loaded x y → AreNotedIn agent x.events olds → (handled : List Handled) (noted : List Noted) (left : List Work) (part : List Entered)
-        → HaveWorked gives agent suffixes handled noted left befores → (part ≡ []) ⊎ HasBegunOne gives agent suffixes noted left part befores
-        → TurnOf gives agent suffixes settings most x befores handled noted left part
+        → HaveWorked given agent suffixes handled noted left befores → (part ≡ []) ⊎ HasBegunOne given.gives agent suffixes noted left part befores
+        → TurnOf given agent suffixes settings most x befores handled noted left part
     turn_of x y held loads known handled noted left part worked begun = record {
       store = store x held;
       begun = begun_of start.images settings first.rest x suffixes held.open_rest suffixes_are;
@@ -172,7 +176,9 @@ module _ (agent suffixes : List ℕ) (most : ℕ) (olds befores afters : List Sc
       first = subst (λ (front : List ℕ). AreFirst front most next.numbers) (front_is start.images first.urls first.rest x held.urls held.open_rest) next.first;
       each = next.each;
       worked = worked;
-      one_begun = begun;
+      one_begun = begun_some part begun;
+      begun_came = begun_answered part begun;
+      fewer = fewer;
     }
 
     module _ (now : Parts) (fetched_then : Told) where
@@ -180,18 +186,19 @@ module _ (agent suffixes : List ℕ) (most : ℕ) (olds befores afters : List Sc
       same_settings = loading.settings
 
       -- and the fetches refused,
-      pub not_fetched : (fault : Fault) → Fetches (Err fault) gives agent suffixes befores afters mid now loaded_then fetched_then
+      pub not_fetched : (fault : Fault) → Fetches (Err fault) given agent suffixes befores afters mid now loaded_then fetched_then
           → Leads (IsErrOf {T = ℕ} {E = Fault} (Err fault) Failed) May (Did (Err fault)) first now start fetched_then
       not_fetched fault fetches =
           leads_more_failed _ _ _ _ first now start fetched_then (same_refusal fault Failed) (same_refusal fault Failed)
           (leads_then _ _ _ _ _ _ May (Did (Err fault)) first mid now start loaded_then fetched_then loading (ok_failed value)
-          (offers_by {A = WorkLog} (Err fault) (entries_of fetches.handled fetches.part) mid now loaded_then fetched_then mid.urls.settings settings same_settings fetches.leads)
+          (offers_by {A = WorkLog} suffixes (Err fault) (entries_of fetches.handled fetches.part) mid now loaded_then fetched_then mid.urls.settings settings same_settings fetches.leads)
           (λ x y z held later front further loads offers known.
           let turn = turned x y z held front further loads loads.same offers.only known in
           record {
             only = turn.0;
             whole = tt;
-            ground = ground_before (Err fault) (Err fault) settings (offers_in (entries_of fetches.handled fetches.part)) (found x z turn.0) x y z (λ other. same_refusal fault other) front
+            ground = ground_before (Err fault) (Err fault) suffixes settings (offers_in (entries_of fetches.handled fetches.part)) (found x z turn.0) x y z (λ other. same_refusal fault other)
+                (subst (λ (s : State). OweAlike suffixes settings x s z.urls) (sym loads.same) (λ b within. refl))
                 (covers_among settings (offers_in (entries_of fetches.handled fetches.part)) (found x z turn.0) x y (ap (λ (s : State). s.urls.lists) loads.same) turn.1) offers.ground;
           })
           (λ x y z held later front further loads only known. (turned x y z held front further loads loads.same only known).0))
@@ -202,10 +209,10 @@ module _ (agent suffixes : List ℕ) (most : ℕ) (olds befores afters : List Sc
               let it = turn_of x y held loads known fetches.handled fetches.noted fetches.left fetches.part fetches.worked fetches.begun in
               let both = state_both x y z front further in
               let offered = subst (λ (s : State). OnlyOffers settings (entries_of fetches.handled fetches.part) s z) same only in
-              (turns_wider gives wide wider agent suffixes settings most x z (offers_turn it z both offered), offers_found it z both offered)
+              (turns_wider given wide wider agent suffixes settings most x z (offers_turn it z both offered), offers_found it z both offered)
 
       -- or all is fetched, and settled or not
-      module _ (log : WorkLog) (fetches : Fetches (Ok log) gives agent suffixes befores afters mid now loaded_then fetched_then) where
+      module _ (log : WorkLog) (fetches : Fetches (Ok log) given agent suffixes befores afters mid now loaded_then fetched_then) where
         abbrev handled : List Handled
         handled = fetches.handled
 
@@ -215,8 +222,8 @@ module _ (agent suffixes : List ℕ) (most : ℕ) (olds befores afters : List Sc
         abbrev entries : List Entered
         entries = flat_map entered_of handled
 
-        worked : HaveWorked gives agent suffixes handled noted [] befores
-        worked = subst (λ (left : List Work). HaveWorked gives agent suffixes handled noted left befores) fetches.whole.none_left fetches.worked
+        worked : HaveWorked given agent suffixes handled noted [] befores
+        worked = subst (λ (left : List Work). HaveWorked given agent suffixes handled noted left befores) fetches.whole.none_left fetches.worked
 
         all_entries : entries_of handled fetches.part ≡ entries
         all_entries = ap (λ (part : List Entered). entries ++ part) fetches.whole.no_part ∙ append-nil entries
@@ -231,7 +238,7 @@ module _ (agent suffixes : List ℕ) (most : ℕ) (olds befores afters : List Sc
         all_fetched : Leads (IsErrOf {T = WorkLog} {E = Fault} (Ok log) Failed) May HasAll first now start fetched_then
         all_fetched =
             leads_then _ _ _ _ _ _ May HasAll first mid now start loaded_then fetched_then loading (ok_failed value)
-            (offers_by {A = WorkLog} (Ok log) (entries_of handled fetches.part) mid now loaded_then fetched_then mid.urls.settings settings same_settings fetches.leads)
+            (offers_by {A = WorkLog} suffixes (Ok log) (entries_of handled fetches.part) mid now loaded_then fetched_then mid.urls.settings settings same_settings fetches.leads)
             (λ x y b held later front further loads offers. record {
               known = loads.known;
               works = subst (Loaded x) loads.same loads;
@@ -239,11 +246,11 @@ module _ (agent suffixes : List ℕ) (most : ℕ) (olds befores afters : List Sc
               offered = subst (λ (s : State). HasOffers entries s b) loads.same (subst (λ (es : List Entered). HasOffers es y b) all_entries offers.all);
             })
             (λ x y b held later front further loads only known.
-            turns_wider gives wide wider agent suffixes settings most x b
+            turns_wider given wide wider agent suffixes settings most x b
             (whole_offers_turn (turn_of x y held loads known handled noted [] [] worked (inl refl)) b (state_both x y b front further)
             (subst (λ (s : State). OnlyOffers settings entries s b) loads.same (subst (λ (es : List Entered). OnlyOffers settings es y b) all_entries only))))
 
-        it : (x b : State) → HoldsState start.images first x → HasAll x b → AreNotedIn agent x.events olds → TurnOf gives agent suffixes settings most x befores handled noted [] []
+        it : (x b : State) → HoldsState start.images first x → HasAll x b → AreNotedIn agent x.events olds → TurnOf given agent suffixes settings most x befores handled noted [] []
         it x b held all known = turn_of x x held all.works known handled noted [] [] worked (inl refl)
 
         abbrev kept : List Note
@@ -252,72 +259,79 @@ module _ (agent suffixes : List ℕ) (most : ℕ) (olds befores afters : List Sc
         abbrev came : List Done
         came = map done_of handled
 
-        may_settled : (x b y : State) → HoldsState start.images first x → IsFrontState x b → IsFrontState b y → HasAll x b → IsSettling settings kept came b y → May x y
+        may_settled : (x b y : State) → HoldsState start.images first x → IsFrontState x b → IsFrontState b y → HasAll x b → IsSettling suffixes settings kept came b y → May x y
         may_settled x b y held front further all (inl same) known =
-            turns_wider gives wide wider agent suffixes settings most x y
+            turns_wider given wide wider agent suffixes settings most x y
             (whole_offers_turn (it x b held all known) y (state_both x b y front further) (subst (OnlyOffers settings entries x) (sym same) all.only))
         may_settled x b y held front further all (inr (inl noted_are)) known =
-            turns_wider gives wide wider agent suffixes settings most x y (whole_notes_turn (it x b held all known) b y (state_both x b y front further) all.only noted_are)
+            turns_wider given wide wider agent suffixes settings most x y (whole_notes_turn (it x b held all known) b y (state_both x b y front further) all.only noted_are)
         may_settled x b y held front further all (inr (inr judges)) known =
-            turns_wider gives wide wider agent suffixes settings most x y
+            turns_wider given wide wider agent suffixes settings most x y
             (judges_turn (it x b held all known) b (with_notes kept b) (settled_state kept came b) front all.only all.offered refl refl y (state_both x b y front further) judges)
 
         -- all of it, by the answer
         did_settled : (result : Result ℕ Fault) (x b y : State) → HoldsState start.images first x → IsFrontState x b → IsFrontState b y → HasAll x b
-            → IsSettling settings kept came b y → OnOk result (OnlyJudges settings (settled_state kept came b) y × IsJudged settings y) → IfOk result (λ count. count ≡ length handled)
+            → IsSettling suffixes settings kept came b y → OnOk result (OnlyJudges suffixes settings (settled_state kept came b) y × IsJudged settings y × SendsAll suffixes settings b y)
+            → IfOk result (λ count. count ≡ length handled)
             → AreNotedIn agent x.events olds → (only : OnlyTurns wide agent suffixes settings most x y) × IfOk result (λ count. TurnsWhole count agent suffixes settings only.visits afters x y)
         did_settled (Ok count) x b y held front further all is whole number known =
             let judged =
-            whole_turn (it x b held all known) b (with_notes kept b) (settled_state kept came b) front all.only all.offered refl refl y (state_both x b y front further) whole.0 afters whole.1
+            whole_turn (it x b held all known) b (with_notes kept b) (settled_state kept came b) front all.only all.offered refl refl y (state_both x b y front further) whole.0 afters whole.1 whole.2
             fetches.whole.known in (
-              turns_wider gives wide wider agent suffixes settings most x y judged.0,
+              turns_wider given wide wider agent suffixes settings most x y judged.0,
               subst (λ (n : ℕ). TurnsWhole n agent suffixes settings judged.0.visits afters x y) (sym number) judged.1,
             )
         did_settled (Err fault) x b y held front further all is whole number known = (may_settled x b y held front further all is known, tt)
 
         pub settled_after : (result : Result ℕ Fault) (last : Parts) (settled_then : Told)
-            → Leads (IsErrOf result Failed) (IsSettling now.urls.settings log.notes.items log.done.items) (Settles result now.urls.settings log.notes.items log.done.items) now last fetched_then
+            → Leads (IsErrOf result Failed) (IsSettling suffixes now.urls.settings log.notes.items log.done.items) (Settles result suffixes now.urls.settings log.notes.items log.done.items) now last
+            fetched_then
             settled_then
             → IfOk result (λ count. count ≡ length log.done.items) → Leads (IsErrOf result Failed) May (Did result) first last start settled_then
         settled_after result last settled_then settling number =
             let both : now.urls.settings ≡ settings = fetches.leads.settings ∙ same_settings in
             let count : IfOk result (λ count. count ≡ length handled) = counted result number in
             leads_then _ _ _ _ _ _ May (Did result) first now last start fetched_then settled_then all_fetched (ok_failed log)
-            (settles_by result log.notes.items log.done.items now last fetched_then settled_then now.urls.settings settings both settling)
+            (settles_by suffixes result log.notes.items log.done.items now last fetched_then settled_then now.urls.settings settings both settling)
             (λ x b y held later front further all settles known.
             let is = is_settling b y settles.is in
             let turn = did_settled result x b y held front further all is (judged result b y settles.all) count known in
             record {
               only = turn.0;
               whole = turn.1;
-              ground = ground_before result result settings [] (found x y turn.0) x b y (λ fault answered. answered) front (covered x b y later both all is turn.0) settles.ground;
+              ground = ground_before result result suffixes settings [] (found x y turn.0) x b y (λ fault answered. answered)
+                  (owes suffixes settings x b y.urls (unsent_offered settings x b all.only.others))
+                  (covered x b y later both all is turn.0) settles.ground;
             })
             (λ x b y held later front further all is. may_settled x b y held front further all (is_settling b y is))
           where
-            is_settling : (b y : State) → IsSettling settings log.notes.items log.done.items b y → IsSettling settings kept came b y
+            is_settling : (b y : State) → IsSettling suffixes settings log.notes.items log.done.items b y → IsSettling suffixes settings kept came b y
             is_settling b y is =
-                subst (λ (ns : List Note). IsSettling settings ns came b y) fetches.whole.notes (subst (λ (ds : List Done). IsSettling settings log.notes.items ds b y) fetches.whole.done is)
+                subst (λ (ns : List Note). IsSettling suffixes settings ns came b y) fetches.whole.notes
+                (subst (λ (ds : List Done). IsSettling suffixes settings log.notes.items ds b y) fetches.whole.done is)
 
             counted : (answer : Result ℕ Fault) → IfOk answer (λ count. count ≡ length log.done.items) → IfOk answer (λ count. count ≡ length handled)
             counted (Ok count) number = number ∙ ap length fetches.whole.done ∙ length-map handled done_of
             counted (Err fault) number = tt
 
-            judged : (answer : Result ℕ Fault) (b y : State) → OnOk answer (OnlyJudges settings (settled_state log.notes.items log.done.items b) y × IsJudged settings y)
-                → OnOk answer (OnlyJudges settings (settled_state kept came b) y × IsJudged settings y)
+            judged : (answer : Result ℕ Fault) (b y : State) → OnOk answer (OnlyJudges suffixes settings (settled_state log.notes.items log.done.items b) y × IsJudged settings y
+                × SendsAll suffixes settings b y)
+                → OnOk answer (OnlyJudges suffixes settings (settled_state kept came b) y × IsJudged settings y × SendsAll suffixes settings b y)
             judged (Ok count) b y all = (
-              subst (λ (ns : List Note). OnlyJudges settings (settled_state ns came b) y) fetches.whole.notes
-                  (subst (λ (ds : List Done). OnlyJudges settings (settled_state log.notes.items ds b) y) fetches.whole.done all.0),
+              subst (λ (ns : List Note). OnlyJudges suffixes settings (settled_state ns came b) y) fetches.whole.notes
+                  (subst (λ (ds : List Done). OnlyJudges suffixes settings (settled_state log.notes.items ds b) y) fetches.whole.done all.0),
               all.1,
+              all.2,
             )
             judged (Err fault) b y all = tt
 
-            settled_lists : (b y : State) → IsSettling settings kept came b y → y.urls.lists ≡ b.urls.lists
+            settled_lists : (b y : State) → IsSettling suffixes settings kept came b y → y.urls.lists ≡ b.urls.lists
             settled_lists b y (inl same) = ap (λ (s : State). s.urls.lists) same
             settled_lists b y (inr (inl noted_are)) = ap (λ (s : State). s.urls.lists) noted_are
             settled_lists b y (inr (inr judges)) = judges.lists
 
             -- the lists that were settled have no more than what the visits found
-            covered : (x b y : State) → HoldsState fetched_then.images now b → now.urls.settings ≡ settings → HasAll x b → IsSettling settings kept came b y
+            covered : (x b y : State) → HoldsState fetched_then.images now b → now.urls.settings ≡ settings → HasAll x b → IsSettling suffixes settings kept came b y
                 → (only : OnlyTurns wide agent suffixes settings most x y) → Covers settings [] (found x y only) x b
             covered x b y later both all is only =
                 let book = later.urls.urls_hold.book_is in
@@ -326,28 +340,29 @@ module _ (agent suffixes : List ℕ) (most : ℕ) (olds befores afters : List Sc
                 (subst (λ (lists : List (List Tuple)). IsAmong (added_to x.urls.lists lists) (found x y only)) (settled_lists b y is) only.crawls.offers))
 
 -- ---- by equal names of the same
-pub fetches_for : (result : Result WorkLog Fault) (gives : Answers) (agent agent' suffixes suffixes' : List ℕ) (befores afters : List Schedule) (was now : Parts) (before after : Told) → agent ≡ agent'
-    → suffixes ≡ suffixes' → Fetches result gives agent suffixes befores afters was now before after → Fetches result gives agent' suffixes' befores afters was now before after
-fetches_for result gives agent agent' suffixes suffixes' befores afters was now before after same_agent same_suffixes fetches =
-    subst (λ (a : List ℕ). Fetches result gives a suffixes' befores afters was now before after) same_agent
-    (subst (λ (s : List ℕ). Fetches result gives agent s befores afters was now before after) same_suffixes fetches)
+pub fetches_for : (result : Result WorkLog Fault) (given : Given) (agent agent' suffixes suffixes' : List ℕ) (befores afters : List Schedule) (was now : Parts) (before after : Told) → agent ≡ agent'
+    → suffixes ≡ suffixes' → Fetches result given agent suffixes befores afters was now before after → Fetches result given agent' suffixes' befores afters was now before after
+fetches_for result given agent agent' suffixes suffixes' befores afters was now before after same_agent same_suffixes fetches =
+    subst (λ (a : List ℕ). Fetches result given a suffixes' befores afters was now before after) same_agent
+    (subst (λ (s : List ℕ). Fetches result given agent s befores afters was now before after) same_suffixes fetches)
 
 -- ---- between two turns
-pub idle_after : (log : WorkLog) (gives : Answers) (count : ℕ) (agent suffixes : List ℕ) (befores afters : List Schedule) (was now : Parts) (before after : Told) → length befores ≡ count
-    → Fetches (Ok log) gives agent suffixes befores afters was now before after → AreIdle count agent afters
-idle_after log gives count agent suffixes befores afters was now before after many fetches =
+pub idle_after : (log : WorkLog) (given : Given) (count : ℕ) (agent suffixes : List ℕ) (befores afters : List Schedule) (was now : Parts) (before after : Told) → length befores ≡ count
+    → Fetches (Ok log) given agent suffixes befores afters was now before after → AreIdle count agent afters
+idle_after log given count agent suffixes befores afters was now before after many fetches =
     record { count_is = fetches.count ∙ many; agents = fetches.agents; items = fetches.whole.items }
 
-pub settles_for : (result : Result ℕ Fault) (settings : Settings) (notes notes' : List Note) (done done' : List Done) (was now : Parts) (before after : Told) → notes ≡ notes' → done ≡ done'
-    → Leads (IsErrOf result Failed) (IsSettling settings notes done) (Settles result settings notes done) was now before after
-    → Leads (IsErrOf result Failed) (IsSettling settings notes' done') (Settles result settings notes' done') was now before after
-settles_for result settings notes notes' done done' was now before after same_notes same_done leads =
-    subst (λ (ns : List Note). Leads (IsErrOf result Failed) (IsSettling settings ns done') (Settles result settings ns done') was now before after) same_notes
-    (subst (λ (ds : List Done). Leads (IsErrOf result Failed) (IsSettling settings notes ds) (Settles result settings notes ds) was now before after) same_done leads)
+pub settles_for : (suffixes : List ℕ) (result : Result ℕ Fault) (settings : Settings) (notes notes' : List Note) (done done' : List Done) (was now : Parts) (before after : Told) → notes ≡ notes'
+    → done ≡ done'
+    → Leads (IsErrOf result Failed) (IsSettling suffixes settings notes done) (Settles result suffixes settings notes done) was now before after
+    → Leads (IsErrOf result Failed) (IsSettling suffixes settings notes' done') (Settles result suffixes settings notes' done') was now before after
+settles_for suffixes result settings notes notes' done done' was now before after same_notes same_done leads =
+    subst (λ (ns : List Note). Leads (IsErrOf result Failed) (IsSettling suffixes settings ns done') (Settles result suffixes settings ns done') was now before after) same_notes
+    (subst (λ (ds : List Done). Leads (IsErrOf result Failed) (IsSettling suffixes settings notes ds) (Settles result suffixes settings notes ds) was now before after) same_done leads)
 
 -- ---- what a turn hands to its settle
-module _ (most : ℕ) (gives : Answers) (agent suffixes : List ℕ) (befores afters : List Schedule) (was mid now : Parts) (before after : Told) (log : WorkLog)
-    (fetches : Fetches (Ok log) gives agent suffixes befores afters mid now before after) (next : AreNext (front_in was.rest) most befores) where
+module _ (most : ℕ) (given : Given) (agent suffixes : List ℕ) (befores afters : List Schedule) (was mid now : Parts) (before after : Told) (log : WorkLog)
+    (fetches : Fetches (Ok log) given agent suffixes befores afters mid now before after) (next : AreNext (front_in was.rest) most befores) where
   taken_done : AreTaken (front_in was.rest) most (map (λ (d : Done). d.number) log.done.items)
   taken_done =
       subst (λ (ds : List Done). AreTaken (front_in was.rest) most (map (λ (d : Done). d.number) ds)) (sym fetches.whole.done)

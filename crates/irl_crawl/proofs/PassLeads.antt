@@ -1,29 +1,27 @@
 -- A pass of an open store, as a part of a crawl.
-use Rattle.std.proofs.Common.{◌≡◌, ◌∙◌, ℕ, true, List, [], Option, None, Some, Result, Ok, Err, IfOk, OnOk, OnErr, IsErrOf, refl, sym, ap, subst}
+use Rattle.std.proofs.Common.{◌≡◌, ◌∙◌, ℕ, true, Option, None, Some, Result, Ok, Err, IsErrOf, refl, sym, ap, subst}
 use Rattle.std.specs.Prelude.{is_some}
 use Rattle.irl_base.specs.declared.fault.Fault.{Fault}
-use Rattle.irl_base.specs.declared.fault.Fault.TheVariants.{Damaged, Failed, Full, Memory}
-use Rattle.irl_bay.specs.Drum.{Drum}
+use Rattle.irl_base.specs.declared.fault.Fault.TheVariants.{Failed}
+use Rattle.irl_bay.specs.Drum.{Drum, IsDrum}
 use Rattle.irl_disk.specs.Disk.{Files, TellsBy}
 use Rattle.irl_disk.specs.Images.{IsConsistent, Told}
 use Rattle.irl_events.specs.State.{State}
 use Rattle.irl_offer.specs.declared.settings.Kind.TheVariants.{Crawl as CrawlKind}
 use Rattle.irl_offer.specs.declared.settings.Settings.{Settings}
 use Rattle.irl_schedule.proofs.Outcomes.{ok_gives}
-use Rattle.irl_ledger.specs.declared.ledger.Ledger.{Ledger}
 use Rattle.irl_yard.specs.declared.parts.Parts.{Parts}
 use Rattle.irl_yard.specs.declared.parts.Rest.{Rest}
-use Rattle.irl_yard.specs.declared.parts.Rest.TheVariants.{Plain, Crawl}
 use Rattle.irl_yard.specs.Holding.{HoldsState, IsOpenRest, StaysSound}
-use Rattle.irl_yard.specs.Leading.{FailsAt, IsEither, LeadsOrStays, LeadsTo}
-use Rattle.irl_yard.specs.Passing.{MayPass, PassesState, front_in, suffixes_in, with_pass}
+use Rattle.irl_yard.specs.Leading.{IsEither, LeadsOrStays, LeadsTo}
+use Rattle.irl_yard.specs.Passing.{PassesState, suffixes_in, with_pass}
 use Rattle.irl_yard.specs.Sending.{HasBegun}
 use Rattle.irl_yard.proofs.Begun.{ledger_in, pass_begun, pass_sent}
 use Rattle.irl_yard.proofs.CallsLead.{pass_leads}
 use Rattle.irl_yard.proofs.MayAsk.{begun_known}
 use Rattle.irl_yard.proofs.SentWhole.{crawl_in}
 use Rattle.irl_crawl.proofs.Leading.{leads_more_failed, leads_wide}
-use Rattle.irl_crawl.specs.Leading.{HasGround, IsSent, KeepsBegun, Leads}
+use Rattle.irl_crawl.specs.Leading.{IsSent, KeepsBegun, Leads, NeedsNoGround}
 use Rattle.irl_crawl.specs.Running.{Passes}
 
 told_on : (step : Files → Files → Type 0) (old new : Option Files) (files : Files) → TellsBy step old new → old ≡ Some files → (later : Files) × (new ≡ Some later)
@@ -38,19 +36,22 @@ module _ {S : Type 0} (tells : S → Told) (result : Result ℕ Fault) (was now 
   abbrev Either : State → State → Type 0
   Either x y = IsEither x (with_pass settings x) y
 
-  made : (x : State) (answer : Result ℕ Fault) → ((y : State) → HasGround answer settings [] x y) → (IsErrOf answer Failed → ⊥)
+  made : (x : State) (answer : Result ℕ Fault) → NeedsNoGround answer → (IsErrOf answer Failed → ⊥)
       → LeadsOrStays answer x (with_pass settings x) now (tells before) (tells after)
       → (y : State) × Passes answer settings x y × LeadsTo x y now (tells before) (tells after)
-  made x (Ok n) ground still leads = (with_pass settings x, record { done = refl; kept = tt; ground = ground (with_pass settings x) }, leads.done)
-  made x (Err fault) ground still leads = (x, record { done = tt; kept = refl; ground = ground x }, leads.kept still)
+  made x (Ok n) ground still leads = (with_pass settings x, record { done = refl; kept = tt; ground = ground }, leads.done)
+  made x (Err fault) ground still leads = (x, record { done = tt; kept = refl; ground = ground }, leads.kept still)
+
+  drum : IsDrum was.urls
+  drum = subst IsDrum passes.urls goes_on.drum
 
   leads_by : (files : Files) → (tells before).files ≡ Some files → (x : State) → HoldsState (tells before).images was x → LeadsOrStays result x (with_pass settings x) now (tells before) (tells after)
-  leads_by files told x held = pass_leads tells result was now x before after files law told held passes
+  leads_by files told x held = pass_leads tells result was now x before after files drum law told held passes
 
   pub pass_part : Leads (IsErrOf result Failed) Either (Passes result settings) was now (tells before) (tells after)
   pass_part = record {
     leads = λ still files told x held.
-        made x result (λ y. record { full = λ n is. absurd (passes.full n is); whole = λ f at is. passes.whole f at is files told x held }) still (leads_by files told x held);
+        made x result (record { full = passes.full; whole = λ f at is. passes.whole f at is files told x held }) still (leads_by files told x held);
     fails = λ failure files told x held. (leads_by files told x held).failed failure;
     told = λ files told. told_on _ (tells before).files (tells after).files files passes.others.told told;
     settings = ap (λ (d : Drum). d.settings) passes.urls;

@@ -1,6 +1,6 @@
 -- A pass is a turn that visits nothing.
-use Rattle.std.proofs.Common.{◌≡◌, ◌∙◌, ℕ, ◌≤◌, List, [], ◌∷◌, ◌++◌, length, Result, Ok, Err, IfOk, OnOk, OnErr, refl, sym, ap, subst, arith, inl, inr}
-use Rattle.std.specs.List.{Contains, flat_map}
+use Rattle.std.proofs.Common.{◌≡◌, ◌∙◌, ℕ, ◌≤◌, List, [], ◌∷◌, length, Result, Ok, Err, IfOk, OnOk, refl, sym, ap, subst, arith, inl, inr}
+use Rattle.std.specs.List.{flat_map}
 use Rattle.std.specs.List.Sorted.{IsPermutation}
 use Rattle.std.proofs.lemmas.List.Sorted.{IsPermutation-refl}
 use Rattle.irl_base.specs.declared.fault.Fault.{Fault}
@@ -12,34 +12,38 @@ use Rattle.irl_offer.specs.declared.settings.Settings.{Settings}
 use Rattle.irl_polite.specs.Schedule.{Schedule}
 use Rattle.irl_reach.proofs.Members.{flat_left}
 use Rattle.irl_reach.proofs.Turns.{added_same, crawls_event}
-use Rattle.irl_reach.specs.Along.{notes_of, settled_in}
-use Rattle.irl_reach.specs.Crawls.{found_by}
-use Rattle.irl_record.specs.Widening.{Answers}
+use Rattle.irl_reach.specs.Along.{notes_in, notes_of, settled_in}
+use Rattle.irl_reach.specs.Crawls.{IsCrawlStore, found_by}
 use Rattle.irl_yard.specs.Adding.{with_event}
 use Rattle.irl_yard.specs.Leading.{IsEither}
 use Rattle.irl_yard.specs.Passing.{with_pass}
-use Rattle.irl_crawl.proofs.Batches.{ground_any, grown_alike, grown_more}
-use Rattle.irl_crawl.proofs.Turning.{since_are, turns_none}
+use Rattle.irl_crawl.proofs.Batches.{ground_none, grown_alike, grown_more}
+use Rattle.irl_crawl.proofs.Resting.{rests_none, since_are}
+use Rattle.irl_crawl.proofs.Sent.{sends_all_from, sends_none, sends_same, sent_same}
+use Rattle.irl_crawl.proofs.Turning.{turns_none}
 use Rattle.irl_crawl.specs.Judging.{IsJudged}
 use Rattle.irl_crawl.specs.Running.{Passes}
+use Rattle.irl_crawl.specs.Sending.{SendsAll}
 use Rattle.irl_crawl.specs.Turning.{AreBatches, OnlyTurns, Turns, TurnsWhole, events_since, input_of, turns_in}
-use Rattle.irl_crawl.specs.Workers.{AreNotedIn}
+use Rattle.irl_crawl.specs.Workers.{AreNotedIn, Given}
 
-module _ (gives : Answers) (agent suffixes : List ℕ) (settings : Settings) (most : ℕ) (x : State) (judged : ℕ) (places : List Place) where
+module _ (given : Given) (zero : given.may_miss 0) (agent suffixes : List ℕ) (settings : Settings) (most : ℕ) (x : State) (judged : ℕ) (places : List Place) where
   abbrev passed : State
   passed = with_event (Pass judged) places x
 
   since : events_since x passed ≡ (Pass judged, places) ∷ []
   since = since_are x passed ((Pass judged, places) ∷ []) refl
 
-  pub pass_turns : OnlyTurns gives agent suffixes settings most x passed
+  pub pass_turns : OnlyTurns given agent suffixes settings most x passed
   pass_turns = record {
     visits = [];
-    crawls = crawls_event (input_of suffixes []) gives agent [] x passed (Pass judged) places refl refl tt;
+    crawls = crawls_event (input_of suffixes []) given.gives agent [] x passed (Pass judged) places refl refl tt;
+    rests = rests_none given zero (events_since x passed) (ap notes_in since);
     front = tt;
     batch = subst (AreBatches most) (sym since) (omega arith, tt);
     settled = subst (λ (hs : List Happened). length (settled_in hs) ≤ most) (sym since) (omega arith);
     grows = grown_more settings 0 (turns_in (events_since x passed)) x passed (omega arith) (grown_alike settings x passed refl refl);
+    sends = sends_same suffixes settings x passed refl;
   }
 
   still_noted : (fronts : List Schedule) → AreNotedIn agent x.events fronts → AreNotedIn agent passed.events fronts
@@ -53,31 +57,41 @@ module _ (gives : Answers) (agent suffixes : List ℕ) (settings : Settings) (mo
     sent = (ap (λ (p : Progress). p.cuts) (after_more (before_all settings.queues settings.buckets) x.events (Pass judged, places)) ∙ is.sent.0, is.sent.1);
   }
 
-  pub pass_whole : (fronts : List Schedule) → IsJudged settings x → AreNotedIn agent x.events fronts → TurnsWhole 0 agent suffixes settings pass_turns.visits fronts x passed
+  still_sent : IsCrawlStore settings passed → IsJudged settings x → SendsAll suffixes settings x passed
+  still_sent made is =
+      sends_all_from suffixes settings x passed passed refl (sent_same settings x passed ((Pass judged, places) ∷ []) refl (tt, tt))
+      (sends_none suffixes settings passed made (still_judged is).sent.0)
+
+  pub pass_whole : (fronts : List Schedule) → IsCrawlStore settings passed → IsJudged settings x → AreNotedIn agent x.events fronts
+      → TurnsWhole 0 agent suffixes settings pass_turns.visits fronts x passed
   unfolding pass_turns
-  pass_whole fronts is noted = record {
+  pass_whole fronts made is noted = record {
     leaves = record {
       offers = subst (λ (l : List _). IsPermutation l []) (sym (added_same x.urls.lists)) (IsPermutation-refl []);
       settled = tt;
     };
     count_is = ap (λ (hs : List Happened). length (settled_in hs)) (sym since);
     judged = still_judged is;
+    sent = still_sent made is;
     known = still_noted fronts noted;
   }
 
 -- by the answer
-module _ (gives : Answers) (agent suffixes : List ℕ) (settings : Settings) (most : ℕ) (x y : State) (fronts : List Schedule) where
-  pub either_turns : IsEither x (with_pass settings x) y → OnlyTurns gives agent suffixes settings most x y
-  either_turns (inl same) = subst (OnlyTurns gives agent suffixes settings most x) (sym same) (turns_none gives agent suffixes settings most x)
-  either_turns (inr pass) = subst (OnlyTurns gives agent suffixes settings most x) (sym pass) (pass_turns gives agent suffixes settings most x _ _)
+module _ (given : Given) (zero : given.may_miss 0) (agent suffixes : List ℕ) (settings : Settings) (most : ℕ) (x y : State) (fronts : List Schedule) where
+  pub either_turns : IsEither x (with_pass settings x) y → OnlyTurns given agent suffixes settings most x y
+  either_turns (inl same) = subst (OnlyTurns given agent suffixes settings most x) (sym same) (turns_none given agent suffixes settings most x zero)
+  either_turns (inr pass) = subst (OnlyTurns given agent suffixes settings most x) (sym pass) (pass_turns given zero agent suffixes settings most x _ _)
 
-  pub pass_step : (result : Result ℕ Fault) → IfOk result (λ count. count ≡ 0) → Passes result settings x y → IsJudged settings x → Turns result gives agent suffixes settings most fronts fronts x y
-  pass_step (Ok count) none passes is noted =
-      let turn : (only : OnlyTurns gives agent suffixes settings most x y) × TurnsWhole count agent suffixes settings only.visits fronts x y =
-      subst (λ (z : State). (only : OnlyTurns gives agent suffixes settings most x z) × TurnsWhole count agent suffixes settings only.visits fronts x z) (sym passes.done)
-      (subst (λ n. (only : OnlyTurns gives agent suffixes settings most x (with_pass settings x)) × TurnsWhole n agent suffixes settings only.visits fronts x (with_pass settings x)) (sym none)
-      (pass_turns gives agent suffixes settings most x _ _, pass_whole gives agent suffixes settings most x _ _ fronts is noted)) in
-      record { only = turn.0; whole = turn.1; ground = ground_any (Ok count) settings (flat_map (found_by suffixes y.urls) turn.0.visits) x y passes.ground }
-  pass_step (Err fault) none passes is noted =
+  pub pass_step : (result : Result ℕ Fault) → IfOk result (λ count. count ≡ 0) → OnOk result (IsCrawlStore settings y) → Passes result settings x y → IsJudged settings x
+      → Turns result given agent suffixes settings most fronts fronts x y
+  pass_step (Ok count) none made passes is noted =
+      let turn : (only : OnlyTurns given agent suffixes settings most x y) × TurnsWhole count agent suffixes settings only.visits fronts x y =
+      subst (λ (z : State). (only : OnlyTurns given agent suffixes settings most x z) × TurnsWhole count agent suffixes settings only.visits fronts x z) (sym passes.done)
+      (subst (λ n. (only : OnlyTurns given agent suffixes settings most x (with_pass settings x)) × TurnsWhole n agent suffixes settings only.visits fronts x (with_pass settings x)) (sym none) (
+        pass_turns given zero agent suffixes settings most x _ _,
+        pass_whole given zero agent suffixes settings most x _ _ fronts (subst (IsCrawlStore settings) passes.done made) is noted,
+      )) in
+      record { only = turn.0; whole = turn.1; ground = ground_none (Ok count) suffixes settings (flat_map (found_by suffixes y.urls) turn.0.visits) x y passes.ground }
+  pass_step (Err fault) none made passes is noted =
       let only = either_turns (inl passes.kept) in
-      record { only = only; whole = tt; ground = ground_any (Err fault) settings (flat_map (found_by suffixes y.urls) only.visits) x y passes.ground }
+      record { only = only; whole = tt; ground = ground_none (Err fault) suffixes settings (flat_map (found_by suffixes y.urls) only.visits) x y passes.ground }

@@ -10,8 +10,9 @@ use Rattle.irl_base.specs.declared.fault.Fault.{Fault}
 use Rattle.irl_base.specs.declared.fault.Fault.TheVariants.{Failed, Memory}
 use Rattle.irl_bay.specs.Drum.{IsDrum}
 use Rattle.irl_disk.specs.Images.{IsConsistent, Told}
+use Rattle.irl_events.specs.Events.{progress}
 use Rattle.irl_events.specs.State.{State}
-use Rattle.irl_model.specs.Book.{IsPrefixOf}
+use Rattle.irl_model.specs.Book.{Book, IsPrefixOf}
 use Rattle.irl_offer.specs.Offering.{Entered}
 use Rattle.irl_offer.specs.Tuple.{Tuple}
 use Rattle.irl_offer.specs.declared.receipt.Receipt.{Receipt}
@@ -19,7 +20,6 @@ use Rattle.irl_offer.specs.declared.settings.Settings.{Settings}
 use Rattle.irl_reach.specs.Crawls.{added_to}
 use Rattle.irl_reach.proofs.Turns.{added_same}
 use Rattle.irl_schedule.proofs.Outcomes.{ok_weaker}
-use Rattle.irl_yard.proofs.States.{state_same}
 use Rattle.irl_yard.specs.declared.parts.Parts.{Parts}
 use Rattle.irl_yard.specs.Holding.{IsOpenRest, IsSound}
 use Rattle.irl_yard.specs.Passing.{front_in, suffixes_in}
@@ -31,9 +31,11 @@ use Rattle.irl_crawl.specs.Judging.{IsJudged, Judges, OnlyJudges}
 use Rattle.irl_crawl.specs.Leading.{IsOpen, IsSent, KeepsFront, Leads}
 use Rattle.irl_crawl.specs.Offering.{OffersSome, OnlyOffers, OnlySeeds, Seeds, offers_in}
 use Rattle.irl_crawl.specs.Seeding.{OffersSeeds}
-use Rattle.irl_crawl.proofs.Batches.{covers_among, covers_none, fills_among, ground_then, grown_both, grown_more, grown_same}
+use Rattle.irl_crawl.specs.Sending.{SendsAll}
+use Rattle.irl_crawl.proofs.Batches.{covers_none, fills_among, ground_more, ground_then, grown_both, grown_more, grown_same}
 use Rattle.irl_crawl.proofs.Leading.{always, leads_none, leads_then, leads_wide, never}
 use Rattle.irl_crawl.proofs.Lifting.{IsBehind, closed_behind, closed_leads, rest_kept, served_behind}
+use Rattle.irl_crawl.proofs.Sent.{OweAlike, owe_from, sends_all_by, sends_by, sends_same}
 
 -- ---- one seed after another
 -- the first seeds were offered, so many as these
@@ -112,26 +114,33 @@ among_front some all front = record { rest = front.0; is = subst (IsPermutation 
 among_seeds : (seeds : List (List ℕ)) (added offers : List Tuple) → IsAmong added offers → IsPrefixOf offers (map (offer_from 0) seeds) → IsAmong added (map (offer_from 0) seeds)
 among_seeds seeds added offers among some = among_trans among (among_front offers (map (offer_from 0) seeds) some)
 
-only_seeds : (settings : Settings) (seeds : List (List ℕ)) (entries : List Entered) (x y : State) → IsPrefixOf (offers_in entries) (map (offer_from 0) seeds) → OnlyOffers settings entries x y
-    → OnlySeeds settings seeds x y
-only_seeds settings seeds entries x y some only = record {
+only_seeds : (suffixes : List ℕ) (settings : Settings) (seeds : List (List ℕ)) (entries : List Entered) (x y : State) → IsPrefixOf (offers_in entries) (map (offer_from 0) seeds)
+    → OnlyOffers settings entries x y → OnlySeeds suffixes settings seeds x y
+only_seeds suffixes settings seeds entries x y some only = record {
   grows = grown_more settings 0 1 x y (omega arith) only.grows;
   among = among_seeds seeds (added_to x.urls.lists y.urls.lists) (offers_in entries) only.among some;
   more = [];
   events = ap (λ (s : State). s.events) only.others ∙ sym (append-nil x.events);
   pairs = tt;
+  sends = sends_same suffixes settings x y (ap (λ (s : State). s.pairs) only.others);
 }
 
+-- of the URLs of a later state, both states are to have the same pairs: offers of URLs send none
+pub offers_owe : (suffixes : List ℕ) (settings : Settings) (entries : List Entered) (x y : State) → OnlyOffers settings entries x y → (urls : Book) → OweAlike suffixes settings x y urls
+offers_owe suffixes settings entries x y only =
+    owe_from suffixes settings x y (ap (λ (s : State). s.pairs) only.others) (ap (λ (s : State). (progress settings.queues settings.buckets s.events).sent) only.others)
+
 -- and then judging
-only_judged : (settings : Settings) (seeds : List (List ℕ)) (entries : List Entered) (x y z : State) → IsPrefixOf (offers_in entries) (map (offer_from 0) seeds) → OnlyOffers settings entries x y
-    → OnlyJudges settings y z → OnlySeeds settings seeds x z
-only_judged settings seeds entries x y z some only judges = record {
+only_judged : (suffixes : List ℕ) (settings : Settings) (seeds : List (List ℕ)) (entries : List Entered) (x y z : State) → IsPrefixOf (offers_in entries) (map (offer_from 0) seeds)
+    → OnlyOffers settings entries x y → OnlyJudges suffixes settings y z → OnlySeeds suffixes settings seeds x z
+only_judged suffixes settings seeds entries x y z some only judges = record {
   grows = grown_more settings (0 + 1) 1 x z (omega arith) (grown_both settings 0 1 x y z only.grows judges.grows);
   among = among_seeds seeds (added_to x.urls.lists z.urls.lists) (offers_in entries)
       (subst (λ (l : List (List Tuple)). IsAmong (added_to x.urls.lists l) (offers_in entries)) (sym judges.lists) only.among) some;
   more = judges.more;
   events = judges.events ∙ ap (λ (s : State). s.events ++ judges.more) only.others;
   pairs = judges.pairs;
+  sends = sends_by suffixes settings x y z (offers_owe suffixes settings entries x y only z.urls) judges.sends;
 }
 
 -- ---- a desk that was closed
@@ -153,8 +162,9 @@ module _ {S : Type 0} (told : S → Told) (lawful : (s : S) → IsConsistent (to
   abbrev IsAnswer : Result Unit Fault → Type 0
   IsAnswer answer = IsBehind answer closed (last_after mid.last closed)
 
-  lead : (answer : Result Unit Fault) → IsAnswer answer → Leads (IsErrOf answer Failed) (OnlyOffers settings offers.entries) (OffersSome answer settings offers.entries) old.parts parts s t
-  lead answer behind = closed_leads told offers.entries old mid closed store parts lawful opened law begun fresh offers.serves closes answer behind
+  lead : (suffixes : List ℕ) (answer : Result Unit Fault) → IsAnswer answer
+      → Leads (IsErrOf answer Failed) (OnlyOffers settings offers.entries) (OffersSome answer suffixes settings offers.entries) old.parts parts s t
+  lead suffixes answer behind = closed_leads told offers.entries old mid closed store parts lawful opened law begun fresh offers.serves closes answer behind
 
   behind : (answer : Result Unit Fault) (value : Unit) → closed ≡ Ok value → ((fault : Fault) → IsErrOf answer fault → (fault ≡ Memory) ⊎ (mid.last ≡ Some fault)) → IsAnswer answer
   behind answer value ok why = served_behind told offers.entries old mid closed store parts lawful opened law begun fresh offers.serves closes answer value ok why
@@ -162,100 +172,107 @@ module _ {S : Type 0} (told : S → Told) (lawful : (s : S) → IsConsistent (to
   pub rest_after : parts.rest ≡ old.parts.rest
   rest_after = rest_kept told offers.entries old mid closed store parts lawful opened law begun fresh offers.serves closes
 
-  -- a refusal
-  abbrev AllSeeds : State → State → Type 0
-  AllSeeds x y = IsPermutation (added_to x.urls.lists y.urls.lists) (map (offer_from 0) seeds) × IsJudged settings y
+  module _ (suffixes : List ℕ) where
+    -- a refusal
+    abbrev AllSeeds : State → State → Type 0
+    AllSeeds x y = IsPermutation (added_to x.urls.lists y.urls.lists) (map (offer_from 0) seeds) × IsJudged settings y × SendsAll suffixes settings x y
 
-  refused : (answer : Result Unit Fault) (fault : Fault) → answer ≡ Err fault → IsAnswer answer → Leads (IsErrOf answer Failed) (OnlySeeds settings seeds) (Seeds answer settings seeds) old.parts parts s t
-  refused answer fault out behind =
-      leads_wide (IsErrOf answer Failed) (OnlyOffers settings offers.entries) (OffersSome answer settings offers.entries) (OnlySeeds settings seeds) (Seeds answer settings seeds) old.parts parts s t
-      (lead answer behind)
-      (λ x y held front only. only_seeds settings seeds offers.entries x y offers.some only)
-      (λ x y held later front some. record {
-        only = only_seeds settings seeds offers.entries x y offers.some some.only;
-        all = never answer fault (AllSeeds x y) out;
-        ground = ground_then answer settings (offers_in offers.entries) (map (offer_from 0) seeds) x x y (state_same x)
-            (covers_among settings (offers_in offers.entries) (map (offer_from 0) seeds) x x refl (among_front (offers_in offers.entries) (map (offer_from 0) seeds) offers.some)) some.ground;
-      })
+    refused : (answer : Result Unit Fault) (fault : Fault) → answer ≡ Err fault → IsAnswer answer → Leads (IsErrOf answer Failed) (OnlySeeds suffixes settings seeds)
+        (Seeds answer suffixes settings seeds) old.parts parts s t
+    refused answer fault out behind =
+        leads_wide (IsErrOf answer Failed) (OnlyOffers settings offers.entries) (OffersSome answer suffixes settings offers.entries) (OnlySeeds suffixes settings seeds)
+        (Seeds answer suffixes settings seeds) old.parts parts s t (lead suffixes answer behind)
+        (λ x y held front only. only_seeds suffixes settings seeds offers.entries x y offers.some only)
+        (λ x y held later front some. record {
+          only = only_seeds suffixes settings seeds offers.entries x y offers.some some.only;
+          all = never answer fault (AllSeeds x y) out;
+          ground = ground_more answer suffixes settings (offers_in offers.entries) (map (offer_from 0) seeds) x y
+              (among_front (offers_in offers.entries) (map (offer_from 0) seeds) offers.some) some.ground;
+        })
 
-  pub close_refused : (answer : Result Unit Fault) (fault : Fault) → closed ≡ Err fault → answer ≡ Err fault
-      → Leads (IsErrOf answer Failed) (OnlySeeds settings seeds) (Seeds answer settings seeds) old.parts parts s t
-  close_refused answer fault is out = refused answer fault out (closed_behind told offers.entries old mid closed store parts lawful opened law begun fresh offers.serves closes answer fault is out)
+    pub close_refused : (answer : Result Unit Fault) (fault : Fault) → closed ≡ Err fault → answer ≡ Err fault
+        → Leads (IsErrOf answer Failed) (OnlySeeds suffixes settings seeds) (Seeds answer suffixes settings seeds) old.parts parts s t
+    close_refused answer fault is out = refused answer fault out (closed_behind told offers.entries old mid closed store parts lawful opened law begun fresh offers.serves closes answer fault is out)
 
-  pub offer_refused : (answer : Result Unit Fault) (fault : Fault) (value : Unit) → closed ≡ Ok value → offered ≡ Err fault → answer ≡ Err fault
-      → Leads (IsErrOf answer Failed) (OnlySeeds settings seeds) (Seeds answer settings seeds) old.parts parts s t
-  offer_refused answer fault value ok is out = refused answer fault out (behind answer value ok (λ other answered. offers.fault other (is ∙ sym out ∙ answered)))
+    pub offer_refused : (answer : Result Unit Fault) (fault : Fault) (value : Unit) → closed ≡ Ok value → offered ≡ Err fault → answer ≡ Err fault
+        → Leads (IsErrOf answer Failed) (OnlySeeds suffixes settings seeds) (Seeds answer suffixes settings seeds) old.parts parts s t
+    offer_refused answer fault value ok is out = refused answer fault out (behind answer value ok (λ other answered. offers.fault other (is ∙ sym out ∙ answered)))
 
   -- all was offered
   module _ (value : Unit) (ok : closed ≡ Ok value) (all : offers_in offers.entries ≡ map (offer_from 0) seeds) where
-    first : Leads (IsErrOf done_answer Failed) (OnlyOffers settings offers.entries) (OffersSome done_answer settings offers.entries) old.parts parts s t
-    first = lead done_answer (behind done_answer value ok (λ fault answered. absurd (cc)))
+    first : (suffixes : List ℕ) → Leads (IsErrOf done_answer Failed) (OnlyOffers settings offers.entries) (OffersSome done_answer suffixes settings offers.entries) old.parts parts s t
+    first suffixes = lead suffixes done_answer (behind done_answer value ok (λ fault answered. absurd (cc)))
 
     not_failed : IsErrOf done_answer Failed → ⊥
     not_failed is = cc
 
     pub open_then : IsOpen parts
-    open_then = record { sound = first.goes_on.sound not_failed; begun = subst HasBegun (sym rest_after) begun }
+    open_then = record { sound = (first []).goes_on.sound not_failed; begun = subst HasBegun (sym rest_after) begun }
 
-    pub judged_then : (answer : Result Unit Fault) (last : Parts) (u : Told) → Leads (IsErrOf answer Failed) (OnlyJudges parts.urls.settings) (Judges answer parts.urls.settings) parts last t u
-        → Leads (IsErrOf answer Failed) (OnlySeeds settings seeds) (Seeds answer settings seeds) old.parts last s u
-    judged_then answer last u judged =
-        let later = subst (λ (p : Settings). Leads (IsErrOf answer Failed) (OnlyJudges p) (Judges answer p) parts last t u) first.settings judged in
-        leads_then (IsErrOf done_answer Failed) (IsErrOf answer Failed) (OnlyOffers settings offers.entries) (OffersSome done_answer settings offers.entries) (OnlyJudges settings)
-        (Judges answer settings) (OnlySeeds settings seeds) (Seeds answer settings seeds) old.parts parts last s t u first not_failed later
+    pub judged_then : (suffixes : List ℕ) (answer : Result Unit Fault) (last : Parts) (u : Told)
+        → Leads (IsErrOf answer Failed) (OnlyJudges suffixes parts.urls.settings) (Judges answer suffixes parts.urls.settings) parts last t u
+        → Leads (IsErrOf answer Failed) (OnlySeeds suffixes settings seeds) (Seeds answer suffixes settings seeds) old.parts last s u
+    judged_then suffixes answer last u judged =
+        let one = first suffixes in
+        let later = subst (λ (p : Settings). Leads (IsErrOf answer Failed) (OnlyJudges suffixes p) (Judges answer suffixes p) parts last t u) one.settings judged in
+        leads_then (IsErrOf done_answer Failed) (IsErrOf answer Failed) (OnlyOffers settings offers.entries) (OffersSome done_answer suffixes settings offers.entries) (OnlyJudges suffixes settings)
+        (Judges answer suffixes settings) (OnlySeeds suffixes settings seeds) (Seeds answer suffixes settings seeds) old.parts parts last s t u one not_failed later
         (λ x y z held between front next some judges. record {
-          only = only_judged settings seeds offers.entries x y z offers.some some.only judges.only;
+          only = only_judged suffixes settings seeds offers.entries x y z offers.some some.only judges.only;
           all = ok_weaker answer judges.all (λ is. (
             subst (λ (l : List (List Tuple)). IsPermutation (added_to x.urls.lists l) (map (offer_from 0) seeds)) (sym judges.only.lists)
                 (subst (IsPermutation (added_to x.urls.lists y.urls.lists)) all some.all.all),
-            is,
+            is.0,
+            sends_all_by suffixes settings x y z (offers_owe suffixes settings offers.entries x y some.only z.urls) is.1,
           ));
-          ground = ground_then answer settings [] (map (offer_from 0) seeds) x y z front
+          ground = ground_then answer suffixes settings [] (map (offer_from 0) seeds) x y z (offers_owe suffixes settings offers.entries x y some.only z.urls)
               (covers_none settings (map (offer_from 0) seeds) x y
-              (fills_among settings (map (offer_from 0) seeds) x y between.urls.urls_hold.book_is.is_book (between.urls.urls_hold.book_is.buckets ∙ ap (λ (p : Settings). p.buckets) first.settings)
+              (fills_among settings (map (offer_from 0) seeds) x y between.urls.urls_hold.book_is.is_book (between.urls.urls_hold.book_is.buckets ∙ ap (λ (p : Settings). p.buckets) one.settings)
               some.only.grows.urls.front (among_seeds seeds (added_to x.urls.lists y.urls.lists) (offers_in offers.entries) some.only.among offers.some)))
               judges.ground;
         })
-        (λ x y z held between front next some judges. only_judged settings seeds offers.entries x y z offers.some some.only judges)
+        (λ x y z held between front next some judges. only_judged suffixes settings seeds offers.entries x y z offers.some some.only judges)
 
 -- ---- nothing was done
 abbrev pub no_memory : Result Unit Fault
 no_memory = Err Memory
 
-none_seeded : (seeds : List (List ℕ)) (settings : Settings) (x : State) → Seeds no_memory settings seeds x x
-none_seeded seeds settings x = record {
+none_seeded : (suffixes : List ℕ) (seeds : List (List ℕ)) (settings : Settings) (x : State) → Seeds no_memory suffixes settings seeds x x
+none_seeded suffixes seeds settings x = record {
   only = record {
     grows = grown_more settings 0 1 x x (omega arith) (grown_same settings x);
     among = subst (λ (l : List Tuple). IsAmong l (map (offer_from 0) seeds)) (sym (added_same x.urls.lists)) (among_none (map (offer_from 0) seeds));
     more = [];
     events = sym (append-nil x.events);
     pairs = tt;
+    sends = sends_same suffixes settings x x refl;
   };
   all = tt;
   ground = record { full = λ n is. absurd (cc); whole = λ f at is. absurd (cc) };
 }
 
-pub seeds_none : (seeds : List (List ℕ)) (parts : Parts) (now : Told) → IsConsistent now → IsDrum parts.urls → IsSound parts
-    → Leads (IsErrOf no_memory Failed) (OnlySeeds parts.urls.settings seeds) (Seeds no_memory parts.urls.settings seeds) parts parts now now
-seeds_none seeds parts now law drum sound =
-    leads_none (IsErrOf no_memory Failed) (OnlySeeds parts.urls.settings seeds) (Seeds no_memory parts.urls.settings seeds) parts now law drum sound (λ is. absurd (cc))
-    (λ x held. none_seeded seeds parts.urls.settings x)
+pub seeds_none : (suffixes : List ℕ) (seeds : List (List ℕ)) (parts : Parts) (now : Told) → IsConsistent now → IsDrum parts.urls → IsSound parts
+    → Leads (IsErrOf no_memory Failed) (OnlySeeds suffixes parts.urls.settings seeds) (Seeds no_memory suffixes parts.urls.settings seeds) parts parts now now
+seeds_none suffixes seeds parts now law drum sound =
+    leads_none (IsErrOf no_memory Failed) (OnlySeeds suffixes parts.urls.settings seeds) (Seeds no_memory suffixes parts.urls.settings seeds) parts now law drum sound (λ is. absurd (cc))
+    (λ x held. none_seeded suffixes seeds parts.urls.settings x)
 
 -- ---- from the store that a desk was opened before
-pub seeds_from : {S : Type 0} (told : S → Told) (seeds : List (List ℕ)) (answer : Result Unit Fault) (opened store : S) (old parts now : Parts) (t : Told) → opened ≡ store → old ≡ parts
-    → Leads (IsErrOf answer Failed) (OnlySeeds old.urls.settings seeds) (Seeds answer old.urls.settings seeds) old now (told opened) t
-    → Leads (IsErrOf answer Failed) (OnlySeeds parts.urls.settings seeds) (Seeds answer parts.urls.settings seeds) parts now (told store) t
-seeds_from {S} told seeds answer opened store old parts now t same_store same_parts one =
-    subst (λ (p : Parts). Leads (IsErrOf answer Failed) (OnlySeeds p.urls.settings seeds) (Seeds answer p.urls.settings seeds) p now (told store) t) same_parts
-    (subst (λ (x : S). Leads (IsErrOf answer Failed) (OnlySeeds old.urls.settings seeds) (Seeds answer old.urls.settings seeds) old now (told x) t) same_store one)
+pub seeds_from : {S : Type 0} (told : S → Told) (suffixes : List ℕ) (seeds : List (List ℕ)) (answer : Result Unit Fault) (opened store : S) (old parts now : Parts) (t : Told) → opened ≡ store
+    → old ≡ parts
+    → Leads (IsErrOf answer Failed) (OnlySeeds suffixes old.urls.settings seeds) (Seeds answer suffixes old.urls.settings seeds) old now (told opened) t
+    → Leads (IsErrOf answer Failed) (OnlySeeds suffixes parts.urls.settings seeds) (Seeds answer suffixes parts.urls.settings seeds) parts now (told store) t
+seeds_from {S} told suffixes seeds answer opened store old parts now t same_store same_parts one =
+    subst (λ (p : Parts). Leads (IsErrOf answer Failed) (OnlySeeds suffixes p.urls.settings seeds) (Seeds answer suffixes p.urls.settings seeds) p now (told store) t) same_parts
+    (subst (λ (x : S). Leads (IsErrOf answer Failed) (OnlySeeds suffixes old.urls.settings seeds) (Seeds answer suffixes old.urls.settings seeds) old now (told x) t) same_store one)
 
 -- where the same store comes back
-pub seeds_back : {S : Type 0} (told : S → Told) (seeds : List (List ℕ)) (answer : Result Unit Fault) (store back : S) (parts last : Parts) → store ≡ back → parts ≡ last
-    → Leads (IsErrOf answer Failed) (OnlySeeds parts.urls.settings seeds) (Seeds answer parts.urls.settings seeds) parts parts (told store) (told store)
-    → Leads (IsErrOf answer Failed) (OnlySeeds parts.urls.settings seeds) (Seeds answer parts.urls.settings seeds) parts last (told store) (told back)
-seeds_back {S} told seeds answer store back parts last same_store same_parts one =
-    subst (λ (p : Parts). Leads (IsErrOf answer Failed) (OnlySeeds parts.urls.settings seeds) (Seeds answer parts.urls.settings seeds) parts p (told store) (told back)) same_parts
-    (subst (λ (x : S). Leads (IsErrOf answer Failed) (OnlySeeds parts.urls.settings seeds) (Seeds answer parts.urls.settings seeds) parts parts (told store) (told x)) same_store one)
+pub seeds_back : {S : Type 0} (told : S → Told) (suffixes : List ℕ) (seeds : List (List ℕ)) (answer : Result Unit Fault) (store back : S) (parts last : Parts) → store ≡ back → parts ≡ last
+    → Leads (IsErrOf answer Failed) (OnlySeeds suffixes parts.urls.settings seeds) (Seeds answer suffixes parts.urls.settings seeds) parts parts (told store) (told store)
+    → Leads (IsErrOf answer Failed) (OnlySeeds suffixes parts.urls.settings seeds) (Seeds answer suffixes parts.urls.settings seeds) parts last (told store) (told back)
+seeds_back {S} told suffixes seeds answer store back parts last same_store same_parts one =
+    subst (λ (p : Parts). Leads (IsErrOf answer Failed) (OnlySeeds suffixes parts.urls.settings seeds) (Seeds answer suffixes parts.urls.settings seeds) parts p (told store) (told back)) same_parts
+    (subst (λ (x : S). Leads (IsErrOf answer Failed) (OnlySeeds suffixes parts.urls.settings seeds) (Seeds answer suffixes parts.urls.settings seeds) parts parts (told store) (told x)) same_store one)
 
 -- ---- what is kept in memory
 pub keeps_behind : (result : Result Unit Fault) (was mid now : Parts) → mid.rest ≡ was.rest → OnOk result (KeepsFront mid now × IsSent now) → OnOk result (KeepsFront was now × IsSent now)

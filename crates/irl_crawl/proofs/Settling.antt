@@ -27,6 +27,7 @@ use Rattle.irl_yard.specs.declared.parts.Rest.TheVariants.{Plain, Crawl}
 use Rattle.irl_yard.specs.Adding.{AddsEvent, AddsNotes, KeepsTables, MayNoteAll, with_event, with_notes}
 use Rattle.irl_yard.specs.Holding.{HasLedger, HoldsState, IsOpenRest, StaysSound}
 use Rattle.irl_yard.specs.Leading.{IsEither, LeadsOrStays, LeadsTo}
+use Rattle.irl_yard.specs.Passing.{suffixes_in}
 use Rattle.irl_yard.specs.Sending.{HasBegun}
 use Rattle.irl_yard.specs.Settling.{MaySettle, settle_of}
 use Rattle.irl_yard.proofs.Begun.{event_begun, ledger_in, notes_begun, notes_suffixes, settle_suffixes}
@@ -38,6 +39,8 @@ use Rattle.irl_crawl.specs.Settling.{IsSettling, Settles, settled_state}
 use Rattle.irl_crawl.proofs.Batches.{covers_among, ground_before, grown_more, grown_same}
 use Rattle.irl_crawl.proofs.Books.{kind_begun}
 use Rattle.irl_crawl.proofs.Leading.{leads_more_failed, leads_then, leads_wide}
+use Rattle.irl_crawl.proofs.Sent.{OweAlike, sends_all_by, sends_same}
+use Rattle.irl_crawl.proofs.Unsent.{SendsNone, owes, unsent_settled}
 
 -- ---- what is asked
 pub may_note : (rest : Rest) (notes : List Note) → HasBegun rest → AllByRecursion IsNote notes → MayNoteAll rest notes
@@ -83,12 +86,13 @@ module _ {S : Type 0} (tells : S → Told) (notes : List Note) (was mid : Parts)
     pub settings_kept : late.urls.settings ≡ was.urls.settings
     settings_kept = ap (λ (drum : Drum). drum.settings) (settled.urls ∙ noted.urls)
 
+    pub suffixes_settled : suffixes_in late.rest ≡ suffixes_in was.rest
+    suffixes_settled =
+        settle_suffixes tells (Ok other) (durables mid.urls) (outcomes_of done) mid late t u settled noted_ledger settled_ledger
+        ∙ notes_suffixes tells (Ok value) notes was mid s t noted (crawl_in was.rest begun) noted_ledger
+
     pub begun_kept : (now : Parts) → KeepsBegun late now → KeepsBegun was now
-    begun_kept now kept = record {
-      begun = kept.begun;
-      suffixes = kept.suffixes ∙ settle_suffixes tells (Ok other) (durables mid.urls) (outcomes_of done) mid late t u settled noted_ledger settled_ledger
-          ∙ notes_suffixes tells (Ok value) notes was mid s t noted (crawl_in was.rest begun) noted_ledger;
-    }
+    begun_kept now kept = record { begun = kept.begun; suffixes = kept.suffixes ∙ suffixes_settled }
 
 -- ---- a call that makes one state of another, or leaves it
 -- by the answer
@@ -146,49 +150,60 @@ module _ {S : Type 0} (tells : S → Told) (law : (s : S) → IsConsistent (tell
 
 -- ---- one behind the other
 -- a refusal by another name
-pub settles_as : (notes : List Note) (done : List Done) (settings : Settings) (was now : Parts) (before after : Told) (result : Result ℕ Fault) (fault other : Fault) → result ≡ Err other → other ≡
+pub settles_as : (suffixes : List ℕ) (notes : List Note) (done : List Done) (settings : Settings) (was now : Parts) (before after : Told) (result : Result ℕ Fault) (fault other : Fault)
+    → result ≡ Err other → other ≡
     fault
-    → Leads (IsErrOf {T = ℕ} {E = Fault} (Err fault) Failed) (IsSettling settings notes done) (Settles (Err fault) settings notes done) was now before after
-    → Leads (IsErrOf result Failed) (IsSettling settings notes done) (Settles result settings notes done) was now before after
-settles_as notes done settings was now before after result fault other is same leads =
-    subst (λ (r : Result ℕ Fault). Leads (IsErrOf r Failed) (IsSettling settings notes done) (Settles r settings notes done) was now before after) (sym (is ∙ ap (λ (f : Fault). Err f) same)) leads
+    → Leads (IsErrOf {T = ℕ} {E = Fault} (Err fault) Failed) (IsSettling suffixes settings notes done) (Settles (Err fault) suffixes settings notes done) was now before after
+    → Leads (IsErrOf result Failed) (IsSettling suffixes settings notes done) (Settles result suffixes settings notes done) was now before after
+settles_as suffixes notes done settings was now before after result fault other is same leads =
+    subst (λ (r : Result ℕ Fault). Leads (IsErrOf r Failed) (IsSettling suffixes settings notes done) (Settles r suffixes settings notes done) was now before after)
+    (sym (is ∙ ap (λ (f : Fault). Err f) same)) leads
 
 -- judging, by equal settings
-pub judges_by : (result : Result Unit Fault) (was now : Parts) (before after : Told) (settings other : Settings) → settings ≡ other → Leads (IsErrOf result Failed) (OnlyJudges settings) (Judges result settings)
+pub judges_by : (suffixes : List ℕ) (result : Result Unit Fault) (was now : Parts) (before after : Told) (settings other : Settings) → settings ≡ other
+    → Leads (IsErrOf result Failed) (OnlyJudges suffixes settings) (Judges result suffixes settings)
     was now before after
-    → Leads (IsErrOf result Failed) (OnlyJudges other) (Judges result other) was now before after
-judges_by result was now before after settings other same leads = subst (λ (s : Settings). Leads (IsErrOf result Failed) (OnlyJudges s) (Judges result s) was now before after) same leads
+    → Leads (IsErrOf result Failed) (OnlyJudges suffixes other) (Judges result suffixes other) was now before after
+judges_by suffixes result was now before after settings other same leads = subst (λ (s : Settings).
+    Leads (IsErrOf result Failed) (OnlyJudges suffixes s) (Judges result suffixes s) was now before after) same leads
 
-only_none : (settings : Settings) (x y : State) → y ≡ x → OnlyJudges settings x y
-only_none settings x y is =
-    subst (OnlyJudges settings x) (sym is)
-    (record { grows = grown_more settings 0 1 x x (omega arith) (grown_same settings x); lists = refl; more = []; events = sym (append-nil x.events); pairs = tt })
+only_none : (suffixes : List ℕ) (settings : Settings) (x y : State) → y ≡ x → OnlyJudges suffixes settings x y
+only_none suffixes settings x y is =
+    subst (OnlyJudges suffixes settings x) (sym is)
+    (record {
+      grows = grown_more settings 0 1 x x (omega arith) (grown_same settings x);
+      lists = refl;
+      more = [];
+      events = sym (append-nil x.events);
+      pairs = tt;
+      sends = sends_same suffixes settings x x refl;
+    })
 
-module _ (notes : List Note) (done : List Done) (settings : Settings) (was : Parts) (before : Told) where
+module _ (suffixes : List ℕ) (notes : List Note) (done : List Done) (settings : Settings) (was : Parts) (before : Told) where
   -- the notes were refused
   pub notes_refused : (fault : Fault) (now : Parts) (after : Told) → Leads (IsErrOf {T = Unit {0}} {E = Fault} (Err fault) Failed) (λ x. IsEither x (with_notes notes x))
       (Makes (Err fault) (with_notes notes)) was now before after
       → ((n : ℕ) → IsErrOf {T = Unit {0}} {E = Fault} (Err fault) (Full n) → ⊥) → ((f at : ℕ) → IsErrOf {T = Unit {0}} {E = Fault} (Err fault) (Damaged f at) → ⊥)
-      → Leads (IsErrOf {T = ℕ} {E = Fault} (Err fault) Failed) (IsSettling settings notes done) (Settles (Err fault) settings notes done) was now before after
+      → Leads (IsErrOf {T = ℕ} {E = Fault} (Err fault) Failed) (IsSettling suffixes settings notes done) (Settles (Err fault) suffixes settings notes done) was now before after
   notes_refused fault now after noting not_full not_damaged =
       leads_more_failed _ _ _ _ was now before after (same_refusal fault Failed) (same_refusal fault Failed)
-      (leads_wide _ _ _ (IsSettling settings notes done) (Settles (Err fault) settings notes done) was now before after noting (λ x y held front may. wide x y may)
+      (leads_wide _ _ _ (IsSettling suffixes settings notes done) (Settles (Err fault) suffixes settings notes done) was now before after noting (λ x y held front may. wide x y may)
       (λ x y held later front is. record {
         is = inl is.kept;
         all = tt;
         ground = record { full = λ n e. absurd (not_full n (same_refusal fault (Full n) e)); whole = λ f at e. not_damaged f at (same_refusal fault (Damaged f at) e) };
       }))
     where
-      wide : (x y : State) → IsEither x (with_notes notes x) y → IsSettling settings notes done x y
+      wide : (x y : State) → IsEither x (with_notes notes x) y → IsSettling suffixes settings notes done x y
       wide x y (inl same) = inl same
       wide x y (inr noted) = inr (inl noted)
 
   -- they are kept
   module _ (mid : Parts) (between : Told) (value : Unit {0})
       (noting : Leads (IsErrOf {T = Unit {0}} {E = Fault} (Ok value) Failed) (λ x. IsEither x (with_notes notes x)) (Makes (Ok value) (with_notes notes)) was mid before between) where
-    noted_then : (x y z : State) → y ≡ with_notes notes x → IsEither y (settle_in done y) z → IsSettling settings notes done x z
+    noted_then : (x y z : State) → y ≡ with_notes notes x → IsEither y (settle_in done y) z → IsSettling suffixes settings notes done x z
     noted_then x y z noted (inl same) = inr (inl (same ∙ noted))
-    noted_then x y z noted (inr settled) = inr (inr (only_none settings (settled_state notes done x) z (settled ∙ ap (settle_in done) noted)))
+    noted_then x y z noted (inr settled) = inr (inr (only_none suffixes settings (settled_state notes done x) z (settled ∙ ap (settle_in done) noted)))
 
     not_failed : IsErrOf {T = Unit {0}} {E = Fault} (Ok value) Failed → ⊥
     not_failed is = cc
@@ -197,10 +212,10 @@ module _ (notes : List Note) (done : List Done) (settings : Settings) (was : Par
     pub settle_refused : (fault : Fault) (now : Parts) (after : Told) → Leads (IsErrOf {T = Unit {0}} {E = Fault} (Err fault) Failed) (λ x. IsEither x (settle_in done x))
         (Makes (Err fault) (settle_in done)) mid now between after
         → ((n : ℕ) → IsErrOf {T = Unit {0}} {E = Fault} (Err fault) (Full n) → ⊥) → ((f at : ℕ) → IsErrOf {T = Unit {0}} {E = Fault} (Err fault) (Damaged f at) → ⊥)
-        → Leads (IsErrOf {T = ℕ} {E = Fault} (Err fault) Failed) (IsSettling settings notes done) (Settles (Err fault) settings notes done) was now before after
+        → Leads (IsErrOf {T = ℕ} {E = Fault} (Err fault) Failed) (IsSettling suffixes settings notes done) (Settles (Err fault) suffixes settings notes done) was now before after
     settle_refused fault now after settling not_full not_damaged =
         leads_more_failed _ _ _ _ was now before after (same_refusal fault Failed) (same_refusal fault Failed)
-        (leads_then _ _ _ _ _ _ (IsSettling settings notes done) (Settles (Err fault) settings notes done) was mid now before between after noting not_failed settling
+        (leads_then _ _ _ _ _ _ (IsSettling suffixes settings notes done) (Settles (Err fault) suffixes settings notes done) was mid now before between after noting not_failed settling
         (λ x y z held later front next noted is. record {
           is = inr (inl (is.kept ∙ noted.done));
           all = tt;
@@ -211,43 +226,49 @@ module _ (notes : List Note) (done : List Done) (settings : Settings) (was : Par
     -- or they are settled,
     module _ (late : Parts) (settled : Told) (value' : Unit {0})
         (settling : Leads (IsErrOf {T = Unit {0}} {E = Fault} (Ok value') Failed) (λ x. IsEither x (settle_in done x)) (Makes (Ok value') (settle_in done)) mid late between settled) where
-      both : Leads (IsErrOf {T = Unit {0}} {E = Fault} (Ok value') Failed) (IsSettling settings notes done) (λ x y. y ≡ settled_state notes done x) was late before settled
+      both : Leads (IsErrOf {T = Unit {0}} {E = Fault} (Ok value') Failed) (IsSettling suffixes settings notes done) (λ x y. y ≡ settled_state notes done x) was late before settled
       both =
-          leads_then _ _ _ _ _ _ (IsSettling settings notes done) (λ x y. y ≡ settled_state notes done x) was mid late before between settled noting not_failed settling
+          leads_then _ _ _ _ _ _ (IsSettling suffixes settings notes done) (λ x y. y ≡ settled_state notes done x) was mid late before between settled noting not_failed settling
           (λ x y z held later front next noted is. is.done ∙ ap (settle_in done) noted.done)
           (λ x y z held later front next noted may. noted_then x y z noted.done may)
 
-      judged_then : (x y z : State) → y ≡ settled_state notes done x → OnlyJudges settings y z → OnlyJudges settings (settled_state notes done x) z
-      judged_then x y z is judged = subst (λ (state : State). OnlyJudges settings state z) is judged
+      judged_then : (x y z : State) → y ≡ settled_state notes done x → OnlyJudges suffixes settings y z → OnlyJudges suffixes settings (settled_state notes done x) z
+      judged_then x y z is judged = subst (λ (state : State). OnlyJudges suffixes settings state z) is judged
+
+      -- pairs were sent by judging alone
+      settled_owes : (x y z : State) → y ≡ settled_state notes done x → OweAlike suffixes settings x y z.urls
+      settled_owes x y z is = owes suffixes settings x y z.urls (subst (SendsNone settings x) (sym is) (unsent_settled settings notes done x))
 
       none_failed : IsErrOf {T = Unit {0}} {E = Fault} (Ok value') Failed → ⊥
       none_failed is = cc
 
       -- and judging is refused,
-      pub judging_refused : (fault : Fault) (now : Parts) (after : Told) → Leads (IsErrOf {T = Unit {0}} {E = Fault} (Err fault) Failed) (OnlyJudges settings) (Judges (Err fault) settings) late now settled after
-          → Leads (IsErrOf {T = ℕ} {E = Fault} (Err fault) Failed) (IsSettling settings notes done) (Settles (Err fault) settings notes done) was now before after
+      pub judging_refused : (fault : Fault) (now : Parts) (after : Told) → Leads (IsErrOf {T = Unit {0}} {E = Fault} (Err fault) Failed) (OnlyJudges suffixes settings)
+          (Judges (Err fault) suffixes settings) late now settled after
+          → Leads (IsErrOf {T = ℕ} {E = Fault} (Err fault) Failed) (IsSettling suffixes settings notes done) (Settles (Err fault) suffixes settings notes done) was now before after
       judging_refused fault now after judging =
           leads_more_failed _ _ _ _ was now before after (same_refusal fault Failed) (same_refusal fault Failed)
-          (leads_then _ _ _ _ _ _ (IsSettling settings notes done) (Settles (Err fault) settings notes done) was late now before settled after both none_failed judging
+          (leads_then _ _ _ _ _ _ (IsSettling suffixes settings notes done) (Settles (Err fault) suffixes settings notes done) was late now before settled after both none_failed judging
           (λ x y z held later front next is judges. record {
             is = inr (inr (judged_then x y z is judges.only));
             all = tt;
-            ground = ground_before (Err fault) (Err fault) settings [] [] x y z (λ other. same_refusal fault other) front
+            ground = ground_before (Err fault) (Err fault) suffixes settings [] [] x y z (λ other. same_refusal fault other) (settled_owes x y z is)
                 (covers_among settings [] [] x y (ap (λ (s : State). s.urls.lists) is) (among_none [])) judges.ground;
           })
           (λ x y z held later front next is judged. inr (inr (judged_then x y z is judged))))
 
       -- or all is judged
-      pub judged_whole : (value'' : Unit {0}) (count : ℕ) (now : Parts) (after : Told) → Leads (IsErrOf {T = Unit {0}} {E = Fault} (Ok value'') Failed) (OnlyJudges settings) (Judges (Ok value'') settings) late
+      pub judged_whole : (value'' : Unit {0}) (count : ℕ) (now : Parts) (after : Told)
+          → Leads (IsErrOf {T = Unit {0}} {E = Fault} (Ok value'') Failed) (OnlyJudges suffixes settings) (Judges (Ok value'') suffixes settings) late
           now settled after
-          → Leads (IsErrOf {T = ℕ} {E = Fault} (Ok count) Failed) (IsSettling settings notes done) (Settles (Ok count) settings notes done) was now before after
+          → Leads (IsErrOf {T = ℕ} {E = Fault} (Ok count) Failed) (IsSettling suffixes settings notes done) (Settles (Ok count) suffixes settings notes done) was now before after
       judged_whole value'' count now after judging =
           leads_more_failed _ _ _ _ was now before after (λ (is : IsErrOf {T = Unit {0}} {E = Fault} (Ok value'') Failed). let no : ⊥ = cc in absurd no)
           (λ (is : IsErrOf {T = ℕ} {E = Fault} (Ok count) Failed). let no : ⊥ = cc in absurd no)
-          (leads_then _ _ _ _ _ _ (IsSettling settings notes done) (Settles (Ok count) settings notes done) was late now before settled after both none_failed judging
+          (leads_then _ _ _ _ _ _ (IsSettling suffixes settings notes done) (Settles (Ok count) suffixes settings notes done) was late now before settled after both none_failed judging
           (λ x y z held later front next is judges. record {
             is = inr (inr (judged_then x y z is judges.only));
-            all = (judged_then x y z is judges.only, judges.all);
+            all = (judged_then x y z is judges.only, judges.all.0, sends_all_by suffixes settings x y z (settled_owes x y z is) judges.all.1);
             ground = record { full = λ n (e : IsErrOf {T = ℕ} {E = Fault} (Ok count) (Full n)). let no : ⊥ = cc in absurd no; whole = λ f at e. cc };
           })
           (λ x y z held later front next is judged. inr (inr (judged_then x y z is judged))))

@@ -27,9 +27,9 @@ use Rattle.irl_offer.specs.declared.note.Note.{Note}
 use Rattle.irl_offer.specs.declared.outcome.Outcome.{Outcome}
 use Rattle.irl_offer.specs.declared.settings.Settings.{Settings}
 use Rattle.irl_polite.specs.Schedule.{Schedule, host}
-use Rattle.irl_reach.proofs.Growing.{all_of, drop_front, made_fronts}
+use Rattle.irl_reach.proofs.Growing.{all_of, made_fronts}
 use Rattle.irl_reach.proofs.Members.{all_from, all_member, drop_member, first_member, flat_cases, flat_left, flat_member, later_member, map_cases, map_member, member_cases, no_member}
-use Rattle.irl_reach.proofs.Turns.{crawls_quiet}
+use Rattle.irl_reach.proofs.Turns.{crawls_quiet, crawls_wider}
 use Rattle.irl_reach.specs.Along.{notes_in, notes_of, outcomes_of, settled_in}
 use Rattle.irl_reach.specs.Crawls.{ComesOf, IsSettled, LeavesNone, Visit, added_to, found_by, offers_below}
 use Rattle.irl_reach.specs.Tapes.{IsNoteBy}
@@ -39,12 +39,17 @@ use Rattle.irl_yard.specs.Adding.{notes_happened, with_event, with_notes}
 use Rattle.irl_crawl.specs.Judging.{IsJudged, IsOfPairs, OnlyJudges}
 use Rattle.irl_crawl.specs.Leading.{GrowsInBatches}
 use Rattle.irl_crawl.specs.Offering.{HasOffers, OnlyOffers, offers_in}
-use Rattle.irl_crawl.specs.Turning.{AreBatches, OnlyTurns, TurnsWhole, events_since, input_of, turns_in}
-use Rattle.irl_crawl.specs.Workers.{loaded}
+use Rattle.irl_crawl.specs.Sending.{SendsAll, SendsLinks}
+use Rattle.irl_crawl.specs.Turning.{AreBatches, OnlyTurns, RestsOn, TurnsWhole, events_since, input_of, turns_in}
+use Rattle.irl_crawl.specs.Workers.{Given, loaded}
 use Rattle.irl_crawl.specs.Working.{HasBegunOne, KnowAsNoted}
 use Rattle.irl_crawl.proofs.Batches.{grown_both, grown_more, grown_same, grown_to, turn_there}
 use Rattle.irl_crawl.proofs.Numbers.{loaded_most}
-use Rattle.irl_crawl.proofs.Visits.{TurnOf, are_visits, begun_visits, found_among, found_handled, handled_loaded, is_handled, leave_read, noted_among, noted_by, notes_from, visits_for, visits_front, visits_in, visits_of, visits_once, work_text}
+use Rattle.irl_crawl.proofs.Resting.{rests_none, rests_wider, since_are}
+use Rattle.irl_crawl.proofs.Rising.{WidensGiven}
+use Rattle.irl_crawl.proofs.Sent.{sends_all_by, sends_by, sends_same}
+use Rattle.irl_crawl.proofs.Unsent.{SendsNone, owes, unsent_both, unsent_offered, unsent_settled}
+use Rattle.irl_crawl.proofs.Visits.{TurnOf, are_visits, begun_visits, found_among, found_handled, handled_loaded, is_handled, leave_read, noted_among, noted_by, notes_from, rests_noted, rests_unnoted, visits_for, visits_front, visits_in, visits_of, visits_once, work_text}
 
 -- ---- events of a turn
 -- a note that answers give, or sent pairs
@@ -126,6 +131,22 @@ module _ (gives : Answers) where
       let at = stands_alone hs ks g h earlier later left.1 right settles rest in
       record { before = ap (λ w. w ∷ earlier) (sym same) ∙ ap (λ l. k ∷ l) at.before; same = at.same }
 
+-- notes that are kept, and those of sent pairs
+notes_back : (notes : List Note) → notes_in (notes_happened notes) ≡ notes
+notes_back [] = refl
+notes_back (note ∷ notes) = ap (λ (ns : List Note). note ∷ ns) (notes_back notes)
+
+pair_unnoted : (event : Event) → IsOfPairs event → notes_of event ≡ []
+pair_unnoted (Begin suffixes) is = absurd is
+pair_unnoted (Pairs cuts judged pairs) is = refl
+pair_unnoted (Pass judged) is = absurd is
+pair_unnoted (Robots note) is = absurd is
+pair_unnoted (Settle fronts outcomes) is = absurd is
+
+pairs_unnoted : (hs : List Happened) → AllByRecursion (λ (h : Happened). IsOfPairs h.0) hs → notes_in hs ≡ []
+pairs_unnoted [] are = refl
+pairs_unnoted (h ∷ hs) are = ap (λ ns. ns ++ notes_in hs) (pair_unnoted h.0 are.0) ∙ pairs_unnoted hs are.1
+
 all_both : {X : Type 0} (P : X → Type 0) (xs ys : List X) → AllByRecursion P xs → AllByRecursion P ys → AllByRecursion P (xs ++ ys)
 all_both P [] ys left right = right
 all_both P (x ∷ xs) ys left right = (left.0, all_both P xs ys left.1 right)
@@ -133,9 +154,6 @@ all_both P (x ∷ xs) ys left right = (left.0, all_both P xs ys left.1 right)
 all_weaker : {X : Type 0} (P Q : X → Type 0) (xs : List X) → ((x : X) → P x → Q x) → AllByRecursion P xs → AllByRecursion Q xs
 all_weaker P Q [] weaker all = tt
 all_weaker P Q (x ∷ xs) weaker all = (weaker x all.0, all_weaker P Q xs weaker all.1)
-
-pub since_are : (x y : State) (more : List Happened) → y.events ≡ x.events ++ more → events_since x y ≡ more
-since_are x y more is = ap (drop (length x.events)) is ∙ drop_front x.events more
 
 -- an event settles no more than all do
 pub batches_within : (most : ℕ) (hs : List Happened) → length (settled_in hs) ≤ most → AreBatches most hs
@@ -189,27 +207,45 @@ prefixes_long (list ∷ lists) (m ∷ more) h =
     omega (arith, rest)
 
 -- ---- where nothing was done
-pub turns_none : (gives : Answers) (agent suffixes : List ℕ) (settings : Settings) (most : ℕ) (x : State) → OnlyTurns gives agent suffixes settings most x x
-turns_none gives agent suffixes settings most x =
+pub turns_none : (given : Given) (agent suffixes : List ℕ) (settings : Settings) (most : ℕ) (x : State) → given.may_miss 0 → OnlyTurns given agent suffixes settings most x x
+turns_none given agent suffixes settings most x may =
     let none : events_since x x ≡ [] = since_are x x [] (sym (append-nil x.events)) in
     record {
       visits = [];
-      crawls = crawls_quiet (input_of suffixes []) gives agent [] x x refl refl;
+      crawls = crawls_quiet (input_of suffixes []) given.gives agent [] x x refl refl;
+      rests = rests_none given may (events_since x x) (ap notes_in none);
       front = tt;
       batch = subst (λ hs. AreBatches most hs) (sym none) tt;
       settled = subst (λ hs. length (settled_in hs) ≤ most) (sym none) (omega arith);
       grows = grown_more settings 0 (turns_in (events_since x x)) x x (omega arith) (grown_same settings x);
+      sends = sends_same suffixes settings x x refl;
     }
 
+-- ---- where more was given
+abbrev pub turns_wider : (part whole : Given) → WidensGiven part whole → (agent suffixes : List ℕ) (settings : Settings) (most : ℕ) (x y : State) → OnlyTurns part agent suffixes settings most x y
+    → OnlyTurns whole agent suffixes settings most x y
+turns_wider part whole wider agent suffixes settings most x y only = record {
+  visits = only.visits;
+  crawls = crawls_wider part.gives whole.gives wider.gives (input_of suffixes []) agent [] only.visits x y only.crawls;
+  rests = rests_wider part whole wider only.visits (events_since x y) only.rests;
+  front = only.front;
+  batch = only.batch;
+  settled = only.settled;
+  grows = only.grows;
+  sends = only.sends;
+}
+
 -- ---- a turn
-module _ {gives : Answers} {agent suffixes : List ℕ} {settings : Settings} {most : ℕ} {x : State} {befores : List Schedule} {handled : List Handled} {noted : List Noted}
-    {left : List Work} {part : List Entered} (it : TurnOf gives agent suffixes settings most x befores handled noted left part) where
+module _ {given : Given} {agent suffixes : List ℕ} {settings : Settings} {most : ℕ} {x : State} {befores : List Schedule} {handled : List Handled} {noted : List Noted}
+    {left : List Work} {part : List Entered} (it : TurnOf given agent suffixes settings most x befores handled noted left part) where
   -- by what it added, its events, and what they settle
   turns_by : (y : State) (more : List Happened) → IsFrontState x y → IsAmong (added_to x.urls.lists y.urls.lists) (offers_in (flat_map entered_of handled ++ part)) → y.events ≡ x.events ++ more
-      → AllByRecursion (λ (h : Happened). IsOfTurn gives h.0) more → ((earlier later : List Happened) (h : Happened) (fronts : List ℕ) (outcomes : List (ℕ × Outcome)) → more ≡ earlier ++ h ∷ later
+      → AllByRecursion (λ (h : Happened). IsOfTurn given.gives h.0) more → ((earlier later : List Happened) (h : Happened) (fronts : List ℕ) (outcomes : List (ℕ × Outcome))
+      → more ≡ earlier ++ h ∷ later
       → h.0 ≡ Settle fronts outcomes → AllByRecursion (λ d. IsSettled suffixes agent (visits_in it) y.urls (x.events ++ earlier) fronts d.0 d.1) outcomes)
-      → length (settled_in more) ≤ most → GrowsInBatches settings (turns_in more) x y → OnlyTurns gives agent suffixes settings most x y
-  turns_by y more front among events told settled few grows =
+      → length (settled_in more) ≤ most → GrowsInBatches settings (turns_in more) x y → RestsOn given (visits_in it) more → SendsLinks suffixes settings x y
+      → OnlyTurns given agent suffixes settings most x y
+  turns_by y more front among events told settled few grows rests sends =
       let since : events_since x y ≡ more = since_are x y more events in
       record {
         visits = visits_in it;
@@ -220,36 +256,40 @@ module _ {gives : Answers} {agent suffixes : List ℕ} {settings : Settings} {mo
           more = more;
           events = events;
           begun = λ h text there is.
-              let no : IsOfTurn gives (Begin text) = subst (λ e. IsOfTurn gives e) is (all_member (λ (g : Happened). IsOfTurn gives g.0) more h told there) in
+              let no : IsOfTurn given.gives (Begin text) = subst (λ e. IsOfTurn given.gives e) is (all_member (λ (g : Happened). IsOfTurn given.gives g.0) more h told there) in
               absurd no;
           notes = λ note there.
               let from = flat_cases (λ (g : Happened). notes_of g.0) more note there in
-              note_turn gives from.0.0 note (all_member (λ (g : Happened). IsOfTurn gives g.0) more from.0 told from.1) from.2;
+              note_turn given.gives from.0.0 note (all_member (λ (g : Happened). IsOfTurn given.gives g.0) more from.0 told from.1) from.2;
           settled = settled;
         };
+        rests = subst (RestsOn given (visits_in it)) (sym since) rests;
         front = visits_front it;
         batch = subst (λ hs. AreBatches most hs) (sym since) (batches_within most more few);
         settled = subst (λ hs. length (settled_in hs) ≤ most) (sym since) few;
         grows = subst (λ hs. GrowsInBatches settings (turns_in hs) x y) (sym since) grows;
+        sends = sends;
       }
 
   -- where nothing is settled
   turns_plain : (y : State) (more : List Happened) → IsFrontState x y → IsAmong (added_to x.urls.lists y.urls.lists) (offers_in (flat_map entered_of handled ++ part)) → y.events ≡ x.events ++ more
-      → AllByRecursion (λ (h : Happened). IsPlain gives h.0) more → GrowsInBatches settings 0 x y → OnlyTurns gives agent suffixes settings most x y
-  turns_plain y more front among events plain grows =
+      → AllByRecursion (λ (h : Happened). IsPlain given.gives h.0) more → GrowsInBatches settings 0 x y → RestsOn given (visits_in it) more → y.pairs ≡ x.pairs
+      → OnlyTurns given agent suffixes settings most x y
+  turns_plain y more front among events plain grows rests none =
       turns_by y more front among events
-      (all_weaker (λ (h : Happened). IsPlain gives h.0) (λ (h : Happened). IsOfTurn gives h.0) more (λ h. plain_turn gives h.0) plain)
+      (all_weaker (λ (h : Happened). IsPlain given.gives h.0) (λ (h : Happened). IsOfTurn given.gives h.0) more (λ h. plain_turn given.gives h.0) plain)
       (λ earlier later h fronts outcomes at is.
       let there : Contains more h = subst (λ l. Contains l h) (sym at) (Contains-append_right earlier (h ∷ later) h (first_member h later)) in
-      let no : IsPlain gives (Settle fronts outcomes) = subst (λ e. IsPlain gives e) is (all_member (λ (g : Happened). IsPlain gives g.0) more h plain there) in
+      let no : IsPlain given.gives (Settle fronts outcomes) = subst (λ e. IsPlain given.gives e) is (all_member (λ (g : Happened). IsPlain given.gives g.0) more h plain there) in
       absurd no)
-      (subst (λ ds. length ds ≤ most) (sym (none_settled gives more plain)) (omega arith)) (grown_more settings 0 (turns_in more) x y (omega arith) grows)
+      (subst (λ ds. length ds ≤ most) (sym (none_settled given.gives more plain)) (omega arith)) (grown_more settings 0 (turns_in more) x y (omega arith) grows) rests
+      (sends_same suffixes settings x y none)
 
   -- what the workers entered is offered, or some of it
-  pub offers_turn : (b : State) → IsFrontState x b → OnlyOffers settings (flat_map entered_of handled ++ part) x b → OnlyTurns gives agent suffixes settings most x b
+  pub offers_turn : (b : State) → IsFrontState x b → OnlyOffers settings (flat_map entered_of handled ++ part) x b → OnlyTurns given agent suffixes settings most x b
   offers_turn b front only =
       let events : b.events ≡ x.events ++ [] = ap (λ (s : State). s.events) only.others ∙ sym (append-nil x.events) in
-      turns_plain b [] front only.among events tt only.grows
+      turns_plain b [] front only.among events tt only.grows (rests_unnoted it [] refl) (ap (λ (s : State). s.pairs) only.others)
 
   -- all of it is found by the visits
   pub offers_found : (b : State) (front : IsFrontState x b) (only : OnlyOffers settings (flat_map entered_of handled ++ part) x b)
@@ -258,29 +298,32 @@ module _ {gives : Answers} {agent suffixes : List ℕ} {settings : Settings} {mo
   offers_found b front only = found_among it b front
 
   -- and the notes are kept
-  pub notes_turn : (b n : State) → IsFrontState x n → OnlyOffers settings (flat_map entered_of handled ++ part) x b → n ≡ with_notes (notes_from noted) b → OnlyTurns gives agent suffixes settings most x n
+  pub notes_turn : (b n : State) → IsFrontState x n → OnlyOffers settings (flat_map entered_of handled ++ part) x b → n ≡ with_notes (notes_from noted) b
+      → OnlyTurns given agent suffixes settings most x n
   notes_turn b n front only is =
       let events : n.events ≡ x.events ++ notes_happened (notes_from noted) =
       ap (λ (s : State). s.events) is ∙ ap (λ (s : State). s.events ++ notes_happened (notes_from noted)) only.others in
       let lists : n.urls.lists ≡ b.urls.lists = ap (λ (s : State). s.urls.lists) is in
       turns_plain n (notes_happened (notes_from noted)) front
       (subst (λ ls. IsAmong (added_to x.urls.lists ls) (offers_in (flat_map entered_of handled ++ part))) (sym lists) only.among) events
-      (notes_plain gives noted (λ one there. All-contains (IsNoted gives) noted one it.worked.notes there))
-      (grown_to settings 0 x b n (ap (λ (s : State). s.urls) is) (ap (λ (s : State). s.pairs) is) only.grows)
+      (notes_plain given.gives noted (λ one there. All-contains (IsNoted given.gives) noted one it.worked.notes there))
+      (grown_to settings 0 x b n (ap (λ (s : State). s.urls) is) (ap (λ (s : State). s.pairs) is) only.grows) (rests_noted it (notes_happened (notes_from noted)) (notes_back (notes_from noted)))
+      (ap (λ (s : State). s.pairs) is ∙ ap (λ (s : State). s.pairs) only.others)
 
 -- ---- a turn in which all was done
-module _ {gives : Answers} {agent suffixes : List ℕ} {settings : Settings} {most : ℕ} {x : State} {befores : List Schedule} {handled : List Handled} {noted : List Noted}
-    (it : TurnOf gives agent suffixes settings most x befores handled noted [] []) where
+module _ {given : Given} {agent suffixes : List ℕ} {settings : Settings} {most : ℕ} {x : State} {befores : List Schedule} {handled : List Handled} {noted : List Noted}
+    (it : TurnOf given agent suffixes settings most x befores handled noted [] []) where
   abbrev entries : List Entered
   entries = flat_map entered_of handled
 
   abbrev settles : List (ℕ × Outcome)
   settles = outcomes_from (map done_of handled)
 
-  pub whole_offers_turn : (b : State) → IsFrontState x b → OnlyOffers settings (flat_map entered_of handled) x b → OnlyTurns gives agent suffixes settings most x b
+  pub whole_offers_turn : (b : State) → IsFrontState x b → OnlyOffers settings (flat_map entered_of handled) x b → OnlyTurns given agent suffixes settings most x b
   whole_offers_turn b front only = offers_turn it b front (subst (λ es. OnlyOffers settings es x b) (sym (append-nil (flat_map entered_of handled))) only)
 
-  pub whole_notes_turn : (b n : State) → IsFrontState x n → OnlyOffers settings (flat_map entered_of handled) x b → n ≡ with_notes (notes_from noted) b → OnlyTurns gives agent suffixes settings most x n
+  pub whole_notes_turn : (b n : State) → IsFrontState x n → OnlyOffers settings (flat_map entered_of handled) x b → n ≡ with_notes (notes_from noted) b
+      → OnlyTurns given agent suffixes settings most x n
   whole_notes_turn b n front only is = notes_turn it b n front (subst (λ es. OnlyOffers settings es x b) (sym (append-nil (flat_map entered_of handled))) only) is
 
   settled_few : length settles ≤ most
@@ -314,7 +357,7 @@ module _ {gives : Answers} {agent suffixes : List ℕ} {settings : Settings} {mo
         (subst (λ ls. Contains (stretch b.urls.firsts b.urls.firsts (lengths_of b.urls) ls) offer) (sym lists) here)
 
     -- what came of an item
-    comes : (work : Work) (treated : Treated) → Contains handled (record { work = work; treated = treated }) → work.web ≡ url_text y.urls work.number → IsGiven gives suffixes work.web treated
+    comes : (work : Work) (treated : Treated) → Contains handled (record { work = work; treated = treated }) → work.web ≡ url_text y.urls work.number → IsGiven given.gives suffixes work.web treated
         → ComesOf suffixes (visits_in it) y.urls (lengths_of b.urls) (leave_for treated) work.number (outcome_for work.web treated)
     comes work (Fetched answer entered) there text given =
         let visit : Visit = record { number = work.number; answer = answer } in
@@ -370,27 +413,27 @@ module _ {gives : Answers} {agent suffixes : List ℕ} {settings : Settings} {mo
       abbrev more : List Happened
       more = notes ++ settling ∷ pairs
 
-      plain_notes : AllByRecursion (λ (h : Happened). IsPlain gives h.0) notes
-      plain_notes = notes_plain gives noted (λ one there. All-contains (IsNoted gives) noted one it.worked.notes there)
+      plain_notes : AllByRecursion (λ (h : Happened). IsPlain given.gives h.0) notes
+      plain_notes = notes_plain given.gives noted (λ one there. All-contains (IsNoted given.gives) noted one it.worked.notes there)
 
-      plain_pairs : AllByRecursion (λ (h : Happened). IsPlain gives h.0) pairs
-      plain_pairs = all_weaker (λ (h : Happened). IsOfPairs h.0) (λ (h : Happened). IsPlain gives h.0) pairs (λ h. pairs_plain gives h.0) of_pairs
+      plain_pairs : AllByRecursion (λ (h : Happened). IsPlain given.gives h.0) pairs
+      plain_pairs = all_weaker (λ (h : Happened). IsOfPairs h.0) (λ (h : Happened). IsPlain given.gives h.0) pairs (λ h. pairs_plain given.gives h.0) of_pairs
 
-      of_turn : AllByRecursion (λ (h : Happened). IsOfTurn gives h.0) more
+      of_turn : AllByRecursion (λ (h : Happened). IsOfTurn given.gives h.0) more
       of_turn =
-          let turned : (hs : List Happened) → AllByRecursion (λ (h : Happened). IsPlain gives h.0) hs → AllByRecursion (λ (h : Happened). IsOfTurn gives h.0) hs =
-          λ hs. all_weaker (λ (h : Happened). IsPlain gives h.0) (λ (h : Happened). IsOfTurn gives h.0) hs (λ h. plain_turn gives h.0) in
-          all_both (λ (h : Happened). IsOfTurn gives h.0) notes (settling ∷ pairs) (turned notes plain_notes) (tt, turned pairs plain_pairs)
+          let turned : (hs : List Happened) → AllByRecursion (λ (h : Happened). IsPlain given.gives h.0) hs → AllByRecursion (λ (h : Happened). IsOfTurn given.gives h.0) hs =
+          λ hs. all_weaker (λ (h : Happened). IsPlain given.gives h.0) (λ (h : Happened). IsOfTurn given.gives h.0) hs (λ h. plain_turn given.gives h.0) in
+          all_both (λ (h : Happened). IsOfTurn given.gives h.0) notes (settling ∷ pairs) (turned notes plain_notes) (tt, turned pairs plain_pairs)
 
       settled_are : settled_in more ≡ settles
       settled_are =
-          flat_map-append (λ (h : Happened). outcomes_of h.0) notes (settling ∷ pairs) ∙ ap (λ ds. ds ++ (settles ++ settled_in pairs)) (none_settled gives notes plain_notes)
-          ∙ ap (λ ds. settles ++ ds) (none_settled gives pairs plain_pairs) ∙ append-nil settles
+          flat_map-append (λ (h : Happened). outcomes_of h.0) notes (settling ∷ pairs) ∙ ap (λ ds. ds ++ (settles ++ settled_in pairs)) (none_settled given.gives notes plain_notes)
+          ∙ ap (λ ds. settles ++ ds) (none_settled given.gives pairs plain_pairs) ∙ append-nil settles
 
       settled_at : (earlier later : List Happened) (h : Happened) (fronts : List ℕ) (outcomes : List (ℕ × Outcome)) → more ≡ earlier ++ h ∷ later → h.0 ≡ Settle fronts outcomes
           → AllByRecursion (λ d. IsSettled suffixes agent (visits_in it) y.urls (x.events ++ earlier) fronts d.0 d.1) outcomes
       settled_at earlier later h fronts outcomes at is =
-          let alone = stands_alone gives notes pairs settling h earlier later plain_notes plain_pairs (λ plain. subst (λ e. IsPlain gives e) is plain) at in
+          let alone = stands_alone given.gives notes pairs settling h earlier later plain_notes plain_pairs (λ plain. subst (λ e. IsPlain given.gives e) is plain) at in
           let event : Settle (lengths_of b.urls) settles ≡ Settle fronts outcomes = ap (λ (g : Happened). g.0) (sym alone.same) ∙ is in
           let fronts_are : lengths_of b.urls ≡ fronts = cc in
           let outcomes_are : settles ≡ outcomes = cc in
@@ -399,16 +442,21 @@ module _ {gives : Answers} {agent suffixes : List ℕ} {settings : Settings} {mo
           (subst (λ hs. AllByRecursion (λ (d : ℕ × Outcome). IsSettled suffixes agent (visits_in it) y.urls (x.events ++ hs) (lengths_of b.urls) d.0 d.1) settles) (sym alone.before)
           (all_from (λ (d : ℕ × Outcome). IsSettled suffixes agent (visits_in it) y.urls (x.events ++ notes) (lengths_of b.urls) d.0 d.1) settles settled_each)))
 
-      settled_turn : GrowsInBatches settings 1 x y → y.events ≡ x.events ++ more → OnlyTurns gives agent suffixes settings most x y
-      settled_turn grows events =
+      notes_are : notes_in more ≡ notes_from noted
+      notes_are =
+          flat_map-append (λ (h : Happened). notes_of h.0) notes (settling ∷ pairs) ∙ ap (λ ns. ns ++ notes_in pairs) (notes_back (notes_from noted))
+          ∙ ap (λ ns. notes_from noted ++ ns) (pairs_unnoted pairs of_pairs) ∙ append-nil (notes_from noted)
+
+      settled_turn : GrowsInBatches settings 1 x y → y.events ≡ x.events ++ more → SendsLinks suffixes settings x y → OnlyTurns given agent suffixes settings most x y
+      settled_turn grows events sends =
           let among : IsAmong (added_to x.urls.lists y.urls.lists) (offers_in (flat_map entered_of handled ++ [])) =
           subst (λ es. IsAmong (added_to x.urls.lists y.urls.lists) (offers_in es)) (sym (append-nil (flat_map entered_of handled)))
           (subst (λ ls. IsAmong (added_to x.urls.lists ls) (offers_in entries)) (sym lists) only.among) in
           turns_by it y more front among events of_turn settled_at (subst (λ ds. length ds ≤ most) (sym settled_are) settled_few)
-          (grown_more settings 1 (turns_in more) x y (turn_there notes pairs settling refl) grows)
+          (grown_more settings 1 (turns_in more) x y (turn_there notes pairs settling refl) grows) (rests_noted it more notes_are) sends
 
       -- ---- nothing is left over
-      begun_none : (begun : ([] ≡ []) ⊎ HasBegunOne gives agent suffixes noted [] [] befores) → flat_map visits_of handled ++ begun_visits begun ≡ flat_map visits_of handled
+      begun_none : (begun : ([] ≡ []) ⊎ HasBegunOne given.gives agent suffixes noted [] [] befores) → flat_map visits_of handled ++ begun_visits begun ≡ flat_map visits_of handled
       begun_none (inl none) = append-nil (flat_map visits_of handled)
       begun_none (inr one) =
           let long : length (one.work ∷ one.others) ≡ 0 = length_permutation [] (one.work ∷ one.others) one.is_left in
@@ -417,22 +465,25 @@ module _ {gives : Answers} {agent suffixes : List ℕ} {settings : Settings} {mo
       visits_are : visits_in it ≡ flat_map visits_of handled
       visits_are = begun_none it.one_begun
 
-      visit_settled : (visit : Visit) → Contains (flat_map visits_of handled) visit → Contains (map (λ (d : ℕ × Outcome). d.0) settles) visit.number
+      visit_settled : (visit : Visit) → Contains (flat_map visits_of handled) visit → Contains settles (visit.number, outcome_of (url_text y.urls visit.number) visit.answer)
       visit_settled visit there =
           let from = flat_cases visits_of handled visit there in
           let one = from.0 in
           let done : Contains settles (one.work.number, outcome_for one.work.web one.treated) =
           map_member (λ (e : Done). (e.number, e.outcome)) (map done_of handled) (done_of one) (map_member done_of handled one from.1) in
-          subst (λ n. Contains (map (λ (d : ℕ × Outcome). d.0) settles) n) (by one.work.number one.treated from.2)
-          (map_member (λ (d : ℕ × Outcome). d.0) settles (one.work.number, outcome_for one.work.web one.treated) done)
+          by one.work one.treated done (work_text it y front one.work (handled_loaded it one from.1)) from.2
         where
-          by : (number : ℕ) (treated : Treated) → Contains (visits_for number treated) visit → number ≡ visit.number
-          by number (Fetched answer entered) c = elim (member_cases (record { number = number; answer = answer }) [] visit c) [
-            | inl same ↦ ap (λ (v : Visit). v.number) same
+          by : (work : Work) (treated : Treated) → Contains settles (work.number, outcome_for work.web treated) → work.web ≡ url_text y.urls work.number
+              → Contains (visits_for work.number treated) visit
+              → Contains settles (visit.number, outcome_of (url_text y.urls visit.number) visit.answer)
+          by work (Fetched answer entered) done text c = elim (member_cases (record { number = work.number; answer = answer }) [] visit c) [
+            | inl same ↦
+                subst (λ (v : Visit). Contains settles (v.number, outcome_of (url_text y.urls v.number) v.answer)) same
+                (subst (λ t. Contains settles (work.number, outcome_of t answer)) text done)
             | inr none ↦ absurd (no_member visit none)
           ]
-          by number (Denied line) c = absurd (no_member visit c)
-          by number ShutOut c = absurd (no_member visit c)
+          by work (Denied line) done text c = absurd (no_member visit c)
+          by work ShutOut done text c = absurd (no_member visit c)
 
       module _ (events : y.events ≡ x.events ++ more) where
         since : events_since x y ≡ more
@@ -446,18 +497,19 @@ module _ {gives : Answers} {agent suffixes : List ℕ} {settings : Settings} {mo
               subst (λ os. IsPermutation (added_to x.urls.lists y.urls.lists) os) found
               (subst (λ ls. IsPermutation (added_to x.urls.lists ls) (offers_in entries)) (sym lists) offered.all);
           settled =
-              all_from (λ (visit : Visit). Contains (map (λ d. d.0) (settled_in (drop (length x.events) y.events))) visit.number) (visits_in it) (λ visit v.
-              subst (λ ds. Contains (map (λ (d : ℕ × Outcome). d.0) ds) visit.number) (sym (ap settled_in since ∙ settled_are))
+              all_from (λ (visit : Visit). Contains (settled_in (drop (length x.events) y.events)) (visit.number, outcome_of (url_text y.urls visit.number) visit.answer)) (visits_in it) (λ visit v.
+              subst (λ ds. Contains ds (visit.number, outcome_of (url_text y.urls visit.number) visit.answer)) (sym (ap settled_in since ∙ settled_are))
               (visit_settled visit (subst (λ vs. Contains vs visit) visits_are v)));
         }
 
-        settled_whole : (afters : List Schedule) → IsJudged settings y → KnowAsNoted agent noted befores afters
+        settled_whole : (afters : List Schedule) → IsJudged settings y → SendsAll suffixes settings x y → KnowAsNoted agent noted befores afters
             → TurnsWhole (length handled) agent suffixes settings (visits_in it) afters x y
-        settled_whole afters judged knows = record {
+        settled_whole afters judged sent knows = record {
           leaves = settled_leaves;
           count_is = sym (ap length (ap settled_in since ∙ settled_are)
               ∙ length-map (map done_of handled) (λ (d : Done). (d.number, d.outcome)) ∙ length-map handled done_of);
           judged = judged;
+          sent = sent;
           known = λ at front is name known has.
               let told = noted_among agent x.events befores noted name known.state it.known (knows at front is name known has) in
               let place : y.events ≡ (x.events ++ notes) ++ settling ∷ pairs = events ∙ sym (append_assoc x.events notes (settling ∷ pairs)) in
@@ -483,14 +535,15 @@ module _ {gives : Answers} {agent suffixes : List ℕ} {settings : Settings} {mo
     settled_grown =
         grown_to settings 0 x b s (ap (λ (z : State). z.urls) done ∙ ap (λ (z : State). z.urls) kept) (ap (λ (z : State). z.pairs) done ∙ ap (λ (z : State). z.pairs) kept) only.grows
 
-    -- the outcomes are settled
-    pub settles_turn : IsFrontState x s → OnlyTurns gives agent suffixes settings most x s
-    settles_turn front =
-        settled_turn b begins only offered s front settled_lists [] tt (grown_more settings 0 1 x s (omega arith) settled_grown)
-        (settled_events ∙ append_assoc x.events (notes_happened (notes_from noted)) ((Settle (lengths_of b.urls) (outcomes_from (map done_of handled)), []) ∷ []))
+    -- no pairs were sent before what is unjudged is judged
+    settled_unsent : SendsNone settings x s
+    settled_unsent =
+        unsent_both settings x b s (unsent_offered settings x b only.others)
+        (subst (SendsNone settings b) (sym (done ∙ ap (with_event (Settle (lengths_of b.urls) (outcomes_from (map done_of handled))) []) kept))
+        (unsent_settled settings (notes_from noted) (map done_of handled) b))
 
-    -- and what is unjudged is judged, or some of it
-    module _ (y : State) (front : IsFrontState x y) (judges : OnlyJudges settings s y) where
+    -- what is unjudged is judged, or some of it
+    module _ (y : State) (front : IsFrontState x y) (judges : OnlyJudges suffixes settings s y) where
       judged_lists : y.urls.lists ≡ b.urls.lists
       judged_lists = judges.lists ∙ settled_lists
 
@@ -505,13 +558,16 @@ module _ {gives : Answers} {agent suffixes : List ℕ} {settings : Settings} {mo
       judged_grown : GrowsInBatches settings 1 x y
       judged_grown = grown_more settings (0 + 1) 1 x y (omega arith) (grown_both settings 0 1 x s y settled_grown judges.grows)
 
-      pub judges_turn : OnlyTurns gives agent suffixes settings most x y
-      judges_turn = settled_turn b begins only offered y front judged_lists judges.more judges.pairs judged_grown judged_events
+      pub judges_turn : OnlyTurns given agent suffixes settings most x y
+      judges_turn =
+          settled_turn b begins only offered y front judged_lists judges.more judges.pairs judged_grown judged_events
+          (sends_by suffixes settings x s y (owes suffixes settings x s y.urls settled_unsent) judges.sends)
 
-      pub whole_turn : (afters : List Schedule) → IsJudged settings y → KnowAsNoted agent noted befores afters
-          → (turns : OnlyTurns gives agent suffixes settings most x y) × TurnsWhole (length handled) agent suffixes settings turns.visits afters x y
+      pub whole_turn : (afters : List Schedule) → IsJudged settings y → SendsAll suffixes settings b y → KnowAsNoted agent noted befores afters
+          → (turns : OnlyTurns given agent suffixes settings most x y) × TurnsWhole (length handled) agent suffixes settings turns.visits afters x y
       unfolding judges_turn settled_turn turns_by
-      whole_turn afters judged knows = (
+      whole_turn afters judged sent knows = (
         judges_turn,
-        settled_whole b begins only offered y front judged_lists judges.more judges.pairs judged_events afters judged knows,
+        settled_whole b begins only offered y front judged_lists judges.more judges.pairs judged_events afters judged
+            (sends_all_by suffixes settings x b y (owes suffixes settings x b y.urls (unsent_offered settings x b only.others)) sent) knows,
       )

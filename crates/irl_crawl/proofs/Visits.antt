@@ -1,11 +1,11 @@
 -- What a turn visits: URLs of the front, each to its text, by what was known of its host or noted since.
-use Rattle.std.proofs.Common.{◌≡◌, ◌≢◌, ◌∙◌, ℕ, ◌+◌, ◌≤◌, List, [], ◌∷◌, ◌++◌, map, Some, refl, sym, ap, subst, arith, ◌⊎◌, inl, inr}
+use Rattle.std.proofs.Common.{◌≡◌, ◌≢◌, ◌∙◌, ℕ, ◌+◌, ◌≤◌, List, [], ◌∷◌, ◌++◌, length, map, Some, refl, sym, ap, subst, arith, ◌⊎◌, inl, inr}
 use Rattle.std.specs.Prelude.{AllPairs, flat_map}
 use Rattle.std.specs.List.{AllByRecursion, Contains}
 use Rattle.std.specs.List.Sorted.{IsPermutation}
 use Rattle.std.proofs.lemmas.Grind.{flat_map-append}
 use Rattle.std.proofs.lemmas.List.{append-nil, map-append}
-use Rattle.std.proofs.lemmas.List.Elements.{All-contains, Contains-append_cases, Contains-append_left, Contains-append_right}
+use Rattle.std.proofs.lemmas.List.Elements.{All-contains, All-nil, Contains-append_cases, Contains-append_left, Contains-append_right}
 use Rattle.std.proofs.lemmas.List.Sorted.{Contains-permutation, IsPermutation-map, IsPermutation-refl, IsPermutation-sym}
 use Rattle.irl_answer.specs.Found.{offers_of}
 use Rattle.irl_base.proofs.Among.{among_append, among_none, among_same}
@@ -15,8 +15,9 @@ use Rattle.irl_events.specs.Events.{Happened, Robots}
 use Rattle.irl_events.specs.State.{State, IsFrontState}
 use Rattle.irl_fate.specs.Standing.{count}
 use Rattle.irl_fate.specs.Fronts.{AreFirst}
-use Rattle.irl_fetch.specs.Handling.{Fetched, Denied, Handled, IsGiven, IsHandled, IsNoted, Noted, ShutOut, Treated, entered_for, entered_of}
+use Rattle.irl_fetch.specs.Handling.{Fetched, Denied, Handled, IsGiven, IsHandled, IsNoted, Noted, ShutOut, Treated, answers_for, answers_of, entered_for, entered_of, missing}
 use Rattle.irl_fetch.specs.Pages.{IsPart}
+use Rattle.irl_fetch.proofs.Handling.{missing_both}
 use Rattle.irl_key.specs.Web.{host_of, target_of}
 use Rattle.irl_key.specs.declared.web.Work.{Work}
 use Rattle.irl_offer.specs.Offering.{Entered}
@@ -24,6 +25,8 @@ use Rattle.irl_offer.specs.Tuple.{Tuple}
 use Rattle.irl_offer.specs.declared.note.Note.{Note}
 use Rattle.irl_offer.specs.declared.note.NoteState.{NoteState}
 use Rattle.irl_offer.specs.declared.note.NoteState.TheVariants as note
+use Rattle.irl_offer.specs.declared.reply.Answer.{Answer}
+use Rattle.irl_offer.specs.declared.reply.Answer.TheVariants.{Reply, NoReply, Short, BadReply, TooLarge, Coded}
 use Rattle.irl_offer.specs.declared.reply.Want.TheVariants.{Page}
 use Rattle.irl_offer.specs.declared.settings.Settings.{Settings}
 use Rattle.irl_polite.specs.Schedule.{Schedule, host}
@@ -40,28 +43,11 @@ use Rattle.irl_robots.specs.declared.host.Leave.TheVariants.{Allowed}
 use Rattle.irl_yard.specs.Adding.{notes_happened}
 use Rattle.irl_yard.specs.Passing.{AreWorks, come}
 use Rattle.irl_crawl.specs.Offering.{offers_in}
-use Rattle.irl_crawl.specs.Workers.{AreNotedIn, IsNotedIn, IsStateAmong, loaded}
+use Rattle.irl_crawl.specs.Turning.{RestsOn}
+use Rattle.irl_crawl.specs.Workers.{AreNotedIn, Given, IsNotedIn, IsStateAmong, loaded}
 use Rattle.irl_crawl.specs.Working.{HasBegunOne, HaveWorked}
+use Rattle.irl_crawl.proofs.Rising.{MayMissFewer}
 use Rattle.irl_crawl.proofs.Numbers.{count_both, count_permuted, front_unique, loaded_front, loaded_once, once_differ}
-
--- ---- what is known when a turn has fetched
--- The workers had the first of the front of a state, each at its text, and knew nothing of hosts that none of its events tells.
--- Some items were handled, robots files noted, and the others are left, one of which may be begun.
-pub record TurnOf (gives : Answers) (agent suffixes : List ℕ) (settings : Settings) (most : ℕ) (x : State) (befores : List Schedule) (handled : List Handled) (noted : List Noted)
-    (left : List Work) (part : List Entered) : Type 0 where
-  pub store : IsCrawlStore settings x
-  pub begun : begun_with x.events ≡ Some suffixes
-  pub known : AreNotedIn agent x.events befores
-  pub works : AreWorks (loaded befores) x.urls
-  pub numbers : List ℕ
-  pub first : AreFirst (come settings x).front most numbers
-  pub each : IsPermutation (map (λ (work : Work). work.number) (loaded befores)) numbers
-  pub worked : HaveWorked gives agent suffixes handled noted left befores
-  pub one_begun : (part ≡ []) ⊎ HasBegunOne gives agent suffixes noted left part befores
-
--- what the notes of a turn are
-abbrev pub notes_from : List Noted → List Note
-notes_from noted = map (λ (one : Noted). one.note) noted
 
 -- ---- the visits
 abbrev pub visits_for : ℕ → Treated → List Visit
@@ -72,6 +58,10 @@ visits_for number ShutOut = []
 abbrev pub visits_of : Handled → List Visit
 visits_of one = visits_for one.work.number one.treated
 
+-- the answers to some
+abbrev pub answers_in : List Visit → List Answer
+answers_in visits = map (λ visit. visit.answer) visits
+
 -- that of an item of which a part of what it names is entered
 abbrev pub part_visits : (gives : Answers) (suffixes url : List ℕ) (part : List Entered) (number : ℕ) → IsPart gives suffixes url part → List Visit
 part_visits gives suffixes url part number (inl none) = []
@@ -81,6 +71,65 @@ abbrev pub begun_visits : {gives : Answers} {agent suffixes : List ℕ} {noted :
     → (part ≡ []) ⊎ HasBegunOne gives agent suffixes noted left part befores → List Visit
 begun_visits (inl none) = []
 begun_visits {gives = gives} {suffixes = suffixes} {part = part} (inr one) = part_visits gives suffixes one.work.web part one.work.number one.some
+
+-- an item is taken as begun only where something of it is entered
+pub begun_some : {gives : Answers} {agent suffixes : List ℕ} {noted : List Noted} {left : List Work} (part : List Entered) {befores : List Schedule}
+    → (part ≡ []) ⊎ HasBegunOne gives agent suffixes noted left part befores → (part ≡ []) ⊎ HasBegunOne gives agent suffixes noted left part befores
+begun_some [] begun = inl refl
+begun_some (one ∷ part) begun = begun
+
+-- and then its answer came
+some_came : (suffixes url : List ℕ) (answer : Answer) (one : Tuple) (more : List Tuple) → one ∷ more ≡ offers_of suffixes url answer → missing (answer ∷ []) ≡ 0
+some_came suffixes url (Reply reply) one more is = refl
+some_came suffixes url NoReply one more is = let long : length (one ∷ more) ≡ 0 = ap length is in absurd (omega (arith, long))
+some_came suffixes url (Short n) one more is = refl
+some_came suffixes url (BadReply n) one more is = refl
+some_came suffixes url (TooLarge n) one more is = refl
+some_came suffixes url Coded one more is = refl
+
+pub begun_answered : {gives : Answers} {agent suffixes : List ℕ} {noted : List Noted} {left : List Work} (part : List Entered) {befores : List Schedule}
+    (begun : (part ≡ []) ⊎ HasBegunOne gives agent suffixes noted left part befores) → missing (answers_in (begun_visits (begun_some part begun))) ≡ 0
+unfolding begun_some
+begun_answered [] begun = refl
+begun_answered (one ∷ part) (inl none) = refl
+begun_answered {gives = gives} {suffixes = suffixes} (one ∷ part) (inr begun) = by begun.some
+  where
+    by : (some : IsPart gives suffixes begun.work.web (one ∷ part)) → missing (answers_in (part_visits gives suffixes begun.work.web (one ∷ part) begun.work.number some)) ≡ 0
+    by (inl none) = refl
+    by (inr some) = some_came suffixes begun.work.web some.0 one.offer (map (λ (e : Entered). e.offer) part ++ some.2) some.3
+
+-- the answers to what was handled are those of its visits
+answers_handled : (handled : List Handled) → answers_in (flat_map visits_of handled) ≡ flat_map answers_of handled
+answers_handled [] = refl
+answers_handled (one ∷ handled) = by one.treated (answers_handled handled)
+  where
+    by : (treated : Treated) → answers_in (flat_map visits_of handled) ≡ flat_map answers_of handled
+        → answers_in (visits_for one.work.number treated ++ flat_map visits_of handled) ≡ answers_for treated ++ flat_map answers_of handled
+    by (Fetched answer entered) rest = ap (λ (answers : List Answer). answer ∷ answers) rest
+    by (Denied line) rest = rest
+    by ShutOut rest = rest
+
+-- ---- what is known when a turn has fetched
+-- The workers had the first of the front of a state, each at its text, and knew nothing of hosts that none of its events tells.
+-- Some items were handled, robots files noted, and the others are left, one of which may be begun.
+pub record TurnOf (given : Given) (agent suffixes : List ℕ) (settings : Settings) (most : ℕ) (x : State) (befores : List Schedule) (handled : List Handled) (noted : List Noted)
+    (left : List Work) (part : List Entered) : Type 0 where
+  pub store : IsCrawlStore settings x
+  pub begun : begun_with x.events ≡ Some suffixes
+  pub known : AreNotedIn agent x.events befores
+  pub works : AreWorks (loaded befores) x.urls
+  pub numbers : List ℕ
+  pub first : AreFirst (come settings x).front most numbers
+  pub each : IsPermutation (map (λ (work : Work). work.number) (loaded befores)) numbers
+  pub worked : HaveWorked given agent suffixes handled noted left befores
+  pub one_begun : (part ≡ []) ⊎ HasBegunOne given.gives agent suffixes noted left part befores
+  -- an answer of which something is entered came
+  pub begun_came : missing (answers_in (begun_visits one_begun)) ≡ 0
+  pub fewer : MayMissFewer given
+
+-- what the notes of a turn are
+abbrev pub notes_from : List Noted → List Note
+notes_from noted = map (λ (one : Noted). one.note) noted
 
 -- ---- what a robots file allows
 pub leave_read : (state : NoteState) (agent target : List ℕ) → leave state agent target ≡ leave_of (host_state state agent) target
@@ -141,8 +190,8 @@ numbers_fewer n (one ∷ handled) = by one.treated (numbers_fewer n handled)
     by ShutOut rest = omega (arith, rest)
 
 -- ---- a turn
-module _ {gives : Answers} {agent suffixes : List ℕ} {settings : Settings} {most : ℕ} {x : State} {befores : List Schedule} {handled : List Handled} {noted : List Noted}
-    {left : List Work} {part : List Entered} (it : TurnOf gives agent suffixes settings most x befores handled noted left part) where
+module _ {given : Given} {agent suffixes : List ℕ} {settings : Settings} {most : ℕ} {x : State} {befores : List Schedule} {handled : List Handled} {noted : List Noted}
+    {left : List Work} {part : List Entered} (it : TurnOf given agent suffixes settings most x befores handled noted left part) where
   abbrev pub visits_in : List Visit
   visits_in = flat_map visits_of handled ++ begun_visits it.one_begun
 
@@ -163,38 +212,39 @@ module _ {gives : Answers} {agent suffixes : List ℕ} {settings : Settings} {mo
   pub handled_loaded : (one : Handled) → Contains handled one → Contains (loaded befores) one.work
   handled_loaded one there = done_loaded one.work (map_member (λ (o : Handled). o.work) handled one there)
 
-  pub is_handled : (one : Handled) → Contains handled one → IsHandled gives (IsStateAmong agent befores noted) suffixes one
-  is_handled one there = All-contains (IsHandled gives (IsStateAmong agent befores noted) suffixes) handled one it.worked.each there
+  pub is_handled : (one : Handled) → Contains handled one → IsHandled given.gives (IsStateAmong agent befores noted) suffixes one
+  is_handled one there = All-contains (IsHandled given.gives (IsStateAmong agent befores noted) suffixes) handled one it.worked.each there
 
-  handled_fetches : (work : Work) (treated : Treated) → Contains (loaded befores) work → IsHandled gives (IsStateAmong agent befores noted) suffixes (record { work = work; treated = treated })
-      → (visit : Visit) → Contains (visits_for work.number treated) visit → Fetches gives agent noted befores visit
+  handled_fetches : (work : Work) (treated : Treated) → Contains (loaded befores) work → IsHandled given.gives (IsStateAmong agent befores noted) suffixes (record { work = work; treated = treated })
+      → (visit : Visit) → Contains (visits_for work.number treated) visit → Fetches given.gives agent noted befores visit
   handled_fetches work (Fetched answer entered) there is visit v = elim (member_cases (record { number = work.number; answer = answer }) [] visit v) [
     | inl same ↦
-        subst (λ w. Fetches gives agent noted befores w) same
+        subst (λ w. Fetches given.gives agent noted befores w) same
         (record { work = work; there = there; number = refl; state = is.state; known = is.noted; allowed = is.leave; given = is.given.0 })
     | inr none ↦ absurd (no_member visit none)
   ]
   handled_fetches work (Denied line) there is visit v = absurd (no_member visit v)
   handled_fetches work ShutOut there is visit v = absurd (no_member visit v)
 
-  begun_fetches : (begun : (part ≡ []) ⊎ HasBegunOne gives agent suffixes noted left part befores) (visit : Visit) → Contains (begun_visits begun) visit → Fetches gives agent noted befores visit
+  begun_fetches : (begun : (part ≡ []) ⊎ HasBegunOne given.gives agent suffixes noted left part befores) (visit : Visit) → Contains (begun_visits begun) visit
+      → Fetches given.gives agent noted befores visit
   begun_fetches (inl none) visit v = absurd (no_member visit v)
   begun_fetches (inr one) visit v =
       let there : Contains (loaded befores) one.work =
       left_loaded one.work (Contains-permutation (one.work ∷ one.others) left one.work (IsPermutation-sym left (one.work ∷ one.others) one.is_left) (first_member one.work one.others)) in
       by one.some there v
     where
-      by : (some : IsPart gives suffixes one.work.web part) → Contains (loaded befores) one.work → Contains (part_visits gives suffixes one.work.web part one.work.number some) visit
-          → Fetches gives agent noted befores visit
+      by : (some : IsPart given.gives suffixes one.work.web part) → Contains (loaded befores) one.work → Contains (part_visits given.gives suffixes one.work.web part one.work.number some) visit
+          → Fetches given.gives agent noted befores visit
       by (inl none) there v = absurd (no_member visit v)
       by (inr some) there v = elim (member_cases (record { number = one.work.number; answer = some.0 }) [] visit v) [
         | inl same ↦
-            subst (λ w. Fetches gives agent noted befores w) same
+            subst (λ w. Fetches given.gives agent noted befores w) same
             (record { work = one.work; there = there; number = refl; state = one.state; known = one.known; allowed = one.allowed; given = some.1 })
         | inr none ↦ absurd (no_member visit none)
       ]
 
-  pub each_fetches : (visit : Visit) → Contains visits_in visit → Fetches gives agent noted befores visit
+  pub each_fetches : (visit : Visit) → Contains visits_in visit → Fetches given.gives agent noted befores visit
   each_fetches visit v = elim (Contains-append_cases (flat_map visits_of handled) (begun_visits it.one_begun) visit v) [
     | inl done ↦
         let from = flat_cases visits_of handled visit done in
@@ -210,7 +260,7 @@ module _ {gives : Answers} {agent suffixes : List ℕ} {settings : Settings} {mo
   work_front work there =
       loaded_front settings x it.store most it.numbers numbers_loaded it.first it.each work.number (map_member (λ (w : Work). w.number) (loaded befores) work there)
 
-  begun_fewer : (n : ℕ) (begun : (part ≡ []) ⊎ HasBegunOne gives agent suffixes noted left part befores)
+  begun_fewer : (n : ℕ) (begun : (part ≡ []) ⊎ HasBegunOne given.gives agent suffixes noted left part befores)
       → count n (map (λ (v : Visit). v.number) (begun_visits begun)) ≤ count n (map (λ (w : Work). w.number) left)
   begun_fewer n (inl none) = omega arith
   begun_fewer n (inr one) =
@@ -219,8 +269,8 @@ module _ {gives : Answers} {agent suffixes : List ℕ} {settings : Settings} {mo
       (IsPermutation-map (λ (w : Work). w.number) left (one.work ∷ one.others) one.is_left) in
       by one.some same
     where
-      by : (some : IsPart gives suffixes one.work.web part) → count n (map (λ (w : Work). w.number) (one.work ∷ one.others)) ≡ count n (map (λ (w : Work). w.number) left)
-          → count n (map (λ (v : Visit). v.number) (part_visits gives suffixes one.work.web part one.work.number some)) ≤ count n (map (λ (w : Work). w.number) left)
+      by : (some : IsPart given.gives suffixes one.work.web part) → count n (map (λ (w : Work). w.number) (one.work ∷ one.others)) ≡ count n (map (λ (w : Work). w.number) left)
+          → count n (map (λ (v : Visit). v.number) (part_visits given.gives suffixes one.work.web part one.work.number some)) ≤ count n (map (λ (w : Work). w.number) left)
       by (inl none) same = omega (arith, same)
       by (inr some) same = omega (arith, same)
 
@@ -252,6 +302,34 @@ module _ {gives : Answers} {agent suffixes : List ℕ} {settings : Settings} {mo
       let is = each_fetches visit v in
       subst (λ n. Contains (come settings x).front n) (sym is.number) (work_front is.work is.there))
 
+  -- ---- what they rest on
+  visits_missing : missing (answers_in visits_in) ≡ missing (flat_map answers_of handled)
+  visits_missing =
+      let both : missing (answers_in visits_in) ≡ missing (answers_in (flat_map visits_of handled)) + missing (answers_in (begun_visits it.one_begun)) =
+      ap missing (map-append (λ (visit : Visit). visit.answer) (flat_map visits_of handled) (begun_visits it.one_begun))
+      ∙ missing_both (answers_in (flat_map visits_of handled)) (answers_in (begun_visits it.one_begun)) in
+      let first : missing (answers_in (flat_map visits_of handled)) ≡ missing (flat_map answers_of handled) = ap missing (answers_handled handled) in
+      omega (arith, both, first, it.begun_came)
+
+  -- no event has a note, or they have those of the turn
+  pub rests_unnoted : (events : List Happened) → notes_in events ≡ [] → RestsOn given visits_in events
+  rests_unnoted events none = record {
+    noted = [];
+    notes = sym none;
+    each = All-nil (IsNoted given.gives);
+    missing_are = it.fewer (missing (answers_in visits_in) + missing []) (missing (flat_map answers_of handled) + missing (flat_map (λ (one : Noted). one.answers) noted))
+        (omega (arith, visits_missing)) it.worked.missing_are;
+  }
+
+  pub rests_noted : (events : List Happened) → notes_in events ≡ notes_from noted → RestsOn given visits_in events
+  rests_noted events are = record {
+    noted = noted;
+    notes = sym are;
+    each = it.worked.notes;
+    missing_are = it.fewer (missing (answers_in visits_in) + missing (flat_map (λ (one : Noted). one.answers) noted))
+        (missing (flat_map answers_of handled) + missing (flat_map (λ (one : Noted). one.answers) noted)) (omega (arith, visits_missing)) it.worked.missing_are;
+  }
+
   -- ---- at a later state
   module _ (y : State) (front : IsFrontState x y) where
     grown : Grows x y
@@ -269,7 +347,7 @@ module _ {gives : Answers} {agent suffixes : List ℕ} {settings : Settings} {mo
     begun_still [] more is = absurd (cc)
     begun_still (h ∷ hs) more is = is
 
-    known_still : (name : List ℕ) (state : HostState) → IsStateAmong agent befores noted name state → (told : NoteState) × IsKnown gives y.events name told × (host_state told agent ≡ state)
+    known_still : (name : List ℕ) (state : HostState) → IsStateAmong agent befores noted name state → (told : NoteState) × IsKnown given.gives y.events name told × (host_state told agent ≡ state)
     known_still name state among = elim among [
       | inl front ↦
           let told = it.known front.0 front.1 front.3 name front.2 front.4 in
@@ -278,11 +356,11 @@ module _ {gives : Answers} {agent suffixes : List ℕ} {settings : Settings} {mo
           (told.0.state, inl (told.0, there, told.2, refl), told.3 ∙ front.5)
       | inr since ↦
           let one = since.1 in
-          let is = All-contains (IsNoted gives) noted one it.worked.notes (since.0, since.2, since.3) in
-          (one.note.state, inr (subst (λ name. IsNoteBy gives name one.note.state) since.4.0 (noted_by gives one is)), since.4.1)
+          let is = All-contains (IsNoted given.gives) noted one it.worked.notes (since.0, since.2, since.3) in
+          (one.note.state, inr (subst (λ name. IsNoteBy given.gives name one.note.state) since.4.0 (noted_by given.gives one is)), since.4.1)
     ]
 
-    each_visit : (visit : Visit) → Fetches gives agent noted befores visit → IsVisit suffixes gives agent y (offers_listed x.urls ++ []) visit
+    each_visit : (visit : Visit) → Fetches given.gives agent noted befores visit → IsVisit suffixes given.gives agent y (offers_listed x.urls ++ []) visit
     each_visit visit is =
         let text : is.work.web ≡ url_text y.urls visit.number = work_text is.work is.there ∙ ap (url_text y.urls) (sym is.number) in
         let unique : Contains (numbers_in x.urls) visit.number = subst (λ n. Contains (numbers_in x.urls) n) (sym is.number) (work_unique is.work is.there) in
@@ -296,18 +374,18 @@ module _ {gives : Answers} {agent suffixes : List ℕ} {settings : Settings} {mo
           unique = grown.numbers visit.number unique;
           offered = subst (λ os. Contains (map (λ (o : Tuple). o.aux) os) (url_text y.urls visit.number)) (sym (append-nil (offers_listed x.urls))) old;
           state = told.0;
-          known = subst (λ t. IsKnown gives y.events (host_of t) told.0) text told.1;
+          known = subst (λ t. IsKnown given.gives y.events (host_of t) told.0) text told.1;
           allowed = subst (λ t. leave told.0 agent (target_of t) ≡ Allowed) text allowed;
-          given = subst (λ t. gives t Page visit.answer) text is.given;
+          given = subst (λ t. given.gives t Page visit.answer) text is.given;
         }
 
-    pub are_visits : AreVisits suffixes gives agent y (offers_listed x.urls ++ []) visits_in
+    pub are_visits : AreVisits suffixes given.gives agent y (offers_listed x.urls ++ []) visits_in
     are_visits =
-        visits_apart suffixes gives agent y (offers_listed x.urls ++ []) visits_in
-        (all_from (IsVisit suffixes gives agent y (offers_listed x.urls ++ [])) visits_in (λ visit v. each_visit visit (each_fetches visit v)))
+        visits_apart suffixes given.gives agent y (offers_listed x.urls ++ []) visits_in
+        (all_from (IsVisit suffixes given.gives agent y (offers_listed x.urls ++ [])) visits_in (λ visit v. each_visit visit (each_fetches visit v)))
 
     -- ---- what they find
-    found_one : (work : Work) (treated : Treated) → work.web ≡ url_text y.urls work.number → IsGiven gives suffixes work.web treated
+    found_one : (work : Work) (treated : Treated) → work.web ≡ url_text y.urls work.number → IsGiven given.gives suffixes work.web treated
         → offers_in (entered_for treated) ≡ flat_map (found_by suffixes y.urls) (visits_for work.number treated)
     found_one work (Fetched answer entered) text is =
         is.1 ∙ ap (λ t. offers_of suffixes t answer) text ∙ sym (append-nil (offers_of suffixes (url_text y.urls work.number) answer))
@@ -329,16 +407,16 @@ module _ {gives : Answers} {agent suffixes : List ℕ} {settings : Settings} {mo
     pub found_handled : offers_in (flat_map entered_of handled) ≡ flat_map (found_by suffixes y.urls) (flat_map visits_of handled)
     found_handled = found_each handled (λ one c. c)
 
-    found_begun : (begun : (part ≡ []) ⊎ HasBegunOne gives agent suffixes noted left part befores) → IsAmong (offers_in part) (flat_map (found_by suffixes y.urls) (begun_visits begun))
+    found_begun : (begun : (part ≡ []) ⊎ HasBegunOne given.gives agent suffixes noted left part befores) → IsAmong (offers_in part) (flat_map (found_by suffixes y.urls) (begun_visits begun))
     found_begun (inl none) = subst (λ es. IsAmong (offers_in es) []) (sym none) (among_none [])
     found_begun (inr one) =
         by one.some (left_loaded one.work (Contains-permutation (one.work ∷ one.others) left one.work (IsPermutation-sym left (one.work ∷ one.others) one.is_left) (first_member one.work one.others)))
       where
-        by : (some : IsPart gives suffixes one.work.web part) → Contains (loaded befores) one.work
-            → IsAmong (offers_in part) (flat_map (found_by suffixes y.urls) (part_visits gives suffixes one.work.web part one.work.number some))
+        by : (some : IsPart given.gives suffixes one.work.web part) → Contains (loaded befores) one.work
+            → IsAmong (offers_in part) (flat_map (found_by suffixes y.urls) (part_visits given.gives suffixes one.work.web part one.work.number some))
         by (inl none) there = subst (λ es. IsAmong (offers_in es) []) (sym none) (among_none [])
         by (inr some) there =
-            let whole : offers_in part ++ some.2 ≡ flat_map (found_by suffixes y.urls) (part_visits gives suffixes one.work.web part one.work.number (inr some)) =
+            let whole : offers_in part ++ some.2 ≡ flat_map (found_by suffixes y.urls) (part_visits given.gives suffixes one.work.web part one.work.number (inr some)) =
             some.3 ∙ ap (λ t. offers_of suffixes t some.0) (work_text one.work there) ∙ sym (append-nil (offers_of suffixes (url_text y.urls one.work.number) some.0)) in
             record { rest = some.2; is = subst (λ os. IsPermutation (offers_in part ++ some.2) os) whole (IsPermutation-refl (offers_in part ++ some.2)) }
 

@@ -15,7 +15,7 @@ use Rattle.irl_fetch.specs.Handling.{Noted}
 use Rattle.irl_fetch.specs.Telling.{GoesOn, fetcher, given_since}
 use Rattle.irl_fetch.specs.Working.{IsStateOf, IsKnownOf}
 use Rattle.irl_fetch.proofs.Handling.{any_left, any_right, any_weaker}
-use Rattle.irl_fetch.proofs.Telling.{goes_none, goes_then}
+use Rattle.irl_fetch.proofs.Telling.{goes_then}
 use Rattle.irl_crawl.specs.Workers.{AllGoOn, IsGivenBy, IsMomentBy, IsStateAmong, schedules}
 use Rattle.irl_crawl.specs.Working.{KeepDelays, KnowAsNoted, KnowByMoment}
 
@@ -83,7 +83,8 @@ pub given_by_one : {F : Type 0} (asked : F → ℕ) (gives : F → ℕ → Answe
     → slice_get laters at ≡ Some y → Widens (given_since (fetcher asked gives faults last aim x) (fetcher asked gives faults last aim y)) (IsGivenBy asked gives olds laters)
 given_by_one asked gives faults last aim olds laters at x y was is = λ url want answer given. record { at = at; old = x; new = y; was = was; is = is; given = given }
 
-pub one_goes_on : {F : Type 0} (asked : F → ℕ) (gives : F → ℕ → Answers) (faults last : F → ℕ) (aim : F → List ℕ) (olds nows laters : List F) (at : ℕ) (x y : F) → AllGoOn asked gives faults last aim olds nows
+pub one_goes_on : {F : Type 0} (asked : F → ℕ) (gives : F → ℕ → Answers) (faults last : F → ℕ) (aim : F → List ℕ) (olds nows laters : List F) (at : ℕ) (x y : F)
+    → AllGoOn asked gives faults last aim olds nows
     → IsSetAt at y nows laters → slice_get nows at ≡ Some x → GoesOn (fetcher asked gives faults last aim x) (fetcher asked gives faults last aim y) → AllGoOn asked gives faults last aim olds laters
 one_goes_on asked gives faults last aim olds nows laters at x y all changed stood on = record {
   count = changed.count ∙ all.count;

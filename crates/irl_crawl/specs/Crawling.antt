@@ -15,11 +15,12 @@ use Rattle.irl_ledger.specs.Settling.{max_settled}
 use Rattle.irl_offer.specs.declared.settings.Settings.{Settings}
 use Rattle.irl_reach.specs.Along.{settled_in}
 use Rattle.irl_reach.specs.Crawls.{Crawls, LeavesNone, Visit, found_by, numbers_in}
-use Rattle.irl_record.specs.Widening.{Answers}
 use Rattle.irl_yard.specs.Passing.{come}
 use Rattle.irl_crawl.specs.Judging.{IsJudged}
 use Rattle.irl_crawl.specs.Leading.{GrowsInBatches, HasGround}
-use Rattle.irl_crawl.specs.Turning.{AreBatches, events_since, input_of, turns_in}
+use Rattle.irl_crawl.specs.Sending.{SendsAll, SendsLinks}
+use Rattle.irl_crawl.specs.Turning.{AreBatches, RestsOn, events_since, input_of, turns_in}
+use Rattle.irl_crawl.specs.Workers.{Given}
 
 -- no unique URL is fresh, in front, in a queue or in the last list
 pub record NoneWaits (settings : Settings) (state : State) : Type 0 where
@@ -37,29 +38,32 @@ result_of (Fault fault) = Err fault
 -- Some URLs were visited, and nothing is offered but the seeds and what the visits name; no more are settled than the
 -- plan says, nor in one turn. Merges come in batches: in each book one cut for each turn that is settled may be early,
 -- and so many others.
-pub record OnlyCrawls (gives : Answers) (agent suffixes : List ℕ) (seeds : List (List ℕ)) (settings : Settings)
+pub record OnlyCrawls (given : Given) (agent suffixes : List ℕ) (seeds : List (List ℕ)) (settings : Settings)
     (spare pages batch : ℕ) (x y : State) : Type 0 where
   pub visits : List Visit
-  pub crawls : Crawls (input_of suffixes seeds) gives agent visits x y
+  pub crawls : Crawls (input_of suffixes seeds) given.gives agent visits x y
+  pub rests : RestsOn given visits (events_since x y)
   pub batches : AreBatches batch (events_since x y)
   pub pages_are : length (settled_in (events_since x y)) ≤ pages
   pub grows : GrowsInBatches settings (spare + turns_in (events_since x y)) x y
+  pub sends : SendsLinks suffixes settings x y
 
--- What came of each visit is settled, and all is judged.
+-- What came of each visit is settled, all is judged, and the pairs of all links are sent.
 pub record CrawlsWhole (suffixes : List ℕ) (seeds : List (List ℕ)) (settings : Settings) (visits : List Visit)
     (x y : State) : Type 0 where
   pub leaves : LeavesNone (input_of suffixes seeds) visits x y
   pub judged : IsJudged settings y
+  pub sent : SendsAll suffixes settings x y
 
 -- by the answer
-pub record CrawlsTo (ended : Ended) (gives : Answers) (agent suffixes : List ℕ) (seeds : List (List ℕ))
+pub record CrawlsTo (ended : Ended) (given : Given) (agent suffixes : List ℕ) (seeds : List (List ℕ))
     (settings : Settings) (spare pages batch : ℕ) (x y : State) : Type 0 where
-  pub only : OnlyCrawls gives agent suffixes seeds settings spare pages batch x y
+  pub only : OnlyCrawls given agent suffixes seeds settings spare pages batch x y
   pub done : ended ≡ Done → CrawlsWhole suffixes seeds settings only.visits x y × NoneWaits settings y
   pub limit : ended ≡ Limit → CrawlsWhole suffixes seeds settings only.visits x y
       × (length (settled_in (events_since x y)) ≡ pages) × (NoneWaits settings y → ⊥)
   -- the seeds were handed in, and what the visits found
-  pub ground : HasGround (result_of ended) settings
+  pub ground : HasGround (result_of ended) suffixes settings
       (map (offer_from 0) seeds ++ flat_map (found_by suffixes y.urls) only.visits) x y
 
 -- ---- what is asked

@@ -8,13 +8,12 @@ use Rattle.irl_key.specs.declared.web.Work.{Work}
 use Rattle.irl_ledger.specs.Settling.{IsFlushed}
 use Rattle.irl_offer.specs.Offering.{Entered}
 use Rattle.irl_polite.specs.Schedule.{Schedule}
-use Rattle.irl_record.specs.Widening.{Answers}
 use Rattle.irl_yard.specs.declared.parts.Parts.{Parts}
 use Rattle.irl_fetch.specs.Handling.{Handled, Noted, done_of, entered_of}
 use Rattle.irl_fetch.specs.declared.working.WorkLog.{WorkLog}
 use Rattle.irl_crawl.specs.Leading.{Leads}
 use Rattle.irl_crawl.specs.Offering.{OffersSome, OnlyOffers}
-use Rattle.irl_crawl.specs.Workers.{AreFor}
+use Rattle.irl_crawl.specs.Workers.{AreFor, Given}
 use Rattle.irl_crawl.specs.Working.{HasBegunOne, HaveWorked, KnowAsNoted}
 
 -- what was entered of items that were handled, and of a part of one more
@@ -34,17 +33,17 @@ pub record FetchesWhole (log : WorkLog) (agent : List ℕ) (handled : List Handl
   pub items : All (λ s. s.items ≡ []) afters
 
 -- Items were handled, and a part of one more, by the answer: what they name was offered to the store.
-pub record Fetches (result : Result WorkLog Fault) (gives : Answers) (agent suffixes : List ℕ)
+pub record Fetches (result : Result WorkLog Fault) (given : Given) (agent suffixes : List ℕ)
     (befores afters : List Schedule) (was now : Parts) (before after : Told) : Type 0 where
   pub handled : List Handled
   pub noted : List Noted
   pub left : List Work
   pub part : List Entered
-  pub worked : HaveWorked gives agent suffixes handled noted left befores
-  pub begun : (part ≡ []) ⊎ HasBegunOne gives agent suffixes noted left part befores
+  pub worked : HaveWorked given agent suffixes handled noted left befores
+  pub begun : (part ≡ []) ⊎ HasBegunOne given.gives agent suffixes noted left part befores
   pub whole : IfOk result (λ log. FetchesWhole log agent handled noted left part befores afters now)
   pub leads : Leads (IsErrOf result Failed) (OnlyOffers was.urls.settings (entries_of handled part))
-      (OffersSome result was.urls.settings (entries_of handled part)) was now before after
+      (OffersSome result suffixes was.urls.settings (entries_of handled part)) was now before after
   -- nothing changes beside the bay of URLs, and the fronts are as many, for the same agent
   pub rest : now.rest ≡ was.rest
   pub count : length afters ≡ length befores

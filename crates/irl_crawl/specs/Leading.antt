@@ -6,7 +6,7 @@ use Rattle.irl_base.specs.declared.fault.Fault.{Fault}
 use Rattle.irl_base.specs.declared.fault.Fault.TheVariants.{Damaged, Full}
 use Rattle.irl_disk.specs.Disk.{Files}
 use Rattle.irl_disk.specs.Images.{Told}
-use Rattle.irl_events.specs.State.{State, IsFrontState}
+use Rattle.irl_events.specs.State.{State}
 use Rattle.irl_model.specs.Book.{part}
 use Rattle.irl_offer.specs.Tuple.{Tuple}
 use Rattle.irl_offer.specs.declared.settings.Settings.{Settings}
@@ -18,7 +18,8 @@ use Rattle.irl_yard.specs.declared.parts.Rest.TheVariants.{Crawl}
 use Rattle.irl_yard.specs.Holding.{HoldsState, IsSound, StaysSound}
 use Rattle.irl_yard.specs.Leading.{FailsAt, LeadsTo}
 use Rattle.irl_yard.specs.Passing.{front_in, suffixes_in}
-use Rattle.irl_yard.specs.Sending.{HasBegun, links_in}
+use Rattle.irl_yard.specs.Sending.{HasBegun}
+use Rattle.irl_crawl.specs.Sending.{pairs_for}
 
 -- ---- what is open
 -- a store of a crawl that has begun, in which no call failed
@@ -63,19 +64,25 @@ pub record GrowsInBatches (settings : Settings) (early : ℕ) (x y : State) : Ty
   pub pairs : Grows (pair_settings settings) early x.pairs y.pairs
 
 -- ---- why a fault is answered
--- What is handed in doesn't fit. In a bucket of URLs: the first state's list and all offers of the bucket that were
--- handed in since pass the cap together, and to the last one's not a whole array more fits. Or, counted behind those,
--- in a bucket of pairs, which lacks room for the new links of a state on the way.
-abbrev pub IsFullAt : Settings → List Tuple → State → State → ℕ → Type 0
-IsFullAt settings handed x y n =
+-- What is handed in doesn't fit: to the last state's list not a whole array more. In a bucket of URLs the first one's
+-- list and all offers of the bucket that were handed in since pass the cap together. Or, counted behind those, in a
+-- bucket of pairs, its list and all links that the last one's URLs show since pairs were sent.
+abbrev pub IsFullAt : List ℕ → Settings → List Tuple → State → State → ℕ → Type 0
+IsFullAt suffixes settings handed x y n =
     ((n < settings.buckets) × (settings.cap < length (list_at y.urls n) + settings.array)
     × (settings.cap < length (list_at x.urls n) + length (part settings.buckets n handed)))
-    ⊎ ((b : ℕ) × (n ≡ 64 + b) × (b < settings.buckets) × (z : State) × IsFrontState x z × IsFrontState z y
-    × (settings.cap < links_in settings z b))
+    ⊎ ((b : ℕ) × (n ≡ 64 + b) × (b < settings.buckets)
+    × (settings.cap < length (list_at y.pairs b) + settings.array)
+    × (settings.cap < length (pairs_for suffixes settings x y.urls b)))
 
 -- The ground of an answer, of the state that was held and the one that it was led to, by these offers of URLs: damage
 -- is named of neither.
-pub record HasGround {A : Type 0} (result : Result A Fault) (settings : Settings) (handed : List Tuple) (x y : State)
-    : Type 0 where
-  pub full : (n : ℕ) → IsErrOf result (Full n) → IsFullAt settings handed x y n
+pub record HasGround {A : Type 0} (result : Result A Fault) (suffixes : List ℕ) (settings : Settings)
+    (handed : List Tuple) (x y : State) : Type 0 where
+  pub full : (n : ℕ) → IsErrOf result (Full n) → IsFullAt suffixes settings handed x y n
+  pub whole : (f at : ℕ) → IsErrOf result (Damaged f at) → ⊥
+
+-- No list is full by an answer, and no damage is named.
+pub record NeedsNoGround {A : Type 0} (result : Result A Fault) : Type 0 where
+  pub full : (n : ℕ) → IsErrOf result (Full n) → ⊥
   pub whole : (f at : ℕ) → IsErrOf result (Damaged f at) → ⊥

@@ -7,6 +7,7 @@ pub mod Loading
 pub mod Offering
 pub mod Running
 pub mod Seeding
+pub mod Sending
 pub mod Serving
 pub mod Settling
 pub mod Turning

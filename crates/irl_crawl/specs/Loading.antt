@@ -1,5 +1,5 @@
 -- Handing the pages that are next to the workers, with the notes on their hosts.
-use Rattle.std.specs.Prelude.{◌≡◌, ◌≤◌, ℕ, List, [], map, take, Result, OnOk}
+use Rattle.std.specs.Prelude.{◌≡◌, ℕ, List, map, Result, OnOk}
 use Rattle.std.specs.List.Sorted.{IsPermutation}
 use Rattle.irl_base.specs.declared.fault.Fault.{Fault}
 use Rattle.irl_events.specs.State.{State}
@@ -7,8 +7,8 @@ use Rattle.irl_fate.specs.Fronts.{AreFirst}
 use Rattle.irl_offer.specs.declared.settings.Settings.{Settings}
 use Rattle.irl_polite.specs.Schedule.{Schedule}
 use Rattle.irl_yard.specs.Passing.{AreWorks}
-use Rattle.irl_crawl.specs.Leading.{HasGround}
-use Rattle.irl_crawl.specs.Workers.{AreFor, AreNotedIn, AreReady, loaded}
+use Rattle.irl_crawl.specs.Leading.{NeedsNoGround}
+use Rattle.irl_crawl.specs.Workers.{AreNotedIn, loaded}
 
 -- the workers have the first so many numbers of a front, in some order
 pub record AreNext (front : List ℕ) (most : ℕ) (fronts : List Schedule) : Type 0 where
@@ -23,4 +23,4 @@ pub record Loads (result : Result Unit Fault) (settings : Settings) (agent : Lis
   pub same : y ≡ x
   pub texts : OnOk result (AreWorks (loaded new) x.urls)
   pub known : OnOk result (AreNotedIn agent x.events old → AreNotedIn agent x.events new)
-  pub ground : HasGround result settings [] x y
+  pub ground : NeedsNoGround result

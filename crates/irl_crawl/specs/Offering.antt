@@ -15,6 +15,7 @@ use Rattle.irl_yard.specs.Settling.{StandsAt}
 use Rattle.irl_yard.specs.Standing.{with_urls}
 use Rattle.irl_crawl.specs.Judging.{IsJudged, IsOfPairs}
 use Rattle.irl_crawl.specs.Leading.{GrowsInBatches, HasGround}
+use Rattle.irl_crawl.specs.Sending.{SendsAll, SendsLinks}
 
 abbrev pub offers_in : List Entered → List Tuple
 offers_in entries = map (λ one. one.offer) entries
@@ -32,25 +33,28 @@ pub record HasOffers (entries : List Entered) (x y : State) : Type 0 where
   pub stand : AllByRecursion (λ one. StandsAt y.urls one.receipt one.offer) entries
 
 -- by the answer
-pub record OffersSome {A : Type 0} (result : Result A Fault) (settings : Settings) (entries : List Entered)
+pub record OffersSome {A : Type 0} (result : Result A Fault) (suffixes : List ℕ) (settings : Settings)
+    (entries : List Entered)
     (x y : State) : Type 0 where
   pub only : OnlyOffers settings entries x y
   pub all : OnOk result (HasOffers entries x y)
-  pub ground : HasGround result settings (offers_in entries) x y
+  pub ground : HasGround result suffixes settings (offers_in entries) x y
 
 -- ---- seeds
--- No offer of URLs is added but those of seeds, and no event but that pairs are sent; one cut of each book may be
--- early.
-pub record OnlySeeds (settings : Settings) (seeds : List (List ℕ)) (x y : State) : Type 0 where
+-- No offer of URLs is added but those of seeds, and no event but that pairs are sent, some of the new links in order;
+-- one cut of each book may be early.
+pub record OnlySeeds (suffixes : List ℕ) (settings : Settings) (seeds : List (List ℕ)) (x y : State) : Type 0 where
   pub grows : GrowsInBatches settings 1 x y
   pub among : IsAmong (added_to x.urls.lists y.urls.lists) (map (offer_from 0) seeds)
   pub more : List Happened
   pub events : y.events ≡ x.events ++ more
   pub pairs : AllByRecursion (λ h. IsOfPairs h.0) more
+  pub sends : SendsLinks suffixes settings x y
 
 -- all are, and all is judged, by the answer
-pub record Seeds (result : Result Unit Fault) (settings : Settings) (seeds : List (List ℕ)) (x y : State) : Type 0 where
-  pub only : OnlySeeds settings seeds x y
+pub record Seeds (result : Result Unit Fault) (suffixes : List ℕ) (settings : Settings) (seeds : List (List ℕ))
+    (x y : State) : Type 0 where
+  pub only : OnlySeeds suffixes settings seeds x y
   pub all : OnOk result (IsPermutation (added_to x.urls.lists y.urls.lists) (map (offer_from 0) seeds)
-      × IsJudged settings y)
-  pub ground : HasGround result settings (map (offer_from 0) seeds) x y
+      × IsJudged settings y × SendsAll suffixes settings x y)
+  pub ground : HasGround result suffixes settings (map (offer_from 0) seeds) x y

@@ -1,5 +1,5 @@
 -- The workers of a run: fetchers, each with a front of its own.
-use Rattle.std.specs.Prelude.{◌≡◌, ◌⊎◌, ◌≤◌, ℕ, List, [], length, map, false, Some, slice_get}
+use Rattle.std.specs.Prelude.{◌≡◌, ◌⊎◌, ◌≤◌, ◌+◌, ℕ, List, [], ◌∷◌, length, map, false, Some, slice_get}
 use Rattle.std.specs.List.{All, Any, Contains, flat_map}
 use Rattle.irl_events.specs.Events.{Happened}
 use Rattle.irl_key.specs.declared.web.Work.{Work}
@@ -14,7 +14,7 @@ use Rattle.irl_record.specs.Widening.{Answers}
 use Rattle.irl_robots.specs.Leave.{host_state}
 use Rattle.irl_robots.specs.declared.host.HostState.{HostState}
 use Rattle.irl_fetch.specs.Handling.{Noted}
-use Rattle.irl_fetch.specs.Telling.{GoesOn, fetcher}
+use Rattle.irl_fetch.specs.Telling.{GoesOn, RoseBy, fetcher}
 
 -- ---- fetchers
 -- an answer that one of them gives at a later moment, since an earlier one
@@ -27,8 +27,28 @@ pub record IsGivenBy {F : Type 0} (asked : F → ℕ) (gives : F → ℕ → Ans
   pub is : slice_get news at ≡ Some new
   pub given : gives new (asked old) url want answer
 
+-- Their counts of faults rose by parts of this at least.
+abbrev pub RoseBetween : {F : Type 0} → (F → ℕ) → List F → List F → ℕ → Type 0
+RoseBetween faults [] news n = n ≡ 0
+RoseBetween faults (old ∷ olds) [] n = n ≡ 0
+RoseBetween faults (old ∷ olds) (new ∷ news) n = (own others : ℕ) × (n ≤ own + others)
+    × RoseBy own (faults old) (faults new) × RoseBetween faults olds news others
+
+-- What fetchers gave in some time: their answers, and how many of these may never have come.
+pub record Given : Type 1 where
+  pub gives : Answers
+  pub may_miss : ℕ → Type 0
+
+-- that of some, where each that didn't come is a fault of its fetcher
+abbrev pub given_by : {F : Type 0} → (F → ℕ) → (F → ℕ → Answers) → (F → ℕ) → List F → List F → Given
+given_by asked gives faults olds news = record {
+  gives = IsGivenBy asked gives olds news;
+  may_miss = RoseBetween faults olds news;
+}
+
 -- each goes on, and there are as many
-pub record AllGoOn {F : Type 0} (asked : F → ℕ) (gives : F → ℕ → Answers) (faults last : F → ℕ) (aim : F → List ℕ) (olds news : List F)
+pub record AllGoOn {F : Type 0} (asked : F → ℕ) (gives : F → ℕ → Answers) (faults last : F → ℕ) (aim : F
+    → List ℕ) (olds news : List F)
     : Type 0 where
   pub count : length news ≡ length olds
   pub each : (at : ℕ) (old new : F) → slice_get olds at ≡ Some old → slice_get news at ≡ Some new

@@ -1,5 +1,5 @@
 -- What all workers do of what their fronts say.
-use Rattle.std.specs.Prelude.{◌≡◌, ◌⊎◌, ℕ, List, [], ◌∷◌, ◌++◌, map, length, Some, Result, IfOk, OnErr, slice_get}
+use Rattle.std.specs.Prelude.{◌≡◌, ◌⊎◌, ◌+◌, ℕ, List, [], ◌∷◌, ◌++◌, map, length, Some, Result, IfOk, OnErr, slice_get}
 use Rattle.std.specs.List.{All, flat_map}
 use Rattle.std.specs.List.Sorted.{IsPermutation}
 use Rattle.irl_base.specs.declared.fault.Fault.{Fault}
@@ -13,12 +13,12 @@ use Rattle.irl_record.specs.Widening.{Answers}
 use Rattle.irl_robots.specs.Leave.{leave_of}
 use Rattle.irl_robots.specs.declared.host.HostState.{HostState}
 use Rattle.irl_robots.specs.declared.host.Leave.TheVariants.{Allowed}
-use Rattle.irl_fetch.specs.Handling.{Handled, Noted, IsHandled, IsNoted, done_of, entered_of}
+use Rattle.irl_fetch.specs.Handling.{Handled, Noted, IsHandled, IsNoted, answers_of, done_of, entered_of, missing}
 use Rattle.irl_fetch.specs.Pages.{FaultIs, IsPart}
 use Rattle.irl_fetch.specs.Telling.{Enters, Offering}
 use Rattle.irl_fetch.specs.Working.{IsKnownOf}
 use Rattle.irl_fetch.specs.declared.working.WorkLog.{WorkLog}
-use Rattle.irl_crawl.specs.Workers.{AreFor, IsStateAmong, loaded}
+use Rattle.irl_crawl.specs.Workers.{AreFor, Given, IsStateAmong, loaded}
 
 -- ---- what was done
 -- The first of it is what came of the items of the first front, then of those of the second, and so on.
@@ -29,11 +29,14 @@ AreByWorker (front ∷ fronts) done = (own rest : List Done) × (done ≡ own ++
 
 -- Items were handled, each as a note of its host says that was known or made since, and by an answer that was given,
 -- and robots files noted; these items are left.
-pub record HaveWorked (gives : Answers) (agent suffixes : List ℕ) (handled : List Handled) (noted : List Noted)
+pub record HaveWorked (given : Given) (agent suffixes : List ℕ) (handled : List Handled) (noted : List Noted)
     (left : List Work) (befores : List Schedule) : Type 0 where
   pub items : IsPermutation (loaded befores) (map (λ one. one.work) handled ++ left)
-  pub each : All (IsHandled gives (IsStateAmong agent befores noted) suffixes) handled
-  pub notes : All (IsNoted gives) noted
+  pub each : All (IsHandled given.gives (IsStateAmong agent befores noted) suffixes) handled
+  pub notes : All (IsNoted given.gives) noted
+  -- so many of the answers may never have come
+  pub missing_are : given.may_miss (missing (flat_map answers_of handled)
+      + missing (flat_map (λ one. one.answers) noted))
 
 -- no front knows more than it did, but what was noted
 abbrev pub KnowAsNoted : List ℕ → List Noted → List Schedule → List Schedule → Type 0
@@ -53,13 +56,13 @@ KeepDelays befores afters = (at : ℕ) (old new : Schedule) → slice_get before
     → slice_get afters at ≡ Some new → new.delay ≡ old.delay
 
 -- All was done that the fronts say, and what came of it is entered and told.
-pub record FinishAll {O : Type 0} (log : WorkLog) (gives : Answers) (agent suffixes : List ℕ)
+pub record FinishAll {O : Type 0} (log : WorkLog) (given : Given) (agent suffixes : List ℕ)
     (befores afters : List Schedule) (was now : Offering O) : Type 0 where
   pub handled : List Handled
   pub noted : List Noted
   pub done : log.done.items ≡ map done_of handled
   pub notes : log.notes.items ≡ map (λ one. one.note) noted
-  pub worked : HaveWorked gives agent suffixes handled noted [] befores
+  pub worked : HaveWorked given agent suffixes handled noted [] befores
   pub entered : Enters (flat_map entered_of handled) was now
   pub known : KnowAsNoted agent noted befores afters
   pub knows : KnowByMoment noted befores afters
@@ -77,21 +80,21 @@ pub record HasBegunOne (gives : Answers) (agent suffixes : List ℕ) (noted : Li
   pub some : IsPart gives suffixes work.web part
 
 -- Some of it was done, and of one item more a part of what it names may be entered.
-pub record StopAll {O : Type 0} (gives : Answers) (agent suffixes : List ℕ) (befores : List Schedule)
+pub record StopAll {O : Type 0} (given : Given) (agent suffixes : List ℕ) (befores : List Schedule)
     (was now : Offering O) : Type 0 where
   pub handled : List Handled
   pub noted : List Noted
   pub left : List Work
-  pub worked : HaveWorked gives agent suffixes handled noted left befores
+  pub worked : HaveWorked given agent suffixes handled noted left befores
   pub part : List Entered
-  pub begun : (part ≡ []) ⊎ HasBegunOne gives agent suffixes noted left part befores
+  pub begun : (part ≡ []) ⊎ HasBegunOne given.gives agent suffixes noted left part befores
   pub entered : Enters (flat_map entered_of handled ++ part) was now
 
 -- What the workers leave, by the answer.
-pub record WorkAll {O : Type 0} (result : Result WorkLog Fault) (gives : Answers) (agent suffixes : List ℕ)
+pub record WorkAll {O : Type 0} (result : Result WorkLog Fault) (given : Given) (agent suffixes : List ℕ)
     (befores afters : List Schedule) (was now : Offering O) : Type 0 where
-  pub finish : IfOk result (λ log. FinishAll log gives agent suffixes befores afters was now)
-  pub stop : OnErr result (StopAll gives agent suffixes befores was now)
+  pub finish : IfOk result (λ log. FinishAll log given agent suffixes befores afters was now)
+  pub stop : OnErr result (StopAll given agent suffixes befores was now)
   -- a fault is want of memory, or then the last one of the offers
   pub fault : FaultIs result was now
   pub count : length afters ≡ length befores

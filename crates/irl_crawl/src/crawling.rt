@@ -12,7 +12,7 @@ ghost use Rattle.irl_crawl.specs.Crawling.{CrawlsTo, IsPlan, NoneWaits, OnlyCraw
 ghost use Rattle.irl_crawl.specs.Leading.{IsOpen, IsSent, KeepsBegun, Leads};
 ghost use Rattle.irl_crawl.specs.Running.{MayRun, Passes, Runs, Steps};
 ghost use Rattle.irl_crawl.specs.Turning.{MayTurn};
-ghost use Rattle.irl_crawl.specs.Workers.{AllGoOn, AreIdle, AreNotedIn, IsGivenBy, schedules};
+ghost use Rattle.irl_crawl.specs.Workers.{AllGoOn, AreIdle, AreNotedIn, given_by, schedules};
 
 use crate::crew::Crew;
 use crate::plan::{Ended, Plan};
@@ -52,9 +52,9 @@ where
     requires plan { IsPlan plan.now }
     ensures leads { (suffixes : List ℕ) → suffixes_in yard.parts.rest ≡ Some suffixes →
         Leads (result.0 ≡ Ended.Fault Fault.Failed)
-        (OnlyCrawls (IsGivenBy F.asked F.gives fetchers.old fetchers.new) plan.now.agent suffixes plan.now.seeds.items
+        (OnlyCrawls (given_by F.asked F.gives F.faults fetchers.old fetchers.new) plan.now.agent suffixes plan.now.seeds.items
         yard.parts.urls.settings 1 plan.now.pages plan.now.batch)
-        (CrawlsTo result.0 (IsGivenBy F.asked F.gives fetchers.old fetchers.new) plan.now.agent suffixes
+        (CrawlsTo result.0 (given_by F.asked F.gives F.faults fetchers.old fetchers.new) plan.now.agent suffixes
         plan.now.seeds.items yard.parts.urls.settings 1 plan.now.pages plan.now.batch)
         yard.parts result.1.parts (S.told yard.store) (S.told result.1.store) }
     ensures fetchers { AllGoOn F.asked F.gives F.faults F.last F.aim fetchers.old fetchers.new }
@@ -106,9 +106,9 @@ fn go_on<R: Wait, S: Store, F: Fetch, G: Gate>(
     requires idle { AreIdle (length fetchers.old) crew.agent (schedules crew.fronts.items) }
     requires unknown { (events : List Happened) → AreNotedIn crew.agent events (schedules crew.fronts.items) }
     ensures leads { Leads (result.0 ≡ Ended.Fault Fault.Failed)
-        (MayRun (IsGivenBy F.asked F.gives fetchers.old fetchers.new) crew.agent crew.suffixes
+        (MayRun (given_by F.asked F.gives F.faults fetchers.old fetchers.new) crew.agent crew.suffixes
         yard.parts.urls.settings plan.now.pages plan.now.batch)
-        (Runs result.0 (IsGivenBy F.asked F.gives fetchers.old fetchers.new) crew.agent crew.suffixes
+        (Runs result.0 (given_by F.asked F.gives F.faults fetchers.old fetchers.new) crew.agent crew.suffixes
         yard.parts.urls.settings plan.now.pages plan.now.batch)
         yard.parts result.1.parts (S.told yard.store) (S.told result.1.store) }
     ensures fetchers { AllGoOn F.asked F.gives F.faults F.last F.aim fetchers.old fetchers.new }
@@ -152,9 +152,9 @@ fn step<R: Wait, S: Store, F: Fetch, G: Gate>(
     requires idle { AreIdle (length fetchers.old) crew.old.agent (schedules crew.old.fronts.items) }
     requires most { (1 ≤ most) × (most ≤ max_settled) }
     ensures leads { Leads (IsErrOf result.0 Fault.Failed)
-        (MayTurn (IsGivenBy F.asked F.gives fetchers.old fetchers.new) crew.old.agent crew.old.suffixes
+        (MayTurn (given_by F.asked F.gives F.faults fetchers.old fetchers.new) crew.old.agent crew.old.suffixes
         yard.parts.urls.settings most (schedules crew.old.fronts.items))
-        (Steps result.0 (IsGivenBy F.asked F.gives fetchers.old fetchers.new) crew.old.agent crew.old.suffixes
+        (Steps result.0 (given_by F.asked F.gives F.faults fetchers.old fetchers.new) crew.old.agent crew.old.suffixes
         yard.parts.urls.settings most (schedules crew.old.fronts.items) (schedules crew.new.fronts.items))
         yard.parts result.1.parts (S.told yard.store) (S.told result.1.store) }
     ensures keeps { OnOk result.0 (KeepsBegun yard.parts result.1.parts × IsSent result.1.parts) }

@@ -1,4 +1,4 @@
-ghost use Rattle.std.specs.Prelude.{◌≡◌, ◌≤◌, ℕ, List, length, IfOk, IsErrOf, OnOk};
+ghost use Rattle.std.specs.Prelude.{◌≡◌, ◌≤◌, ℕ, List, Some, length, IfOk, IsErrOf, OnOk};
 ghost use Rattle.std.specs.List.{AllByRecursion};
 ghost use Rattle.irl_base.specs.Limits.{max_text};
 ghost use Rattle.irl_base.specs.declared.fault.Fault.TheVariants.{Failed as FailedFault};
@@ -6,6 +6,7 @@ ghost use Rattle.irl_offer.specs.Offering.{IsTakenBy};
 ghost use Rattle.irl_key.specs.Links.{IsCanonicalText};
 ghost use Rattle.irl_answer.specs.Found.{IsTaken, offer_from};
 ghost use Rattle.irl_fetch.specs.Telling.{TakesPages};
+ghost use Rattle.irl_yard.specs.Passing.{suffixes_in};
 ghost use Rattle.irl_desk.specs.Serving.{serving_of};
 ghost use Rattle.irl_crawl.specs.Judging.{Judges, OnlyJudges};
 ghost use Rattle.irl_crawl.specs.Leading.{IsOpen, IsSent, KeepsFront, Leads};
@@ -29,8 +30,9 @@ pub fn seed<R: Wait, S: Store>(
 ) -> (Result<(), Fault>, Yard<S>)
     requires open { IsOpen yard.parts }
     requires short { AllByRecursion (λ text. length text ≤ max_text) seeds.now }
-    ensures leads { Leads (IsErrOf result.0 Fault.Failed) (OnlySeeds yard.parts.urls.settings seeds.now)
-        (Seeds result.0 yard.parts.urls.settings seeds.now) yard.parts result.1.parts
+    ensures leads { (suffixes : List ℕ) → suffixes_in yard.parts.rest ≡ Some suffixes →
+        Leads (IsErrOf result.0 Fault.Failed) (OnlySeeds suffixes yard.parts.urls.settings seeds.now)
+        (Seeds result.0 suffixes yard.parts.urls.settings seeds.now) yard.parts result.1.parts
         (S.told yard.store) (S.told result.1.store) }
     ensures keeps { OnOk result.0 (KeepsFront yard.parts result.1.parts × IsSent result.1.parts) }
 {
@@ -55,8 +57,9 @@ pub fn seed<R: Wait, S: Store>(
 /// Judges what is unjudged, and sends the pairs of what was judged.
 pub fn judge<S: Store>(yard: &mut Yard<S>) -> Result<(), Fault>
     requires open { IsOpen yard.old.parts }
-    ensures leads { Leads (IsErrOf result Fault.Failed) (OnlyJudges yard.old.parts.urls.settings)
-        (Judges result yard.old.parts.urls.settings) yard.old.parts yard.new.parts
+    ensures leads { (suffixes : List ℕ) → suffixes_in yard.old.parts.rest ≡ Some suffixes →
+        Leads (IsErrOf result Fault.Failed) (OnlyJudges suffixes yard.old.parts.urls.settings)
+        (Judges result suffixes yard.old.parts.urls.settings) yard.old.parts yard.new.parts
         (S.told yard.old.store) (S.told yard.new.store) }
     ensures keeps { OnOk result (KeepsFront yard.old.parts yard.new.parts × IsSent yard.new.parts) }
 {

@@ -1,4 +1,4 @@
-ghost use Rattle.std.specs.Prelude.{◌≡◌, ◌≤◌, Some, length, min, IfOk, IsErrOf, OnOk};
+ghost use Rattle.std.specs.Prelude.{◌≡◌, ◌≤◌, ℕ, List, Some, length, min, IfOk, IsErrOf, OnOk};
 ghost use Rattle.std.specs.List.{All, AllByRecursion};
 ghost use Rattle.irl_base.specs.declared.fault.Fault.TheVariants.{Failed as FailedFault};
 ghost use Rattle.irl_ledger.specs.Settling.{max_settled};
@@ -10,7 +10,7 @@ ghost use Rattle.irl_crawl.specs.Leading.{IsOpen, IsSent, KeepsBegun, Leads};
 ghost use Rattle.irl_crawl.specs.Serving.{KeepsNumbers};
 ghost use Rattle.irl_crawl.specs.Settling.{IsSettling, Settles};
 ghost use Rattle.irl_crawl.specs.Turning.{MayTurn, Turns};
-ghost use Rattle.irl_crawl.specs.Workers.{AllGoOn, AreFor, AreIdle, AreReady, IsGivenBy, schedules};
+ghost use Rattle.irl_crawl.specs.Workers.{AllGoOn, AreFor, AreIdle, AreReady, given_by, schedules};
 
 use crate::crew::Crew;
 use crate::seeds::judge;
@@ -40,9 +40,9 @@ pub fn turn<R: Wait, S: Store, F: Fetch, G: Gate>(
     requires idle { AreIdle (length fetchers.old) crew.old.agent (schedules crew.old.fronts.items) }
     requires front { (1 ≤ length (front_in yard.parts.rest)) × (1 ≤ most) × (most ≤ max_settled) }
     ensures leads { Leads (IsErrOf result.0 Fault.Failed)
-        (MayTurn (IsGivenBy F.asked F.gives fetchers.old fetchers.new) crew.old.agent crew.old.suffixes
+        (MayTurn (given_by F.asked F.gives F.faults fetchers.old fetchers.new) crew.old.agent crew.old.suffixes
         yard.parts.urls.settings most (schedules crew.old.fronts.items))
-        (Turns result.0 (IsGivenBy F.asked F.gives fetchers.old fetchers.new) crew.old.agent crew.old.suffixes
+        (Turns result.0 (given_by F.asked F.gives F.faults fetchers.old fetchers.new) crew.old.agent crew.old.suffixes
         yard.parts.urls.settings most (schedules crew.old.fronts.items) (schedules crew.new.fronts.items))
         yard.parts result.1.parts (S.told yard.store) (S.told result.1.store) }
     ensures keeps { OnOk result.0 (KeepsBegun yard.parts result.1.parts × IsSent result.1.parts) }
@@ -85,7 +85,7 @@ fn fetch_all<R: Wait, S: Store, F: Fetch, G: Gate>(
     requires gates { length gates.old ≡ length fetchers.old }
     requires agents { AreFor crew.old.agent (schedules crew.old.fronts.items) }
     requires ready { AreReady (schedules crew.old.fronts.items) }
-    ensures fetches { Fetches result.0 (IsGivenBy F.asked F.gives fetchers.old fetchers.new) crew.old.agent
+    ensures fetches { Fetches result.0 (given_by F.asked F.gives F.faults fetchers.old fetchers.new) crew.old.agent
         crew.old.suffixes (schedules crew.old.fronts.items) (schedules crew.new.fronts.items)
         yard.parts result.1.parts (S.told yard.store) (S.told result.1.store) }
     ensures fetchers { AllGoOn F.asked F.gives F.faults F.last F.aim fetchers.old fetchers.new }
@@ -110,9 +110,10 @@ fn settle<S: Store>(yard: &mut Yard<S>, notes: &[Note], done: &[Done]) -> Result
     requires open { IsOpen yard.old.parts }
     requires notes { AllByRecursion IsNote notes.now }
     requires settles { MaySettle yard.old.parts.urls yard.old.parts.rest done.now }
-    ensures leads { Leads (IsErrOf result Fault.Failed)
-        (IsSettling yard.old.parts.urls.settings notes.now done.now)
-        (Settles result yard.old.parts.urls.settings notes.now done.now) yard.old.parts yard.new.parts
+    ensures leads { (suffixes : List ℕ) → suffixes_in yard.old.parts.rest ≡ Some suffixes →
+        Leads (IsErrOf result Fault.Failed)
+        (IsSettling suffixes yard.old.parts.urls.settings notes.now done.now)
+        (Settles result suffixes yard.old.parts.urls.settings notes.now done.now) yard.old.parts yard.new.parts
         (S.told yard.old.store) (S.told yard.new.store) }
     ensures keeps { OnOk result (KeepsBegun yard.old.parts yard.new.parts × IsSent yard.new.parts) }
     ensures count { IfOk result (λ count. count ≡ length done.now) }

@@ -1,7 +1,7 @@
 ghost use Rattle.std.specs.Prelude.{◌≡◌, ◌++◌, None, IfOk, OnOk, length};
 ghost use Rattle.std.specs.List.{All};
 ghost use Rattle.irl_fetch.specs.Telling.{TakesPages, offering};
-ghost use Rattle.irl_crawl.specs.Workers.{AllGoOn, AreFor, AreReady, IsGivenBy, IsMomentBy, schedules};
+ghost use Rattle.irl_crawl.specs.Workers.{AllGoOn, AreFor, AreReady, IsMomentBy, given_by, schedules};
 ghost use Rattle.irl_crawl.specs.Working.{AreByWorker, WorkAll};
 
 use crate::crew::{Crew, keep};
@@ -26,7 +26,7 @@ pub fn work_all<R: Wait, F: Fetch, O: Offers, G: Gate>(
     requires gates { length gates.old ≡ length fetchers.old }
     requires agents { AreFor crew.old.agent (schedules crew.old.fronts.items) }
     requires ready { AreReady (schedules crew.old.fronts.items) }
-    ensures works { WorkAll result (IsGivenBy F.asked F.gives fetchers.old fetchers.new) crew.old.agent
+    ensures works { WorkAll result (given_by F.asked F.gives F.faults fetchers.old fetchers.new) crew.old.agent
         crew.old.suffixes (schedules crew.old.fronts.items) (schedules crew.new.fronts.items)
         (offering O.entries O.last_fault O.takes O.follows offers.old)
         (offering O.entries O.last_fault O.takes O.follows offers.new) }

@@ -11,19 +11,22 @@ pub returns-in_err-read_note-clause-fetchers : goal.returns-in_err-read_note-cla
 returns-in_err-read_note-clause-fetchers g c =
     let worker = c.in_ok-met.met.number % length c.args.fetchers.now in
     let within : worker < length c.args.fetchers.now = omega arith in
-    all_go_at g.F.Fetch.asked g.F.Fetch.gives g.F.Fetch.faults g.F.Fetch.last g.F.Fetch.aim c.args.fetchers.now worker c.index-fetchers-worker.result c.read_note.new.fetch within c.read_note.ensures.goes_on
+    all_go_at g.F.Fetch.asked g.F.Fetch.gives g.F.Fetch.faults g.F.Fetch.last g.F.Fetch.aim c.args.fetchers.now worker c.index-fetchers-worker.result c.read_note.new.fetch within
+    c.read_note.ensures.goes_on
 
 pub returns-in_err-keep-clause-fetchers : goal.returns-in_err-keep-clause-fetchers
 returns-in_err-keep-clause-fetchers g c =
     let worker = c.in_ok-met.met.number % length c.args.fetchers.now in
     let within : worker < length c.args.fetchers.now = omega arith in
-    all_go_at g.F.Fetch.asked g.F.Fetch.gives g.F.Fetch.faults g.F.Fetch.last g.F.Fetch.aim c.args.fetchers.now worker c.index-fetchers-worker.result c.read_note.new.fetch within c.read_note.ensures.goes_on
+    all_go_at g.F.Fetch.asked g.F.Fetch.gives g.F.Fetch.faults g.F.Fetch.last g.F.Fetch.aim c.args.fetchers.now worker c.index-fetchers-worker.result c.read_note.new.fetch within
+    c.read_note.ensures.goes_on
 
 pub returns-clause-fetchers : goal.returns-clause-fetchers
 returns-clause-fetchers g c =
     let worker = c.in_ok-met.met.number % length c.args.fetchers.now in
     let within : worker < length c.args.fetchers.now = omega arith in
-    all_go_at g.F.Fetch.asked g.F.Fetch.gives g.F.Fetch.faults g.F.Fetch.last g.F.Fetch.aim c.args.fetchers.now worker c.index-fetchers-worker.result c.read_note.new.fetch within c.read_note.ensures.goes_on
+    all_go_at g.F.Fetch.asked g.F.Fetch.gives g.F.Fetch.faults g.F.Fetch.last g.F.Fetch.aim c.args.fetchers.now worker c.index-fetchers-worker.result c.read_note.new.fetch within
+    c.read_note.ensures.goes_on
 
 pub returns-clause-deals : goal.returns-clause-deals
 returns-clause-deals g c =

@@ -31,4 +31,5 @@ returns-in_err-deal-clause-deals g c =
 
 pub returns-in_err-deal-clause-fetchers : goal.returns-in_err-deal-clause-fetchers
 returns-in_err-deal-clause-fetchers g c =
-    all_go_then g.F.Fetch.asked g.F.Fetch.gives g.F.Fetch.faults g.F.Fetch.last g.F.Fetch.aim c.args.fetchers.now c.loop-work.fetchers c.deal.new.fetchers c.loop-work.invariant.fetchers c.deal.ensures.fetchers
+    all_go_then g.F.Fetch.asked g.F.Fetch.gives g.F.Fetch.faults g.F.Fetch.last g.F.Fetch.aim c.args.fetchers.now c.loop-work.fetchers c.deal.new.fetchers c.loop-work.invariant.fetchers
+    c.deal.ensures.fetchers

@@ -7,15 +7,15 @@ use Rattle.std.proofs.lemmas.List.Elements.{recursion_from_All}
 use Rattle.irl_log.specs.Form.{IsNote}
 use Rattle.irl_offer.specs.declared.note.Note.{Note}
 use Rattle.irl_polite.specs.Inside.{schedule}
-use Rattle.irl_yard.specs.Passing.{front_in}
+use Rattle.irl_yard.specs.Passing.{front_in, suffixes_in}
 use Rattle.irl_yard.specs.Settling.{MaySettle}
 use Rattle.irl_crawl.specs.Fetching.{Fetches}
 use Rattle.irl_crawl.specs.Serving.{KeepsNumbers}
-use Rattle.irl_crawl.specs.Workers.{AreIdle, IsGivenBy, schedules}
-use Rattle.irl_crawl.proofs.Giving.{given_second}
+use Rattle.irl_crawl.specs.Workers.{AreIdle, given_by, schedules}
 use Rattle.irl_crawl.proofs.Going.{all_go_then}
 use Rattle.irl_crawl.proofs.Leading.{always}
 use Rattle.irl_crawl.proofs.OneTurn.{all_settled, count_within, fetches_for, idle_after, if_count, not_fetched, not_loaded, notes_fit, settle_may, settled_after, settles_for}
+use Rattle.irl_crawl.proofs.Rising.{given_same, rose_between_all, rose_between_fewer, widens_second}
 use Rattle.irl_crawl.proofs.Stores.{held_is_crawl}
 use Rattle.irl_crawl.proofs.Visits.{notes_from}
 use Rattle.irl_crawl.proofs.turn.turn.Goals as goal
@@ -25,39 +25,39 @@ returns-in-Err-clause-leads g c =
     let tells = g.S.Store.told in
     let was = c.args.yard in
     let crew = c.args.crew.now in
-    let gives = IsGivenBy g.F.Fetch.asked g.F.Fetch.gives c.args.fetchers.now c.load.new.fetchers in
-    not_loaded crew.agent crew.suffixes c.args.most (schedules crew.fronts.items) (schedules c.load.new.self.fronts.items) (schedules c.load.new.self.fronts.items) gives gives
-    (λ url want answer given. given)
-    was.parts c.load.new.yard.parts (tells was.store) (tells c.load.new.yard.store)
+    let given = given_by g.F.Fetch.asked g.F.Fetch.gives g.F.Fetch.faults c.args.fetchers.now c.load.new.fetchers in
+    not_loaded crew.agent crew.suffixes c.args.most (schedules crew.fronts.items) (schedules c.load.new.self.fronts.items) (schedules c.load.new.self.fronts.items) given given
+    (given_same given) (rose_between_fewer g.F.Fetch.faults c.args.fetchers.now c.load.new.fetchers) was.parts c.load.new.yard.parts (tells was.store) (tells c.load.new.yard.store)
+    (rose_between_all g.F.Fetch.asked g.F.Fetch.gives g.F.Fetch.faults g.F.Fetch.last g.F.Fetch.aim c.args.fetchers.now c.load.new.fetchers c.load.ensures.fetchers)
     (λ x held. held_is_crawl (tells was.store).images was.parts x c.is_sound-is_sound.ensures.drum c.requires.«open».begun held) c.requires.suffixes c.in-Err.fault c.in-Err.ensures.leads
 
 pub settle-settled-requires-clause-notes : goal.settle-settled-requires-clause-notes
 settle-settled-requires-clause-notes g c =
-    let gives = IsGivenBy g.F.Fetch.asked g.F.Fetch.gives c.load.new.fetchers c.fetch_all-worked.new.fetchers in
+    let given = given_by g.F.Fetch.asked g.F.Fetch.gives g.F.Fetch.faults c.load.new.fetchers c.fetch_all-worked.new.fetchers in
     let crew = c.load.new.self in
     let mid = c.load.new.yard in
     let now = c.fetch_all-worked.result.1 in
     let befores = schedules crew.fronts.items in
     let afters = schedules c.fetch_all-worked.new.crew.fronts.items in
-    let fetches = subst (λ (r : Result WorkLog Fault). Fetches r gives crew.agent crew.suffixes befores afters mid.parts now.parts (g.S.Store.told mid.store) (g.S.Store.told now.store)) c.in-Ok.is
+    let fetches = subst (λ (r : Result WorkLog Fault). Fetches r given crew.agent crew.suffixes befores afters mid.parts now.parts (g.S.Store.told mid.store) (g.S.Store.told now.store)) c.in-Ok.is
     c.fetch_all-worked.ensures.fetches in
     subst (AllByRecursion IsNote) (sym (c.deref-in-Ok.ensures.value ∙ fetches.whole.notes))
-    (notes_fit gives fetches.noted fetches.worked.notes
+    (notes_fit given.gives fetches.noted fetches.worked.notes
     (recursion_from_All (λ (note : Note). note.when < 2 ^ 64) (notes_from fetches.noted)
     (subst (All (λ (note : Note). note.when < 2 ^ 64)) (c.deref.ensures.value ∙ fetches.whole.notes) c.moments_are_words.ensures)))
 
 pub settle-settled-requires-clause-settles : goal.settle-settled-requires-clause-settles
 settle-settled-requires-clause-settles g c =
-    let gives = IsGivenBy g.F.Fetch.asked g.F.Fetch.gives c.load.new.fetchers c.fetch_all-worked.new.fetchers in
+    let given = given_by g.F.Fetch.asked g.F.Fetch.gives g.F.Fetch.faults c.load.new.fetchers c.fetch_all-worked.new.fetchers in
     let crew = c.load.new.self in
     let mid = c.load.new.yard in
     let now = c.fetch_all-worked.result.1 in
     let befores = schedules crew.fronts.items in
     let afters = schedules c.fetch_all-worked.new.crew.fronts.items in
-    let fetches = subst (λ (r : Result WorkLog Fault). Fetches r gives crew.agent crew.suffixes befores afters mid.parts now.parts (g.S.Store.told mid.store) (g.S.Store.told now.store)) c.in-Ok.is
+    let fetches = subst (λ (r : Result WorkLog Fault). Fetches r given crew.agent crew.suffixes befores afters mid.parts now.parts (g.S.Store.told mid.store) (g.S.Store.told now.store)) c.in-Ok.is
     c.fetch_all-worked.ensures.fetches in
     subst (λ (ds : _). MaySettle now.parts.urls now.parts.rest ds) (sym c.deref-in-Ok-2.ensures.value)
-    (settle_may c.args.most gives crew.agent crew.suffixes befores afters c.args.yard.parts mid.parts now.parts (g.S.Store.told mid.store) (g.S.Store.told now.store) c.in-Ok.log fetches
+    (settle_may c.args.most given crew.agent crew.suffixes befores afters c.args.yard.parts mid.parts now.parts (g.S.Store.told mid.store) (g.S.Store.told now.store) c.in-Ok.log fetches
     c.in_default.ensures.next
     c.load.ensures.rest c.requires.front)
 
@@ -71,73 +71,77 @@ returns-in-Ok-clause-leads g c =
     let now = c.fetch_all-worked.result.1 in
     let last = c.settle-settled.new.yard in
     let log = c.in-Ok.log in
-    let gives = IsGivenBy g.F.Fetch.asked g.F.Fetch.gives c.load.new.fetchers c.fetch_all-worked.new.fetchers in
-    let wide = IsGivenBy g.F.Fetch.asked g.F.Fetch.gives c.args.fetchers.now c.fetch_all-worked.new.fetchers in
+    let given = given_by g.F.Fetch.asked g.F.Fetch.gives g.F.Fetch.faults c.load.new.fetchers c.fetch_all-worked.new.fetchers in
+    let wide = given_by g.F.Fetch.asked g.F.Fetch.gives g.F.Fetch.faults c.args.fetchers.now c.fetch_all-worked.new.fetchers in
     let befores = schedules crew.fronts.items in
     let afters = schedules c.fetch_all-worked.new.crew.fronts.items in
-    let fetches = fetches_for (Ok log) gives crew.agent old.agent crew.suffixes old.suffixes befores afters mid.parts now.parts (tells mid.store) (tells now.store) c.load.ensures.agent
+    let fetches = fetches_for (Ok log) given crew.agent old.agent crew.suffixes old.suffixes befores afters mid.parts now.parts (tells mid.store) (tells now.store) c.load.ensures.agent
     c.load.ensures.suffixes
-    (subst (λ (r : Result WorkLog Fault). Fetches r gives crew.agent crew.suffixes befores afters mid.parts now.parts (tells mid.store) (tells now.store)) c.in-Ok.is
+    (subst (λ (r : Result WorkLog Fault). Fetches r given crew.agent crew.suffixes befores afters mid.parts now.parts (tells mid.store) (tells now.store)) c.in-Ok.is
     c.fetch_all-worked.ensures.fetches) in
-    settled_after old.agent old.suffixes c.args.most (schedules old.fronts.items) befores afters gives wide
-    (given_second g.F.Fetch.asked g.F.Fetch.gives g.F.Fetch.faults g.F.Fetch.last g.F.Fetch.aim c.args.fetchers.now c.load.new.fetchers c.fetch_all-worked.new.fetchers c.load.ensures.fetchers
+    settled_after old.agent old.suffixes c.args.most (schedules old.fronts.items) befores afters given wide
+    (widens_second g.F.Fetch.asked g.F.Fetch.gives g.F.Fetch.faults g.F.Fetch.last g.F.Fetch.aim c.args.fetchers.now c.load.new.fetchers c.fetch_all-worked.new.fetchers c.load.ensures.fetchers
     c.fetch_all-worked.ensures.fetchers g.met.F.Fetch.earlier)
-    was.parts mid.parts (tells was.store) (tells mid.store)
+    (rose_between_fewer g.F.Fetch.faults c.load.new.fetchers c.fetch_all-worked.new.fetchers) was.parts mid.parts (tells was.store) (tells mid.store)
+    (rose_between_all g.F.Fetch.asked g.F.Fetch.gives g.F.Fetch.faults g.F.Fetch.last g.F.Fetch.aim c.args.fetchers.now c.fetch_all-worked.new.fetchers
+    (all_go_then g.F.Fetch.asked g.F.Fetch.gives g.F.Fetch.faults g.F.Fetch.last g.F.Fetch.aim c.args.fetchers.now c.load.new.fetchers c.fetch_all-worked.new.fetchers c.load.ensures.fetchers
+    c.fetch_all-worked.ensures.fetchers))
     (λ x held. held_is_crawl (tells was.store).images was.parts x c.is_sound-is_sound.ensures.drum c.requires.«open».begun held) c.requires.suffixes c.in_default.field-0 c.in_default.ensures.leads
     c.in_default.ensures.next now.parts (tells now.store) log fetches c.settle-settled.result last.parts (tells last.store)
-    (settles_for c.settle-settled.result now.parts.urls.settings c.deref-in-Ok.result.now log.notes.items c.deref-in-Ok-2.result.now log.done.items now.parts last.parts (tells now.store)
+    (settles_for old.suffixes c.settle-settled.result now.parts.urls.settings c.deref-in-Ok.result.now log.notes.items c.deref-in-Ok-2.result.now log.done.items now.parts last.parts (tells now.store)
     (tells last.store)
-    c.deref-in-Ok.ensures.value c.deref-in-Ok-2.ensures.value c.settle-settled.ensures.leads)
+    c.deref-in-Ok.ensures.value c.deref-in-Ok-2.ensures.value
+    (c.settle-settled.ensures.leads old.suffixes (ap suffixes_in (fetches.rest ∙ c.load.ensures.rest) ∙ c.requires.suffixes)))
     (subst (λ (ds : _). IfOk c.settle-settled.result (λ count. count ≡ length ds)) c.deref-in-Ok-2.ensures.value c.settle-settled.ensures.count)
 
 pub returns-in-Ok-clause-all : goal.returns-in-Ok-clause-all
 returns-in-Ok-clause-all g c =
-    let gives = IsGivenBy g.F.Fetch.asked g.F.Fetch.gives c.load.new.fetchers c.fetch_all-worked.new.fetchers in
+    let given = given_by g.F.Fetch.asked g.F.Fetch.gives g.F.Fetch.faults c.load.new.fetchers c.fetch_all-worked.new.fetchers in
     let crew = c.load.new.self in
     let mid = c.load.new.yard in
     let now = c.fetch_all-worked.result.1 in
     let befores = schedules crew.fronts.items in
     let afters = schedules c.fetch_all-worked.new.crew.fronts.items in
-    let fetches = subst (λ (r : Result WorkLog Fault). Fetches r gives crew.agent crew.suffixes befores afters mid.parts now.parts (g.S.Store.told mid.store) (g.S.Store.told now.store)) c.in-Ok.is
+    let fetches = subst (λ (r : Result WorkLog Fault). Fetches r given crew.agent crew.suffixes befores afters mid.parts now.parts (g.S.Store.told mid.store) (g.S.Store.told now.store)) c.in-Ok.is
     c.fetch_all-worked.ensures.fetches in
     if_count c.settle-settled.result (length c.deref-in-Ok-2.result.now) (λ (n : ℕ). n ≡ min c.args.most (length (front_in c.args.yard.parts.rest))) c.settle-settled.ensures.count
-    (all_settled c.args.most gives crew.agent crew.suffixes befores afters c.args.yard.parts mid.parts now.parts (g.S.Store.told mid.store) (g.S.Store.told now.store) c.in-Ok.log fetches
+    (all_settled c.args.most given crew.agent crew.suffixes befores afters c.args.yard.parts mid.parts now.parts (g.S.Store.told mid.store) (g.S.Store.told now.store) c.in-Ok.log fetches
     c.in_default.ensures.next
     c.deref-in-Ok-2.result.now c.deref-in-Ok-2.ensures.value)
 
 pub returns-in-Ok-clause-count : goal.returns-in-Ok-clause-count
 returns-in-Ok-clause-count g c =
-    let gives = IsGivenBy g.F.Fetch.asked g.F.Fetch.gives c.load.new.fetchers c.fetch_all-worked.new.fetchers in
+    let given = given_by g.F.Fetch.asked g.F.Fetch.gives g.F.Fetch.faults c.load.new.fetchers c.fetch_all-worked.new.fetchers in
     let crew = c.load.new.self in
     let mid = c.load.new.yard in
     let now = c.fetch_all-worked.result.1 in
     let befores = schedules crew.fronts.items in
     let afters = schedules c.fetch_all-worked.new.crew.fronts.items in
-    let fetches = subst (λ (r : Result WorkLog Fault). Fetches r gives crew.agent crew.suffixes befores afters mid.parts now.parts (g.S.Store.told mid.store) (g.S.Store.told now.store)) c.in-Ok.is
+    let fetches = subst (λ (r : Result WorkLog Fault). Fetches r given crew.agent crew.suffixes befores afters mid.parts now.parts (g.S.Store.told mid.store) (g.S.Store.told now.store)) c.in-Ok.is
     c.fetch_all-worked.ensures.fetches in
     if_count c.settle-settled.result (length c.deref-in-Ok-2.result.now) (λ (n : ℕ). (1 ≤ n) × (n ≤ c.args.most)) c.settle-settled.ensures.count
     (count_within (length c.deref-in-Ok-2.result.now) c.args.most (length (front_in c.args.yard.parts.rest))
-    (all_settled c.args.most gives crew.agent crew.suffixes befores afters c.args.yard.parts mid.parts now.parts (g.S.Store.told mid.store) (g.S.Store.told now.store) c.in-Ok.log fetches
+    (all_settled c.args.most given crew.agent crew.suffixes befores afters c.args.yard.parts mid.parts now.parts (g.S.Store.told mid.store) (g.S.Store.told now.store) c.in-Ok.log fetches
     c.in_default.ensures.next
     c.deref-in-Ok-2.result.now c.deref-in-Ok-2.ensures.value) c.requires.front)
 
 pub returns-in-Ok-clause-idle : goal.returns-in-Ok-clause-idle
 returns-in-Ok-clause-idle g c =
-    let gives = IsGivenBy g.F.Fetch.asked g.F.Fetch.gives c.load.new.fetchers c.fetch_all-worked.new.fetchers in
+    let given = given_by g.F.Fetch.asked g.F.Fetch.gives g.F.Fetch.faults c.load.new.fetchers c.fetch_all-worked.new.fetchers in
     let crew = c.load.new.self in
     let mid = c.load.new.yard in
     let now = c.fetch_all-worked.result.1 in
     let after = c.fetch_all-worked.new.crew in
     let befores = schedules crew.fronts.items in
     let afters = schedules after.fronts.items in
-    let fetches = subst (λ (r : Result WorkLog Fault). Fetches r gives crew.agent crew.suffixes befores afters mid.parts now.parts (g.S.Store.told mid.store) (g.S.Store.told now.store)) c.in-Ok.is
+    let fetches = subst (λ (r : Result WorkLog Fault). Fetches r given crew.agent crew.suffixes befores afters mid.parts now.parts (g.S.Store.told mid.store) (g.S.Store.told now.store)) c.in-Ok.is
     c.fetch_all-worked.ensures.fetches in
     let count : length befores ≡ length c.args.fetchers.now = length-map crew.fronts.items schedule ∙ c.load.ensures.count ∙ sym (length-map c.args.crew.now.fronts.items schedule) ∙
     c.requires.idle.count_is in
     let agent : after.agent ≡ crew.agent = ap (λ (k : _). k.agent) c.fetch_all-worked.ensures.crew in
     always c.settle-settled.result (AreIdle (length c.args.fetchers.now) after.agent afters)
     (subst (λ (name : _). AreIdle (length c.args.fetchers.now) name afters) (sym agent)
-    (idle_after c.in-Ok.log gives (length c.args.fetchers.now) crew.agent crew.suffixes befores afters mid.parts now.parts (g.S.Store.told mid.store) (g.S.Store.told now.store) count fetches))
+    (idle_after c.in-Ok.log given (length c.args.fetchers.now) crew.agent crew.suffixes befores afters mid.parts now.parts (g.S.Store.told mid.store) (g.S.Store.told now.store) count fetches))
 
 pub returns-in-Ok-clause-fetchers : goal.returns-in-Ok-clause-fetchers
 returns-in-Ok-clause-fetchers g c =
@@ -153,18 +157,21 @@ returns-in-Err-worked-clause-leads g c =
     let mid = c.load.new.yard in
     let now = c.fetch_all-worked.result.1 in
     let fault = c.in-Err-worked.fault in
-    let gives = IsGivenBy g.F.Fetch.asked g.F.Fetch.gives c.load.new.fetchers c.fetch_all-worked.new.fetchers in
-    let wide = IsGivenBy g.F.Fetch.asked g.F.Fetch.gives c.args.fetchers.now c.fetch_all-worked.new.fetchers in
+    let given = given_by g.F.Fetch.asked g.F.Fetch.gives g.F.Fetch.faults c.load.new.fetchers c.fetch_all-worked.new.fetchers in
+    let wide = given_by g.F.Fetch.asked g.F.Fetch.gives g.F.Fetch.faults c.args.fetchers.now c.fetch_all-worked.new.fetchers in
     let befores = schedules crew.fronts.items in
     let afters = schedules c.fetch_all-worked.new.crew.fronts.items in
-    let fetches = fetches_for (Err fault) gives crew.agent old.agent crew.suffixes old.suffixes befores afters mid.parts now.parts (tells mid.store) (tells now.store) c.load.ensures.agent
+    let fetches = fetches_for (Err fault) given crew.agent old.agent crew.suffixes old.suffixes befores afters mid.parts now.parts (tells mid.store) (tells now.store) c.load.ensures.agent
     c.load.ensures.suffixes
-    (subst (λ (r : Result WorkLog Fault). Fetches r gives crew.agent crew.suffixes befores afters mid.parts now.parts (tells mid.store) (tells now.store)) c.in-Err-worked.is
+    (subst (λ (r : Result WorkLog Fault). Fetches r given crew.agent crew.suffixes befores afters mid.parts now.parts (tells mid.store) (tells now.store)) c.in-Err-worked.is
     c.fetch_all-worked.ensures.fetches) in
-    not_fetched old.agent old.suffixes c.args.most (schedules old.fronts.items) befores afters gives wide
-    (given_second g.F.Fetch.asked g.F.Fetch.gives g.F.Fetch.faults g.F.Fetch.last g.F.Fetch.aim c.args.fetchers.now c.load.new.fetchers c.fetch_all-worked.new.fetchers c.load.ensures.fetchers
+    not_fetched old.agent old.suffixes c.args.most (schedules old.fronts.items) befores afters given wide
+    (widens_second g.F.Fetch.asked g.F.Fetch.gives g.F.Fetch.faults g.F.Fetch.last g.F.Fetch.aim c.args.fetchers.now c.load.new.fetchers c.fetch_all-worked.new.fetchers c.load.ensures.fetchers
     c.fetch_all-worked.ensures.fetchers g.met.F.Fetch.earlier)
-    was.parts mid.parts (tells was.store) (tells mid.store)
+    (rose_between_fewer g.F.Fetch.faults c.load.new.fetchers c.fetch_all-worked.new.fetchers) was.parts mid.parts (tells was.store) (tells mid.store)
+    (rose_between_all g.F.Fetch.asked g.F.Fetch.gives g.F.Fetch.faults g.F.Fetch.last g.F.Fetch.aim c.args.fetchers.now c.fetch_all-worked.new.fetchers
+    (all_go_then g.F.Fetch.asked g.F.Fetch.gives g.F.Fetch.faults g.F.Fetch.last g.F.Fetch.aim c.args.fetchers.now c.load.new.fetchers c.fetch_all-worked.new.fetchers c.load.ensures.fetchers
+    c.fetch_all-worked.ensures.fetchers))
     (λ x held. held_is_crawl (tells was.store).images was.parts x c.is_sound-is_sound.ensures.drum c.requires.«open».begun held) c.requires.suffixes c.in_default.field-0 c.in_default.ensures.leads
     c.in_default.ensures.next now.parts (tells now.store) fault fetches
 
