@@ -5,6 +5,7 @@ use Rattle.std.specs.List.{Contains}
 use Rattle.irl_bay.proofs.Blank.{blank_is_book}
 use Rattle.irl_core.specs.States.{offers_of as offers_in}
 use Rattle.irl_crawl.specs.Turning.{input_of}
+use Rattle.irl_crawl.proofs.Stores.{store_as}
 use Rattle.irl_disk.specs.Disk.{Files}
 use Rattle.irl_disk.proofs.Stretches.{widens}
 use Rattle.irl_events.specs.Events.{Happened}
@@ -102,17 +103,7 @@ between_itself x y files image for_x for_y (inr one) (inr two) = fronts_end x y 
 -- ---- stores
 crawl_store : (settings : Settings) (state : State) (files : Files) → settings.kind ≡ CrawlKind → IsMade settings state files → IsCrawlStore settings state
 crawl_store settings state files kind made =
-    let is = store_of_crawl settings state kind (made_state settings state files made) in
-    record {
-      settings_are = is.settings_are;
-      valid = is.valid;
-      book = is.book;
-      buckets = is.buckets;
-      rule = is.rule;
-      dropped = is.dropped;
-      both = is.both;
-      legal = is.legal;
-    }
+    store_as settings state (store_of_crawl settings state kind (made_state settings state files made))
 
 -- a store of another kind has no event
 by_kind : (kind : Kind) (settings : Settings) (urls pairs : Book) (events : List Happened) → IsRest kind settings urls pairs events → (kind ≡ CrawlKind) ⊎ (events ≡ [])
@@ -162,12 +153,12 @@ record CrawlsFrom (tape : Taped) (agent : List ℕ) (x y : State) : Type 0 where
   seeds : input.seeds ≡ tape.seeds
   crawls : Crawls input (by_tape tape) agent visits x y
 
-module _ (task : CrawlTask) (asked : Asked) (bytes : Option (List ℕ)) (tape : Taped) (gives : (input : Taped) → Widens (task.gives input) (by_tape input))
+module _ (task : CrawlTask) (asked : Asked) (bytes : Option (List ℕ)) (tape : Taped) (gives : (input : Taped) → Widens (task.given input).gives (by_tape input))
     (one : (input : Taped) → IsInput task bytes input → input ≡ tape) (kind : asked.kind ≡ CrawlKind) (files : Files) (x : State) (has : HasState x files) (along : IsAlong tape task.agent x) where
-  crawls_from : (input : Taped) (suffixes : List ℕ) (visits : List Visit) (y : State) → IsInput task bytes input → Crawls (input_of suffixes input.seeds) (task.gives input) task.agent visits (entered_state asked x) y
-      → CrawlsFrom tape task.agent x y
+  crawls_from : (input : Taped) (suffixes : List ℕ) (visits : List Visit) (y : State) → IsInput task bytes input
+      → Crawls (input_of suffixes input.seeds) (task.given input).gives task.agent visits (entered_state asked x) y → CrawlsFrom tape task.agent x y
   crawls_from input suffixes visits y is crawls =
-      let wide = crawls_wider (task.gives input) (by_tape input) (gives input) (input_of suffixes input.seeds) task.agent [] visits (entered_state asked x) y crawls in
+      let wide = crawls_wider (task.given input).gives (by_tape input) (gives input) (input_of suffixes input.seeds) task.agent [] visits (entered_state asked x) y crawls in
       record {
         input = input_of suffixes input.seeds;
         visits = visits;
@@ -184,7 +175,7 @@ module _ (task : CrawlTask) (asked : Asked) (bytes : Option (List ℕ)) (tape : 
     crawls = entered_crawl asked x files has tape (by_tape tape) task.agent [] y
         (crawls_quiet tape (by_tape tape) task.agent [] (entered_state asked x) y (ap (λ (s : State). s.urls.lists) same) (ap (λ (s : State). s.events) same));
   }
-  may_from y (inr (input, is, only, front)) = crawls_from input (suffixes_for (entered_state asked x) input) only.visits y is only.crawls
+  may_from y (inr (input, is, fits, only, front)) = crawls_from input (suffixes_for (entered_state asked x) input) only.visits y is only.crawls
 
   kind_of : (made : Settings) → x.settings ≡ Some made → Agrees asked (settings_for asked (entered_state asked x)) → made.kind ≡ CrawlKind
   kind_of made is agrees = kind_agrees asked made (subst (Agrees asked) (settings_made asked made x is) agrees) kind
@@ -229,13 +220,15 @@ module _ (task : CrawlTask) (asked : Asked) (bytes : Option (List ℕ)) (tape : 
     -- nothing is reached where nothing was added
     unreached : y ≡ x → (key : ℕ) → Reached tape task.agent key → ⊥
     unreached same key there =
-        let none : added_to (entered_state asked x).urls.lists y.urls.lists ≡ [] = ap (λ (s : State). added_to (entered_state asked x).urls.lists s.urls.lists) same ∙ added_entered asked x files has in
+        let none : added_to (entered_state asked x).urls.lists y.urls.lists ≡ [] = ap (λ (s : State). added_to (entered_state asked x).urls.lists s.urls.lists) same
+        ∙ added_entered asked x files has in
         none_reached Crawled crawled.crawls.visits (entered_state asked x) y crawled.whole.leaves none tape task.agent (ap (λ (t : Taped). t.seeds) (one input is)) key there
 
     -- each offer enters its key
-    both_new : (entered_state asked x).urls.lists ≡ replicate (settings_of asked).buckets [] → (entered_state asked x).events ≡ [] → (offer : Tuple) → Contains (offers_in y.urls) offer → offer.op ≡ Both
+    both_new : (entered_state asked x).urls.lists ≡ replicate (settings_of asked).buckets [] → (entered_state asked x).events ≡ [] → (offer : Tuple) → Contains (offers_in y.urls) offer
+        → offer.op ≡ Both
     both_new lists events =
-        both_anew (input_of (suffixes_for (entered_state asked x) input) input.seeds) (task.gives input) task.agent crawled.crawls.visits (entered_state asked x) y (settings_of asked).buckets
+        both_anew (input_of (suffixes_for (entered_state asked x) input) input.seeds) (task.given input).gives task.agent crawled.crawls.visits (entered_state asked x) y (settings_of asked).buckets
         lists events crawled.crawls.crawls
 
     both_made : (made other : Settings) → IsMade made x files → IsMade other y image → Agrees asked (settings_for asked (entered_state asked x)) → AreFronts x y → (offer : Tuple)
@@ -269,7 +262,7 @@ never_disk : (ending : Ending) → ending ≡ Done → ending ≢ DiskFault
 never_disk ending done = λ failed. let no : Done ≡ DiskFault = sym done ∙ failed in let never : ⊥ = cc in absurd never
 
 -- ---- what it leaves
-module _ (task : CrawlTask) (asked : Asked) (before after : Lent) (ending : Ending) (tape : Taped) (gives : (input : Taped) → Widens (task.gives input) (by_tape input))
+module _ (task : CrawlTask) (asked : Asked) (before after : Lent) (ending : Ending) (tape : Taped) (gives : (input : Taped) → Widens (task.given input).gives (by_tape input))
     (one : (input : Taped) → IsInput task before.input.bytes input → input ≡ tape) (kind : asked.kind ≡ CrawlKind) (files : Files) (x : State) (has : HasState x files)
     (along : IsAlong tape task.agent x) (run : CrawlsStore task asked before after ending x) where
   state_front : IsFrontState x run.state
@@ -291,7 +284,7 @@ module _ (task : CrawlTask) (asked : Asked) (before after : Lent) (ending : Endi
     reached_told done all =
         let settled = run.settled (never_disk ending done) in
         let kept : run.kept ≡ y = sym settled.0 ∙ is_state in
-        let crawled = run.done done in
+        let crawled = run.done (inl done) in
         let either : (y ≡ x) ⊎ Agrees asked (settings_for asked (entered_state asked x)) = ⊎_elim (λ (same : run.most ≡ x). inl (sym kept ∙ sym settled.1 ∙ same)) (λ agrees. inr agrees) run.agrees in
         has_reached task asked before.input.bytes tape gives one kind files x has along y later for_y (subst (λ s. IsFrontState x s) is_state state_front) crawled.0 crawled.1
         (subst (λ s. IsCrawled task (settings_for asked (entered_state asked x)) crawled.0 (entered_state asked x) s) kept crawled.2) along_told either all
@@ -308,14 +301,14 @@ module _ (task : CrawlTask) (asked : Asked) (before after : Lent) (ending : Endi
   }
 
 -- ---- the whole
-pub keeps_along : (task : CrawlTask) (asked : Asked) (before after : Lent) (ending : Ending) → ((input : Taped) → Widens (task.gives input) (by_tape input)) → asked.kind ≡ CrawlKind
+pub keeps_along : (task : CrawlTask) (asked : Asked) (before after : Lent) (ending : Ending) → ((input : Taped) → Widens (task.given input).gives (by_tape input)) → asked.kind ≡ CrawlKind
     → CrawlRun task asked before after ending → KeepsAlong task before after ending
 keeps_along task asked before after ending gives kind run = λ tape is files told x has along.
     stays_on task asked before after ending tape gives is.1 kind files x has along (run.crawls files told x has)
 
 -- the tasks over a tape that gives the answers
-pub replay_gives : (options : RunOptions) (input : Taped) → Widens ((replay_task options).gives input) (by_tape input)
+pub replay_gives : (options : RunOptions) (input : Taped) → Widens ((replay_task options).given input).gives (by_tape input)
 replay_gives options input = λ url want answer given. given
 
-pub site_gives : (options : RunOptions) (pages : ℕ) (input : Taped) → Widens ((site_task options pages).gives input) (by_tape input)
+pub site_gives : (options : RunOptions) (pages : ℕ) (input : Taped) → Widens ((site_task options pages).given input).gives (by_tape input)
 site_gives options pages input = λ url want answer given. given

@@ -17,7 +17,7 @@ use Rattle.irl_bay.proofs.Blank.{blank_is_book}
 use Rattle.irl_journal.specs.Visiting.{IsOpened}
 use Rattle.irl_head.specs.StoreFiles.{head_file}
 use Rattle.irl_head.specs.Opening.{IsBlank, DeniesState, IsUnwanted}
-use Rattle.irl_yard.specs.Standing.{HasState}
+use Rattle.irl_yard.specs.Standing.{HasState, IsLegal}
 use Rattle.irl_yard.specs.Holding.{HasOneOf}
 use Rattle.irl_yard.specs.Opening.{IsDamageAt, IsStoreDamagedAt, entered_state, new_state}
 use Rattle.irl_yard.specs.Entering.{Enters, HasGround}
@@ -35,7 +35,7 @@ use Rattle.irl_top.specs.Message.{ending_of_open, IsAllPrinted, IsLate, IsUnopen
 use Rattle.irl_top.specs.Outside.{Lent}
 use Rattle.irl_top.specs.Printed.{before_last, judged_count, added}
 use Rattle.irl_top.specs.Records.{AddsUnevenRecords}
-use Rattle.irl_top.specs.Run.{line_task, settings_in, Reaches, IsLegal, Extends, Ran}
+use Rattle.irl_top.specs.Run.{line_task, settings_in, Reaches, Extends, Ran}
 use Rattle.irl_top.specs.Stream.{Stream}
 use Rattle.irl_top.specs.declared.ending.Ending.TheVariants.{Done, BadSettings, LineRefused, NotOurs, OtherSettings, DiskFault, InputFault, OutputFault, Full, Damaged}
 use Rattle.irl_top.proofs.Growing.{starts}
@@ -170,16 +170,16 @@ record Keeps (asked : Asked) (before after : Lent) (x most : State) : Type 0 whe
   pub legal : IsLegal most
   pub either : (state ≡ x) ⊎ (state ≡ most)
 
-told_after : (asked : Asked) (old new : Option Files) (files : Files) → TellsBy (Enters asked old) old new → old ≡ Some files → (after : Files) × (new ≡ Some after) × Enters asked old files after
+pub told_after : (asked : Asked) (old new : Option Files) (files : Files) → TellsBy (Enters asked old) old new → old ≡ Some files → (after : Files) × (new ≡ Some after) × Enters asked old files after
 told_after asked None new files tells told = let no : ⊥ = cc in absurd no
 told_after asked (Some was) new files tells told = let same : was ≡ files = cc in (tells.0, tells.1, subst (λ (f : Files). Enters asked (Some was) f tells.0) same tells.2)
 
-same_told : (told : Option Files) (f : Files) (z : State) → told ≡ Some f → HasState z f → ForSome told (HasState z)
+pub same_told : (told : Option Files) (f : Files) (z : State) → told ≡ Some f → HasState z f → ForSome told (HasState z)
 same_told told f z is has = λ g is_g. let same : f ≡ g = cc in subst (HasState z) same has
 
 -- ---- legal states
 -- a state that files stand for
-legal_has : (x : State) (files : Files) → HasState x files → IsLegal x
+pub legal_has : (x : State) (files : Files) → HasState x files → IsLegal x
 legal_has x files (inl blank) = inl blank.1
 legal_has x files (inr (settings, made)) = inr (settings, made_state settings x files made)
 
@@ -195,12 +195,12 @@ legal_new settings valid = inr (
   },
 )
 
-legal_entered : (asked : Asked) (x : State) (files : Files) → AreValid (settings_of asked) → HasState x files → IsLegal (entered_state asked x)
+pub legal_entered : (asked : Asked) (x : State) (files : Files) → AreValid (settings_of asked) → HasState x files → IsLegal (entered_state asked x)
 legal_entered asked x files valid (inl blank) = subst (λ (s : State). IsLegal (entered_state asked s)) (sym blank.1) (legal_new (settings_of asked) valid)
 legal_entered asked x files valid (inr (settings, made)) = subst IsLegal (sym (entered_made asked settings x made.settings_are)) (legal_has x files (inr (settings, made)))
 
 -- files that have the new store's state show that it can be made
-entered_valid : (asked : Asked) (x : State) (image : Files) → x ≡ blank_state → HasState (entered_state asked x) image → AreValid (settings_of asked)
+pub entered_valid : (asked : Asked) (x : State) (image : Files) → x ≡ blank_state → HasState (entered_state asked x) image → AreValid (settings_of asked)
 entered_valid asked x image blank has = from_new image (subst (λ (s : State). HasState (entered_state asked s) image) blank has)
   where
     from_new : (image : Files) → HasState (new_state (settings_of asked)) image → AreValid (settings_of asked)
@@ -271,7 +271,7 @@ keeps_unmade asked before after fault files x refused told has blank bad =
     old_one image (inr made) = absurd (bad (entered_valid asked x image blank made))
 
 -- a state of a store that wasn't made has only such files
-blank_image : (x : State) (image : Files) → x ≡ blank_state → HasState x image → IsBlank image
+pub blank_image : (x : State) (image : Files) → x ≡ blank_state → HasState x image → IsBlank image
 blank_image x image is (inl blank) = blank.0
 blank_image x image is (inr (settings, made)) = let no : None ≡ Some settings = sym (ap (λ (s : State). s.settings) is) ∙ made.settings_are in let never : ⊥ = cc in absurd never
 
@@ -371,7 +371,7 @@ extends_blank kind asked before after fault files x law_before law_after refused
     (keeps_unmade asked before after fault files x refused told (inl (blank, same)) same bad) (λ fine. refl))
     (valid_or_not (settings_of asked))
 
-failed_or_not : (fault : OpenFault) → (fault ≢ OpenFailed) ⊎ (fault ≡ OpenFailed)
+pub failed_or_not : (fault : OpenFault) → (fault ≢ OpenFailed) ⊎ (fault ≡ OpenFailed)
 failed_or_not (OpenNotOurs at) = inl (λ is. cc)
 failed_or_not (OpenDamaged f at) = inl (λ is. cc)
 failed_or_not (OpenOtherSettings n kept wanted) = inl (λ is. cc)
@@ -393,7 +393,7 @@ unwanted_open fault is = elim is [
   | inr rest ↦ elim rest [ inl ours ↦ subst IsUnwanted (sym (open_ours fault ours.0 ours.1)) tt | inr other ↦ subst IsUnwanted (sym (open_other fault other.0 other.1 other.2 other.3)) tt ]
 ]
 
-ground_as : (asked : Asked) (told : Option Files) (fault other : OpenFault) → fault ≡ other → HasGround asked told fault → HasGround asked told other
+pub ground_as : (asked : Asked) (told : Option Files) (fault other : OpenFault) → fault ≡ other → HasGround asked told fault → HasGround asked told other
 ground_as asked told fault other is ground = subst (HasGround asked told) is ground
 
 -- a store that no crawl is asked of is damaged by itself
@@ -401,7 +401,7 @@ store_damaged : (asked : Asked) (files : Files) (f at : ℕ) → asked.kind ≢ 
 store_damaged asked files f at plain (inl damaged) = damaged
 store_damaged asked files f at plain (inr strange) = absurd (plain (agrees_crawl asked strange.settings strange.agrees strange.kind))
 
-denies_as : (fault other : OpenFault) → fault ≡ other → DeniesState other → DeniesState fault
+pub denies_as : (fault other : OpenFault) → fault ≡ other → DeniesState other → DeniesState fault
 denies_as fault other is denies = subst DeniesState (sym is) denies
 
 pub ran_refused : (kind : LineKind) (asked : Asked) (before after : Lent) (fault : OpenFault) → IsConsistent before.store → IsConsistent after.store → IsRefused asked before after fault

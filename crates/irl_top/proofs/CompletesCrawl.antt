@@ -22,39 +22,41 @@ settings_entered asked x files (inl blank) = subst (λ (s : State). settings_for
 settings_entered asked x files (inr made) = ap (λ (s : State). settings_for asked s) (entered_made asked made.0 x made.1.settings_are)
 
 -- a store that stands for a state, over which it may complete
-record Ground (task : CrawlTask) (asked : Asked) (before after : Lent) (ending : Ending) : Type 0 where
+record Ground (task : CrawlTask) (asked : Asked) (before after : Lent) : Type 0 where
   files : Files
   x : State
   told : before.store.files ≡ Some files
   has : HasState x files
-  may : MayComplete task asked before after ending x
+  may : MayComplete task asked before after x
 
 module _ (task : CrawlTask) (asked : Asked) (before after : Lent) where
-  bad : (n : ℕ) → CrawlRun task asked before after (BadSettings n) → Ground task asked before after (BadSettings n) → ⊥
+  bad : (n : ℕ) → CrawlRun task asked before after (BadSettings n) → Ground task asked before after → ⊥
   bad n run g =
       let valid = subst (λ (s : Settings). AreValid s) (settings_entered asked g.x g.files g.has) g.may.valid in
       not_bad asked g.files g.x n g.has valid (run.bad n refl g.files g.told)
 
-  other : (n kept wanted : ℕ) → CrawlRun task asked before after (OtherSettings n kept wanted) → Ground task asked before after (OtherSettings n kept wanted) → ⊥
+  other : (n kept wanted : ℕ) → CrawlRun task asked before after (OtherSettings n kept wanted) → Ground task asked before after → ⊥
   other n kept wanted run g = elim (run.other n kept wanted refl) [
     | inl settings ↦
         let agrees = subst (Agrees asked) (settings_entered asked g.x g.files g.has) g.may.agrees in
         not_other asked g.files g.x n kept wanted g.has agrees (settings g.files g.told)
     | inr suffixes ↦
-        let found = suffixes g.files g.told g.x g.has in
-        g.may.suffixes found.1.0 kept wanted found.1.1 found.1.2
+        let found = suffixes.2 g.files g.told g.x g.has in
+        g.may.suffixes found.0 found.1 kept wanted found.2
   ]
 
-  full : (n : ℕ) → CrawlRun task asked before after (Full n) → Ground task asked before after (Full n) → ⊥
+  full : (n : ℕ) → CrawlRun task asked before after (Full n) → Ground task asked before after → ⊥
   full n run g =
       let store = run.crawls g.files g.told g.x g.has in
       let found = store.full n refl in
-      elim found.2.1 [
-        | inl urls ↦ let room = g.may.room found.0 store.kept found.1 found.2.0 n urls.0 in omega (arith, room, urls.2)
-        | inr pairs ↦ g.may.pairs pairs.0 (ap Full pairs.1)
+      let crawls = found.2.1.0 in
+      let room = g.may.room found.0 store.kept found.1 crawls in
+      elim found.2.1.1 [
+        | inl urls ↦ let fits = room.0 n urls.0 in omega (arith, fits, urls.2)
+        | inr pairs ↦ let fits = room.1 pairs.0 pairs.2 in omega (arith, fits, pairs.4)
       ]
 
-  ends_well : (ending : Ending) → CrawlRun task asked before after ending → Ground task asked before after ending → (ending ≡ NoMemory) ⊎ (ending ≡ Done)
+  ends_well : (ending : Ending) → CrawlRun task asked before after ending → Ground task asked before after → (ending ≡ NoMemory) ⊎ (ending ≡ Done)
   ends_well Done run g = inr refl
   ends_well (BadSettings n) run g = absurd (bad n run g)
   ends_well (LineRefused n) run g = absurd (g.may.read n (run.line n refl))

@@ -1,15 +1,16 @@
 -- What a command that crawls does over an open store, by how far it comes: its input is refused, or the crawl, or it prints.
-use Rattle.std.proofs.Common.{◌≡◌, ◌∙◌, ◌⊎◌, inl, inr, ℕ, ◌≤◌, List, [], Option, None, Some, refl, sym, ap, subst, arith}
+use Rattle.std.proofs.Common.{◌≡◌, ◌≢◌, ◌∙◌, ◌⊎◌, inl, inr, ℕ, ◌≤◌, List, [], Option, None, Some, refl, sym, ap, subst, arith}
 use Rattle.std.specs.Prelude.{Result, Ok, Err, OnOk, IfErr, IsErrOf, ⊤}
 use Rattle.std.specs.Option.{ForSome}
 use Rattle.std.proofs.KnownBytes.{Appends-nil}
 use Rattle.irl_base.specs.Faults.{HasCause}
 use Rattle.irl_bay.specs.Drum.{IsDrum}
 use Rattle.irl_crawl.specs.Leading.{Leads}
+use Rattle.irl_crawl.specs.Workers.{Given}
 use Rattle.irl_crawl.proofs.Leading.{leads_more_failed, leads_none, leads_wide}
 use Rattle.irl_disk.specs.Images.{IsConsistent, Told}
 use Rattle.irl_disk.proofs.Effects.{cause_for}
-use Rattle.irl_events.specs.State.{State}
+use Rattle.irl_events.specs.State.{State, IsFrontState}
 use Rattle.irl_fate.specs.declared.counts.Counts.{Counts}
 use Rattle.irl_offer.specs.declared.settings.Settings.{Settings}
 use Rattle.irl_record.specs.Taped.{Taped}
@@ -19,9 +20,10 @@ use Rattle.irl_report.specs.Report.{report_of}
 use Rattle.irl_yard.specs.declared.parts.Parts.{Parts}
 use Rattle.irl_yard.specs.Holding.{HoldsState, IsSound}
 use Rattle.irl_yard.specs.Passing.{AreCounts}
-use Rattle.irl_record.specs.Widening.{Answers, Widens}
 use Rattle.irl_words.specs.declared.command.RunOptions.{RunOptions}
-use Rattle.irl_top.specs.Crawled.{CrawlTask, part_task, suffixes_for, CrawlsInput, CrawlsTape, Crawled, GoesOver, GoesTo, IsCrawled, IsCrawlEnding, IsOpenEnding, IsPlayEnding, MayCrawl, PrintsCrawl, ending_of_tape}
+use Rattle.irl_top.specs.Crawled.{CrawlTask, part_task, suffixes_for, CrawlsInput, CrawlsTape, Crawled, GoesOver, GoesTo, IsCrawled}
+use Rattle.irl_top.specs.Crawled.{IsCrawledEnding, IsCrawlEnding, IsOpenEnding, IsPlayEnding, IsReadEnding, IsUnreadEnding, MayCrawl, MayCrawlInput}
+use Rattle.irl_top.specs.Crawled.{PrintsCrawl, PrintsReport, RefusesSuffixes, ending_of_tape}
 use Rattle.irl_top.specs.Listing.{IsWriteEnding}
 use Rattle.irl_top.specs.Message.{ending_of}
 use Rattle.irl_top.specs.Outside.{Lent}
@@ -30,11 +32,15 @@ use Rattle.irl_top.specs.Stream.{Stream}
 use Rattle.irl_top.specs.declared.ending.Ending.{Ending}
 use Rattle.irl_top.specs.declared.ending.Ending.TheVariants.{Done, BadSettings, LineRefused, NotOurs, Damaged, OtherSettings, DiskFault, InputFault, OutputFault, NoMemory, Full}
 use Rattle.irl_top.proofs.Beginning.{only_wider}
-use Rattle.irl_top.proofs.CrawlRuns.{no_text}
-use Rattle.irl_top.proofs.Shows.{Printed, at_done, narrow, refused_as}
+use Rattle.irl_top.proofs.Giving.{GivesMore}
+use Rattle.irl_top.proofs.Shows.{Printed, at_done, has_report, narrow, none_of, refused_as}
 
 abbrev at : Told → Stream → Stream → Lent
 at store input output = record { store = store; input = input; output = output }
+
+-- nothing is written of a report
+no_text : (ending : Ending) (y : State) → ending ≢ Done → PrintsReport ending y []
+no_text ending y fine = let whole = has_report y in (whole.0, whole.1, none_of whole.0, λ is. absurd (fine is))
 
 -- ---- the input is refused
 -- an ending of it
@@ -74,6 +80,15 @@ tape_input TapeMemory is = let no : ⊥ = cc in absurd no
 not_tape : (fault : TapeFault) (ending : Ending) → ending_of_tape fault ≡ ending → IsTapeEnding ending
 not_tape fault ending is = subst IsTapeEnding is (tape_kind fault)
 
+not_read : (fault : TapeFault) → IsReadEnding (ending_of_tape fault) → ⊥
+not_read fault (inl (inl done)) = not_tape fault Done done
+not_read fault (inl (inr output)) = not_tape fault OutputFault output
+not_read fault (inr (inl full)) = not_tape fault (Full full.0) full.1
+not_read fault (inr (inr other)) = not_tape fault (OtherSettings other.0 other.1 other.2) other.3
+
+not_crawled : (fault : TapeFault) → IsCrawledEnding (ending_of_tape fault) → ⊥
+not_crawled fault crawled = not_read fault (inl crawled)
+
 pub goes_unread : (task : CrawlTask) (fault : TapeFault) (parts : Parts) (now : Told) (old new output : Stream) → IsConsistent now → IsDrum parts.urls → IsSound parts
     → ((n : ℕ) → fault ≡ BadRecord n → task.reads old.bytes (Err n)) → HasCause (fault ≡ TapeFailed) old.faults new.faults
     → GoesOver task parts parts (at now old output) (at now new output) (ending_of_tape fault)
@@ -82,18 +97,22 @@ goes_unread task fault parts now old new output law drum sound line cause =
     record {
       text = [];
       written = Appends-nil output.bytes;
-      leads = leads_none (ending ≡ DiskFault) (MayCrawl task parts.urls.settings old.bytes) (GoesTo task parts.urls.settings old.bytes ending []) parts now law drum sound (not_tape fault DiskFault) (λ x held. record {
-        may = inl refl;
-        done = λ is. absurd (not_tape fault Done is);
-        full = λ n is. absurd (not_tape fault (Full n) is);
-        whole = λ f at is. not_tape fault (Damaged f at) is;
-        other = λ n kept wanted is. absurd (not_tape fault (OtherSettings n kept wanted) is);
-        prints = no_text ending x (λ is. absurd (not_tape fault Done is));
-      });
+      leads = leads_none (ending ≡ DiskFault) (MayCrawl task parts.urls.settings old.bytes) (GoesTo task parts.urls.settings old.bytes ending []) parts now law drum sound (not_tape fault DiskFault)
+          (λ x held. record {
+            may = inl refl;
+            unread = λ is. refl;
+            done = λ is. absurd (not_crawled fault is);
+            full = λ n is. absurd (not_tape fault (Full n) is);
+            whole = λ f at is. not_tape fault (Damaged f at) is;
+            other = λ n kept wanted is. absurd (not_tape fault (OtherSettings n kept wanted) is);
+            prints = no_text ending x (λ is. absurd (not_tape fault Done is));
+          });
       silent = λ is. refl;
       read = λ is. absurd (not_tape fault Done is);
+      accepted = λ is. absurd (not_read fault is);
       line = λ n is. line n (tape_line fault n is);
       kinds = tape_open fault;
+      suffixes = λ n kept wanted is. absurd (not_tape fault (OtherSettings n kept wanted) is);
       input = cause_for (fault ≡ TapeFailed) (ending ≡ InputFault) old.faults new.faults (tape_input fault) cause;
       output = record { later = omega arith; rose = λ is. absurd (not_tape fault OutputFault is) };
     }
@@ -122,18 +141,21 @@ err_one : (a b : Ending) → IsErrOf {T = Unit {0}} {E = Ending} (Err a) b → a
 err_one a b is = cc
 
 pub tape_refused : (task : CrawlTask) (input : Taped) (ending : Ending) (was now : Parts) (before after : Told) (output : Stream) → IsCrawlEnding ending
-    → Leads (IsErrOf {T = Unit {0}} {E = Ending} (Err ending) DiskFault) (CrawlsInput task was.urls.settings input) (Crawled (Err ending) task was.urls.settings input) was now before after
+    → RefusesSuffixes (Err ending) input.suffixes
+    → Leads (IsErrOf {T = Unit {0}} {E = Ending} (Err ending) DiskFault) (MayCrawlInput task was.urls.settings input) (Crawled (Err ending) task was.urls.settings input) was now before after
     → CrawlsTape task input was now before after output output ending
-tape_refused task input ending was now before after output kind leads =
+tape_refused task input ending was now before after output kind refuses leads =
     let not : (e : Ending) → ending ≡ e → IsCrawlEnding e = λ e is. subst IsCrawlEnding is kind in
+    let not_done : IsCrawledEnding ending → ⊥ = λ is. elim is [ inl done ↦ not Done done | inr output ↦ not OutputFault output ] in
     record {
       text = [];
       written = Appends-nil output.bytes;
       leads = leads_more_failed (IsErrOf {T = Unit {0}} {E = Ending} (Err ending) DiskFault) (ending ≡ DiskFault) _ _ was now before after (err_one ending DiskFault) (λ is. ap Err is)
-          (leads_wide _ _ _ (CrawlsInput task was.urls.settings input) (PrintsCrawl task was.urls.settings input ending []) was now before after leads (λ x y held front crawls. crawls)
+          (leads_wide _ _ _ (MayCrawlInput task was.urls.settings input) (PrintsCrawl task was.urls.settings input ending []) was now before after leads (λ x y held front may. may)
           (λ x y held held_now front is. record {
             crawls = is.crawls;
-            done = λ e. absurd (not Done e);
+            fits = is.fits;
+            done = λ e. absurd (not_done e);
             full = λ n e. is.full n (ap Err e);
             whole = λ f at e. is.whole f at (ap Err e);
             other = λ n kept wanted e. is.other n kept wanted (ap Err e);
@@ -141,6 +163,7 @@ tape_refused task input ending was now before after output kind leads =
           }));
       silent = λ is. refl;
       kinds = crawl_play ending kind;
+      suffixes = λ n kept wanted is. refuses n kept wanted (ap Err is);
       output = record { later = omega arith; rose = λ is. absurd (not OutputFault is) };
     }
 
@@ -172,7 +195,7 @@ ok_never : (ending : Ending) → IsErrOf {T = Unit {0}} {E = Ending} (Ok tt) end
 ok_never ending is = cc
 
 pub tape_printed : (task : CrawlTask) (input : Taped) (r : Result (Unit {0}) Ending) (counts : Counts) (was now : Parts) (before after : Told) (output sink : Stream)
-    → Leads (IsErrOf {T = Unit {0}} {E = Ending} (Ok tt) DiskFault) (CrawlsInput task was.urls.settings input) (Crawled (Ok tt) task was.urls.settings input) was now before after
+    → Leads (IsErrOf {T = Unit {0}} {E = Ending} (Ok tt) DiskFault) (MayCrawlInput task was.urls.settings input) (Crawled (Ok tt) task was.urls.settings input) was now before after
     → ((y : State) → HoldsState after.images now y → AreCounts now.urls.settings y counts) → Printed r (report_of counts) output sink
     → CrawlsTape task input was now before after output sink (ending_of r)
 tape_printed task input r counts was now before after output sink leads count printed =
@@ -181,11 +204,13 @@ tape_printed task input r counts was now before after output sink leads count pr
     record {
       text = printed.text;
       written = printed.written;
-      leads = leads_more_failed (IsErrOf {T = Unit {0}} {E = Ending} (Ok tt) DiskFault) (ending_of r ≡ DiskFault) _ _ was now before after (λ is. absurd (ok_never DiskFault is)) (λ is. absurd (not DiskFault is))
-          (leads_wide _ _ _ (CrawlsInput task was.urls.settings input) (PrintsCrawl task was.urls.settings input (ending_of r) printed.text) was now before after leads
-          (λ x y held front crawls. crawls)
+      leads = leads_more_failed (IsErrOf {T = Unit {0}} {E = Ending} (Ok tt) DiskFault) (ending_of r ≡ DiskFault) _ _ was now before after (λ is. absurd (ok_never DiskFault is)) (λ is.
+          absurd (not DiskFault is))
+          (leads_wide _ _ _ (MayCrawlInput task was.urls.settings input) (PrintsCrawl task was.urls.settings input (ending_of r) printed.text) was now before after leads
+          (λ x y held front may. may)
           (λ x y held held_now front is. record {
             crawls = is.crawls;
+            fits = is.fits;
             done = λ e. is.done;
             full = λ n e. absurd (not (Full n) e);
             whole = λ f at e. not (Damaged f at) e;
@@ -199,6 +224,7 @@ tape_printed task input r counts was now before after output sink leads count pr
           }));
       silent = λ is. absurd (not DiskFault is);
       kinds = write_play r printed.kinds;
+      suffixes = λ n kept wanted is. absurd (not (OtherSettings n kept wanted) is);
       output = cause_for (IsErrOf r OutputFault) (ending_of r ≡ OutputFault) output.faults sink.faults (refused_as r OutputFault (λ e. cc)) printed.output;
     }
 
@@ -217,42 +243,52 @@ play_open NoMemory kind = tt
 play_open (Full n) kind = tt
 
 -- one by these options that gives more
-abbrev pub wider_task : RunOptions → (Option (List ℕ) → Result Taped ℕ → Type 0) → (Stream → Stream → Type 0) → (Taped → Answers) → CrawlTask
-wider_task options reads ends gives = record { reads = reads; ends = ends; gives = gives; agent = options.agent; pages = options.pages; batch = options.batch }
+abbrev pub wider_task : RunOptions → (Option (List ℕ) → Result Taped ℕ → Type 0) → (Stream → Stream → Type 0) → (Taped → Given) → CrawlTask
+wider_task options reads ends given = record { reads = reads; ends = ends; given = given; agent = options.agent; pages = options.pages; batch = options.batch }
 
-module _ (options : RunOptions) (reads : Option (List ℕ) → Result Taped ℕ → Type 0) (ends : Stream → Stream → Type 0) (gives : Taped → Answers) (given : Answers) (input : Taped)
-    (wider : Widens given (gives input)) where
+module _ (options : RunOptions) (reads : Option (List ℕ) → Result Taped ℕ → Type 0) (ends : Stream → Stream → Type 0) (gives : Taped → Given) (given : Given) (input : Taped)
+    (more : GivesMore given (gives input)) where
   abbrev task : CrawlTask
   task = wider_task options reads ends gives
 
   abbrev crawls_more : (settings : Settings) (x y : State) → CrawlsInput (part_task options given) settings input x y → CrawlsInput task settings input x y
-  crawls_more settings x y = only_wider given (gives input) options.agent (suffixes_for x input) input.seeds settings 1 options.pages options.batch x y wider
+  crawls_more settings x y = only_wider given (gives input) options.agent (suffixes_for x input) input.seeds settings 1 options.pages options.batch x y more
 
   crawled_more : (settings : Settings) (x y : State) → IsCrawled (part_task options given) settings input x y → IsCrawled task settings input x y
-  crawled_more settings x y is = record { crawls = crawls_more settings x y is.crawls; whole = is.whole; ends = is.ends }
+  crawled_more settings x y is = record { fits = is.fits; crawls = crawls_more settings x y is.crawls; whole = is.whole; ends = is.ends }
+
+  may_more : (bytes : Option (List ℕ)) (settings : Settings) (x y : State) → reads bytes (Ok input) → IsFrontState x y → MayCrawlInput (part_task options given) settings input x y
+      → MayCrawl task settings bytes x y
+  may_more bytes settings x y is_input front may = elim may.1 [ inl same ↦ inl same | inr fits ↦ inr (input, is_input, fits, crawls_more settings x y may.0, front) ]
 
   -- an input was read, and then crawled
   pub goes_crawled : (ending : Ending) (was now : Parts) (before after : Told) (old new output sink : Stream) → reads old.bytes (Ok input) → ends old new → old.faults ≤ new.faults
       → CrawlsTape (part_task options given) input was now before after output sink ending → GoesOver task was now (at before old output) (at after new sink) ending
   goes_crawled ending was now before after old new output sink is_input read later tape =
       let not : (e : Ending) → ending ≡ e → IsPlayEnding e = λ e is. subst IsPlayEnding is tape.kinds in
+      let not_unread : IsUnreadEnding ending → ⊥ = λ is. elim is [ inl fault ↦ not InputFault fault | inr line ↦ not (LineRefused line.0) line.1 ] in
       record {
         text = tape.text;
         written = tape.written;
         leads = leads_wide _ _ _ (MayCrawl task was.urls.settings old.bytes) (GoesTo task was.urls.settings old.bytes ending tape.text) was now before after tape.leads
-            (λ x y held front crawls. inr (input, is_input, crawls_more was.urls.settings x y crawls, front))
+            (λ x y held front may. may_more old.bytes was.urls.settings x y is_input front may)
             (λ x y held held_now front is. record {
-              may = inr (input, is_input, crawls_more was.urls.settings x y is.crawls, front);
+              may = may_more old.bytes was.urls.settings x y is_input front (is.crawls, is.fits);
+              unread = λ e. absurd (not_unread e);
               done = λ e. (input, is_input, crawled_more was.urls.settings x y (is.done e));
-              full = λ n e. let full = is.full n e in (input, is_input, (crawls_more was.urls.settings x y full.0, full.1));
+              full = λ n e. let full = is.full n e in (input, is_input, (full.0, (crawls_more was.urls.settings x y full.1.0, full.1.1)));
               whole = is.whole;
               other = λ n kept wanted e. let has = is.other n kept wanted e in (has.0, (input, is_input, has.1));
               prints = is.prints;
             });
         silent = tape.silent;
         read = λ is. read;
+        accepted = λ is. (input, is_input);
         line = λ n is. absurd (not (LineRefused n) is);
         kinds = play_open ending tape.kinds;
+        suffixes = λ n kept wanted is.
+            let has = tape.suffixes n kept wanted is in
+            (has.0, record { input = input; is_input = is_input; named = has.2; wanted_is = has.1 });
         input = record { later = later; rose = λ is. absurd (not InputFault is) };
         output = tape.output;
       }

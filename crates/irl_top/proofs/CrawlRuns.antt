@@ -1,14 +1,12 @@
 -- One run of a command that crawls, by what entering its store says and what is done over an open one.
-use Rattle.std.proofs.Common.{◌≡◌, ◌≢◌, ◌∙◌, ◌⊎◌, inl, inr, ⊎_elim, ℕ, ◌≤◌, List, [], Option, None, Some, refl, sym, ap, subst, arith}
-use Rattle.std.specs.Prelude.{Result, Ok, Err, OnOk, IfErr, IsErrOf, unwrap_or}
+use Rattle.std.proofs.Common.{◌≡◌, ◌≢◌, ◌∙◌, ◌⊎◌, inl, inr, ⊎_elim, ℕ, List, [], Option, None, Some, refl, sym, ap, subst, arith}
+use Rattle.std.specs.Prelude.{Err, unwrap_or}
 use Rattle.std.specs.Option.{ForSome}
 use Rattle.std.specs.Io.KnownBytes.{Appends}
 use Rattle.std.proofs.KnownBytes.{Appends-nil}
 use Rattle.irl_base.specs.Faults.{HasCause}
 use Rattle.irl_bay.specs.Drum.{IsDrum}
 use Rattle.irl_core.specs.States.{begun_with}
-use Rattle.irl_crawl.specs.Leading.{Leads}
-use Rattle.irl_crawl.proofs.Leading.{leads_more_failed, leads_none, leads_wide}
 use Rattle.irl_disk.specs.Disk.{Files}
 use Rattle.irl_disk.specs.Images.{IsConsistent, Leaves, Told}
 use Rattle.irl_disk.proofs.Effects.{cause_for, cause_then}
@@ -16,40 +14,35 @@ use Rattle.irl_disk.proofs.Stretches.{joins, left_now, widens}
 use Rattle.irl_events.specs.State.{State, IsFrontState, blank_state}
 use Rattle.irl_head.specs.Asking.{Agrees}
 use Rattle.irl_head.specs.Head.{kind_number}
-use Rattle.irl_head.specs.Opening.{DeniesState, IsBlank, IsUnwanted}
+use Rattle.irl_head.specs.Opening.{IsBlank, IsUnwanted}
 use Rattle.irl_head.specs.declared.open_fault.OpenFault.{OpenFault}
-use Rattle.irl_head.specs.declared.open_fault.OpenFault.TheVariants.{NotOurs as OpenNotOurs, Damaged as OpenDamaged, OtherSettings as OpenOtherSettings, BadSettings as OpenBadSettings, Failed as OpenFailed, Memory as OpenMemory}
+use Rattle.irl_head.specs.declared.open_fault.OpenFault.TheVariants.{NotOurs as OpenNotOurs, Damaged as OpenDamaged, OtherSettings as OpenOtherSettings, BadSettings as OpenBadSettings, Failed as OpenFailed}
 use Rattle.irl_head.proofs.Asking.{new_agrees}
-use Rattle.irl_offer.specs.Settings.{settings_of}
+use Rattle.irl_offer.specs.Settings.{AreValid, settings_of}
 use Rattle.irl_offer.specs.declared.settings.Asked.{Asked}
 use Rattle.irl_offer.specs.declared.settings.Kind.{Kind}
 use Rattle.irl_offer.specs.declared.settings.Kind.TheVariants.{Lines, Tuples, Crawl as CrawlKind}
 use Rattle.irl_offer.specs.declared.settings.Settings.{Settings}
 use Rattle.irl_record.specs.Taped.{Taped}
-use Rattle.irl_record.specs.declared.reading.TapeFault.{TapeFault}
-use Rattle.irl_record.specs.declared.reading.TapeFault.TheVariants.{BadRecord, Failed as TapeFailed, Memory as TapeMemory}
-use Rattle.irl_report.specs.Report.{report_of}
-use Rattle.irl_fate.specs.declared.counts.Counts.{Counts}
 use Rattle.irl_yard.specs.declared.parts.Parts.{Parts}
-use Rattle.irl_yard.specs.Entering.{EntersStore, HasGround, OpensYard, OpeningRefused}
-use Rattle.irl_yard.specs.Holding.{HasOneOf, HoldsState, IsSound}
-use Rattle.irl_yard.specs.Leading.{FailsAt, HasOneBetween, LeadsTo}
-use Rattle.irl_yard.specs.Opening.{entered_state, new_state}
-use Rattle.irl_yard.specs.Passing.{AreCounts}
-use Rattle.irl_yard.specs.Standing.{HasState}
+use Rattle.irl_yard.specs.Entering.{EntersStore, OpensYard, OpeningRefused}
+use Rattle.irl_yard.specs.Holding.{HasOneOf, HoldsState}
+use Rattle.irl_yard.specs.Leading.{HasOneBetween}
+use Rattle.irl_yard.specs.Opening.{entered_state}
+use Rattle.irl_yard.specs.Standing.{HasState, IsLegal}
 use Rattle.irl_yard.proofs.Grounds.{entered_made}
-use Rattle.irl_yard.proofs.Holding.{held_has}
+use Rattle.irl_yard.proofs.Holding.{held_has, held_state}
 use Rattle.irl_yard.proofs.States.{entered_front, state_both, state_same}
-use Rattle.irl_top.specs.Crawled.{CrawlTask, CrawlRun, CrawlsInput, CrawlsStore, Crawled, GoesOver, GoesTo, HasOtherSuffixes, IsCrawled, IsCrawlEnding, IsFullBy, IsInput, IsOpenEnding, MayCrawl, PrintsReport, ending_of_tape, settings_for}
-use Rattle.irl_top.specs.Message.{IsLate, ending_of, ending_of_open}
+use Rattle.irl_top.specs.Crawled.{CrawlTask, CrawlRun, CrawlsStore, GoesOver, HasOtherSuffixes, IsCrawled, IsFullBy, IsInput, IsCrawledEnding, IsOpenEnding, IsUnreadEnding, MayCrawl, MayLeave, NamesSuffixes, PrintsReport, settings_for}
+use Rattle.irl_top.specs.Message.{IsLate, ending_of_open}
 use Rattle.irl_top.specs.Opened.{IsOpenable}
 use Rattle.irl_top.specs.Outside.{Lent}
-use Rattle.irl_top.specs.Shown.{IsReportOf, HasCounts}
 use Rattle.irl_top.specs.Stream.{Stream}
 use Rattle.irl_top.specs.declared.ending.Ending.{Ending}
 use Rattle.irl_top.specs.declared.ending.Ending.TheVariants.{Done, BadSettings, LineRefused, NotOurs, Damaged, OtherSettings, DiskFault, InputFault, OutputFault, NoMemory, Full}
-use Rattle.irl_top.proofs.Closed.{open_bad, open_damaged, open_disk, open_late, open_other, open_ours}
-use Rattle.irl_top.proofs.Shows.{Printed, all_of, has_report, none_of}
+use Rattle.irl_top.proofs.Closed.{blank_image, denies_as, entered_valid, failed_or_not, ground_as, legal_entered, legal_has, open_bad, open_damaged, open_disk, open_late, open_other, open_ours, same_told, told_after}
+use Rattle.irl_top.proofs.Ranges.{valid_or_not}
+use Rattle.irl_top.proofs.Shows.{has_report, none_of}
 
 -- ---- what is printed
 pub no_text : (ending : Ending) (y : State) → ending ≢ Done → PrintsReport ending y []
@@ -76,9 +69,6 @@ record KeepsState (x most : State) (before after : Told) : Type 0 where
   either : (state ≡ x) ⊎ (state ≡ most)
   stops : ((image : Files) → before.images image → HasState x image) → Leaves before after (HasOneBetween x most)
 
-one_told : (told : Option Files) (f : Files) (z : State) → told ≡ Some f → HasState z f → ForSome told (HasState z)
-one_told told f z is has = λ g is_g. let both = sym is ∙ is_g in let same : f ≡ g = cc in subst (HasState z) same has
-
 keeps_told : (asked : Asked) (fault : OpenFault) (before after : Told) (files : Files) (x : State) → OpeningRefused asked fault before after → EntersStore asked (fault ≡ OpenFailed) before after
     → before.files ≡ Some files → HasState x files → (told : Option Files) → after.files ≡ told → KeepsState x (entered_state asked x) before after
 keeps_told asked fault before after files x refused entered is has told after_is = by_told told after_is
@@ -93,10 +83,10 @@ keeps_told asked fault before after files x refused entered is has told after_is
     first told = record { state = x; told = told; fronts = (state_same x, entered_front asked x); either = inl refl; stops = stopped }
 
     by_one : (f : Files) → after.files ≡ Some f → HasOneOf x (entered_state asked x) f → KeepsState x (entered_state asked x) before after
-    by_one f is_f (inl old) = first (one_told after.files f x is_f old)
+    by_one f is_f (inl old) = first (same_told after.files f x is_f old)
     by_one f is_f (inr new) = record {
       state = entered_state asked x;
-      told = one_told after.files f (entered_state asked x) is_f new;
+      told = same_told after.files f (entered_state asked x) is_f new;
       fronts = (entered_front asked x, state_same (entered_state asked x));
       either = inr refl;
       stops = stopped;
@@ -106,42 +96,85 @@ keeps_told asked fault before after files x refused entered is has told after_is
     by_told None none = first (λ f is_f. let both = sym none ∙ is_f in let no : ⊥ = cc in absurd no)
     by_told (Some f) is_f = by_one f is_f (refused.told_err x files is has f is_f)
 
-failed_or : (fault : OpenFault) → (fault ≢ OpenFailed) ⊎ (fault ≡ OpenFailed)
-failed_or (OpenNotOurs at) = inl (λ is. cc)
-failed_or (OpenDamaged f at) = inl (λ is. cc)
-failed_or (OpenOtherSettings n k w) = inl (λ is. cc)
-failed_or (OpenBadSettings n) = inl (λ is. cc)
-failed_or OpenFailed = inr refl
-failed_or OpenMemory = inl (λ is. cc)
+-- where no store can be made as is asked, none is
+keeps_unmade : (asked : Asked) (before after : Told) (fault : OpenFault) (files : Files) (x : State) → OpeningRefused asked fault before after → EntersStore asked (fault ≡ OpenFailed) before after
+    → before.files ≡ Some files → HasState x files → x ≡ blank_state → (AreValid (settings_of asked) → ⊥) → KeepsState x x before after
+keeps_unmade asked before after fault files x refused entered is has blank bad = record {
+  state = x;
+  told = λ f is_f. old_one f (refused.told_err x files is has f is_f);
+  fronts = (state_same x, state_same x);
+  either = inl refl;
+  stops = λ each. widens before after _ _ (entered.stops x each) (λ image either. (x, old_one image either, state_same x, state_same x));
+}
+  where
+    old_one : (image : Files) → HasOneOf x (entered_state asked x) image → HasState x image
+    old_one image (inl old) = old
+    old_one image (inr made) = absurd (bad (entered_valid asked x image blank made))
 
-blank_image : (x : State) (image : Files) → x ≡ blank_state → HasState x image → IsBlank image
-blank_image x image is (inl blank) = blank.0
-blank_image x image is (inr (settings, made)) = let no : None ≡ Some settings = sym (ap (λ (s : State). s.settings) is) ∙ made.settings_are in let never : ⊥ = cc in absurd never
+-- unless a call failed, a store that wasn't made yet still isn't
+keeps_blank : (asked : Asked) (before after : Told) (fault : OpenFault) (files : Files) (x : State) → OpeningRefused asked fault before after → fault ≢ OpenFailed → before.files ≡ Some files
+    → IsBlank files → x ≡ blank_state → KeepsState x x before after
+keeps_blank asked before after fault files x refused fine is blank same = record {
+  state = x;
+  told = λ g is_g. inl (refused.blank fine files is blank g is_g, same);
+  fronts = (state_same x, state_same x);
+  either = inl refl;
+  stops = λ each. widens before after _ _ (refused.blank_stops fine (λ image left. blank_image x image same (each image left)))
+      (λ image still. (x, inl (still, same), state_same x, state_same x));
+}
+
+-- the greatest state that a stop leaves of one whose store stays closed
+record LeftClosed (asked : Asked) (fault : OpenFault) (x : State) (before after : Told) : Type 0 where
+  most : State
+  may : (most ≡ x) ⊎ (most ≡ entered_state asked x)
+  fine : fault ≢ OpenFailed → most ≡ x
+  keeps : KeepsState x most before after
+  blank : (most ≡ x) ⊎ (x ≡ blank_state)
+  legal : IsLegal most
+
+left_same : (asked : Asked) (fault : OpenFault) (before after : Told) (files : Files) (x : State) → HasState x files → KeepsState x x before after → LeftClosed asked fault x before after
+left_same asked fault before after files x has keeps = record { most = x; may = inl refl; fine = λ fine. refl; keeps = keeps; blank = inl refl; legal = legal_has x files has }
 
 -- unless a call failed the state stays
-keeps_closed : (asked : Asked) (fault : OpenFault) (before after : Told) (files : Files) (x : State) → OpeningRefused asked fault before after → EntersStore asked (fault ≡ OpenFailed) before after
-    → before.files ≡ Some files → HasState x files
-    → (most : State) × ((most ≡ x) ⊎ (most ≡ entered_state asked x)) × (fault ≢ OpenFailed → most ≡ x) × KeepsState x most before after × ((most ≡ x) ⊎ (x ≡ blank_state))
-keeps_closed asked fault before after files x refused entered is (inr (settings, made)) =
+left_blank : (asked : Asked) (fault : OpenFault) (before after : Told) (files : Files) (x : State) → OpeningRefused asked fault before after → EntersStore asked (fault ≡ OpenFailed) before after
+    → before.files ≡ Some files → IsBlank files → x ≡ blank_state → (fault ≢ OpenFailed) ⊎ (fault ≡ OpenFailed) → AreValid (settings_of asked) ⊎ (AreValid (settings_of asked) → ⊥)
+    → LeftClosed asked fault x before after
+left_blank asked fault before after files x refused entered is blank same (inl fine) valid =
+    left_same asked fault before after files x (inl (blank, same)) (keeps_blank asked before after fault files x refused fine is blank same)
+left_blank asked fault before after files x refused entered is blank same (inr failed) (inl valid) = record {
+  most = entered_state asked x;
+  may = inr refl;
+  fine = λ fine. absurd (fine failed);
+  keeps = keeps_told asked fault before after files x refused entered is (inl (blank, same)) after.files refl;
+  blank = inr same;
+  legal = legal_entered asked x files valid (inl (blank, same));
+}
+left_blank asked fault before after files x refused entered is blank same (inr failed) (inr bad) =
+    left_same asked fault before after files x (inl (blank, same)) (keeps_unmade asked before after fault files x refused entered is (inl (blank, same)) same bad)
+
+left_closed : (asked : Asked) (fault : OpenFault) (before after : Told) (files : Files) (x : State) → OpeningRefused asked fault before after → EntersStore asked (fault ≡ OpenFailed) before after
+    → before.files ≡ Some files → HasState x files → LeftClosed asked fault x before after
+left_closed asked fault before after files x refused entered is (inl blank) =
+    left_blank asked fault before after files x refused entered is blank.0 blank.1 (failed_or_not fault) (valid_or_not (settings_of asked))
+left_closed asked fault before after files x refused entered is (inr (settings, made)) =
     let same = entered_made asked settings x made.settings_are in
-    (entered_state asked x, inr refl, (λ fine. same), keeps_told asked fault before after files x refused entered is (inr (settings, made)) after.files refl, inl same)
-keeps_closed asked fault before after files x refused entered is (inl blank) = ⊎_elim
-    (λ fine. (
-      x,
-      inl refl,
-      (λ still. refl),
-      record {
-        state = x;
-        told = λ g is_g. inl (refused.blank fine files is blank.0 g is_g, blank.1);
-        fronts = (state_same x, state_same x);
-        either = inl refl;
-        stops = λ each. widens before after _ _ (refused.blank_stops fine (λ image left. blank_image x image blank.1 (each image left)))
-            (λ image still. (x, inl (still, blank.1), state_same x, state_same x));
-      },
-      inl refl,
-    ))
-    (λ failed. (entered_state asked x, inr refl, (λ fine. absurd (fine failed)), keeps_told asked fault before after files x refused entered is (inl blank) after.files refl, inr blank.1))
-    (failed_or fault)
+    record {
+      most = entered_state asked x;
+      may = inr refl;
+      fine = λ fine. same;
+      keeps = keeps_told asked fault before after files x refused entered is (inr (settings, made)) after.files refl;
+      blank = inl same;
+      legal = subst IsLegal (sym same) (legal_has x files (inr (settings, made)));
+    }
+
+-- nothing is read or printed there
+no_unread : (fault : OpenFault) → IsUnreadEnding (ending_of_open fault) → ⊥
+no_unread fault (inl input) = open_late fault (inr (inr (inl input)))
+no_unread fault (inr line) = open_late fault (inr (inl line))
+
+no_crawled : (fault : OpenFault) → IsCrawledEnding (ending_of_open fault) → ⊥
+no_crawled fault (inl done) = open_late fault (inl done)
+no_crawled fault (inr output) = open_late fault (inr (inr (inr (inl output))))
 
 no_done : (fault : OpenFault) → ending_of_open fault ≢ Done
 no_done fault = λ is. open_late fault (inl is)
@@ -149,43 +182,47 @@ no_done fault = λ is. open_late fault (inl is)
 no_full : (fault : OpenFault) (n : ℕ) → ending_of_open fault ≡ Full n → ⊥
 no_full fault n is = open_late fault (inr (inr (inr (inr (n, is)))))
 
-store_refused : (task : CrawlTask) (asked : Asked) (before after : Lent) (fault : OpenFault) → IsConsistent after.store → IsClosed asked fault before after → (files : Files) (x : State) → before.store.files ≡ Some files → HasState x files
-    → CrawlsStore task asked before after (ending_of_open fault) x
+store_refused : (task : CrawlTask) (asked : Asked) (before after : Lent) (fault : OpenFault) → IsConsistent after.store → IsClosed asked fault before after → (files : Files) (x : State)
+    → before.store.files ≡ Some files → HasState x files → CrawlsStore task asked before after (ending_of_open fault) x
 store_refused task asked before after fault law closed files x is has =
-    let found = keeps_closed asked fault before.store after.store files x closed.refused closed.entered is has in
-    let keeps = found.3 in
+    let left = left_closed asked fault before.store after.store files x closed.refused closed.entered is has in
+    let keeps = left.keeps in
+    let may_most : MayLeave task asked before.input.bytes x left.most = elim left.may [ inl same ↦ inl same | inr new ↦ inr (inl new) ] in
     record {
       kept = x;
       state = keeps.state;
-      most = found.0;
+      most = left.most;
       told = keeps.told;
       may_kept = inl refl;
-      may_most = elim found.1 [ inl same ↦ inl same | inr new ↦ inr (inl new) ];
+      may_state = elim keeps.either [ inl same ↦ inl same | inr same ↦ subst (λ (s : State). MayLeave task asked before.input.bytes x s) (sym same) may_most ];
+      may_most = may_most;
+      legal = (legal_has x files has, left.legal);
+      unread = λ is. absurd (no_unread fault is);
       first = state_same x;
       fronts = keeps.fronts;
       settled = λ fine.
-          let same = found.2 (λ failed. fine (ap ending_of_open failed)) in
+          let same = left.fine (λ failed. fine (ap ending_of_open failed)) in
           (⊎_elim (λ old. old) (λ new. new ∙ same) keeps.either, same);
-      done = λ done. absurd (no_done fault done);
+      done = λ done. absurd (no_crawled fault done);
       full = λ n full. absurd (no_full fault n full);
       text = [];
       written = wrote_none before.output after.output closed.output;
       prints = no_text (ending_of_open fault) x (no_done fault);
       stops = keeps.stops;
-      agrees = ⊎_elim (λ same. inl same) (λ (blank : x ≡ blank_state). inr (subst (λ (s : State). Agrees asked (settings_for asked (entered_state asked s))) (sym blank) (new_agrees asked))) found.4;
-      now = λ late image left. ⊎_elim (λ (l : IsLate (ending_of_open fault)). absurd (open_late fault l))
-          (λ each. left_now before.store after.store (HasOneBetween x found.0) law (keeps.stops each) image left) late;
+      agrees = ⊎_elim (λ same. inl same)
+          (λ (blank : x ≡ blank_state). inr (subst (λ (s : State). Agrees asked (settings_for asked (entered_state asked s))) (sym blank) (new_agrees asked))) left.blank;
+      now = λ late image stop. ⊎_elim (λ (l : IsLate (ending_of_open fault)). absurd (open_late fault l))
+          (λ each. left_now before.store after.store (HasOneBetween x left.most) law (keeps.stops each) image stop) late;
     }
 
-ground_as : (asked : Asked) (told : Option Files) (fault other : OpenFault) → fault ≡ other → HasGround asked told fault → HasGround asked told other
-ground_as asked told fault other is ground = subst (HasGround asked told) is ground
+-- an ending that refuses a store as it is
+abbrev IsRefusal : Ending → Type 0
+IsRefusal ending = ((n : ℕ) × (ending ≡ BadSettings n)) ⊎ ((at : ℕ) × (ending ≡ NotOurs at)) ⊎ ((n kept wanted : ℕ) × (ending ≡ OtherSettings n kept wanted) × (n ≢ 12))
 
-denies_as : (fault other : OpenFault) → fault ≡ other → DeniesState other → DeniesState fault
-denies_as fault other is denies = subst DeniesState (sym is) denies
-
-unwanted : (fault : OpenFault) → ((n : ℕ) × (ending_of_open fault ≡ BadSettings n)) ⊎ ((at : ℕ) × (ending_of_open fault ≡ NotOurs at)) → IsUnwanted fault
+unwanted : (fault : OpenFault) → IsRefusal (ending_of_open fault) → IsUnwanted fault
 unwanted fault (inl bad) = subst IsUnwanted (sym (open_bad fault bad.0 bad.1)) tt
-unwanted fault (inr ours) = subst IsUnwanted (sym (open_ours fault ours.0 ours.1)) tt
+unwanted fault (inr (inl ours)) = subst IsUnwanted (sym (open_ours fault ours.0 ours.1)) tt
+unwanted fault (inr (inr other)) = subst IsUnwanted (sym (open_other fault other.0 other.1 other.2 other.3)) tt
 
 pub run_refused : (task : CrawlTask) (asked : Asked) (before after : Lent) (fault : OpenFault) → IsConsistent after.store → OpeningRefused asked fault before.store after.store
     → EntersStore asked (fault ≡ OpenFailed) before.store after.store → after.input ≡ before.input → after.output ≡ before.output → CrawlRun task asked before after (ending_of_open fault)
@@ -193,8 +230,10 @@ run_refused task asked before after fault law refused entered input output =
     let told = before.store.files in
     record {
       crawls = λ files is x has. store_refused task asked before after fault law (record { refused = refused; entered = entered; input = input; output = output }) files x is has;
+      tells = λ files is. let new = told_after asked before.store.files after.store.files files entered.files is in (new.0, new.1);
       opened = inr (record { files = entered.files; steps = entered.steps; input = input; output = output; late = open_late fault });
       unopened = λ is. (refused.same (unwanted fault is), input, output);
+      accepted = λ is. absurd (⊎_elim (no_crawled fault) (λ (full : (n : ℕ) × (ending_of_open fault ≡ Full n)). no_full fault full.0 full.1) is);
       read = λ is. absurd (no_done fault is);
       bad = λ n is. (ground_as asked told fault (OpenBadSettings n) (open_bad fault n is) refused.ground).0;
       bad_asked = λ n is. (ground_as asked told fault (OpenBadSettings n) (open_bad fault n is) refused.ground).1;
@@ -229,14 +268,32 @@ never_bad ending n kind is = subst IsOpenEnding is kind
 never_ours : (ending : Ending) (at : ℕ) → IsOpenEnding ending → ending ≡ NotOurs at → ⊥
 never_ours ending at kind is = subst IsOpenEnding is kind
 
+-- where the store failed the input was read, and nothing is printed
+disk_read : (ending : Ending) → ending ≡ DiskFault → IsUnreadEnding ending → ⊥
+disk_read ending failed (inl input) = let no : DiskFault ≡ InputFault = sym failed ∙ input in cc
+disk_read ending failed (inr line) = let no : DiskFault ≡ LineRefused line.0 = sym failed ∙ line.1 in cc
+
+disk_crawled : (ending : Ending) → ending ≡ DiskFault → IsCrawledEnding ending → ⊥
+disk_crawled ending failed (inl done) = let no : DiskFault ≡ Done = sym failed ∙ done in cc
+disk_crawled ending failed (inr output) = let no : DiskFault ≡ OutputFault = sym failed ∙ output in cc
+
+-- a state that is held
+legal_held : (images : Files → Type 0) (parts : Parts) (state : State) → IsDrum parts.urls → HoldsState images parts state → IsLegal state
+legal_held images parts state law holds =
+    inr (parts.urls.settings, held_state images parts.urls state state.urls law holds.urls holds.urls.legal holds.urls.urls_hold.book_is)
+
 -- entering leaves the suffixes that a crawl began with
 begun_entered : (asked : Asked) (x : State) (files : Files) → HasState x files → begun_with (entered_state asked x).events ≡ begun_with x.events
 begun_entered asked x files (inl blank) = subst (λ (s : State). begun_with (entered_state asked s).events ≡ begun_with s.events) (sym blank.1) refl
 begun_entered asked x files (inr (settings, made)) = ap (λ (s : State). begun_with s.events) (entered_made asked settings x made.settings_are)
 
 module _ (task : CrawlTask) (asked : Asked) (before mid after : Lent) (was now : Parts) (ending : Ending) (law : IsConsistent after.store) (drum : IsDrum was.urls)
-    (opened : OpensYard asked was before.store.files mid.store) (entered : EntersStore asked ⊥ before.store mid.store) (tells : (files : Files) → before.store.files ≡ Some files → (later : Files)
-    × (mid.store.files ≡ Some later)) (input : mid.input ≡ before.input) (output : mid.output ≡ before.output) (over : GoesOver task was now mid after ending) where
+    (opened : OpensYard asked was before.store.files mid.store) (entered : EntersStore asked ⊥ before.store mid.store) (input : mid.input ≡ before.input) (output : mid.output ≡ before.output)
+    (over : GoesOver task was now mid after ending) where
+  -- what is told is told on
+  tells : (files : Files) → before.store.files ≡ Some files → (later : Files) × (mid.store.files ≡ Some later)
+  tells files is = let new = told_after asked before.store.files mid.store.files files entered.files is in (new.0, new.1)
+
   stops_in : (x most : State) → IsFrontState (entered_state asked x) most → ((image : Files) → before.store.images image → HasState x image)
       → Leaves mid.store after.store (HasOneBetween (entered_state asked x) most) → Leaves before.store after.store (HasOneBetween x most)
   stops_in x most front each stops = joins before.store mid.store after.store (HasOneBetween x most)
@@ -273,13 +330,16 @@ module _ (task : CrawlTask) (asked : Asked) (before mid after : Lent) (was now :
         most = fails.most;
         told = fails.told;
         may_kept = inr (may_in x fails.kept files is has fails.may_kept);
+        may_state = inr (may_in x fails.state files is has fails.may_state);
         may_most = inr (may_in x fails.most files is has fails.may_most);
+        legal = fails.legal;
+        unread = λ unread. absurd (disk_read ending failed unread);
         agrees = inr (agrees_in x files is has);
         now = λ late image left. fails.now image left;
         first = state_both x (entered_state asked x) fails.kept (entered_front asked x) fails.first;
         fronts = fails.fronts;
         settled = λ fine. absurd (fine failed);
-        done = λ done. let no : DiskFault ≡ Done = sym failed ∙ done in let never : ⊥ = cc in absurd never;
+        done = λ done. absurd (disk_crawled ending failed done);
         full = λ n full. let no : DiskFault ≡ Full n = sym failed ∙ full in let never : ⊥ = cc in absurd never;
         text = [];
         written = text;
@@ -300,7 +360,10 @@ module _ (task : CrawlTask) (asked : Asked) (before mid after : Lent) (was now :
         most = y;
         told = λ f told. held_has after.store.images now.urls y f over.leads.goes_on.drum to.holds.urls (law.told f told);
         may_kept = inr (may_in x y files is has goes.may);
+        may_state = inr (may_in x y files is has goes.may);
         may_most = inr (may_in x y files is has goes.may);
+        legal = (legal_held after.store.images now y over.leads.goes_on.drum to.holds, legal_held after.store.images now y over.leads.goes_on.drum to.holds);
+        unread = goes.unread;
         agrees = inr (agrees_in x files is has);
         now = λ late image left. (y, held_has after.store.images now.urls y image over.leads.goes_on.drum to.holds.urls left, state_same y, state_same y);
         first = state_both x (entered_state asked x) y (entered_front asked x) to.front;
@@ -332,19 +395,35 @@ module _ (task : CrawlTask) (asked : Asked) (before mid after : Lent) (was now :
       (over.leads.leads fine later.0 later.1 (entered_state asked x) (opened.holds files is x has)).1.whole f at damaged
 
   others : (x : State) (files : Files) → before.store.files ≡ Some files → HasState x files → (n kept wanted : ℕ) → ending ≡ OtherSettings n kept wanted
-      → (n ≡ 12) × ((tape : Taped) × IsInput task before.input.bytes tape × HasOtherSuffixes x tape.suffixes kept wanted)
+      → (tape : Taped) × IsInput task before.input.bytes tape × HasOtherSuffixes x tape.suffixes kept wanted
   others x files is has n kept wanted other =
       let later = tells files is in
       let fine : ending ≢ DiskFault = λ failed. let no : OtherSettings n kept wanted ≡ DiskFault = sym other ∙ failed in let never : ⊥ = cc in absurd never in
       let found = (over.leads.leads fine later.0 later.1 (entered_state asked x) (opened.holds files is x has)).1.other n kept wanted other in
       let differ = found.1.2 in (
-        found.0,
-        (
-          found.1.0,
-          subst (λ (s : Stream). IsInput task s.bytes found.1.0) input found.1.1,
-          record { text = differ.text; begun = sym (begun_entered asked x files has) ∙ differ.begun; kept_is = differ.kept_is; wanted_is = differ.wanted_is; differ = differ.differ; named = differ.named },
-        ),
+        found.1.0,
+        subst (λ (s : Stream). IsInput task s.bytes found.1.0) input found.1.1,
+        record {
+          text = differ.text;
+          begun = sym (begun_entered asked x files has) ∙ differ.begun;
+          kept_is = differ.kept_is;
+          wanted_is = differ.wanted_is;
+          differ = differ.differ;
+          named = differ.named;
+        },
       )
+
+  -- what it was made with differs only in the suffixes
+  suffixes_in : (n kept wanted : ℕ) → ending ≡ OtherSettings n kept wanted → (n ≡ 12) × NamesSuffixes task before.input.bytes wanted
+  suffixes_in n kept wanted other = subst (λ (s : Stream). (n ≡ 12) × NamesSuffixes task s.bytes wanted) input (over.suffixes n kept wanted other)
+
+  never_refused : IsRefusal ending → ⊥
+  never_refused (inl bad) = never_bad ending bad.0 over.kinds bad.1
+  never_refused (inr (inl ours)) = never_ours ending ours.0 over.kinds ours.1
+  never_refused (inr (inr other)) = other.4 (over.suffixes other.0 other.1 other.2 other.3).0
+
+  read_in : IsCrawledEnding ending ⊎ ((n : ℕ) × (ending ≡ Full n)) → (tape : Taped) × IsInput task before.input.bytes tape
+  read_in is = subst (λ (s : Stream). (tape : Taped) × IsInput task s.bytes tape) input (over.accepted (elim is [ inl crawled ↦ inl crawled | inr full ↦ inr (inl full) ]))
 
   openable : ForSome before.store.files (IsOpenable asked)
   openable files told = record {
@@ -361,13 +440,17 @@ module _ (task : CrawlTask) (asked : Asked) (before mid after : Lent) (was now :
     crawls = λ files is x has. ⊎_elim (store_led x files is has) (store_failed x files is has) (disk_or ending);
     opened = inl openable;
     damaged = λ f at is. inr openable;
-    unopened = λ is. absurd (⊎_elim (λ (b : (n : ℕ) × (ending ≡ BadSettings n)). never_bad ending b.0 over.kinds b.1) (λ (o : (at : ℕ) × (ending ≡ NotOurs at)). never_ours ending o.0 over.kinds o.1) is);
+    tells = λ files is. let later = tells files is in over.leads.told later.0 later.1;
+    unopened = λ is. absurd (never_refused is);
+    accepted = read_in;
     read = λ is. subst (λ (s : Stream). task.ends s after.input) input (over.read is);
     bad = λ n is. absurd (never_bad ending n over.kinds is);
     bad_asked = λ n is. absurd (never_bad ending n over.kinds is);
     line = λ n is. subst (λ (s : Stream). task.reads s.bytes (Err n)) input (over.line n is);
     not_ours = λ at is. absurd (never_ours ending at over.kinds is);
-    other = λ n kept wanted is. inr (λ files told x has. others x files told has n kept wanted is);
+    other = λ n kept wanted is.
+        let named = suffixes_in n kept wanted is in
+        inr (named.0, named.1, λ files told x has. others x files told has n kept wanted is);
     whole = λ f at is files told x has. none_whole x files told has f at is;
     whole_ours = λ at is. absurd (never_ours ending at over.kinds is);
     disk = cause_then (ending ≡ DiskFault) before.store.faults mid.store.faults after.store.faults entered.cause.later over.leads.cause;

@@ -1,8 +1,8 @@
--- Books and states of a run: what lies between two of them, and what entering a store makes of one.
-use Rattle.std.proofs.Common.{◌≡◌, ◌∙◌, ◌⊎◌, inl, inr, ℕ, zero, suc, ◌≤◌, List, [], ◌∷◌, ◌++◌, length, replicate, sum, get_or, nat_eq, Option, None, Some, refl, sym, ap, subst, append_assoc, append-nil, length-append, arith}
+-- Books and states of a run: what a list of one has got, and what entering a store makes of one.
+use Rattle.std.proofs.Common.{◌≡◌, ◌∙◌, inl, inr, ℕ, zero, suc, List, [], ◌∷◌, ◌++◌, replicate, sum, get_or, nat_eq, Option, None, Some, refl, sym, ap, subst, append_assoc, append-nil, arith}
 use Rattle.std.proofs.lemmas.List.{append_cancel_left}
 use Rattle.std.proofs.lemmas.List.Elements.{filter-append}
-use Rattle.std.specs.Prelude.{unwrap_or, slice_index}
+use Rattle.std.specs.Prelude.{unwrap_or}
 use Rattle.irl_offer.specs.Buckets.{bucket_of}
 use Rattle.irl_offer.specs.Settings.{settings_of}
 use Rattle.irl_offer.specs.Tuple.{Tuple}
@@ -10,15 +10,14 @@ use Rattle.irl_offer.specs.declared.offer.Rule.{Rule}
 use Rattle.irl_offer.specs.declared.offer.Rule.TheVariants.{Keep}
 use Rattle.irl_offer.specs.declared.settings.Asked.{Asked}
 use Rattle.irl_offer.specs.declared.settings.Settings.{Settings}
-use Rattle.irl_model.specs.Book.{Book, ArePrefixes, IsFront, IsPrefixOf, blank_book, part, judged_cut}
+use Rattle.irl_model.specs.Book.{Book, ArePrefixes, IsFront, IsPrefixOf, blank_book, part}
 use Rattle.irl_events.specs.Events.{Happened}
 use Rattle.irl_events.specs.State.{State, blank_state}
 use Rattle.irl_disk.specs.Disk.{Files}
 use Rattle.irl_yard.specs.Standing.{HasState}
 use Rattle.irl_yard.specs.Opening.{entered_state}
 use Rattle.irl_yard.proofs.Grounds.{entered_made}
-use Rattle.irl_schedule.specs.Schedule.{early_cuts}
-use Rattle.irl_schedule.specs.Feeding.{FewUnjudged, Grows, list_at, length_at}
+use Rattle.irl_schedule.specs.Feeding.{list_at}
 use Rattle.irl_top.specs.Printed.{judged_count}
 use Rattle.irl_top.specs.Run.{settings_in}
 
@@ -53,52 +52,6 @@ adds_some buckets b x y xs ys front takes prefix =
     let takes_plain : IsPrefixOf (list_at y b) (old ++ part buckets b xs) = subst (λ (l : List Tuple). IsPrefixOf (list_at y b) (l ++ part buckets b xs)) (append-nil old) takes in
     let some = prefix_cancel old (list_at y b) (part buckets b xs) (front_list x y b front) takes_plain in
     (some.0, some.1, prefix_trans some.0 (part buckets b xs) (part buckets b ys) some.2 (part_prefix buckets b xs ys prefix))
-
--- ---- between two books
-early_front : (trigger : ℕ) (from : List ℕ) (xs ys : List (List ℕ)) → early_cuts trigger from xs ≤ early_cuts trigger from (xs ++ ys)
-early_front trigger from [] ys = omega arith
-early_front trigger from (cut ∷ xs) ys = omega (arith, early_front trigger cut xs ys)
-
-no_length : {X : Type 0} (xs : List X) → length xs ≡ 0 → xs ≡ []
-no_length [] e = refl
-no_length (x ∷ xs) e = absurd (omega (arith, e))
-
-fits_between : (settings : Settings) (x z y : Book) (b : ℕ) → IsFront x z → IsFront z y → (list_at y b ≡ list_at x b) ⊎ (length_at y b ≤ settings.cap)
-    → (list_at z b ≡ list_at x b) ⊎ (length_at z b ≤ settings.cap)
-fits_between settings x z y b first second (inl same) =
-    let one = front_list x z b first in
-    let two = front_list z y b second in
-    let counts : length one.0 ≡ 0 =
-    omega (
-      arith,
-      ap (λ (l : List Tuple). length l) same,
-      ap (λ (l : List Tuple). length l) one.1,
-      ap (λ (l : List Tuple). length l) two.1,
-      length-append (list_at x b) one.0,
-      length-append (list_at z b) two.0,
-    ) in
-    inl (one.1 ∙ ap (λ (l : List Tuple). list_at x b ++ l) (no_length one.0 counts) ∙ append-nil (list_at x b))
-fits_between settings x z y b first second (inr fits) =
-    let two = front_list z y b second in
-    let firsts : slice_index y.firsts b ≡ slice_index z.firsts b = ap (λ (l : List ℕ). slice_index l b) second.firsts in
-    inr (omega (arith, fits, firsts, ap (λ (l : List Tuple). length l) two.1, length-append (list_at z b) two.0))
-
--- a book between, in which unjudged offers don't pile up, has grown too
-pub grows_between : (settings : Settings) (early : ℕ) (x z y : Book) → IsFront x z → IsFront z y → FewUnjudged settings x z → Grows settings early x y → Grows settings early x z
-grows_between settings early x z y first second few grows =
-    let one = first.cuts in
-    let two = second.cuts in
-    let cuts : grows.cuts ≡ one.0 ++ two.0 = append_cancel_left x.cuts grows.cuts (one.0 ++ two.0) (sym grows.cuts_are ∙ two.1 ∙ ap (λ (l : List (List ℕ)). l ++ two.0) one.1
-    ∙ append_assoc x.cuts one.0 two.0) in
-    let from = judged_cut x in
-    record {
-      front = first;
-      fits = λ b within. fits_between settings x z y b first second (grows.fits b within);
-      cuts = one.0;
-      cuts_are = one.1;
-      early_are = omega (arith, grows.early_are, ap (λ (l : List (List ℕ)). early_cuts settings.trigger from l) cuts, early_front settings.trigger from one.0 two.0);
-      waits = few;
-    }
 
 -- ---- what entering makes of a state
 settings_made : (asked : Asked) (o : Option Settings) (urls pairs : Book) (events : List Happened) (s : Settings)

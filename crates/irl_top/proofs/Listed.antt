@@ -229,7 +229,8 @@ write_damaged e f at (inl a) is = let no : OutputFault ≡ Damaged f at = sym a 
 write_damaged e f at (inr a) is = let no : NoMemory ≡ Damaged f at = sym a ∙ is in cc
 
 -- or its printing was refused
-pub prints_stopped : (number most : ℕ) (found : List Judged) (parts mid now : Parts) (before between after : Told) (old out new : Stream) (wrote r : Result (Unit {0}) Ending) (e : Ending) → IsConsistent between
+pub prints_stopped : (number most : ℕ) (found : List Judged) (parts mid now : Parts) (before between after : Told) (old out new : Stream) (wrote r : Result (Unit {0}) Ending) (e : Ending)
+    → IsConsistent between
     → PrintsFirst number parts mid before between old out → IsPiece number most found between.images mid between.files
     → ((state : State) → HoldsState between.images mid state → HoldsState after.images now state) → now.urls ≡ mid.urls → OnlyReads (IsJudgedFile mid.urls) ⊥ between after → wrote ≡ Err e
     → PrintsPart wrote after.images now number found out new → r ≡ Err e → Prints IsListingOf r parts before after old new
@@ -249,7 +250,8 @@ prints_stopped number most found parts mid now before between after old out new 
           let piece_text : lines_from now.urls.settings state number found ≡ lines_from settings state number (take most (drop number js)) =
           ap (λ (s : Settings). lines_from s state number found) other ∙ ap (lines_from settings state number) there in
           let upto = lines_more settings state number most js (omega (arith, count, first.within)) in
-          let so_far = prefix_behind (lines_from settings state 0 (take number js)) part.text (lines_from settings state number (take most (drop number js))) (subst (IsPrefixOf part.text) piece_text some) in
+          let so_far = prefix_behind (lines_from settings state 0 (take number js)) part.text (lines_from settings state number (take most (drop number js)))
+          (subst (IsPrefixOf part.text) piece_text some) in
           let front = prefix_both _ _ _ (subst (IsPrefixOf (lines_from settings state 0 (take number js) ++ part.text)) upto so_far)
           (lines_front settings state (number + length (take most (drop number js))) js) in (
             listing_by state.settings state,
@@ -280,8 +282,14 @@ prints_all number parts now before after old new r first all is = record {
       let js = judged state.urls in
       let count = (held_count before.images parts state holds).0 in
       let whole : take number js ≡ js = take_all number js (omega (arith, count, all, ap (λ (d : Drum). d.last.judged) first.urls)) in
-      let text : first.text ≡ listing_by state.settings state = first.is files told state holds ∙ ap (lines_from settings state 0) whole ∙ sym (listing_is before.images parts state holds) in
-      (listing_by state.settings state, refl, (([], sym text ∙ sym (append-nil first.text)), subst (λ (x : Result (Unit {0}) Ending). OnOk x (first.text ≡ listing_by state.settings state)) (sym is) text));
+      let text : first.text ≡ listing_by state.settings state = first.is files told state holds ∙ ap (lines_from settings state 0) whole ∙ sym (listing_is before.images parts state holds) in (
+        listing_by state.settings state,
+        refl,
+        (
+          ([], sym text ∙ sym (append-nil first.text)),
+          subst (λ (x : Result (Unit {0}) Ending). OnOk x (first.text ≡ listing_by state.settings state)) (sym is) text,
+        ),
+      );
   reads = reads_for (IsJudgedFile parts.urls) ⊥ (IsErrOf r DiskFault) before after (λ x. let no : Ok tt ≡ Err DiskFault = sym is ∙ x in cc) first.reads;
   spoilt = λ f at x. let no : Ok tt ≡ Err (Damaged f at) = sym is ∙ x in let none : ⊥ = cc in absurd none;
   whole = λ f at x. let no : Ok tt ≡ Err (Damaged f at) = sym is ∙ x in let none : ⊥ = cc in absurd none;

@@ -38,6 +38,7 @@ use Rattle.irl_yard.proofs.Journals.{one_journal, records_stand}
 use Rattle.irl_yard.proofs.Lifting.{fronts_lifted, lifts_books}
 use Rattle.irl_schedule.specs.Schedule.{one_more, HasJournal, HaveRecords, LeavesUneven, uneven_records}
 use Rattle.irl_schedule.specs.Feeding.{Grows, list_at, length_at, handed_in}
+use Rattle.irl_schedule.proofs.Between.{grows_between}
 use Rattle.irl_schedule.proofs.Chains.{grows_same, grows_more}
 use Rattle.irl_schedule.proofs.Journals.{left_records}
 use Rattle.irl_schedule.proofs.Steps.{choose}
@@ -54,7 +55,7 @@ use Rattle.irl_top.specs.declared.ending.Ending.{Ending}
 use Rattle.irl_top.specs.declared.ending.Ending.TheVariants.{Done, LineRefused, InputFault, OutputFault}
 use Rattle.irl_top.proofs.Going.{judged_number}
 use Rattle.irl_top.proofs.Unprinted.{earlier_few}
-use Rattle.irl_top.proofs.Growing.{starts, settings_entered, grows_between, adds_some}
+use Rattle.irl_top.proofs.Growing.{starts, settings_entered, adds_some}
 
 -- ---- files
 -- entering changes only files of the store

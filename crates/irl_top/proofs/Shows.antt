@@ -1,11 +1,12 @@
 -- What a command that prints a store's text does, by what it found of the store.
-use Rattle.std.proofs.Common.{◌≡◌, ◌∙◌, ◌⊎◌, inl, inr, ℕ, ◌-◌, ◌^◌, min, sum, List, [], length, map, take, drop, Option, None, Some, refl, sym, ap, subst, append-nil, arith}
+use Rattle.std.proofs.Common.{◌≡◌, ◌≢◌, ◌∙◌, ◌⊎◌, inl, inr, ⊎_elim, ℕ, ◌-◌, ◌^◌, min, sum, List, [], ◌∷◌, length, map, take, drop, Option, None, Some, refl, sym, ap, subst, append-nil, arith}
 use Rattle.std.specs.Prelude.{Result, Ok, Err, OnOk, OnErr, IfErr, IsErrOf}
 use Rattle.std.specs.Option.{ForSome}
 use Rattle.std.specs.Io.KnownBytes.{Appends}
 use Rattle.std.proofs.KnownBytes.{Appends-nil}
 use Rattle.std.proofs.lemmas.List.{take-append-drop}
 use Rattle.irl_base.specs.Faults.{Rose, HasCause}
+use Rattle.irl_offer.specs.declared.settings.Asked.{Asked}
 use Rattle.irl_offer.specs.declared.settings.Settings.{Settings}
 use Rattle.irl_model.specs.Book.{judged, lengths_of, uniques, IsPrefixOf}
 use Rattle.irl_events.specs.State.{State, blank_state}
@@ -18,22 +19,24 @@ use Rattle.irl_disk.specs.Images.{Told, Follows, IsConsistent}
 use Rattle.irl_disk.proofs.Effects.{cause_then, cause_for, reads_for, reads_none}
 use Rattle.irl_disk.proofs.Stretches.{reads_on}
 use Rattle.irl_bay.specs.JudgedSpoilt.{IsJudgedFile}
+use Rattle.irl_bay.proofs.Flushing.{same_or_other}
+use Rattle.irl_head.specs.Opening.{HasHead, IsUnwanted}
 use Rattle.irl_head.specs.declared.open_fault.OpenFault.{OpenFault}
 use Rattle.irl_head.specs.declared.open_fault.OpenFault.TheVariants.{NotOurs as OpenNotOurs, Damaged as OpenDamaged, OtherSettings as OpenOtherSettings, BadSettings as OpenBadSettings, Failed as OpenFailed, Memory as OpenMemory}
 use Rattle.irl_io.specs.Written.{AppendsPrefix}
 use Rattle.irl_yard.specs.Entering.{HasGround}
 use Rattle.irl_yard.specs.Holding.{HoldsState}
-use Rattle.irl_yard.specs.Looking.{LookRefused, LooksBlank, LooksMade, NamesAsked, OpensAsKept}
+use Rattle.irl_yard.specs.Looking.{IsAskedAsKept, LookRefused, LooksBlank, LooksMade, NamesAsked, OpensAsKept}
 use Rattle.irl_yard.specs.Passing.{AreCounts, come}
 use Rattle.irl_yard.specs.Standing.{HasState}
 use Rattle.irl_yard.specs.declared.parts.Parts.{Parts}
-use Rattle.irl_yard.proofs.Looking.{asked_of, own_agrees}
+use Rattle.irl_yard.proofs.Looking.{asked_of, head_kept, own_agrees}
 use Rattle.irl_yard.proofs.States.{one_state}
 use Rattle.irl_report.specs.Report.{report_of}
 use Rattle.irl_top.specs.Listing.{IsPrintEnding, IsWriteEnding, IsWritten, Prints}
 use Rattle.irl_top.specs.Message.{ending_of, ending_of_open}
 use Rattle.irl_top.specs.Outside.{Lent}
-use Rattle.irl_top.specs.Shown.{no_counts, HasCounts, IsReportOf, IsListingOf, IsShowEnding, Shown, listing_by}
+use Rattle.irl_top.specs.Shown.{no_counts, HasCounts, IsReportOf, IsListingOf, IsPrinted, IsShowEnding, Shown, listing_by}
 use Rattle.irl_top.specs.Stream.{Stream}
 use Rattle.irl_top.specs.declared.ending.Ending.{Ending}
 use Rattle.irl_top.specs.declared.ending.Ending.TheVariants.{Done, BadSettings, LineRefused, NotOurs, Damaged, OtherSettings, DiskFault, InputFault, OutputFault, NoMemory, Full}
@@ -194,6 +197,47 @@ completed before after OutputFault kind whole ours disk output = λ files told x
 completed before after NoMemory kind whole ours disk output = λ files told x has d o. inl refl
 completed before after (Full b) kind whole ours disk output = absurd kind
 
+-- what is refused as it is looked at prints nothing
+none_printed : (fault : OpenFault) → IsPrinted (ending_of_open fault) → ⊥
+none_printed fault (inl is) = open_late fault (inl is)
+none_printed fault (inr is) = open_late fault (inr (inr (inr (inl is))))
+
+-- ---- what a look leaves of a store of another make
+-- bytes are the same unless they can't be
+same_unless : (xs ys : List ℕ) → ((xs ≡ ys → ⊥) → ⊥) → xs ≡ ys
+same_unless [] [] never = refl
+same_unless [] (y ∷ ys) never = absurd (never (λ e. cc))
+same_unless (x ∷ xs) (y ∷ ys) never = ⊎_elim
+    (λ (first : x ≡ y). let rest : xs ≡ ys = same_unless xs ys (λ other. never (λ e. other (ap (drop 1) e))) in cc)
+    (λ (other : x ≢ y). absurd (never (λ e. other (cc))))
+    (same_or_other x y)
+same_unless (x ∷ xs) [] never = absurd (never (λ e. cc))
+
+same_files : (old new : Files) → ((f : ℕ) → new f ≡ old f) → new ≡ old
+same_files old new each = λ i f. each f i
+
+same_told : (step : Files → Files → Type 0) (old new : Option Files) → TellsBy step old new → ((new ≡ old → ⊥) → ⊥) → new ≡ old
+same_told step None new tells never = tells
+same_told step (Some old) new tells never =
+    tells.1 ∙ ap Some (same_files old tells.0 (λ f. same_unless (tells.0 f) (old f) (λ other. never (λ same.
+    let here : Some tells.0 ≡ Some old = sym tells.1 ∙ same in
+    let files : tells.0 ≡ old = cc in
+    other (ap (λ (x : Files). x f) files)))))
+
+-- it can't be that nobody may ask for what is kept: where some settings are, whoever asks for these may
+kept_by_some : (told : Option Files) → Asked → ((asked : Asked) → IsAskedAsKept asked told → ⊥) → ⊥
+kept_by_some told any none = none any (λ files is settings head. absurd (none (asked_of settings)
+    (head_kept settings (asked_of settings) told (λ other was.
+    let same : files ≡ other = let both : Some files ≡ Some other = sym is ∙ was in cc in
+    subst (HasHead settings) same head) (own_agrees settings))))
+
+-- so it keeps its files
+unopened_told : (before after : Told) (told : Option Files) → before.files ≡ told → TellsBy (OpensAsKept before.files) told after.files
+    → ((asked : Asked) → IsAskedAsKept asked before.files → after.files ≡ before.files) → after.files ≡ before.files
+unopened_told before after None is tells same = tells ∙ sym is
+unopened_told before after (Some files) is tells same =
+    same_told (OpensAsKept before.files) (Some files) after.files tells (λ other. kept_by_some before.files tells.2.0 (λ asked kept. other (same asked kept ∙ is))) ∙ sym is
+
 -- ---- a look that was refused
 pub shown_refused : (has : State → List ℕ → Type 0) (before after : Lent) (fault : OpenFault) → HasText has → LookRefused fault before.store after.store → after.input ≡ before.input
     → after.output ≡ before.output → Shown has before after (ending_of_open fault)
@@ -215,6 +259,11 @@ shown_refused has before after fault texts refused input output =
       files = refused.looks.files;
       steps = refused.looks.steps;
       input = input;
+      opened = λ printed. absurd (none_printed fault printed);
+      unopened = λ at is. (
+        unopened_told before.store after.store before.store.files refl refused.looks.files (λ asked kept. (refused.refused asked kept).same (subst IsUnwanted (sym (open_ours fault at is)) tt)),
+        output,
+      );
       kinds = kinds;
       not_ours = λ at is asked kept. subst (HasGround asked before.store.files) (open_ours fault at is) (refused.refused asked kept).ground;
       damaged = λ f at is. inl (λ asked kept. subst (HasGround asked before.store.files) (open_damaged fault f at is) (refused.refused asked kept).ground);
@@ -277,6 +326,8 @@ shown_blank has before after r text blank is printed input =
       files = looks.files;
       steps = looks.steps;
       input = input;
+      opened = λ is files told. inl (blank.blank files told);
+      unopened = λ at e. absurd (ours_printed r at wide e);
       kinds = kinds;
       not_ours = λ at e. absurd (ours_printed r at wide e);
       damaged = λ f at e. absurd (plain_damaged r f at printed.kinds e);
@@ -321,6 +372,12 @@ shown_made has before after mid parts r law made prints input =
       files = subst (TellsBy (OpensAsKept before.store.files) before.store.files) (sym reads.same) looks.files;
       steps = reads_on before.store mid after.store (Follows (OpensAsKept before.store.files) before.store.images) law looks.steps reads.stops;
       input = input;
+      opened = λ is files told. inr (
+        parts.urls.settings,
+        made.head files told,
+        λ asked agrees. let opens = made.opens asked agrees in (opens.ours files told, opens.undamaged files told),
+      );
+      unopened = λ at e. absurd (ours_printed r at prints.kinds e);
       kinds = kinds;
       not_ours = λ at e. absurd (ours_printed r at prints.kinds e);
       damaged = λ f at e. inr (λ files told.

@@ -1,7 +1,7 @@
 -- What a command that crawls does: it enters a store, reads its input whole, leads the store on by the answers that its
 -- fetches are given, and prints the report.
 use Rattle.std.specs.Prelude.{◌≡◌, ◌≢◌, ◌⊎◌, ◌↔◌, ℕ, ◌+◌, ◌<◌, ◌≤◌, Bool, true, false, List, [], ◌++◌, flat_map, length, map, Option, None, Some, Result, Ok, Err}
-use Rattle.std.specs.Prelude.{OnOk, IsErrOf, unwrap_or, ⊤}
+use Rattle.std.specs.Prelude.{OnOk, OnErr, IsErrOf, unwrap_or, ⊤}
 use Rattle.std.specs.List.{Contains}
 use Rattle.std.specs.Option.{ForSome}
 use Rattle.std.specs.Io.KnownBytes.{Appends}
@@ -12,6 +12,8 @@ use Rattle.irl_crawl.specs.declared.plan.Ended.{Ended}
 use Rattle.irl_crawl.specs.declared.plan.Ended.TheVariants.{Done as CrawlDone, Limit as CrawlLimit, Fault as CrawlFault}
 use Rattle.irl_crawl.specs.declared.plan.Plan.{Plan}
 use Rattle.irl_crawl.specs.Leading.{IsFullAt, Leads}
+use Rattle.irl_crawl.specs.Sending.{pairs_for}
+use Rattle.irl_crawl.specs.Workers.{Given, RoseBetween}
 use Rattle.irl_crawl.specs.Turning.{events_since}
 use Rattle.irl_disk.specs.Disk.{Files}
 use Rattle.irl_disk.specs.Images.{Leaves, Told}
@@ -22,7 +24,7 @@ use Rattle.irl_fate.specs.declared.fate.Fate.TheVariants.{Done as DoneFate}
 use Rattle.irl_head.specs.Asking.{Agrees, IsBadAsked}
 use Rattle.irl_head.specs.Opening.{IsBadStore, IsKeptOtherwise, IsNotOursAt}
 use Rattle.irl_key.specs.Key.{key_of}
-use Rattle.irl_model.specs.Book.{IsPrefixOf, part, uniques}
+use Rattle.irl_model.specs.Book.{Book, IsPrefixOf, part, uniques}
 use Rattle.irl_offer.specs.Settings.{AreValid, settings_of}
 use Rattle.irl_offer.specs.declared.outcome.Outcome.{Outcome}
 use Rattle.irl_offer.specs.declared.settings.Asked.{Asked}
@@ -37,15 +39,14 @@ use Rattle.irl_record.specs.Site.{site_text}
 use Rattle.irl_record.specs.Taped.{Taped}
 use Rattle.irl_record.specs.declared.reading.TapeFault.{TapeFault}
 use Rattle.irl_record.specs.declared.reading.TapeFault.TheVariants.{BadRecord, Failed as TapeFailed, Memory as TapeMemory}
-use Rattle.irl_record.specs.Widening.{Answers}
 use Rattle.irl_words.specs.declared.command.RunOptions.{RunOptions}
 use Rattle.irl_schedule.specs.Feeding.{list_at}
 use Rattle.irl_yard.specs.declared.parts.Parts.{Parts}
 use Rattle.irl_yard.specs.Adding.{with_event}
 use Rattle.irl_yard.specs.Leading.{HasOneBetween}
 use Rattle.irl_yard.specs.Opening.{IsDamageAt, entered_state}
-use Rattle.irl_yard.specs.Passing.{come}
-use Rattle.irl_yard.specs.Standing.{HasState}
+use Rattle.irl_yard.specs.Passing.{come, suffixes_in}
+use Rattle.irl_yard.specs.Standing.{HasState, IsLegal}
 use Rattle.irl_top.specs.declared.ending.Ending.{Ending}
 use Rattle.irl_top.specs.declared.ending.Ending.TheVariants.{Done, BadSettings, LineRefused, NotOurs, Damaged, OtherSettings, DiskFault, InputFault, OutputFault, NoMemory, Full}
 use Rattle.irl_top.specs.Message.{IsLate, ending_of_store}
@@ -61,8 +62,8 @@ pub record CrawlTask : Type 1 where
   pub reads : Option (List ℕ) → Result Taped ℕ → Type 0
   -- what the source tells before a run and after it, where all is done
   pub ends : Stream → Stream → Type 0
-  -- the answers that fetches may be given
-  pub gives : Taped → Answers
+  -- what fetches may be given
+  pub given : Taped → Given
   -- the product token for which robots files are read, how many URLs are settled at most, and in one turn
   pub agent : List ℕ
   pub pages : ℕ
@@ -77,23 +78,35 @@ abbrev pub IsReadWhole : Stream → Stream → Type 0
 IsReadWhole old new = ForSome old.bytes (λ _. new.bytes ≡ Some [])
 
 -- that over a tape, with pages or without them, by these options
-abbrev pub tape_task : Bool → RunOptions → (Taped → Answers) → CrawlTask
-tape_task pages options gives = record {
+abbrev pub tape_task : Bool → RunOptions → (Taped → Given) → CrawlTask
+tape_task pages options given = record {
   reads = IsReadBy (tape_of pages);
   ends = IsReadWhole;
-  gives = gives;
+  given = given;
   agent = options.agent;
   pages = options.pages;
   batch = options.batch;
 }
 
+-- the answers of a tape, of which any number may be that none comes
+abbrev pub given_by_tape : Taped → Given
+given_by_tape tape = record { gives = by_tape tape; may_miss = λ _. ⊤ }
+
+-- those that ports gave on connections to this number of a port; each that didn't come is a fault of its port
+abbrev pub given_by_ports : ℕ → List ℕ → List Port → List Port → Given
+given_by_ports number agent before after = record {
+  gives = given_on number agent before after;
+  may_miss = RoseBetween (λ port. port.faults) before after;
+}
+
 -- that of `replay`: a tape with pages, which gives the answers
 abbrev pub replay_task : RunOptions → CrawlTask
-replay_task options = tape_task true options by_tape
+replay_task options = tape_task true options given_by_tape
 
--- that of `crawl`: a tape without pages, and answers that ports gave on connections to this number of a port
+-- that of `crawl`: a tape without pages, and answers of ports
 abbrev pub crawl_task : RunOptions → ℕ → List Port → List Port → CrawlTask
-crawl_task options number before after = tape_task false options (λ _. given_on number options.agent before after)
+crawl_task options number before after =
+    tape_task false options (λ _. given_by_ports number options.agent before after)
 
 -- that of `gen`: a site of so many pages, whose tape gives the answers; nothing is read
 abbrev pub site_task : RunOptions → ℕ → CrawlTask
@@ -102,9 +115,9 @@ site_task options pages = record (replay_task options) {
   ends = λ old new. new ≡ old;
 }
 
--- a part of one by these options, where these answers are given: it reads nothing itself
-abbrev pub part_task : RunOptions → Answers → CrawlTask
-part_task options gives = tape_task false options (λ _. gives)
+-- a part of one by these options, where this is given: it reads nothing itself
+abbrev pub part_task : RunOptions → Given → CrawlTask
+part_task options given = tape_task false options (λ _. given)
 
 -- the input is this one
 abbrev pub IsInput : CrawlTask → Option (List ℕ) → Taped → Type 0
@@ -119,33 +132,6 @@ settings_for asked state = unwrap_or state.settings (settings_of asked)
 abbrev pub suffixes_for : State → Taped → List ℕ
 suffixes_for state input = unwrap_or (begun_with state.events) input.suffixes
 
--- An input was crawled from a state on: some URLs were visited, and nothing is offered but the seeds and what the
--- visits name. One merge of each book may come before a bucket has enough new offers for the seeds, and one a turn.
-abbrev pub CrawlsInput : CrawlTask → Settings → Taped → State → State → Type 0
-CrawlsInput task settings input x y = OnlyCrawls (task.gives input) task.agent (suffixes_for x input) input.seeds
-    settings 1 task.pages task.batch x y
-
--- a state that a run over an open store's may leave: it itself, or one that a crawl of the input leads it to
-abbrev pub MayCrawl : CrawlTask → Settings → Option (List ℕ) → State → State → Type 0
-MayCrawl task settings bytes x y = (y ≡ x)
-    ⊎ ((input : Taped) × IsInput task bytes input × CrawlsInput task settings input x y × IsFrontState x y)
-
--- what such a crawl handed in: the seeds, and what the visits found
-abbrev pub handed_by : Taped → State → State → List Visit → List Tuple
-handed_by input x y visits = seed_offers input ++ flat_map (found_by (suffixes_for x input) y.urls) visits
-
--- an offer of it doesn't fit
-abbrev pub IsFullBy : CrawlTask → Settings → Taped → State → State → ℕ → Type 0
-IsFullBy task settings input x y n = (crawls : CrawlsInput task settings input x y)
-    × IsFullAt settings (handed_by input x y crawls.visits) x y n
-
--- What came of each visit is settled, all is judged and the pairs are sent, and either no URL waits or as many are
--- settled as were asked for.
-pub record IsCrawled (task : CrawlTask) (settings : Settings) (input : Taped) (x y : State) : Type 0 where
-  pub crawls : CrawlsInput task settings input x y
-  pub whole : CrawlsWhole (suffixes_for x input) input.seeds settings crawls.visits x y
-  pub ends : NoneWaits settings y ⊎ (length (settled_in (events_since x y)) ≡ task.pages)
-
 -- A crawl began with other suffixes than an input names: the keys of both texts.
 pub record HasOtherSuffixes (x : State) (input : List ℕ) (kept wanted : ℕ) : Type 0 where
   pub text : List ℕ
@@ -155,6 +141,46 @@ pub record HasOtherSuffixes (x : State) (input : List ℕ) (kept wanted : ℕ) :
   pub differ : text ≢ input
   pub named : input ≢ []
 
+-- or it hasn't begun, or with the same ones, or the input names none
+abbrev pub Fits : State → List ℕ → Type 0
+Fits x suffixes = (kept wanted : ℕ) → HasOtherSuffixes x suffixes kept wanted → ⊥
+
+-- An input was crawled from a state on: some URLs were visited, and nothing is offered but the seeds and what the
+-- visits name. One merge of each book may come before a bucket has enough new offers for the seeds, and one a turn.
+abbrev pub CrawlsInput : CrawlTask → Settings → Taped → State → State → Type 0
+CrawlsInput task settings input x y = OnlyCrawls (task.given input) task.agent (suffixes_for x input) input.seeds
+    settings 1 task.pages task.batch x y
+
+-- a state that a run over an open store's may leave: it itself, or one that a crawl of an input that fits leads it to
+abbrev pub MayCrawl : CrawlTask → Settings → Option (List ℕ) → State → State → Type 0
+MayCrawl task settings bytes x y = (y ≡ x)
+    ⊎ ((input : Taped) × IsInput task bytes input × Fits x input.suffixes × CrawlsInput task settings input x y
+    × IsFrontState x y)
+
+-- what such a crawl handed in: the seeds, and what the visits found
+abbrev pub handed_by : Taped → State → State → List Visit → List Tuple
+handed_by input x y visits = seed_offers input ++ flat_map (found_by (suffixes_for x input) y.urls) visits
+
+-- an offer of it, or a link that it shows, has no room
+abbrev pub IsFullBy : CrawlTask → Settings → Taped → State → State → ℕ → Type 0
+IsFullBy task settings input x y n = Fits x input.suffixes × ((crawls : CrawlsInput task settings input x y)
+    × IsFullAt (suffixes_for x input) settings (handed_by input x y crawls.visits) x y n)
+
+-- What came of each visit is settled, all is judged and the pairs are sent, and either no URL waits or as many are
+-- settled as were asked for.
+pub record IsCrawled (task : CrawlTask) (settings : Settings) (input : Taped) (x y : State) : Type 0 where
+  pub fits : Fits x input.suffixes
+  pub crawls : CrawlsInput task settings input x y
+  pub whole : CrawlsWhole (suffixes_for x input) input.seeds settings crawls.visits x y
+  pub ends : NoneWaits settings y ⊎ (length (settled_in (events_since x y)) ≡ task.pages)
+
+-- an input names other suffixes than none, and this is their key
+pub record NamesSuffixes (task : CrawlTask) (bytes : Option (List ℕ)) (wanted : ℕ) : Type 0 where
+  pub input : Taped
+  pub is_input : IsInput task bytes input
+  pub named : input.suffixes ≢ []
+  pub wanted_is : wanted ≡ key_of input.suffixes
+
 -- ---- what parts of it make of an open store
 -- a crawl is begun with these suffixes, unless it has begun
 abbrev pub BeginsAt : List ℕ → State → State → Type 0
@@ -163,15 +189,29 @@ BeginsAt suffixes x y = (y ≡ x) ⊎ ((begun_with x.events ≡ None) × (y ≡ 
 pub record Begins (result : Result Unit Ending) (suffixes : List ℕ) (x y : State) : Type 0 where
   pub at : BeginsAt suffixes x y
   pub begun : OnOk result (begun_with y.events ≡ Some (unwrap_or (begun_with x.events) suffixes))
+  pub fits : OnOk result (Fits x suffixes)
+  pub same : OnErr result (y ≡ x)
   pub full : (n : ℕ) → IsErrOf result (Full n) → ⊥
   pub damaged : (f at : ℕ) → IsErrOf result (Damaged f at) → ⊥
   pub other : (n kept wanted : ℕ) → IsErrOf result (OtherSettings n kept wanted)
       → (n ≡ 12) × HasOtherSuffixes x suffixes kept wanted
 
+-- the suffixes of an open store's crawl, if it has begun, are these, or these name none
+abbrev pub KeepsSuffixes : Parts → List ℕ → Type 0
+KeepsSuffixes parts suffixes = (kept : List ℕ) → suffixes_in parts.rest ≡ Some kept
+    → (suffixes ≡ []) ⊎ (kept ≡ suffixes)
+
+-- an answer that settings differ is about these suffixes, by their key
+abbrev pub RefusesSuffixes : Result Unit Ending → List ℕ → Type 0
+RefusesSuffixes result suffixes = (n kept wanted : ℕ) → IsErrOf result (OtherSettings n kept wanted)
+    → (n ≡ 12) × (wanted ≡ key_of suffixes) × (suffixes ≢ [])
+
 -- an input was crawled, by the answer
 pub record Crawled (result : Result Unit Ending) (task : CrawlTask) (settings : Settings) (input : Taped) (x y : State)
     : Type 0 where
   pub crawls : CrawlsInput task settings input x y
+  -- nothing is done where the suffixes don't fit
+  pub fits : (y ≡ x) ⊎ Fits x input.suffixes
   pub done : OnOk result (IsCrawled task settings input x y)
   pub full : (n : ℕ) → IsErrOf result (Full n) → IsFullBy task settings input x y n
   pub whole : (f at : ℕ) → IsErrOf result (Damaged f at) → ⊥
@@ -185,6 +225,7 @@ pub record IsPlanOf (tape : Taped) (options : RunOptions) (plan : Plan) : Type 0
   pub agent : plan.agent ≡ options.agent
   pub pages : plan.pages ≡ options.pages
   pub batch : plan.batch ≡ options.batch
+  pub delay : plan.delay ≡ options.delay
 
 -- ---- endings
 -- what the end of a crawl is to a run
@@ -227,6 +268,20 @@ IsPlayEnding OutputFault = ⊤
 IsPlayEnding NoMemory = ⊤
 IsPlayEnding (Full n) = ⊤
 
+-- an ending that comes behind a whole crawl
+abbrev pub IsCrawledEnding : Ending → Type 0
+IsCrawledEnding ending = (ending ≡ Done) ⊎ (ending ≡ OutputFault)
+
+-- and one that comes behind an input that was read, where the store tells of a list without room, or the suffixes
+-- don't fit
+abbrev pub IsReadEnding : Ending → Type 0
+IsReadEnding ending = IsCrawledEnding ending ⊎ ((n : ℕ) × (ending ≡ Full n))
+    ⊎ ((n kept wanted : ℕ) × (ending ≡ OtherSettings n kept wanted))
+
+-- an ending before it was read
+abbrev pub IsUnreadEnding : Ending → Type 0
+IsUnreadEnding ending = (ending ≡ InputFault) ⊎ ((n : ℕ) × (ending ≡ LineRefused n))
+
 -- an ending of a run over an open store
 abbrev pub IsOpenEnding : Ending → Type 0
 IsOpenEnding Done = ⊤
@@ -251,31 +306,40 @@ PrintsReport ending y text = (whole : List ℕ) × IsReportOf y whole × IsPrefi
 pub record PrintsCrawl (task : CrawlTask) (settings : Settings) (input : Taped) (ending : Ending) (text : List ℕ)
     (x y : State) : Type 0 where
   pub crawls : CrawlsInput task settings input x y
-  pub done : ending ≡ Done → IsCrawled task settings input x y
+  pub fits : (y ≡ x) ⊎ Fits x input.suffixes
+  pub done : IsCrawledEnding ending → IsCrawled task settings input x y
   pub full : (n : ℕ) → ending ≡ Full n → IsFullBy task settings input x y n
   pub whole : (f at : ℕ) → ending ≡ Damaged f at → ⊥
   pub other : (n kept wanted : ℕ) → ending ≡ OtherSettings n kept wanted
       → (n ≡ 12) × HasOtherSuffixes x input.suffixes kept wanted
   pub prints : PrintsReport ending y text
 
+-- where the store failed, it was crawled so far, unless the suffixes don't fit
+abbrev pub MayCrawlInput : CrawlTask → Settings → Taped → State → State → Type 0
+MayCrawlInput task settings input x y = CrawlsInput task settings input x y × ((y ≡ x) ⊎ Fits x input.suffixes)
+
 -- The same between what is told before and after it.
 pub record CrawlsTape (task : CrawlTask) (input : Taped) (was now : Parts) (before after : Told) (old new : Stream)
     (ending : Ending) : Type 0 where
   pub text : List ℕ
   pub written : Appends old.bytes new.bytes text
-  pub leads : Leads (ending ≡ DiskFault) (CrawlsInput task was.urls.settings input)
+  pub leads : Leads (ending ≡ DiskFault) (MayCrawlInput task was.urls.settings input)
       (PrintsCrawl task was.urls.settings input ending text)
       was now before after
   -- where the store failed nothing is written
   pub silent : ending ≡ DiskFault → text ≡ []
   pub kinds : IsPlayEnding ending
+  -- of what the store was made with, only the suffixes may differ
+  pub suffixes : (n kept wanted : ℕ) → ending ≡ OtherSettings n kept wanted
+      → (n ≡ 12) × (wanted ≡ key_of input.suffixes) × (input.suffixes ≢ [])
   pub output : HasCause (ending ≡ OutputFault) old.faults new.faults
 
 -- What a run over an open store makes of its state, where the store didn't fail and this is written.
 pub record GoesTo (task : CrawlTask) (settings : Settings) (bytes : Option (List ℕ)) (ending : Ending) (text : List ℕ)
     (x y : State) : Type 0 where
   pub may : MayCrawl task settings bytes x y
-  pub done : ending ≡ Done → (input : Taped) × IsInput task bytes input × IsCrawled task settings input x y
+  pub unread : IsUnreadEnding ending → y ≡ x
+  pub done : IsCrawledEnding ending → (input : Taped) × IsInput task bytes input × IsCrawled task settings input x y
   pub full : (n : ℕ) → ending ≡ Full n → (input : Taped) × IsInput task bytes input × IsFullBy task settings input x y n
   pub whole : (f at : ℕ) → ending ≡ Damaged f at → ⊥
   pub other : (n kept wanted : ℕ) → ending ≡ OtherSettings n kept wanted
@@ -291,31 +355,42 @@ pub record GoesOver (task : CrawlTask) (was now : Parts) (before after : Lent) (
   -- where the store failed nothing is written
   pub silent : ending ≡ DiskFault → text ≡ []
   pub read : ending ≡ Done → task.ends before.input after.input
+  pub accepted : IsReadEnding ending → (input : Taped) × IsInput task before.input.bytes input
   pub line : (n : ℕ) → ending ≡ LineRefused n → task.reads before.input.bytes (Err n)
   pub kinds : IsOpenEnding ending
+  pub suffixes : (n kept wanted : ℕ) → ending ≡ OtherSettings n kept wanted
+      → (n ≡ 12) × NamesSuffixes task before.input.bytes wanted
   pub input : HasCause (ending ≡ InputFault) before.input.faults after.input.faults
   pub output : HasCause (ending ≡ OutputFault) before.output.faults after.output.faults
+
+-- the state that files stood for, or what a run may leave of it once it is opened
+abbrev pub MayLeave : CrawlTask → Asked → Option (List ℕ) → State → State → Type 0
+MayLeave task asked bytes x y = (y ≡ x)
+    ⊎ MayCrawl task (settings_for asked (entered_state asked x)) bytes (entered_state asked x) y
 
 -- What a run leaves of a store whose files stood for a state, whatever ends it.
 pub record CrawlsStore (task : CrawlTask) (asked : Asked) (before after : Lent) (ending : Ending) (x : State) : Type 0
   where
-    -- The state that was acknowledged last, the one that the files stand for, and the greatest that a stop left. The
-    -- first and the last are the state itself, or what a run may leave of it once it is opened.
+    -- The state that was acknowledged last, the one that the files stand for, and the greatest that a stop left. Each
+    -- is the state itself, or what a run may leave of it once it is opened.
     pub kept : State
     pub state : State
     pub most : State
     pub told : ForSome after.store.files (HasState state)
-    pub may_kept : (kept ≡ x)
-        ⊎ MayCrawl task (settings_for asked (entered_state asked x)) before.input.bytes (entered_state asked x) kept
-    pub may_most : (most ≡ x)
-        ⊎ MayCrawl task (settings_for asked (entered_state asked x)) before.input.bytes (entered_state asked x) most
+    pub may_kept : MayLeave task asked before.input.bytes x kept
+    pub may_state : MayLeave task asked before.input.bytes x state
+    pub may_most : MayLeave task asked before.input.bytes x most
+    -- the first and the last of them keep the laws of a state
+    pub legal : IsLegal kept × IsLegal most
+    -- before the input is read none of them is more than what entering leaves
+    pub unread : IsUnreadEnding ending → kept ≡ entered_state asked x
     pub first : IsFrontState x kept
     pub fronts : IsFrontState kept state × IsFrontState state most
     -- a store that was made otherwise than is asked stays as it is
     pub agrees : (most ≡ x) ⊎ Agrees asked (settings_for asked (entered_state asked x))
     -- they differ only where the store failed
     pub settled : ending ≢ DiskFault → (state ≡ kept) × (most ≡ kept)
-    pub done : ending ≡ Done → (input : Taped) × IsInput task before.input.bytes input
+    pub done : IsCrawledEnding ending → (input : Taped) × IsInput task before.input.bytes input
         × IsCrawled task (settings_for asked (entered_state asked x)) input (entered_state asked x) kept
     pub full : (n : ℕ) → ending ≡ Full n → (input : Taped) × IsInput task before.input.bytes input
         × IsFullBy task (settings_for asked (entered_state asked x)) input (entered_state asked x) kept n
@@ -334,11 +409,17 @@ pub record CrawlsStore (task : CrawlTask) (asked : Asked) (before after : Lent) 
 pub record CrawlRun (task : CrawlTask) (asked : Asked) (before after : Lent) (ending : Ending) : Type 0 where
   pub crawls : ForSome before.store.files (λ files. (x : State) → HasState x files
       → CrawlsStore task asked before after ending x)
+  -- a store that tells goes on telling
+  pub tells : (files : Files) → before.store.files ≡ Some files → (later : Files) × (after.store.files ≡ Some later)
   -- over any it is opened, or it stays closed
   pub opened : ForSome before.store.files (IsOpenable asked) ⊎ StaysClosed asked before after ending
   -- a store that is refused as it is keeps its files, and nothing is read or written
   pub unopened : ((n : ℕ) × (ending ≡ BadSettings n)) ⊎ ((at : ℕ) × (ending ≡ NotOurs at))
+      ⊎ ((n kept wanted : ℕ) × (ending ≡ OtherSettings n kept wanted) × (n ≢ 12))
       → (after.store.files ≡ before.store.files) × (after.input ≡ before.input) × (after.output ≡ before.output)
+  -- 0, 6 and 8 come only behind an input that isn't refused
+  pub accepted : IsCrawledEnding ending ⊎ ((n : ℕ) × (ending ≡ Full n)) → (input : Taped)
+      × IsInput task before.input.bytes input
   -- at Done the input was read to its end
   pub read : ending ≡ Done → task.ends before.input after.input
   -- the cause of each other ending; want of memory alone has none
@@ -352,8 +433,9 @@ pub record CrawlRun (task : CrawlTask) (asked : Asked) (before after : Lent) (en
   -- settings that differ, or of a crawl that has begun the text of its suffixes
   pub other : (n kept wanted : ℕ) → ending ≡ OtherSettings n kept wanted
       → ForSome before.store.files (λ files. IsKeptOtherwise asked files n kept wanted)
-      ⊎ ForSome before.store.files (λ files. (x : State) → HasState x files → (n ≡ 12)
-      × ((input : Taped) × IsInput task before.input.bytes input × HasOtherSuffixes x input.suffixes kept wanted))
+      ⊎ ((n ≡ 12) × NamesSuffixes task before.input.bytes wanted
+      × ForSome before.store.files (λ files. (x : State) → HasState x files → (input : Taped)
+      × IsInput task before.input.bytes input × HasOtherSuffixes x input.suffixes kept wanted))
   -- over files that stand for a state no damage is named
   pub whole : (f at : ℕ) → ending ≡ Damaged f at
       → ForSome before.store.files (λ files. (x : State) → HasState x files → ⊥)
@@ -369,21 +451,26 @@ abbrev pub HasRoom : Settings → State → List Tuple → Type 0
 HasRoom settings x handed = (b : ℕ) → b < settings.buckets
     → length (list_at x.urls b) + length (part settings.buckets b handed) ≤ settings.cap
 
+-- and each list of pairs with all links that URLs show which weren't sent
+abbrev pub HasRoomForLinks : List ℕ → Settings → State → Book → Type 0
+HasRoomForLinks suffixes settings x urls = (b : ℕ) → b < settings.buckets
+    → length (pairs_for suffixes settings x urls b) ≤ settings.cap
+
 -- Over a store that stands for a state and was made, or can be made, as is asked, by an input that isn't refused and
--- names no other suffixes, where nothing fails, each list of URLs has room for all that a crawl of the input hands in,
--- and no bucket of pairs is full.
-pub record MayComplete (task : CrawlTask) (asked : Asked) (before after : Lent) (ending : Ending) (x : State) : Type 0
+-- names no other suffixes, where nothing fails, and each list has room for all that a crawl of the input hands in and
+-- links.
+pub record MayComplete (task : CrawlTask) (asked : Asked) (before after : Lent) (x : State) : Type 0
   where
     pub read : (n : ℕ) → task.reads before.input.bytes (Err n) → ⊥
     pub agrees : Agrees asked (settings_for asked (entered_state asked x))
     pub valid : AreValid (settings_for asked (entered_state asked x))
-    pub suffixes : (input : Taped) (kept wanted : ℕ) → IsInput task before.input.bytes input
-        → HasOtherSuffixes x input.suffixes kept wanted → ⊥
+    pub suffixes : (input : Taped) → IsInput task before.input.bytes input → Fits x input.suffixes
     pub room : (input : Taped) (y : State) → IsInput task before.input.bytes input
         → (crawls : CrawlsInput task (settings_for asked (entered_state asked x)) input (entered_state asked x) y)
         → HasRoom (settings_for asked (entered_state asked x)) (entered_state asked x)
         (handed_by input (entered_state asked x) y crawls.visits)
-    pub pairs : (b : ℕ) → ending ≡ Full (64 + b) → ⊥
+        × HasRoomForLinks (suffixes_for (entered_state asked x) input) (settings_for asked (entered_state asked x))
+        (entered_state asked x) y.urls
     pub store : Rose before.store.faults after.store.faults → ⊥
     pub input : Rose before.input.faults after.input.faults → ⊥
     pub output : Rose before.output.faults after.output.faults → ⊥
@@ -391,7 +478,7 @@ pub record MayComplete (task : CrawlTask) (asked : Asked) (before after : Lent) 
 -- there a run is done, or memory ran out
 abbrev pub CompletesCrawl : CrawlTask → Asked → Lent → Lent → Ending → Type 0
 CompletesCrawl task asked before after ending = (files : Files) (x : State) → before.store.files ≡ Some files
-    → HasState x files → MayComplete task asked before after ending x → (ending ≡ NoMemory) ⊎ (ending ≡ Done)
+    → HasState x files → MayComplete task asked before after x → (ending ≡ NoMemory) ⊎ (ending ≡ Done)
 
 -- ---- along a tape
 -- each unique URL of a state is done

@@ -19,9 +19,9 @@ port_of connections faults fetcher =
 abbrev pub ports_of : {P : Type 0} → (P → Option (List Connection)) → (P → ℕ) → List (Wired P) → List Port
 ports_of connections faults fetchers = map (port_of connections faults) fetchers
 
--- An answer that one of them gave between two moments, where they are aimed at this number of a port, by this agent: the
--- answer of all that a connection gives, which was made since, to that number, and on which the request for the URL and
--- nothing else was written; or none, where it failed. A port that tells no connections may give any.
+-- An answer that one of them gave between two moments, where they are aimed at this number of a port, by this agent:
+-- the answer of all that a connection gives, which was made since, to that number, and on which the request for the URL
+-- and nothing else was written; or none, where it failed. A port that tells no connections may give any.
 pub record IsGivenOn (number : ℕ) (agent : List ℕ) (before after : List Port) (url : List ℕ) (want : Want)
     (answer : Answer) : Type 0 where
   pub at : ℕ

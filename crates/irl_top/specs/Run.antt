@@ -9,7 +9,7 @@ use Rattle.irl_offer.specs.Tuple.{Tuple}
 use Rattle.irl_offer.specs.declared.settings.Asked.{Asked}
 use Rattle.irl_offer.specs.declared.settings.Settings.{Settings}
 use Rattle.irl_model.specs.Book.{Book, judged_cut, lengths_of, part, IsPrefixOf}
-use Rattle.irl_events.specs.State.{State, IsFrontState, blank_state}
+use Rattle.irl_events.specs.State.{State, IsFrontState}
 use Rattle.irl_disk.specs.Disk.{Files, ChangesFile, TellsOnly, TellsBy, ChangesOnly}
 use Rattle.irl_disk.specs.Images.{Follows, Leaves, LeavesBy}
 use Rattle.irl_journal.specs.Visiting.{IsOpened}
@@ -19,7 +19,7 @@ use Rattle.irl_bay.specs.Holding.{IsLong}
 use Rattle.irl_bay.specs.Spoilt.{IsSpoiltAt}
 use Rattle.irl_bay.specs.JudgedSpoilt.{IsJudgedSpoiltAt}
 use Rattle.irl_head.specs.StoreFiles.{head_file, urls_base}
-use Rattle.irl_yard.specs.Standing.{HasState, IsStateOf, with_urls}
+use Rattle.irl_yard.specs.Standing.{HasState, IsLegal, with_urls}
 use Rattle.irl_yard.specs.Entering.{Enters}
 use Rattle.irl_head.specs.Asking.{Agrees, IsBadAsked}
 use Rattle.irl_head.specs.Opening.{HasSettings, IsNotOursAt, IsKeptOtherwise, IsBadStore}
@@ -72,10 +72,6 @@ Reaches asked x y = (y ≡ x) ⊎ ((y ≡ with_urls y.urls (entered_state asked 
 abbrev pub AddsSome : Asked → State → State → List Tuple → Type 0
 AddsSome asked x y offers = (b : ℕ) → b < (settings_in asked x).buckets → (news : List Tuple)
     × (list_at y.urls b ≡ list_at x.urls b ++ news) × IsPrefixOf news (part (settings_in asked x).buckets b offers)
-
--- a state is that of a store that wasn't made yet, or keeps what one does that files stand for
-abbrev pub IsLegal : State → Type 0
-IsLegal state = (state ≡ blank_state) ⊎ ((settings : Settings) × IsStateOf settings state)
 
 -- a joint image stands for a state that a run over the first may leave, at or below the last
 abbrev pub HasReached : Asked → State → State → Files → Type 0

@@ -17,10 +17,11 @@ use Rattle.irl_disk.specs.Images.{Leaves, LeavesBy}
 use Rattle.irl_bay.specs.Drum.{Drum, IsDrum}
 use Rattle.irl_bay.specs.Holding.{IsLong}
 use Rattle.irl_bay.specs.JudgedSpoilt.{IsJudgedSpoiltAt}
-use Rattle.irl_head.specs.Opening.{HasHead, IsNotOursAt}
+use Rattle.irl_head.specs.Opening.{HasHead, IsBlank, IsNotOursAt}
 use Rattle.irl_head.specs.StoreFiles.{urls_base}
 use Rattle.irl_yard.specs.Looking.{IsAskedAsKept, OpensAsKept}
-use Rattle.irl_yard.specs.Opening.{IsDamageAt}
+use Rattle.irl_head.specs.Asking.{Agrees}
+use Rattle.irl_yard.specs.Opening.{IsDamageAt, IsStoreDamagedAt}
 use Rattle.irl_yard.specs.Passing.{AreCounts, come}
 use Rattle.irl_yard.specs.Standing.{HasState}
 use Rattle.irl_report.specs.Report.{report_of, list_line_of}
@@ -99,6 +100,16 @@ IsShowEnding OutputFault = ⊤
 IsShowEnding NoMemory = ⊤
 IsShowEnding (Full b) = ⊥
 
+-- an ending that comes only once the store was looked at whole
+abbrev pub IsPrinted : Ending → Type 0
+IsPrinted ending = (ending ≡ Done) ⊎ (ending ≡ OutputFault)
+
+-- no store was made, or one is ours and shows no damage, for whoever asks for what it keeps
+abbrev pub IsSeen : Files → Type 0
+IsSeen files = IsBlank files ⊎ ((settings : Settings) × HasHead settings files × ((asked : Asked)
+    → Agrees asked settings → ((at : ℕ) → IsNotOursAt files at → ⊥)
+    × ((f at : ℕ) → IsStoreDamagedAt asked files f at → ⊥)))
+
 -- One run of a command that prints the text of a store's state, between what is told before it and after it: `has` says
 -- which text is a state's.
 pub record Shown (has : State → List ℕ → Type 0) (before after : Lent) (ending : Ending) : Type 0 where
@@ -119,6 +130,11 @@ pub record Shown (has : State → List ℕ → Type 0) (before after : Lent) (en
   pub files : TellsBy (OpensAsKept before.store.files) before.store.files after.store.files
   pub steps : LeavesBy (OpensAsKept before.store.files) before.store after.store
   pub input : after.input ≡ before.input
+  -- it is done only over a store that wasn't made yet, or one of our make that shows no damage where it is opened
+  pub opened : IsPrinted ending → ForSome before.store.files IsSeen
+  -- and a store of another make keeps its files, and nothing is written
+  pub unopened : (at : ℕ) → ending ≡ NotOurs at → (after.store.files ≡ before.store.files)
+      × (after.output ≡ before.output)
   -- there is nothing to ask and nothing to refuse of an input
   pub kinds : IsShowEnding ending
   -- The cause of each other ending; want of memory alone has none. A store of another make, and one that is damaged

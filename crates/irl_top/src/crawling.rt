@@ -1,14 +1,15 @@
 //! The commands that crawl: they lead a store on by what answers their fetches, and print its report.
 
-ghost use Rattle.std.specs.Prelude.{◌≡◌, ◌≢◌, ◌≤◌, [], false, None, length, IfErr, IfOk, IsErrOf, OnOk};
+ghost use Rattle.std.specs.Prelude.{◌≡◌, ◌≢◌, ◌≤◌, ◌⊎◌, [], false, true, None, length, IfErr, IfOk, IsErrOf, OnOk};
 ghost use Rattle.irl_log.specs.Form.{max_suffixes};
 ghost use Rattle.irl_pld.specs.Names.{bad_line};
 ghost use Rattle.irl_offer.specs.declared.settings.Kind.TheVariants.{Crawl as CrawlKind};
 ghost use Rattle.irl_words.specs.Words.{AreRunOptions};
 ghost use Rattle.irl_yard.specs.Holding.{IsSound};
 ghost use Rattle.irl_crawl.specs.Leading.{IsOpen, Leads};
-ghost use Rattle.irl_crawl.specs.Workers.{AllGoOn, IsGivenBy};
-ghost use Rattle.irl_top.specs.Crawled.{crawl_task, part_task, replay_task, site_task, Begins, BeginsAt, Crawled, CrawlsInput, CrawlsTape, CrawlRun, GoesOver, IsCrawlEnding, IsPlanOf};
+ghost use Rattle.irl_crawl.specs.Workers.{AllGoOn, given_by};
+ghost use Rattle.irl_top.specs.Crawled.{crawl_task, part_task, replay_task, site_task, Begins, BeginsAt, Crawled, CrawlsTape, CrawlRun, GoesOver};
+ghost use Rattle.irl_top.specs.Crawled.{IsCrawlEnding, IsPlanOf, KeepsSuffixes, MayCrawlInput, RefusesSuffixes};
 ghost use Rattle.irl_top.specs.Crawled.{ending_of_crawl, ending_of_tape};
 ghost use Rattle.irl_top.specs.Outside.{lent, lent_beside, stream};
 ghost use Rattle.irl_top.specs.Ports.{ports_of};
@@ -242,7 +243,8 @@ where
     requires kind { yard.parts.urls.settings.kind ≡ CrawlKind }
     requires options { AreRunOptions options.now }
     requires one { length fetchers.old ≡ 1 }
-    ensures tape { CrawlsTape (part_task options.now (IsGivenBy F.asked F.gives fetchers.old fetchers.new)) tape.now
+    ensures tape { CrawlsTape (part_task options.now (given_by F.asked F.gives F.faults fetchers.old fetchers.new))
+        tape.now
         yard.parts result.1.parts (S.told yard.store) (S.told result.1.store)
         (stream O.written O.faults output.old) (stream O.written O.faults output.new) result.0 }
     ensures fetchers { AllGoOn F.asked F.gives F.faults F.last F.aim fetchers.old fetchers.new }
@@ -275,11 +277,12 @@ where
     requires kind { yard.parts.urls.settings.kind ≡ CrawlKind }
     requires options { AreRunOptions options.now }
     requires one { length fetchers.old ≡ 1 }
-    ensures leads { let task = part_task options.now (IsGivenBy F.asked F.gives fetchers.old fetchers.new) in
-        Leads (IsErrOf result.0 DiskEnding) (CrawlsInput task yard.parts.urls.settings tape.now)
+    ensures leads { let task = part_task options.now (given_by F.asked F.gives F.faults fetchers.old fetchers.new) in
+        Leads (IsErrOf result.0 DiskEnding) (MayCrawlInput task yard.parts.urls.settings tape.now)
         (Crawled result.0 task yard.parts.urls.settings tape.now) yard.parts result.1.parts
         (S.told yard.store) (S.told result.1.store) }
     ensures kinds { IfErr result.0 IsCrawlEnding }
+    ensures suffixes { RefusesSuffixes result.0 tape.now.suffixes }
     ensures fetchers { AllGoOn F.asked F.gives F.faults F.last F.aim fetchers.old fetchers.new }
 {
     let _is_sound = yard.is_sound();
@@ -299,7 +302,8 @@ fn begin<S: Store>(yard: &mut Yard<S>, suffixes: &Text) -> Result<(), Ending>
     ensures leads { Leads (IsErrOf result DiskEnding) (BeginsAt suffixes.now) (Begins result suffixes.now)
         yard.old.parts yard.new.parts (S.told yard.old.store) (S.told yard.new.store) }
     ensures kinds { IfErr result IsCrawlEnding }
-    ensures open { OnOk result (IsOpen yard.new.parts) }
+    ensures suffixes { RefusesSuffixes result suffixes.now }
+    ensures open { OnOk result (IsOpen yard.new.parts × KeepsSuffixes yard.new.parts suffixes.now) }
 {
     let _is_sound = yard.is_sound();
     let Some(kept) = yard.suffixes() else {
@@ -314,6 +318,7 @@ fn begin<S: Store>(yard: &mut Yard<S>, suffixes: &Text) -> Result<(), Ending>
 
 // Whether a crawl that began with a text of suffixes may go on with another: with the same one, or with none.
 fn fits(suffixes: &[u8], kept: &[u8]) -> bool
+    ensures fits { result ≡ true → (suffixes.now ≡ []) ⊎ (kept.now ≡ suffixes.now) }
     ensures named { result ≡ false → suffixes.now ≢ [] }
     ensures other { result ≡ false → kept.now ≢ suffixes.now }
 {
@@ -336,11 +341,13 @@ where
     requires open { IsOpen yard.parts }
     requires options { AreRunOptions options.now }
     requires one { length fetchers.old ≡ 1 }
-    ensures leads { let task = part_task options.now (IsGivenBy F.asked F.gives fetchers.old fetchers.new) in
-        Leads (IsErrOf result.0 DiskEnding) (CrawlsInput task yard.parts.urls.settings tape.now)
+    ensures leads { let task = part_task options.now (given_by F.asked F.gives F.faults fetchers.old fetchers.new) in
+        KeepsSuffixes yard.parts tape.now.suffixes →
+        Leads (IsErrOf result.0 DiskEnding) (MayCrawlInput task yard.parts.urls.settings tape.now)
         (Crawled result.0 task yard.parts.urls.settings tape.now) yard.parts result.1.parts
         (S.told yard.store) (S.told result.1.store) }
     ensures kinds { IfErr result.0 IsCrawlEnding }
+    ensures suffixes { RefusesSuffixes result.0 tape.now.suffixes }
     ensures fetchers { AllGoOn F.asked F.gives F.faults F.last F.aim fetchers.old fetchers.new }
 {
     let _is_sound = yard.is_sound();

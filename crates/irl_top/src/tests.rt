@@ -1,3 +1,4 @@
+mod crawled;
 mod ports;
 mod shown;
 mod sides;
@@ -19,6 +20,10 @@ use std::thread::Threads;
 const SEEN: &[&str] = &["seen"];
 
 const ONE_BUCKET: &[&str] = &["seen", "--buckets", "1"];
+
+const SHOW: &[&str] = &["show"];
+
+const LIST: &[&str] = &["list"];
 
 const ROW: &[u8] = b"http://a.test/\nhttp://b.test/\nhttp://a.test/\n";
 
@@ -47,6 +52,15 @@ struct Case<'a> {
     output: &'a [u8],
     errors: &'a [u8],
 }
+
+// A run on three lines over a new store that has room for two, which wait then.
+const FULL: Case<'static> = Case {
+    words: &["seen", "--buckets", "1", "--array", "1", "--cap", "2"],
+    input: b"a\nb\nc\n",
+    status: 8,
+    output: b"",
+    errors: b"bucket 0 full\n",
+};
 
 // A run on an input that writes this.
 fn writes<'a>(words: &'a [&'a str], input: &'a [u8], output: &'a [u8]) -> Case<'a> {
@@ -104,26 +118,28 @@ fn no_ports(alloc: Global) -> Result<Vec<WireFetch<MemLink>>, AllocError>
 
 // What a run answers and writes, and the store that it leaves.
 #[derive(Drop)]
-struct Left {
+struct Left<S> {
     status: u8,
     output: Vec<u8>,
     errors: Vec<u8>,
-    store: MemStore,
+    store: S,
 }
 
-// Runs the program over a store.
-fn run_over<R: Threads + Wait + Sync + AllocGlobal>(
+// Runs the program over a store and these ports.
+fn run_with<R: Threads + Wait + Sync + AllocGlobal, S: Store + Drop>(
     rt: &R,
     words: &[&str],
     input: &[u8],
     failing: Failing,
-    store: MemStore,
-) -> Result<Left, AllocError> {
+    store: S,
+    ports: &mut [WireFetch<MemLink>],
+) -> Result<Left<S>, AllocError>
+    requires { length ports.old ≡ 64 }
+{
     let alloc = rt.alloc();
     let mut source = MemSource::new(input.to_vec(alloc)?, numbers(alloc, failing.input)?);
     let mut output = MemSink::new(alloc, numbers(alloc, failing.output)?);
     let mut errors = MemSink::new(alloc, Vec::new(alloc));
-    let mut ports = no_ports(alloc)?;
     let (status, store) = run(
         rt,
         alloc,
@@ -132,7 +148,7 @@ fn run_over<R: Threads + Wait + Sync + AllocGlobal>(
         &mut output,
         &mut errors,
         store,
-        &mut ports,
+        ports,
     );
     Ok(Left {
         status,
@@ -140,6 +156,18 @@ fn run_over<R: Threads + Wait + Sync + AllocGlobal>(
         errors: errors.bytes().to_vec(alloc)?,
         store,
     })
+}
+
+// Runs it over a store, and ports without connections.
+fn run_over<R: Threads + Wait + Sync + AllocGlobal, S: Store + Drop>(
+    rt: &R,
+    words: &[&str],
+    input: &[u8],
+    failing: Failing,
+    store: S,
+) -> Result<Left<S>, AllocError> {
+    let mut ports = no_ports(rt.alloc())?;
+    run_with(rt, words, input, failing, store, &mut ports)
 }
 
 // A run over a store, which ends so.
@@ -219,13 +247,7 @@ fn one_bucket_has_all_lines(rt: HostRuntime) -> Result<(), Fail> {
 #[test]
 fn settings_are_kept(rt: HostRuntime) -> Result<(), Fail> {
     let cases = [
-        Case {
-            words: &["seen", "--buckets", "1", "--array", "1", "--cap", "2"],
-            input: b"a\nb\nc\n",
-            status: 8,
-            output: b"",
-            errors: b"bucket 0 full\n",
-        },
+        FULL,
         refusal(
             &["seen", "--buckets", "2"],
             3,
@@ -432,6 +454,13 @@ fn a_line_has_at_most_2048_bytes(rt: HostRuntime) -> Result<(), Fail> {
     Ok(())
 }
 
+// Puts these bytes in place of a file.
+fn put_file(rt: &impl Abort, store: &mut MemStore, file: u16, bytes: &[u8]) {
+    assert!(rt; file < 10_000);
+    assert_eq!(rt; store.cut(file, 0), Ok(()));
+    assert_eq!(rt; store.write(file, 0, bytes), Ok(()));
+}
+
 // A run over a new store or a made one, of which one file was put in place by these bytes.
 fn check_file<R: Threads + Wait + Sync + Abort + AllocGlobal>(
     rt: &R,
@@ -444,9 +473,7 @@ fn check_file<R: Threads + Wait + Sync + Abort + AllocGlobal>(
     if is_made {
         store = check(rt, store, NONE, writes(SEEN, b"", b""))?;
     }
-    assert!(rt; file < 10_000);
-    assert_eq!(rt; store.cut(file, 0), Ok(()));
-    assert_eq!(rt; store.write(file, 0, bytes), Ok(()));
+    put_file(rt, &mut store, file, bytes);
     let case = if errors.is_empty() {
         writes(SEEN, ROW, NEW_OF_ROW)
     } else {

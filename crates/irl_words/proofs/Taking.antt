@@ -184,32 +184,32 @@ replay_in_range asked sized options rows range from is buckets sizes order run =
     }
 
 -- ---- the numbers of crawls
--- a number that is named is in the range of its option
-named_in_range : (option : List ℕ) (most number : ℕ) (rows : List Row) → IfSome (one_of option rows) (IsUnsignedIn 1 most) → number_in option rows ≡ Some number → 1 ≤ most
+-- a number that is named is in the range of the option that a command has for it
+own_in_range : (which name : Name) (option : List ℕ) (most number : ℕ) (rows : List Row) → which ≡ name
+    → (AreInRange (rules_of name) rows → IfSome (one_of option rows) (IsUnsignedIn 1 most)) → AreInRange (rules_of which) rows → number_in option rows ≡ Some number → 1 ≤ most
     → (1 ≤ number) × (number ≤ most)
-named_in_range option most number rows range is some =
-    subst (λ (n : Option ℕ). (1 ≤ unwrap_or n 1) × (unwrap_or n 1 ≤ most)) is (number_in_range option 1 most 1 rows range (omega arith) some)
+own_in_range which name option most number rows same own range is some =
+    subst (λ (n : Option ℕ). (1 ≤ unwrap_or n 1) × (unwrap_or n 1 ≤ most)) is
+    (number_in_range option 1 most 1 rows (own (subst (λ (n : Name). AreInRange (rules_of n) rows) same range)) (omega arith) some)
 
 pub port_in_range : (which : Name) (asked : Asked) (options : RunOptions) (port : ℕ) (rows : List Row) → which ≡ Crawling → AreInRange (rules_of which) rows
     → number_in (codes "port") rows ≡ Some port → IsInRange (Asks.Replay asked options) → IsInRange (Asks.Crawl asked options port)
 port_in_range which asked options port rows name range is crawl =
-    let all = subst (λ (n : Name). AreInRange (rules_of n) rows) name range in
     record {
       kind = crawl.kind;
       rule = crawl.rule;
       valid = crawl.valid;
       run = crawl.run;
-      number = named_in_range (codes "port") 65535 port rows all.1.1.1.1.1.1.1.1.1.1.1.1.1.1.0 is (omega arith);
+      number = own_in_range which Crawling (codes "port") 65535 port rows name (λ all. all.1.1.1.1.1.1.1.1.1.1.1.1.1.1.0) range is (omega arith);
     }
 
 pub pages_in_range : (which : Name) (asked : Asked) (options : RunOptions) (pages : ℕ) (rows : List Row) → which ≡ Gen → AreInRange (rules_of which) rows
     → number_in (codes "size") rows ≡ Some pages → IsInRange (Asks.Replay asked options) → IsInRange (Asks.Gen asked options pages)
 pages_in_range which asked options pages rows name range is crawl =
-    let all = subst (λ (n : Name). AreInRange (rules_of n) rows) name range in
     record {
       kind = crawl.kind;
       rule = crawl.rule;
       valid = crawl.valid;
       run = crawl.run;
-      number = named_in_range (codes "size") 100000 pages rows all.1.1.1.1.1.1.1.1.1.1.1.1.1.1.0 is (omega arith);
+      number = own_in_range which Gen (codes "size") 100000 pages rows name (λ all. all.1.1.1.1.1.1.1.1.1.1.1.1.1.1.0) range is (omega arith);
     }

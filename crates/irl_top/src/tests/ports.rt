@@ -1,7 +1,5 @@
-use super::{NONE, new_ports, new_store};
-use crate::run;
+use super::{NONE, new_ports, new_store, run_with};
 use irl_http::MemLink;
-use irl_io::{MemSink, MemSource};
 use irl_offer::Text;
 use std::alloc::{AllocError, Global};
 use std::process::Abort;
@@ -45,25 +43,13 @@ fn check_crawl<R: Threads + Wait + Sync + Abort + AllocGlobal>(
 ) -> Result<(), AllocError> {
     let alloc = rt.alloc();
     let store = new_store(alloc, NONE)?;
-    let mut source = MemSource::new(TAPE.to_vec(alloc)?, Vec::new(alloc));
-    let mut output = MemSink::new(alloc, Vec::new(alloc));
-    let mut errors = MemSink::new(alloc, Vec::new(alloc));
     let mut ports = new_ports(alloc, link_of(alloc, gives)?)?;
     let words = ["crawl", "--port", "1", "--delay", "0"];
-    let (status, _) = run(
-        rt,
-        alloc,
-        &words,
-        &mut source,
-        &mut output,
-        &mut errors,
-        store,
-        &mut ports,
-    );
+    let left = run_with(rt, &words, TAPE, NONE, store, &mut ports)?;
     let report = report_of(alloc, outcome)?;
-    assert_eq!(rt; output.bytes(), report.as_slice(), "{}", outcome);
-    assert_eq!(rt; errors.bytes(), b"".as_slice(), "{}", outcome);
-    assert_eq!(rt; status, 0, "{}", outcome);
+    assert_eq!(rt; left.output.as_slice(), report.as_slice(), "{}", outcome);
+    assert_eq!(rt; left.errors.as_slice(), b"".as_slice(), "{}", outcome);
+    assert_eq!(rt; left.status, 0, "{}", outcome);
     let port = ports[0].port();
     for (i, request) in written.iter().enumerate() {
         assert_eq!(rt; port.written(i as u64), Some(*request), "{}", outcome);

@@ -1,8 +1,8 @@
 //! What a store has, as `show` and `list` print it.
 
 use super::{
-    Case, Failing, Left, NEW_OF_ROW, NONE, ONE_BUCKET, ROW, check, check_runs, new_store, refusal,
-    run_over, writes,
+    Case, FULL, Failing, LIST, Left, NEW_OF_ROW, NONE, ONE_BUCKET, ROW, SHOW, check, check_runs,
+    new_store, refusal, run_over, writes,
 };
 use irl_disk::{MemStore, Store};
 use itoa::Buffer;
@@ -11,10 +11,6 @@ use std::process::Abort;
 use std::sync::Wait;
 use std::test::Fail;
 use std::thread::Threads;
-
-const SHOW: &[&str] = &["show"];
-
-const LIST: &[&str] = &["list"];
 
 // The reports of no store; of the row that was given twice; and of one of which two offers wait to be judged.
 const NOTHING: &[u8] =
@@ -53,17 +49,7 @@ fn a_store_of_lines_is_shown(rt: HostRuntime) -> Result<(), Fail> {
 // Offers that are not judged are counted, and not listed.
 #[test]
 fn what_waits_is_not_listed(rt: HostRuntime) -> Result<(), Fail> {
-    let cases = [
-        Case {
-            words: &["seen", "--buckets", "1", "--array", "1", "--cap", "2"],
-            input: b"a\nb\nc\n",
-            status: 8,
-            output: b"",
-            errors: b"bucket 0 full\n",
-        },
-        writes(SHOW, b"", TWO_WAIT),
-        writes(LIST, b"", b""),
-    ];
+    let cases = [FULL, writes(SHOW, b"", TWO_WAIT), writes(LIST, b"", b"")];
     check_runs(&rt, &cases)?;
     Ok(())
 }

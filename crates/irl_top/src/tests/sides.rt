@@ -3,11 +3,10 @@ ghost use Rattle.irl_disk.specs.Memory.{counts_of, fault_count, told_by};
 ghost use Rattle.irl_disk.specs.MemoryLaws.{consistent};
 
 use super::{
-    Case, NEW_OF_ROW, NONE, ONE_BUCKET, ROW, SEEN, check, new_store, no_ports, refusal, writes,
+    Case, NEW_OF_ROW, NONE, ONE_BUCKET, ROW, SEEN, check, new_store, put_file, refusal, run_over,
+    writes,
 };
-use crate::run;
 use irl_disk::{Failed, MemStore, Store};
-use irl_io::{MemSink, MemSource};
 use std::alloc::AllocError;
 use std::process::Abort;
 use std::sync::Wait;
@@ -55,9 +54,7 @@ fn check_changed<R: Threads + Wait + Sync + Abort + AllocGlobal>(
     case: Case<'_>,
 ) -> Result<(), AllocError> {
     let mut store = judged_row(rt, words)?;
-    assert!(rt; file < 10_000);
-    assert_eq!(rt; store.cut(file, 0), Ok(()));
-    assert_eq!(rt; store.write(file, 0, bytes), Ok(()));
+    put_file(rt, &mut store, file, bytes);
     let _ = check(rt, store, NONE, case)?;
     Ok(())
 }
@@ -136,22 +133,9 @@ fn seen_in_blocks<R: Threads + Wait + Sync + AllocGlobal>(
     store: Counting,
     input: &[u8],
 ) -> Result<(u8, Counting), AllocError> {
-    let alloc = rt.alloc();
-    let mut source = MemSource::new(input.to_vec(alloc)?, Vec::new(alloc));
-    let mut output = MemSink::new(alloc, Vec::new(alloc));
-    let mut errors = MemSink::new(alloc, Vec::new(alloc));
     let words = ["seen", "--buckets", "4", "--block", "2"];
-    let mut ports = no_ports(alloc)?;
-    Ok(run(
-        rt,
-        alloc,
-        &words,
-        &mut source,
-        &mut output,
-        &mut errors,
-        store,
-        &mut ports,
-    ))
+    let left = run_over(rt, &words, input, NONE, store)?;
+    Ok((left.status, left.store))
 }
 
 // Opening reads no key. The last run's merge reads the five of the live side once, for all buckets, and nothing else

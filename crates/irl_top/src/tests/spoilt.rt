@@ -2,10 +2,8 @@ ghost use Rattle.std.specs.Prelude.{◌≡◌, ◌+◌, ◌^◌, ◌<◌, length
 ghost use Rattle.std.proofs.Common.{rules};
 ghost use Rattle.irl_disk.specs.Images.{silent};
 
-use super::{NONE, new_store, no_ports};
-use crate::run;
+use super::{NONE, new_store, run_over};
 use irl_disk::{Failed, MemStore, Store};
-use irl_io::{MemSink, MemSource};
 use std::alloc::AllocError;
 use std::process::Abort;
 use std::sync::Wait;
@@ -94,31 +92,29 @@ fn check_spoilt<R: Threads + Wait + Sync + Abort + AllocGlobal>(
     rt: &R,
     case: Spoilt<'_>,
 ) -> Result<(), AllocError> {
-    let alloc = rt.alloc();
     let store = Spoiling {
-        store: new_store(alloc, NONE)?,
+        store: new_store(rt.alloc(), NONE)?,
         faults: 0,
         file: case.file,
         place: case.place,
     };
-    let mut source = MemSource::new(b"a\nb\nc\nd\n".to_vec(alloc)?, Vec::new(alloc));
-    let mut output = MemSink::new(alloc, Vec::new(alloc));
-    let mut errors = MemSink::new(alloc, Vec::new(alloc));
     let words = ["seen", "--buckets=1", "--array=1", "--trigger=1"];
-    let mut ports = no_ports(alloc)?;
-    let (status, _) = run(
-        rt,
-        alloc,
-        &words,
-        &mut source,
-        &mut output,
-        &mut errors,
-        store,
-        &mut ports,
+    let left = run_over(rt, &words, b"a\nb\nc\nd\n", NONE, store)?;
+    assert_eq!(rt;
+        left.output.as_slice(),
+        case.output,
+        "{} {}",
+        case.file,
+        case.place
     );
-    assert_eq!(rt; output.bytes(), case.output, "{} {}", case.file, case.place);
-    assert_eq!(rt; errors.bytes(), case.errors, "{} {}", case.file, case.place);
-    assert_eq!(rt; status, if case.errors.is_empty() { 0 } else { 3 });
+    assert_eq!(rt;
+        left.errors.as_slice(),
+        case.errors,
+        "{} {}",
+        case.file,
+        case.place
+    );
+    assert_eq!(rt; left.status, if case.errors.is_empty() { 0 } else { 3 });
     Ok(())
 }
 

@@ -1,11 +1,12 @@
 use Rattle.std.proofs.Common.{◌≡◌, List, ℕ, Ok, Err, Result, subst}
 use Rattle.std.specs.Prelude.{IsErrOf}
 use Rattle.irl_crawl.specs.Leading.{Leads}
-use Rattle.irl_crawl.specs.Workers.{IsGivenBy}
-use Rattle.irl_top.specs.Crawled.{part_task, Begins, BeginsAt}
+use Rattle.irl_crawl.specs.Workers.{given_by}
+use Rattle.irl_top.specs.Crawled.{part_task, Begins, BeginsAt, KeepsSuffixes, RefusesSuffixes}
 use Rattle.irl_top.specs.declared.ending.Ending.{Ending}
 use Rattle.irl_top.specs.declared.ending.Ending.TheVariants.{DiskFault}
 use Rattle.irl_top.proofs.CrawlParts.{leads_behind, leads_unbegun}
+use Rattle.irl_top.proofs.Giving.{none_rose}
 use Rattle.irl_top.proofs.crawling.begin_and_play.Goals as goal
 
 pub returns-in-Ok-clause-leads : goal.returns-in-Ok-clause-leads
@@ -14,10 +15,12 @@ returns-in-Ok-clause-leads g c =
     let was = c.args.yard in
     let mid = c.begin.new.yard in
     let now = c.play.result.1 in
-    let first = subst (λ (t : List ℕ). Leads (IsErrOf {T = Unit {0}} {E = Ending} (Ok tt) DiskFault) (BeginsAt t) (Begins (Ok tt) t) was.parts mid.parts (tells was.store) (tells mid.store)) c.suffixes.ensures.value
-    c.in-Ok.ensures.leads in
-    leads_behind (part_task c.args.options.now (IsGivenBy g.F.Fetch.asked g.F.Fetch.gives c.args.fetchers.now c.play.new.fetchers)) c.args.tape.now c.play.result.0 was.parts mid.parts now.parts (tells was.store) (tells mid.store) (tells now.store) c.is_sound-is_sound.ensures.drum
-    c.in-Ok.ensures.leads.goes_on.drum c.requires.kind first c.play.ensures.leads
+    let first = subst (λ (t : List ℕ). Leads (IsErrOf {T = Unit {0}} {E = Ending} (Ok tt) DiskFault) (BeginsAt t) (Begins (Ok tt) t) was.parts mid.parts (tells was.store) (tells mid.store))
+    c.suffixes.ensures.value c.in-Ok.ensures.leads in
+    let keeps = subst (λ (t : List ℕ). KeepsSuffixes mid.parts t) c.suffixes.ensures.value c.in-Ok.ensures.open.1 in
+    let task = part_task c.args.options.now (given_by g.F.Fetch.asked g.F.Fetch.gives g.F.Fetch.faults c.args.fetchers.now c.play.new.fetchers) in
+    leads_behind task c.args.tape.now c.play.result.0 was.parts mid.parts now.parts (tells was.store) (tells mid.store) (tells now.store) c.is_sound-is_sound.ensures.drum
+    c.in-Ok.ensures.leads.goes_on.drum c.requires.kind first (c.play.ensures.leads keeps)
 
 pub returns-in-Err-clause-leads : goal.returns-in-Err-clause-leads
 returns-in-Err-clause-leads g c =
@@ -25,7 +28,11 @@ returns-in-Err-clause-leads g c =
     let was = c.args.yard in
     let now = c.begin.new.yard in
     let ending = c.in-Err.ending in
-    let first = subst (λ (t : List ℕ). Leads (IsErrOf {T = Unit {0}} {E = Ending} (Err ending) DiskFault) (BeginsAt t) (Begins (Err ending) t) was.parts now.parts (tells was.store) (tells now.store)) c.suffixes.ensures.value
-    c.in-Err.ensures.leads in
-    leads_unbegun (part_task c.args.options.now (IsGivenBy g.F.Fetch.asked g.F.Fetch.gives c.args.fetchers.now c.args.fetchers.now)) c.args.tape.now ending was.parts now.parts (tells was.store) (tells now.store) c.is_sound-is_sound.ensures.drum c.requires.kind
-    c.in-Err.ensures.leads.goes_on.drum first
+    let first = subst (λ (t : List ℕ). Leads (IsErrOf {T = Unit {0}} {E = Ending} (Err ending) DiskFault) (BeginsAt t) (Begins (Err ending) t) was.parts now.parts (tells was.store) (tells now.store))
+    c.suffixes.ensures.value c.in-Err.ensures.leads in
+    let task = part_task c.args.options.now (given_by g.F.Fetch.asked g.F.Fetch.gives g.F.Fetch.faults c.args.fetchers.now c.args.fetchers.now) in
+    leads_unbegun task c.args.tape.now ending was.parts now.parts (tells was.store) (tells now.store) c.is_sound-is_sound.ensures.drum c.requires.kind
+    c.in-Err.ensures.leads.goes_on.drum (none_rose g.F.Fetch.faults c.args.fetchers.now) first
+
+pub returns-in-Err-clause-suffixes : goal.returns-in-Err-clause-suffixes
+returns-in-Err-clause-suffixes g c = subst (λ (t : List ℕ). RefusesSuffixes (Err c.in-Err.ending) t) c.suffixes.ensures.value c.in-Err.ensures.suffixes

@@ -2,7 +2,6 @@ use Rattle.std.proofs.Common.{rules, refl, sym, subst}
 use Rattle.irl_top.specs.Crawled.{crawl_task, CrawlRun}
 use Rattle.irl_top.specs.Outside.{Lent, lent}
 use Rattle.irl_top.specs.Ports.{ports_of}
-use Rattle.irl_top.proofs.CrawlParts.{told_on}
 use Rattle.irl_top.proofs.CrawlRuns.{kind_agrees, run_opened, run_refused}
 use Rattle.irl_top.proofs.crawling.crawl_ports.Given.{Over}
 use Rattle.irl_top.proofs.crawling.crawl_ports.Goals as goal
@@ -33,8 +32,7 @@ returns g c =
     let mid = told g yard.store c.args.input.now c.args.output.now in
     let after = told g later.store c.crawl_ports_over-ending.new.input c.crawl_ports_over-ending.new.output in
     let law = g.met.S.Store.is_consistent later.store in
-    let entered = c.in-Ok.ensures.entered in
     let task = crawl_task c.args.options.now c.args.number (ports c.args.ports.now) (ports c.crawl_ports_over-ending.new.ports) in
     subst (λ (s : g.row.S.Denot). CrawlRun task c.args.asked.now before (told g s c.crawl_ports_over-ending.new.input c.crawl_ports_over-ending.new.output) ending) (sym c.into_store.ensures)
-    (run_opened task c.args.asked.now before mid after yard.parts later.parts ending law c.in-Ok.ensures.opened.drum c.in-Ok.ensures.opened entered
-    (λ files is. told_on _ before.store.files mid.store.files files entered.files is) refl refl c.crawl_ports_over-ending.ensures)
+    (run_opened task c.args.asked.now before mid after yard.parts later.parts ending law c.in-Ok.ensures.opened.drum c.in-Ok.ensures.opened c.in-Ok.ensures.entered refl
+    refl c.crawl_ports_over-ending.ensures)

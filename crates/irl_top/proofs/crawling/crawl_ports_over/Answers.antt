@@ -7,7 +7,7 @@ use Rattle.irl_top.specs.Outside.{stream}
 use Rattle.irl_top.specs.Ports.{ports_of}
 use Rattle.irl_top.specs.Stream.{Stream}
 use Rattle.irl_top.proofs.CrawlInputs.{goes_crawled, goes_nowhere, goes_unread}
-use Rattle.irl_top.proofs.Giving.{given_by_first}
+use Rattle.irl_top.proofs.Giving.{more_by_first}
 use Rattle.irl_top.proofs.crawling.crawl_ports_over.Goals as goal
 
 pub returns-in-Err : goal.returns-in-Err
@@ -46,7 +46,7 @@ returns g c =
     let new : Stream = record { bytes = g.I.Source.left c.read.new.source; faults = g.I.Source.faults c.read.new.source } in
     let sink = stream g.O.Sink.written g.O.Sink.faults in
     let aimed = c.aim.ensures ∙ ap (λ (a : List ℕ). record (get_or c.args.ports.now 0 c.index-ports-0.result) { number = c.args.number; agent = a }) c.in-Ok-copy.ensures in
-    let wider = given_by_first g.P.Link.connections g.P.Link.faults c.args.number c.args.options.now.agent c.args.ports.now c.index-ports-0.result c.aim.new.self c.crawl_tape.new.fetchers
+    let wider = more_by_first g.P.Link.connections g.P.Link.faults c.args.number c.args.options.now.agent c.args.ports.now c.index-ports-0.result c.aim.new.self c.crawl_tape.new.fetchers
     c.requires.some aimed c.crawl_tape.ensures.fetchers in
     goes_crawled c.args.options.now (IsReadBy (tape_of false)) IsReadWhole _ _ c.in-Ok.tape wider c.crawl_tape.result.0 was.parts now.parts (tells was.store) (tells now.store) old new
     (sink c.args.output.now) (sink c.crawl_tape.new.output) c.in-Ok.ensures.value c.in-Ok.ensures.end c.in-Ok.ensures.cause.later c.crawl_tape.ensures.tape

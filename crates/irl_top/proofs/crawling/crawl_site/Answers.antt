@@ -2,7 +2,6 @@ use Rattle.std.proofs.Common.{rules, refl, sym, subst}
 use Rattle.irl_top.specs.Crawled.{site_task, CrawlRun}
 use Rattle.irl_top.specs.Outside.{Lent, lent_beside}
 use Rattle.irl_top.specs.Stream.{Stream}
-use Rattle.irl_top.proofs.CrawlParts.{told_on}
 use Rattle.irl_top.proofs.CrawlRuns.{kind_agrees, run_opened, run_refused}
 use Rattle.irl_top.proofs.crawling.crawl_site.Given.{Over}
 use Rattle.irl_top.proofs.crawling.crawl_site.Goals as goal
@@ -31,8 +30,7 @@ returns g c = λ input.
     let mid = told g input yard.store c.args.output.now in
     let after = told g input later.store c.crawl_site_over-ending.new.output in
     let law = g.met.S.Store.is_consistent later.store in
-    let entered = c.in-Ok.ensures.entered in
     let task = site_task c.args.options.now c.args.pages in
     subst (λ (s : g.row.S.Denot). CrawlRun task c.args.asked.now before (told g input s c.crawl_site_over-ending.new.output) ending) (sym c.into_store.ensures)
-    (run_opened task c.args.asked.now before mid after yard.parts later.parts ending law c.in-Ok.ensures.opened.drum c.in-Ok.ensures.opened entered
-    (λ files is. told_on _ before.store.files mid.store.files files entered.files is) refl refl (c.crawl_site_over-ending.ensures input))
+    (run_opened task c.args.asked.now before mid after yard.parts later.parts ending law c.in-Ok.ensures.opened.drum c.in-Ok.ensures.opened c.in-Ok.ensures.entered refl
+    refl (c.crawl_site_over-ending.ensures input))

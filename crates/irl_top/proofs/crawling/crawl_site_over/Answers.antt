@@ -1,16 +1,16 @@
 use Rattle.std.proofs.Common.{refl, arith}
-use Rattle.irl_record.specs.Fetched.{by_tape}
-use Rattle.irl_top.specs.Crawled.{site_task}
+use Rattle.irl_top.specs.Crawled.{given_by_tape, site_task}
 use Rattle.irl_top.specs.Outside.{stream}
 use Rattle.irl_top.proofs.CrawlInputs.{goes_crawled, goes_nowhere}
-use Rattle.irl_top.proofs.Giving.{given_by_tape}
+use Rattle.irl_top.proofs.Giving.{more_by_tape}
 use Rattle.irl_top.proofs.crawling.crawl_site_over.Goals as goal
 
 pub returns-in-Err : goal.returns-in-Err
 returns-in-Err g c = λ input.
     let yard = c.args.yard in
     let sink = stream g.O.Sink.written g.O.Sink.faults c.args.output.now in
-    goes_nowhere (site_task c.args.options.now c.args.pages) yard.parts (g.S.Store.told yard.store) input input sink (g.met.S.Store.is_consistent yard.store) c.is_sound-is_sound.ensures.drum c.requires.sound
+    goes_nowhere (site_task c.args.options.now c.args.pages) yard.parts (g.S.Store.told yard.store) input input sink (g.met.S.Store.is_consistent yard.store) c.is_sound-is_sound.ensures.drum
+    c.requires.sound
     (omega arith)
 
 pub returns : goal.returns
@@ -20,6 +20,6 @@ returns g c = λ input.
     let now = c.crawl_tape.result.1 in
     let sink = stream g.O.Sink.written g.O.Sink.faults in
     let task = site_task c.args.options.now c.args.pages in
-    goes_crawled c.args.options.now task.reads task.ends by_tape _ c.in-Ok.tape
-    (given_by_tape c.in-Ok.tape c.new.result c.crawl_tape.new.fetchers c.new.ensures c.crawl_tape.ensures.fetchers) c.crawl_tape.result.0 was.parts now.parts (tells was.store) (tells now.store)
+    goes_crawled c.args.options.now task.reads task.ends given_by_tape _ c.in-Ok.tape
+    (more_by_tape c.in-Ok.tape c.new.result c.crawl_tape.new.fetchers c.new.ensures c.crawl_tape.ensures.fetchers) c.crawl_tape.result.0 was.parts now.parts (tells was.store) (tells now.store)
     input input (sink c.args.output.now) (sink c.crawl_tape.new.output) c.in-Ok.ensures refl (omega arith) c.crawl_tape.ensures.tape

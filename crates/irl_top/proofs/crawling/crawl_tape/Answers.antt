@@ -1,9 +1,9 @@
 use Rattle.std.proofs.Common.{◌≡◌, Ok, Err, subst}
 use Rattle.std.specs.Prelude.{IfErr, IsErrOf, Result}
 use Rattle.irl_crawl.specs.Leading.{Leads}
-use Rattle.irl_crawl.specs.Workers.{IsGivenBy}
+use Rattle.irl_crawl.specs.Workers.{given_by}
 use Rattle.irl_report.specs.Report.{report_of}
-use Rattle.irl_top.specs.Crawled.{part_task, Crawled, CrawlsInput, IsCrawlEnding}
+use Rattle.irl_top.specs.Crawled.{part_task, Crawled, IsCrawlEnding, MayCrawlInput, RefusesSuffixes}
 use Rattle.irl_top.specs.Outside.{stream}
 use Rattle.irl_top.specs.declared.ending.Ending.{Ending}
 use Rattle.irl_top.specs.declared.ending.Ending.TheVariants.{DiskFault}
@@ -17,9 +17,9 @@ returns-in-Ok-clause-tape g c =
     let sink = stream g.O.Sink.written g.O.Sink.faults in
     let was = c.args.yard in
     let now = c.begin_and_play-crawled.result.1 in
-    let task = part_task c.args.options.now (IsGivenBy g.F.Fetch.asked g.F.Fetch.gives c.args.fetchers.now c.begin_and_play-crawled.new.fetchers) in
+    let task = part_task c.args.options.now (given_by g.F.Fetch.asked g.F.Fetch.gives g.F.Fetch.faults c.args.fetchers.now c.begin_and_play-crawled.new.fetchers) in
     let tape = c.args.tape.now in
-    let leads = subst (λ (r : Result Unit Ending). Leads (IsErrOf r DiskFault) (CrawlsInput task was.parts.urls.settings tape) (Crawled r task was.parts.urls.settings tape) was.parts now.parts
+    let leads = subst (λ (r : Result Unit Ending). Leads (IsErrOf r DiskFault) (MayCrawlInput task was.parts.urls.settings tape) (Crawled r task was.parts.urls.settings tape) was.parts now.parts
     (tells was.store) (tells now.store)) c.in-Ok.is c.begin_and_play-crawled.ensures.leads in
     let r = c.print_report-printed.result in
     let h = c.print_report-printed.ensures in
@@ -34,10 +34,11 @@ returns-in-Err-clause-tape g c =
     let sink = stream g.O.Sink.written g.O.Sink.faults in
     let was = c.args.yard in
     let now = c.begin_and_play-crawled.result.1 in
-    let task = part_task c.args.options.now (IsGivenBy g.F.Fetch.asked g.F.Fetch.gives c.args.fetchers.now c.begin_and_play-crawled.new.fetchers) in
+    let task = part_task c.args.options.now (given_by g.F.Fetch.asked g.F.Fetch.gives g.F.Fetch.faults c.args.fetchers.now c.begin_and_play-crawled.new.fetchers) in
     let tape = c.args.tape.now in
     let ending = c.in-Err.ending in
-    let leads = subst (λ (r : Result Unit Ending). Leads (IsErrOf r DiskFault) (CrawlsInput task was.parts.urls.settings tape) (Crawled r task was.parts.urls.settings tape) was.parts now.parts
+    let leads = subst (λ (r : Result Unit Ending). Leads (IsErrOf r DiskFault) (MayCrawlInput task was.parts.urls.settings tape) (Crawled r task was.parts.urls.settings tape) was.parts now.parts
     (tells was.store) (tells now.store)) c.in-Err.is c.begin_and_play-crawled.ensures.leads in
     let kind = subst (λ (r : Result Unit Ending). IfErr r IsCrawlEnding) c.in-Err.is c.begin_and_play-crawled.ensures.kinds in
-    tape_refused task tape ending was.parts now.parts (tells was.store) (tells now.store) (sink c.args.output.now) kind leads
+    let refuses = subst (λ (r : Result Unit Ending). RefusesSuffixes r tape.suffixes) c.in-Err.is c.begin_and_play-crawled.ensures.suffixes in
+    tape_refused task tape ending was.parts now.parts (tells was.store) (tells now.store) (sink c.args.output.now) kind refuses leads

@@ -23,4 +23,5 @@ returns c =
       agent = search rules;
       pages = refl;
       batch = refl;
+      delay = refl;
     }

@@ -1,24 +1,31 @@
 use Rattle.std.proofs.Common.{refl}
-use Rattle.irl_crawl.specs.Workers.{IsGivenBy}
+use Rattle.irl_crawl.specs.Workers.{given_by}
 use Rattle.irl_top.specs.Crawled.{part_task}
-use Rattle.irl_top.proofs.CrawlParts.{crawl_kinds, kind_begun, played_by, suffixes_begun, unplayed}
+use Rattle.irl_top.proofs.CrawlParts.{crawl_kinds, crawl_refuses, kind_begun, played_by, suffixes_begun, unplayed}
+use Rattle.irl_top.proofs.Giving.{none_rose}
 use Rattle.irl_top.proofs.crawling.play.Goals as goal
 
 pub returns-in-Err-clause-leads : goal.returns-in-Err-clause-leads
-returns-in-Err-clause-leads g c =
+returns-in-Err-clause-leads g c = λ keeps.
     let yard = c.args.yard in
     let law = g.met.S.Store.is_consistent yard.store in
-    unplayed (part_task c.args.options.now (IsGivenBy g.F.Fetch.asked g.F.Fetch.gives c.args.fetchers.now c.args.fetchers.now)) c.args.tape.now yard.parts (g.S.Store.told yard.store) law c.is_sound-is_sound.ensures.drum c.requires.open.sound
+    let task = part_task c.args.options.now (given_by g.F.Fetch.asked g.F.Fetch.gives g.F.Fetch.faults c.args.fetchers.now c.args.fetchers.now) in
+    unplayed task c.args.tape.now yard.parts (g.S.Store.told yard.store) law c.is_sound-is_sound.ensures.drum c.requires.open.sound
+    (none_rose g.F.Fetch.faults c.args.fetchers.now)
 
 pub returns-clause-leads : goal.returns-clause-leads
-returns-clause-leads g c =
+returns-clause-leads g c = λ keeps.
     let tells = g.S.Store.told in
     let yard = c.args.yard in
     let later = c.crawl-ended.result.1 in
     let found = suffixes_begun yard.parts.urls yard.parts.rest (tells yard.store).files yard.rest_is c.requires.open.begun in
     let kind = kind_begun yard.parts.urls yard.parts.rest (tells yard.store).files yard.rest_is c.requires.open.begun in
     rw c.ending_of_crawl.ensures
-    (played_by c.args.options.now c.args.tape.now c.in-Ok.plan c.crawl-ended.result.0 found.0 _ yard.parts later.parts (tells yard.store) (tells later.store) c.in-Ok.ensures kind found.1 (c.crawl-ended.ensures.leads found.0 found.1))
+    (played_by c.args.options.now c.args.tape.now c.in-Ok.plan c.crawl-ended.result.0 found.0 _ yard.parts later.parts (tells yard.store) (tells later.store) c.in-Ok.ensures kind found.1 keeps
+    (c.crawl-ended.ensures.leads found.0 found.1))
 
 pub returns-clause-kinds : goal.returns-clause-kinds
 returns-clause-kinds g c = rw c.ending_of_crawl.ensures (crawl_kinds c.crawl-ended.result.0)
+
+pub returns-clause-suffixes : goal.returns-clause-suffixes
+returns-clause-suffixes g c = rw c.ending_of_crawl.ensures (crawl_refuses c.crawl-ended.result.0 c.args.tape.now.suffixes)

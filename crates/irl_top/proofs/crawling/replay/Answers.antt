@@ -1,7 +1,6 @@
 use Rattle.std.proofs.Common.{rules, refl, sym, subst}
 use Rattle.irl_top.specs.Crawled.{replay_task, CrawlRun}
 use Rattle.irl_top.specs.Outside.{Lent, lent}
-use Rattle.irl_top.proofs.CrawlParts.{told_on}
 use Rattle.irl_top.proofs.CrawlRuns.{kind_agrees, run_opened, run_refused}
 use Rattle.irl_top.proofs.crawling.replay.Given.{Over}
 use Rattle.irl_top.proofs.crawling.replay.Goals as goal
@@ -18,7 +17,8 @@ pub returns-in-Err : goal.returns-in-Err
 returns-in-Err g c =
     let before = told g c.args.store c.args.input.now c.args.output.now in
     let after = told g c.in-Err.store c.args.input.now c.args.output.now in
-    rw c.into.ensures (run_refused (replay_task c.args.options.now) c.args.asked.now before after c.in-Err.fault (g.met.S.Store.is_consistent c.in-Err.store) c.in-Err.ensures.refused c.in-Err.ensures.entered_err refl refl)
+    rw c.into.ensures (run_refused (replay_task c.args.options.now) c.args.asked.now before after c.in-Err.fault (g.met.S.Store.is_consistent c.in-Err.store) c.in-Err.ensures.refused
+    c.in-Err.ensures.entered_err refl refl)
 
 pub returns : goal.returns
 returns g c =
@@ -29,7 +29,7 @@ returns g c =
     let mid = told g yard.store c.args.input.now c.args.output.now in
     let after = told g later.store c.replay_over-ending.new.input c.replay_over-ending.new.output in
     let law = g.met.S.Store.is_consistent later.store in
-    let entered = c.in-Ok.ensures.entered in
-    subst (λ (s : g.row.S.Denot). CrawlRun (replay_task c.args.options.now) c.args.asked.now before (told g s c.replay_over-ending.new.input c.replay_over-ending.new.output) ending) (sym c.into_store.ensures)
-    (run_opened (replay_task c.args.options.now) c.args.asked.now before mid after yard.parts later.parts ending law c.in-Ok.ensures.opened.drum c.in-Ok.ensures.opened entered
-    (λ files is. told_on _ before.store.files mid.store.files files entered.files is) refl refl c.replay_over-ending.ensures)
+    subst (λ (s : g.row.S.Denot). CrawlRun (replay_task c.args.options.now) c.args.asked.now before (told g s c.replay_over-ending.new.input c.replay_over-ending.new.output) ending)
+    (sym c.into_store.ensures)
+    (run_opened (replay_task c.args.options.now) c.args.asked.now before mid after yard.parts later.parts ending law c.in-Ok.ensures.opened.drum c.in-Ok.ensures.opened c.in-Ok.ensures.entered refl
+    refl c.replay_over-ending.ensures)

@@ -1,13 +1,12 @@
 use Rattle.std.proofs.Common.{◌≡◌, Err, true, ap, refl}
 use Rattle.irl_disk.proofs.Effects.{cause_for}
-use Rattle.irl_record.specs.Fetched.{by_tape}
 use Rattle.irl_record.specs.Reading.{tape_of}
 use Rattle.irl_record.specs.declared.reading.TapeFault.TheVariants.{Failed as TapeFailed}
-use Rattle.irl_top.specs.Crawled.{replay_task, IsReadBy, IsReadWhole}
+use Rattle.irl_top.specs.Crawled.{given_by_tape, replay_task, IsReadBy, IsReadWhole}
 use Rattle.irl_top.specs.Outside.{stream}
 use Rattle.irl_top.specs.Stream.{Stream}
 use Rattle.irl_top.proofs.CrawlInputs.{goes_crawled, goes_unread}
-use Rattle.irl_top.proofs.Giving.{given_by_tape}
+use Rattle.irl_top.proofs.Giving.{more_by_tape}
 use Rattle.irl_top.proofs.crawling.replay_over.Goals as goal
 
 pub returns-in-Err : goal.returns-in-Err
@@ -20,7 +19,8 @@ returns-in-Err g c =
     let fault = c.in-Err.fault in
     let law = g.met.S.Store.is_consistent yard.store in
     rw c.ending_of_tape.ensures
-    (goes_unread (replay_task c.args.options.now) fault yard.parts (tells yard.store) old new sink law c.is_sound-is_sound.ensures.drum c.requires.sound (λ n is. c.in-Err.ensures.refused n (ap Err is))
+    (goes_unread (replay_task c.args.options.now) fault yard.parts (tells yard.store) old new sink law c.is_sound-is_sound.ensures.drum c.requires.sound (λ n is.
+    c.in-Err.ensures.refused n (ap Err is))
     (cause_for _ (fault ≡ TapeFailed) old.faults new.faults (λ is. ap Err is) c.in-Err.ensures.cause))
 
 pub returns : goal.returns
@@ -31,6 +31,6 @@ returns g c =
     let old : Stream = record { bytes = g.I.Source.left c.args.input.now; faults = g.I.Source.faults c.args.input.now } in
     let new : Stream = record { bytes = g.I.Source.left c.read.new.source; faults = g.I.Source.faults c.read.new.source } in
     let sink = stream g.O.Sink.written g.O.Sink.faults in
-    goes_crawled c.args.options.now (IsReadBy (tape_of true)) IsReadWhole by_tape _ c.in-Ok.tape
-    (given_by_tape c.in-Ok.tape c.new.result c.crawl_tape.new.fetchers c.new.ensures c.crawl_tape.ensures.fetchers) c.crawl_tape.result.0 was.parts now.parts (tells was.store) (tells now.store)
+    goes_crawled c.args.options.now (IsReadBy (tape_of true)) IsReadWhole given_by_tape _ c.in-Ok.tape
+    (more_by_tape c.in-Ok.tape c.new.result c.crawl_tape.new.fetchers c.new.ensures c.crawl_tape.ensures.fetchers) c.crawl_tape.result.0 was.parts now.parts (tells was.store) (tells now.store)
     old new (sink c.args.output.now) (sink c.crawl_tape.new.output) c.in-Ok.ensures.value c.in-Ok.ensures.end c.in-Ok.ensures.cause.later c.crawl_tape.ensures.tape

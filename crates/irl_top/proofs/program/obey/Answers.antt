@@ -36,7 +36,8 @@ returns g c =
     let has : Lands g c m.ending m.input m.output m.ports = elim m.branch [
       | in-Replay w ↦ lands g c w.replay.result m.ending w.replay.new.input m.input w.replay.new.output m.output c.args.ports.now m.ports w.ending-is w.input-is w.output-is w.ports-is
           (does_replay c.args.command.now _ _ _ _ _ _ _ w.in-Replay.is range w.replay.ensures, inr refl)
-      | in-Crawl w ↦ lands g c w.crawl_ports.result m.ending w.crawl_ports.new.input m.input w.crawl_ports.new.output m.output w.crawl_ports.new.ports m.ports w.ending-is w.input-is w.output-is w.ports-is
+      | in-Crawl w ↦ lands g c w.crawl_ports.result m.ending w.crawl_ports.new.input m.input w.crawl_ports.new.output m.output w.crawl_ports.new.ports m.ports w.ending-is w.input-is w.output-is
+          w.ports-is
           (does_crawl c.args.command.now _ _ _ _ _ _ _ _ w.in-Crawl.is range w.crawl_ports.ensures, inl (subst IsOnline (sym w.in-Crawl.is) tt))
       | in-Gen w ↦ lands g c w.crawl_site.result m.ending c.args.input.now m.input w.crawl_site.new.output m.output c.args.ports.now m.ports w.ending-is w.input-is w.output-is w.ports-is (
         does_gen c.args.command.now _ _ _ _ _ _ _ _ w.in-Gen.is range

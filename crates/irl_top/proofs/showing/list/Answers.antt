@@ -12,7 +12,8 @@ use Rattle.irl_top.proofs.showing.list.Goals as goal
 pub print_urls-printed-requires : goal.print_urls-printed-requires
 print_urls-printed-requires g c =
     let yard = c.in-Ok-Made.yard in
-    let made : LooksMade yard.parts (g.S.Store.told c.args.store) (g.S.Store.told yard.store) = subst (λ (x : _). LooksAs (g.S.Store.told c.args.store) x) c.in-Ok-Made.field-0-is c.in-Ok-Made.ensures.found in
+    let made : LooksMade yard.parts (g.S.Store.told c.args.store) (g.S.Store.told yard.store) =
+    subst (λ (x : _). LooksAs (g.S.Store.told c.args.store) x) c.in-Ok-Made.field-0-is c.in-Ok-Made.ensures.found in
     record { sound = (made.opens (asked_of yard.parts.urls.settings) (own_agrees yard.parts.urls.settings)).sound }
 
 pub returns-in-Ok-Blank : goal.returns-in-Ok-Blank
@@ -36,7 +37,8 @@ returns-in-Ok-Made g c = λ input.
     let later = c.print_urls-printed.new.yard in
     let out = c.print_urls-printed.new.output in
     let before = tells c.args.store c.args.output.now in
-    let made : LooksMade yard.parts (g.S.Store.told c.args.store) (g.S.Store.told yard.store) = subst (λ (x : _). LooksAs (g.S.Store.told c.args.store) x) c.in-Ok-Made.field-0-is c.in-Ok-Made.ensures.found in
+    let made : LooksMade yard.parts (g.S.Store.told c.args.store) (g.S.Store.told yard.store) =
+    subst (λ (x : _). LooksAs (g.S.Store.told c.args.store) x) c.in-Ok-Made.field-0-is c.in-Ok-Made.ensures.found in
     subst (λ (s : g.row.S.Denot). Shown IsListingOf before (tells s out) c.of.result) (sym c.into_store.ensures)
     (subst (λ (e : Ending). Shown IsListingOf before (tells later.store out) e) (sym c.of.ensures)
     (shown_made IsListingOf before (tells later.store out) (g.S.Store.told yard.store) yard.parts c.print_urls-printed.result (g.met.S.Store.is_consistent yard.store) made

@@ -32,7 +32,8 @@ returns-in-Ok-Made g c = λ input.
     let out = c.print_report-printed-in-Ok-Made.new.output in
     let counts = c.counts.result in
     let before = tells c.args.store c.args.output.now in
-    let made : LooksMade yard.parts (g.S.Store.told c.args.store) (g.S.Store.told yard.store) = subst (λ (x : _). LooksAs (g.S.Store.told c.args.store) x) c.in-Ok-Made.field-0-is c.in-Ok-Made.ensures.found in
+    let made : LooksMade yard.parts (g.S.Store.told c.args.store) (g.S.Store.told yard.store) =
+    subst (λ (x : _). LooksAs (g.S.Store.told c.args.store) x) c.in-Ok-Made.field-0-is c.in-Ok-Made.ensures.found in
     let prints = prints_report r yard.parts (g.S.Store.told yard.store) (sink c.args.output.now) (sink out) counts (g.met.S.Store.is_consistent yard.store) c.counts.ensures
     (printed_of r (sink c.args.output.now) (sink out) (report_of counts) h.ok h.err h.kinds h.cause) in
     subst (λ (s : g.row.S.Denot). Shown IsReportOf before (tells s out) c.of-in-Ok-Made.result) (sym c.into_store.ensures)
