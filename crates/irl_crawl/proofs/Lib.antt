@@ -18,6 +18,14 @@ pub mod Numbers
 pub mod OneTurn
 pub mod PassLeads
 pub mod Passing
+pub mod Records
+pub mod RecordsJudged
+pub mod RecordsOfBooks
+pub mod RecordsOfDesks
+pub mod RecordsOfLog
+pub mod RecordsOfPairs
+pub mod RecordsThen
+pub mod RecordsTurned
 pub mod Resting
 pub mod Rising
 pub mod Running

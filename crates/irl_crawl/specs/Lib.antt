@@ -1,3 +1,4 @@
+pub mod Batches
 pub mod Crawling
 pub mod Dealing
 pub mod Fetching

@@ -8,6 +8,7 @@ ghost use Rattle.irl_yard.specs.Holding.{HoldsState};
 ghost use Rattle.irl_yard.specs.Leading.{IsEither};
 ghost use Rattle.irl_yard.specs.Passing.{front_in, suffixes_in, with_pass};
 ghost use Rattle.irl_yard.specs.Sending.{HasBegun};
+ghost use Rattle.irl_crawl.specs.Batches.{Batches, a_desk_unless, besides, just};
 ghost use Rattle.irl_crawl.specs.Crawling.{CrawlsTo, IsPlan, NoneWaits, OnlyCrawls};
 ghost use Rattle.irl_crawl.specs.Leading.{IsOpen, IsSent, KeepsBegun, Leads};
 ghost use Rattle.irl_crawl.specs.Running.{MayRun, Passes, Runs, Steps};
@@ -56,6 +57,9 @@ where
         yard.parts.urls.settings 1 plan.now.pages plan.now.batch)
         (CrawlsTo result.0 (given_by F.asked F.gives F.faults fetchers.old fetchers.new) plan.now.agent suffixes
         plan.now.seeds.items yard.parts.urls.settings 1 plan.now.pages plan.now.batch)
+        yard.parts result.1.parts (S.told yard.store) (S.told result.1.store) }
+    // Cuts and records come in batches, but for those of the settled turns, of two desks and of one judging.
+    ensures batches { Batches (result.0 ≡ Ended.Fault Fault.Failed) (besides 2 1) (besides 2 1)
         yard.parts result.1.parts (S.told yard.store) (S.told result.1.store) }
     ensures fetchers { AllGoOn F.asked F.gives F.faults F.last F.aim fetchers.old fetchers.new }
 {
@@ -111,6 +115,8 @@ fn go_on<R: Wait, S: Store, F: Fetch, G: Gate>(
         (Runs result.0 (given_by F.asked F.gives F.faults fetchers.old fetchers.new) crew.agent crew.suffixes
         yard.parts.urls.settings plan.now.pages plan.now.batch)
         yard.parts result.1.parts (S.told yard.store) (S.told result.1.store) }
+    ensures batches { Batches (result.0 ≡ Ended.Fault Fault.Failed) (besides 1 0) (besides 1 0)
+        yard.parts result.1.parts (S.told yard.store) (S.told result.1.store) }
     ensures fetchers { AllGoOn F.asked F.gives F.faults F.last F.aim fetchers.old fetchers.new }
 {
     let _is_sound = yard.is_sound();
@@ -157,6 +163,8 @@ fn step<R: Wait, S: Store, F: Fetch, G: Gate>(
         (Steps result.0 (given_by F.asked F.gives F.faults fetchers.old fetchers.new) crew.old.agent crew.old.suffixes
         yard.parts.urls.settings most (schedules crew.old.fronts.items) (schedules crew.new.fronts.items))
         yard.parts result.1.parts (S.told yard.store) (S.told result.1.store) }
+    ensures batches { Batches (IsErrOf result.0 Fault.Failed) (a_desk_unless result.0) (besides 1 0)
+        yard.parts result.1.parts (S.told yard.store) (S.told result.1.store) }
     ensures keeps { OnOk result.0 (KeepsBegun yard.parts result.1.parts × IsSent result.1.parts) }
     ensures count { IfOk result.0 (λ count. count ≤ most) }
     ensures idle { OnOk result.0 (AreIdle (length fetchers.old) crew.new.agent (schedules crew.new.fronts.items)) }
@@ -178,6 +186,8 @@ fn pass<S: Store>(yard: &mut Yard<S>) -> Result<u32, Fault>
     requires front { front_in yard.old.parts.rest ≡ [] }
     ensures leads { Leads (IsErrOf result Fault.Failed) (λ x y. IsEither x (with_pass yard.old.parts.urls.settings x) y)
         (Passes result yard.old.parts.urls.settings) yard.old.parts yard.new.parts
+        (S.told yard.old.store) (S.told yard.new.store) }
+    ensures batches { Batches (IsErrOf result Fault.Failed) (just 0 0) (just 0 0) yard.old.parts yard.new.parts
         (S.told yard.old.store) (S.told yard.new.store) }
     ensures keeps { OnOk result (KeepsBegun yard.old.parts yard.new.parts × IsSent yard.new.parts) }
     ensures none { IfOk result (λ count. count ≡ 0) }

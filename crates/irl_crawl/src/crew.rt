@@ -5,6 +5,8 @@ ghost use Rattle.irl_events.specs.Events.{Happened};
 ghost use Rattle.irl_polite.specs.Schedule.{empty_of};
 ghost use Rattle.irl_yard.specs.Holding.{IsSound};
 ghost use Rattle.irl_yard.specs.Passing.{front_in};
+ghost use Rattle.irl_yard.specs.Sending.{HasBegun};
+ghost use Rattle.irl_crawl.specs.Batches.{Batches, just};
 ghost use Rattle.irl_crawl.specs.Dealing.{SomeHaveTaken};
 ghost use Rattle.irl_crawl.specs.Leading.{Leads};
 ghost use Rattle.irl_crawl.specs.Loading.{AreNext, Loads};
@@ -82,6 +84,8 @@ impl Crew {
             (Loads result yard.old.parts.urls.settings self.old.agent (schedules self.old.fronts.items)
             (schedules self.new.fronts.items)) yard.old.parts yard.new.parts
             (S.told yard.old.store) (S.told yard.new.store) }
+        ensures batches { HasBegun yard.old.parts.rest → Batches (IsErrOf result Fault.Failed) (just 0 0) (just 0 0)
+            yard.old.parts yard.new.parts (S.told yard.old.store) (S.told yard.new.store) }
         ensures next { OnOk result (AreNext (front_in yard.old.parts.rest) most (schedules self.new.fronts.items)) }
         ensures ready { OnOk result (AreReady (schedules self.new.fronts.items)) }
         ensures count { length self.new.fronts.items ≡ length self.old.fronts.items }

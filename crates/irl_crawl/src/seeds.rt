@@ -8,6 +8,7 @@ ghost use Rattle.irl_answer.specs.Found.{IsTaken, offer_from};
 ghost use Rattle.irl_fetch.specs.Telling.{TakesPages};
 ghost use Rattle.irl_yard.specs.Passing.{suffixes_in};
 ghost use Rattle.irl_desk.specs.Serving.{serving_of};
+ghost use Rattle.irl_crawl.specs.Batches.{Batches, just};
 ghost use Rattle.irl_crawl.specs.Judging.{Judges, OnlyJudges};
 ghost use Rattle.irl_crawl.specs.Leading.{IsOpen, IsSent, KeepsFront, Leads};
 ghost use Rattle.irl_crawl.specs.Offering.{OnlySeeds, Seeds};
@@ -35,6 +36,8 @@ pub fn seed<R: Wait, S: Store>(
         (Seeds result.0 suffixes yard.parts.urls.settings seeds.now) yard.parts result.1.parts
         (S.told yard.store) (S.told result.1.store) }
     ensures keeps { OnOk result.0 (KeepsFront yard.parts result.1.parts × IsSent result.1.parts) }
+    ensures batches { Batches (IsErrOf result.0 Fault.Failed) (just 1 1) (just 1 1) yard.parts result.1.parts
+        (S.told yard.store) (S.told result.1.store) }
 {
     let _is_sound = yard.is_sound();
     let mut desk = match Desk::open(alloc, yard) {
@@ -62,6 +65,8 @@ pub fn judge<S: Store>(yard: &mut Yard<S>) -> Result<(), Fault>
         (Judges result suffixes yard.old.parts.urls.settings) yard.old.parts yard.new.parts
         (S.told yard.old.store) (S.told yard.new.store) }
     ensures keeps { OnOk result (KeepsFront yard.old.parts yard.new.parts × IsSent yard.new.parts) }
+    ensures batches { Batches (IsErrOf result Fault.Failed) (just 0 1) (just 0 1) yard.old.parts yard.new.parts
+        (S.told yard.old.store) (S.told yard.new.store) }
 {
     let _is_sound = yard.is_sound();
     yard.merge_rest()?;

@@ -5,6 +5,7 @@ ghost use Rattle.irl_ledger.specs.Settling.{max_settled};
 ghost use Rattle.irl_log.specs.Form.{IsNote, IsWord};
 ghost use Rattle.irl_yard.specs.Passing.{front_in, suffixes_in};
 ghost use Rattle.irl_yard.specs.Settling.{MaySettle};
+ghost use Rattle.irl_crawl.specs.Batches.{Batches, Turned, a_desk_unless, besides, judged_in, just};
 ghost use Rattle.irl_crawl.specs.Fetching.{Fetches};
 ghost use Rattle.irl_crawl.specs.Leading.{IsOpen, IsSent, KeepsBegun, Leads};
 ghost use Rattle.irl_crawl.specs.Serving.{KeepsNumbers};
@@ -44,6 +45,8 @@ pub fn turn<R: Wait, S: Store, F: Fetch, G: Gate>(
         yard.parts.urls.settings most (schedules crew.old.fronts.items))
         (Turns result.0 (given_by F.asked F.gives F.faults fetchers.old fetchers.new) crew.old.agent crew.old.suffixes
         yard.parts.urls.settings most (schedules crew.old.fronts.items) (schedules crew.new.fronts.items))
+        yard.parts result.1.parts (S.told yard.store) (S.told result.1.store) }
+    ensures batches { Batches (IsErrOf result.0 Fault.Failed) (a_desk_unless result.0) (besides 1 0)
         yard.parts result.1.parts (S.told yard.store) (S.told result.1.store) }
     ensures keeps { OnOk result.0 (KeepsBegun yard.parts result.1.parts × IsSent result.1.parts) }
     ensures count { IfOk result.0 (λ count. (1 ≤ count) × (count ≤ most)) }
@@ -88,6 +91,8 @@ fn fetch_all<R: Wait, S: Store, F: Fetch, G: Gate>(
     ensures fetches { Fetches result.0 (given_by F.asked F.gives F.faults fetchers.old fetchers.new) crew.old.agent
         crew.old.suffixes (schedules crew.old.fronts.items) (schedules crew.new.fronts.items)
         yard.parts result.1.parts (S.told yard.store) (S.told result.1.store) }
+    ensures batches { Batches (IsErrOf result.0 Fault.Failed) (just 1 0) (just 1 0) yard.parts result.1.parts
+        (S.told yard.store) (S.told result.1.store) }
     ensures fetchers { AllGoOn F.asked F.gives F.faults F.last F.aim fetchers.old fetchers.new }
     ensures crew { crew.new ≡ record crew.old { fronts = crew.new.fronts } }
 {
@@ -115,6 +120,9 @@ fn settle<S: Store>(yard: &mut Yard<S>, notes: &[Note], done: &[Done]) -> Result
         (IsSettling suffixes yard.old.parts.urls.settings notes.now done.now)
         (Settles result suffixes yard.old.parts.urls.settings notes.now done.now) yard.old.parts yard.new.parts
         (S.told yard.old.store) (S.told yard.new.store) }
+    ensures batches { Batches (IsErrOf result Fault.Failed) judged_in judged_in yard.old.parts yard.new.parts
+        (S.told yard.old.store) (S.told yard.new.store) }
+    ensures turned { Turned result yard.old.parts yard.new.parts (S.told yard.old.store) (S.told yard.new.store) }
     ensures keeps { OnOk result (KeepsBegun yard.old.parts yard.new.parts × IsSent yard.new.parts) }
     ensures count { IfOk result (λ count. count ≡ length done.now) }
 {

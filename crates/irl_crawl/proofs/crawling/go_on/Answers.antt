@@ -3,6 +3,8 @@ use Rattle.irl_schedule.proofs.Outcomes.{ok_gives}
 use Rattle.irl_crawl.proofs.Going.{all_go_then}
 use Rattle.irl_crawl.proofs.Looping.{runs_done, runs_first, runs_limit, runs_next, runs_stop}
 use Rattle.irl_crawl.specs.Workers.{AreIdle, schedules}
+use Rattle.irl_crawl.proofs.RecordsThen.{leads_on}
+use Rattle.irl_crawl.proofs.RecordsTurned.{ended_batch, first_batch, step_batch, stopped_batch}
 use Rattle.irl_crawl.proofs.crawling.go_on.Goals as goal
 
 pub loop-init : goal.loop-init
@@ -15,6 +17,8 @@ loop-init g c = (
     agent = refl;
     suffixes = refl;
     gates = refl;
+    batches = first_batch c.args.yard.parts (g.S.Store.told c.args.yard.store) c.args.yard.rest_is c.is_sound-is_sound.ensures.drum (g.met.S.Store.is_consistent c.args.yard.store)
+        c.requires.open.begun;
   },
 )
 
@@ -45,6 +49,9 @@ loop-preserved g c =
         agent = agent;
         suffixes = step.crew.1 ∙ far.suffixes;
         gates = let same = c.step-settled.auto.gates in let was = far.gates in omega (arith, same, was);
+        batches = step_batch c.step-settled.result.0 c.in-Ok.count c.args.yard.parts c.loop.yard.parts c.step-settled.result.1.parts (g.S.Store.told c.args.yard.store)
+            (g.S.Store.told c.loop.yard.store) (g.S.Store.told c.step-settled.result.1.store) c.in-Ok.is
+            (leads_on ⊥ _ _ c.args.yard.parts c.loop.yard.parts (g.S.Store.told c.args.yard.store) (g.S.Store.told c.loop.yard.store) far.runs.leads) far.batches step.batches;
       },
     )
 
@@ -62,3 +69,23 @@ pub returns-in-Err-clause-fetchers : goal.returns-in-Err-clause-fetchers
 returns-in-Err-clause-fetchers g c =
     let f = g.F.Fetch in
     all_go_then f.asked f.gives f.faults f.last f.aim c.args.fetchers.now c.loop.fetchers c.step-settled.new.fetchers c.loop.invariant.2.runs.goes_on c.step-settled.ensures.fetchers
+
+pub returns-then-is_done-clause-batches : goal.returns-then-is_done-clause-batches
+returns-then-is_done-clause-batches g c =
+    let tells = g.S.Store.told in
+    ended_batch _ c.args.yard.parts c.loop.yard.parts (tells c.args.yard.store) (tells c.loop.yard.store) c.loop.invariant.2.batches
+
+pub returns-then-left-eq0-clause-batches : goal.returns-then-left-eq0-clause-batches
+returns-then-left-eq0-clause-batches g c =
+    let tells = g.S.Store.told in
+    ended_batch _ c.args.yard.parts c.loop.yard.parts (tells c.args.yard.store) (tells c.loop.yard.store) c.loop.invariant.2.batches
+
+pub returns-in-Err-clause-batches : goal.returns-in-Err-clause-batches
+returns-in-Err-clause-batches g c =
+    let tells = g.S.Store.told in
+    let was = c.args.yard in
+    let mid = c.loop.yard in
+    let now = c.step-settled.result.1 in
+    let far = c.loop.invariant.2 in
+    stopped_batch c.step-settled.result.0 c.in-Err.fault was.parts mid.parts now.parts (tells was.store) (tells mid.store) (tells now.store) c.in-Err.is
+    (leads_on ⊥ _ _ was.parts mid.parts (tells was.store) (tells mid.store) far.runs.leads) far.batches c.step-settled.ensures.batches

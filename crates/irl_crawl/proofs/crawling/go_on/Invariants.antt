@@ -1,5 +1,6 @@
 use Rattle.std.proofs.Common.{◌≡◌, length}
 use Rattle.irl_crawl.proofs.Looping.{RunsOn}
+use Rattle.irl_crawl.specs.Batches.{Batches, besides}
 use Rattle.irl_crawl.specs.Workers.{schedules}
 use Rattle.irl_crawl.proofs.crawling.go_on.Given as goal
 
@@ -12,4 +13,5 @@ invariant-loop g l = (goal.iterator-loop g).can_next l.iterator' × (goal.iterat
       agent : l.crew.agent ≡ l.fn.crew.agent;
       suffixes : l.crew.suffixes ≡ l.fn.crew.suffixes;
       gates : length l.gates ≡ length l.fn.gates;
+      batches : Batches ⊥ (besides 0 0) (besides 1 0) l.fn.yard.parts l.yard.parts (g.S.Store.told l.fn.yard.store) (g.S.Store.told l.yard.store);
     }

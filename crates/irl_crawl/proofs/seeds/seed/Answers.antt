@@ -1,5 +1,5 @@
-use Rattle.std.proofs.Common.{◌∙◌, Err, ap, refl, subst, sym}
-use Rattle.irl_base.specs.declared.fault.Fault.TheVariants.{Memory}
+use Rattle.std.proofs.Common.{◌∙◌, Err, ap, refl, subst, sym, IsErrOf}
+use Rattle.irl_base.specs.declared.fault.Fault.TheVariants.{Memory, Failed}
 use Rattle.irl_bay.specs.Drum.{IsDrum}
 use Rattle.irl_yard.specs.declared.parts.Parts.{Parts}
 use Rattle.irl_yard.specs.declared.yard.Yard.{Yard}
@@ -8,6 +8,10 @@ use Rattle.irl_yard.specs.Sending.{HasBegun}
 use Rattle.irl_desk.specs.Serving.{serving_of}
 use Rattle.irl_schedule.proofs.Outcomes.{ok_gives}
 use Rattle.irl_crawl.proofs.Seeding.{close_refused, judged_then, keeps_behind, offer_refused, open_then, rest_after, seeds_back, seeds_from, seeds_none}
+use Rattle.irl_crawl.proofs.RecordsJudged.{back_batch, batch_from, desk_within, failed_on, ok_or_failed, seed_batch}
+use Rattle.irl_crawl.proofs.RecordsOfDesks.{desk_batch, desk_on}
+use Rattle.irl_crawl.proofs.RecordsThen.{batches_more}
+use Rattle.irl_crawl.specs.Batches.{just}
 use Rattle.irl_crawl.proofs.seeds.seed.Goals as goal
 
 pub returns-in-Err-clause-leads : goal.returns-in-Err-clause-leads
@@ -89,3 +93,64 @@ returns-clause-keeps g c =
     c.close-closed.result.0 after.store after.parts yard.rest_is (subst (λ (p : Parts). IsDrum p.urls) (sym parts) c.is_sound-is_sound.ensures.drum)
     (subst (λ (p : Parts). HasBegun p.rest) (sym parts) c.requires.open.begun) c.in-Ok.ensures.fresh c.offer_seeds-offered.ensures c.close-closed.ensures in
     keeps_behind c.judge-judged.result was.parts after.parts c.judge-judged.new.yard.parts (rest ∙ ap (λ (p : Parts). p.rest) parts) c.judge-judged.ensures.keeps
+
+pub returns-in-Err-clause-batches : goal.returns-in-Err-clause-batches
+returns-in-Err-clause-batches g c =
+    let tells = g.S.Store.told in
+    let was = c.args.yard in
+    let back = sym c.in-Err.ensures.back in
+    back_batch tells _ 1 1 was.store c.in-Err.yard.store was.parts c.in-Err.yard.parts (ap (λ (y : Yard g.row.S.Denot g.S.Store). y.store) back)
+    (ap (λ (y : Yard g.row.S.Denot g.S.Store). y.parts) back) was.rest_is c.is_sound-is_sound.ensures.drum (g.met.S.Store.is_consistent was.store) c.requires.open.begun
+
+pub returns-in-Err-closed-clause-batches : goal.returns-in-Err-closed-clause-batches
+returns-in-Err-closed-clause-batches g c =
+    let tells = g.S.Store.told in
+    let was = c.args.yard in
+    let yard = c.in-Ok.desk.intake.yard in
+    let after = c.close-closed.result.1 in
+    let closed = c.close-closed.result.0 in
+    let parts = c.in-Ok.ensures.yard.1 in
+    let offers = c.offer_seeds-offered.ensures in
+    batch_from tells _ (just 1 1) (just 1 1) yard.store was.store yard.parts was.parts after.parts (tells after.store) c.in-Ok.ensures.yard.0 parts
+    (batches_more (IsErrOf closed Failed) _ (just 1 0) (just 1 0) (just 1 1) (just 1 1) yard.parts after.parts (tells yard.store) (tells after.store)
+    (failed_on {B = Unit} closed (Err c.in-Err-closed.fault) c.in-Err-closed.fault c.in-Err-closed.is refl) desk_within desk_within
+    (desk_batch tells g.met.S.Store.is_consistent offers.entries (serving_of c.in-Ok.desk) (serving_of c.offer_seeds-offered.new.desk) closed after.store after.parts yard.rest_is
+    (subst (λ (p : Parts). IsDrum p.urls) (sym parts) c.is_sound-is_sound.ensures.drum) (subst (λ (p : Parts). HasBegun p.rest) (sym parts) c.requires.open.begun) c.in-Ok.ensures.fresh
+    offers.serves c.close-closed.ensures))
+
+pub returns-in-Err-offered-clause-batches : goal.returns-in-Err-offered-clause-batches
+returns-in-Err-offered-clause-batches g c =
+    let tells = g.S.Store.told in
+    let was = c.args.yard in
+    let yard = c.in-Ok.desk.intake.yard in
+    let after = c.close-closed.result.1 in
+    let closed = c.close-closed.result.0 in
+    let parts = c.in-Ok.ensures.yard.1 in
+    let offers = c.offer_seeds-offered.ensures in
+    batch_from tells _ (just 1 1) (just 1 1) yard.store was.store yard.parts was.parts after.parts (tells after.store) c.in-Ok.ensures.yard.0 parts
+    (batches_more (IsErrOf closed Failed) _ (just 1 0) (just 1 0) (just 1 1) (just 1 1) yard.parts after.parts (tells yard.store) (tells after.store)
+    (λ failed. absurd (ok_or_failed closed c.in_default.field-0 c.in_default.is failed)) desk_within desk_within
+    (desk_batch tells g.met.S.Store.is_consistent offers.entries (serving_of c.in-Ok.desk) (serving_of c.offer_seeds-offered.new.desk) closed after.store after.parts yard.rest_is
+    (subst (λ (p : Parts). IsDrum p.urls) (sym parts) c.is_sound-is_sound.ensures.drum) (subst (λ (p : Parts). HasBegun p.rest) (sym parts) c.requires.open.begun) c.in-Ok.ensures.fresh
+    offers.serves c.close-closed.ensures))
+
+pub returns-clause-batches : goal.returns-clause-batches
+returns-clause-batches g c =
+    let tells = g.S.Store.told in
+    let law = g.met.S.Store.is_consistent in
+    let was = c.args.yard in
+    let yard = c.in-Ok.desk.intake.yard in
+    let after = c.close-closed.result.1 in
+    let closed = c.close-closed.result.0 in
+    let last = c.judge-judged.new.yard in
+    let parts = c.in-Ok.ensures.yard.1 in
+    let offers = c.offer_seeds-offered.ensures in
+    let desk = serving_of c.in-Ok.desk in
+    let mid = serving_of c.offer_seeds-offered.new.desk in
+    let drum = subst (λ (p : Parts). IsDrum p.urls) (sym parts) c.is_sound-is_sound.ensures.drum in
+    let begun = subst (λ (p : Parts). HasBegun p.rest) (sym parts) c.requires.open.begun in
+    batch_from tells (IsErrOf c.judge-judged.result Failed) (just 1 1) (just 1 1) yard.store was.store yard.parts was.parts last.parts (tells last.store) c.in-Ok.ensures.yard.0 parts
+    (seed_batch closed c.judge-judged.result c.in_default.field-0 yard.parts after.parts last.parts (tells yard.store) (tells after.store) (tells last.store) c.in_default.is
+    (desk_on tells law offers.entries desk mid closed after.store after.parts yard.rest_is drum begun c.in-Ok.ensures.fresh offers.serves c.close-closed.ensures)
+    (desk_batch tells law offers.entries desk mid closed after.store after.parts yard.rest_is drum begun c.in-Ok.ensures.fresh offers.serves c.close-closed.ensures)
+    c.judge-judged.ensures.batches)

@@ -1,9 +1,9 @@
-use Rattle.std.proofs.Common.{◌≡◌, ◌∙◌, ◌^◌, ◌<◌, ◌≤◌, ℕ, IfOk, Ok, Err, Result, length, min, sym, ap, subst}
-use Rattle.irl_base.specs.declared.fault.Fault.{Fault}
-use Rattle.irl_fetch.specs.declared.working.WorkLog.{WorkLog}
+use Rattle.std.proofs.Common.{◌≡◌, ◌∙◌, ◌^◌, ◌<◌, ◌≤◌, ℕ, IfOk, Ok, Err, Result, length, min, sym, ap, subst, IsErrOf, refl}
 use Rattle.std.specs.List.{All, AllByRecursion}
 use Rattle.std.proofs.lemmas.List.{length-map}
 use Rattle.std.proofs.lemmas.List.Elements.{recursion_from_All}
+use Rattle.irl_base.specs.declared.fault.Fault.{Fault}
+use Rattle.irl_fetch.specs.declared.working.WorkLog.{WorkLog}
 use Rattle.irl_log.specs.Form.{IsNote}
 use Rattle.irl_offer.specs.declared.note.Note.{Note}
 use Rattle.irl_polite.specs.Inside.{schedule}
@@ -18,6 +18,11 @@ use Rattle.irl_crawl.proofs.OneTurn.{all_settled, count_within, fetches_for, idl
 use Rattle.irl_crawl.proofs.Rising.{given_same, rose_between_all, rose_between_fewer, widens_second}
 use Rattle.irl_crawl.proofs.Stores.{held_is_crawl}
 use Rattle.irl_crawl.proofs.Visits.{notes_from}
+use Rattle.irl_base.specs.declared.fault.Fault.TheVariants.{Failed}
+use Rattle.irl_crawl.proofs.RecordsJudged.{failed_on, just_besides, none_besides, none_within, ok_or_failed}
+use Rattle.irl_crawl.proofs.RecordsThen.{batches_more, leads_on}
+use Rattle.irl_crawl.proofs.RecordsTurned.{besides_rising, just_rising, loaded_batch, turn_batch, unless_rising}
+use Rattle.irl_crawl.specs.Batches.{a_desk_unless, besides, just}
 use Rattle.irl_crawl.proofs.turn.turn.Goals as goal
 
 pub returns-in-Err-clause-leads : goal.returns-in-Err-clause-leads
@@ -187,3 +192,45 @@ returns-in-Ok-clause-numbers g c =
 pub returns-in-Err-worked-clause-numbers : goal.returns-in-Err-worked-clause-numbers
 returns-in-Err-worked-clause-numbers g c =
     subst (KeepsNumbers c.args.crew.now.hosts) (sym (ap (λ (k : _). k.hosts) c.fetch_all-worked.ensures.crew)) c.load.ensures.numbers
+
+pub returns-in-Err-clause-batches : goal.returns-in-Err-clause-batches
+returns-in-Err-clause-batches g c =
+    let tells = g.S.Store.told in
+    let was = c.args.yard in
+    let now = c.load.new.yard in
+    batches_more (IsErrOf {T = Unit} (Err c.in-Err.fault) Failed) _ (just 0 0) (just 0 0) (besides 1 0) (besides 1 0) was.parts now.parts (tells was.store) (tells now.store)
+    (failed_on {A = Unit} {B = ℕ} (Err c.in-Err.fault) (Err c.in-Err.fault) c.in-Err.fault refl refl) (none_besides 1 0) (none_besides 1 0) (c.in-Err.ensures.batches c.requires.«open».begun)
+
+pub returns-in-Err-worked-clause-batches : goal.returns-in-Err-worked-clause-batches
+returns-in-Err-worked-clause-batches g c =
+    let tells = g.S.Store.told in
+    let was = c.args.yard in
+    let mid = c.load.new.yard in
+    let now = c.fetch_all-worked.result.1 in
+    let done = c.in_default.field-0 in
+    let fault = c.in-Err-worked.fault in
+    let worked = c.fetch_all-worked.result.0 in
+    batches_more (IsErrOf worked Failed) _ (just 1 0) (just 1 0) (besides 1 0) (besides 1 0) was.parts now.parts (tells was.store) (tells now.store)
+    (failed_on {B = ℕ} worked (Err fault) fault c.in-Err-worked.is refl) (just_besides 1 0) (just_besides 1 0)
+    (loaded_batch (IsErrOf (Ok done) Failed) (IsErrOf worked Failed) (just 1 0) (just 1 0) was.parts mid.parts now.parts (tells was.store) (tells mid.store) (tells now.store)
+    (ok_or_failed (Ok done) done refl) (just_rising 1 0) (just_rising 1 0) (none_within 1 0)
+    (leads_on (IsErrOf (Ok done) Failed) _ _ was.parts mid.parts (tells was.store) (tells mid.store) c.in_default.ensures.leads) (c.in_default.ensures.batches c.requires.«open».begun)
+    c.fetch_all-worked.ensures.batches)
+
+pub returns-in-Ok-clause-batches : goal.returns-in-Ok-clause-batches
+returns-in-Ok-clause-batches g c =
+    let tells = g.S.Store.told in
+    let was = c.args.yard in
+    let mid = c.load.new.yard in
+    let now = c.fetch_all-worked.result.1 in
+    let last = c.settle-settled.new.yard in
+    let done = c.in_default.field-0 in
+    let log = c.in-Ok.log in
+    let worked = c.fetch_all-worked.result.0 in
+    let result = c.settle-settled.result in
+    loaded_batch (IsErrOf (Ok done) Failed) (IsErrOf result Failed) (a_desk_unless result) (besides 1 0) was.parts mid.parts last.parts (tells was.store) (tells mid.store) (tells last.store)
+    (ok_or_failed (Ok done) done refl) (unless_rising result) (besides_rising 1 0) (none_besides 1 0)
+    (leads_on (IsErrOf (Ok done) Failed) _ _ was.parts mid.parts (tells was.store) (tells mid.store) c.in_default.ensures.leads) (c.in_default.ensures.batches c.requires.«open».begun)
+    (turn_batch (IsErrOf worked Failed) result mid.parts now.parts last.parts (tells mid.store) (tells now.store) (tells last.store) (ok_or_failed worked log c.in-Ok.is)
+    (leads_on (IsErrOf worked Failed) _ _ mid.parts now.parts (tells mid.store) (tells now.store) c.fetch_all-worked.ensures.fetches.leads) c.fetch_all-worked.ensures.batches
+    c.settle-settled.ensures.batches c.settle-settled.ensures.turned)

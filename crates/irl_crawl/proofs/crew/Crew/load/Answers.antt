@@ -19,6 +19,7 @@ use Rattle.irl_crawl.proofs.Loads.{all_ready, all_served, done, load_done, load_
 use Rattle.irl_crawl.proofs.Looking.{calm_memory, calm_ok, looks_calm, looks_err, looks_front, looks_then}
 use Rattle.irl_crawl.proofs.Shares.{IsEmpty}
 use Rattle.irl_crawl.proofs.Taking.{taken_agents}
+use Rattle.irl_crawl.proofs.RecordsTurned.{load_batch}
 use Rattle.irl_crawl.proofs.crew.Crew.load.Goals as goal
 
 -- a vector that was lent as a slice has what the slice had at last
@@ -199,3 +200,57 @@ returns-clause-agents g c =
     let taken = subst (λ (l : List Held). HaveTaken some.0 (schedules l) (schedules c.hand_out.new.fronts)) was some.1 in
     subst (λ (l : List Held). AreFor c.args.self.now.agent (schedules l)) (sym (lent fronts c.hand_out.new.fronts same))
     (taken_agents c.args.self.now.agent some.0 (schedules fronts.items) (schedules c.hand_out.new.fronts) taken c.requires.idle.agents)
+
+pub returns-in_err-works-clause-batches : goal.returns-in_err-works-clause-batches
+returns-in_err-works-clause-batches g c = λ begun.
+    let tells = g.S.Store.told in
+    let was = c.args.yard.now in
+    let now = c.front.new.self in
+    let looks = looks_front c.front.result _ _ was.parts now.parts (tells was.store) (tells now.store) c.front.ensures.reads c.front.ensures.states c.front.ensures.rest c.front.ensures.goes_on in
+    load_batch c.front.result _ was.parts now.parts (tells was.store) (tells now.store) looks was.rest_is now.rest_is (subst IsDrum c.front.ensures.states.same c.front.ensures.goes_on.drum)
+    (g.met.S.Store.is_consistent now.store) begun
+
+pub returns-in_err-shares-clause-batches : goal.returns-in_err-shares-clause-batches
+returns-in_err-shares-clause-batches g c = λ begun.
+    let tells = g.S.Store.told in
+    let was = c.args.yard.now in
+    let now = c.front.new.self in
+    let looks = looks_front c.front.result _ _ was.parts now.parts (tells was.store) (tells now.store) c.front.ensures.reads c.front.ensures.states c.front.ensures.rest c.front.ensures.goes_on in
+    load_batch c.front.result _ was.parts now.parts (tells was.store) (tells now.store) looks was.rest_is now.rest_is (subst IsDrum c.front.ensures.states.same c.front.ensures.goes_on.drum)
+    (g.met.S.Store.is_consistent now.store) begun
+
+pub returns-in_err-deal_all-clause-batches : goal.returns-in_err-deal_all-clause-batches
+returns-in_err-deal_all-clause-batches g c = λ begun.
+    let tells = g.S.Store.told in
+    let law = g.met.S.Store.is_consistent in
+    let was = c.args.yard.now in
+    let mid = c.front.new.self in
+    let now = c.deal_all.new.yard in
+    let looks = looks_front c.front.result _ _ was.parts mid.parts (tells was.store) (tells mid.store) c.front.ensures.reads c.front.ensures.states c.front.ensures.rest c.front.ensures.goes_on in
+    load_batch c.deal_all.result _ was.parts now.parts (tells was.store) (tells now.store)
+    (looks_then c.front.result c.deal_all.result was.parts mid.parts now.parts (tells was.store) (tells mid.store) (tells now.store) (law mid.store) looks c.deal_all.ensures.deals.looks)
+    was.rest_is now.rest_is (subst IsDrum c.front.ensures.states.same c.front.ensures.goes_on.drum) (law now.store) begun
+
+pub returns-in_err-hand_out-clause-batches : goal.returns-in_err-hand_out-clause-batches
+returns-in_err-hand_out-clause-batches g c = λ begun.
+    let tells = g.S.Store.told in
+    let law = g.met.S.Store.is_consistent in
+    let was = c.args.yard.now in
+    let mid = c.front.new.self in
+    let now = c.deal_all.new.yard in
+    let looks = looks_front c.front.result _ _ was.parts mid.parts (tells was.store) (tells mid.store) c.front.ensures.reads c.front.ensures.states c.front.ensures.rest c.front.ensures.goes_on in
+    load_batch c.deal_all.result _ was.parts now.parts (tells was.store) (tells now.store)
+    (looks_then c.front.result c.deal_all.result was.parts mid.parts now.parts (tells was.store) (tells mid.store) (tells now.store) (law mid.store) looks c.deal_all.ensures.deals.looks)
+    was.rest_is now.rest_is (subst IsDrum c.front.ensures.states.same c.front.ensures.goes_on.drum) (law now.store) begun
+
+pub returns-clause-batches : goal.returns-clause-batches
+returns-clause-batches g c = λ begun.
+    let tells = g.S.Store.told in
+    let law = g.met.S.Store.is_consistent in
+    let was = c.args.yard.now in
+    let mid = c.front.new.self in
+    let now = c.deal_all.new.yard in
+    let looks = looks_front c.front.result _ _ was.parts mid.parts (tells was.store) (tells mid.store) c.front.ensures.reads c.front.ensures.states c.front.ensures.rest c.front.ensures.goes_on in
+    load_batch c.deal_all.result _ was.parts now.parts (tells was.store) (tells now.store)
+    (looks_then c.front.result c.deal_all.result was.parts mid.parts now.parts (tells was.store) (tells mid.store) (tells now.store) (law mid.store) looks c.deal_all.ensures.deals.looks)
+    was.rest_is now.rest_is (subst IsDrum c.front.ensures.states.same c.front.ensures.goes_on.drum) (law now.store) begun
