@@ -50,7 +50,7 @@ module _ (task : CrawlTask) (asked : Asked) (before after : Lent) where
       let store = run.crawls g.files g.told g.x g.has in
       let found = store.full n refl in
       let crawls = found.2.1.0 in
-      let room = g.may.room found.0 store.kept found.1 crawls in
+      let room = g.may.room found.0 store.kept found.1 store.legal.0 crawls in
       elim found.2.1.1 [
         | inl urls ↦ let fits = room.0 n urls.0 in omega (arith, fits, urls.2)
         | inr pairs ↦ let fits = room.1 pairs.0 pairs.2 in omega (arith, fits, pairs.4)

@@ -208,6 +208,7 @@ store_refused task asked before after fault law closed files x is has =
       text = [];
       written = wrote_none before.output after.output closed.output;
       prints = no_text (ending_of_open fault) x (no_done fault);
+      silent = λ failed. refl;
       stops = keeps.stops;
       agrees = ⊎_elim (λ same. inl same)
           (λ (blank : x ≡ blank_state). inr (subst (λ (s : State). Agrees asked (settings_for asked (entered_state asked s))) (sym blank) (new_agrees asked))) left.blank;
@@ -344,6 +345,7 @@ module _ (task : CrawlTask) (asked : Asked) (before mid after : Lent) (was now :
         text = [];
         written = text;
         prints = no_text ending fails.kept (λ done. let no : DiskFault ≡ Done = sym failed ∙ done in let never : ⊥ = cc in absurd never);
+        silent = λ was. refl;
         stops = λ each. stops_in x fails.most whole each fails.stops;
       }
 
@@ -384,6 +386,7 @@ module _ (task : CrawlTask) (asked : Asked) (before mid after : Lent) (was now :
         text = over.text;
         written = written_in;
         prints = goes.prints;
+        silent = λ failed. absurd (fine failed);
         stops = λ each. stops_in x y to.front each to.stops;
       }
 

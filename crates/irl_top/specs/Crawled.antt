@@ -394,10 +394,11 @@ pub record CrawlsStore (task : CrawlTask) (asked : Asked) (before after : Lent) 
         × IsCrawled task (settings_for asked (entered_state asked x)) input (entered_state asked x) kept
     pub full : (n : ℕ) → ending ≡ Full n → (input : Taped) × IsInput task before.input.bytes input
         × IsFullBy task (settings_for asked (entered_state asked x)) input (entered_state asked x) kept n
-    -- what is written is its report at Done, and else a prefix of it
+    -- what is written is its report at Done, and else a prefix of it, and nothing where the store failed
     pub text : List ℕ
     pub written : Appends before.output.bytes after.output.bytes text
     pub prints : PrintsReport ending kept text
+    pub silent : ending ≡ DiskFault → text ≡ []
     -- where each joint image stood for the state, a stop at any moment leaves one between it and the greatest,
     pub stops : ((image : Files) → before.store.images image → HasState x image)
         → Leaves before.store after.store (HasOneBetween x most)
@@ -458,14 +459,14 @@ HasRoomForLinks suffixes settings x urls = (b : ℕ) → b < settings.buckets
 
 -- Over a store that stands for a state and was made, or can be made, as is asked, by an input that isn't refused and
 -- names no other suffixes, where nothing fails, and each list has room for all that a crawl of the input hands in and
--- links.
+-- links, in whatever state that keeps the laws of one.
 pub record MayComplete (task : CrawlTask) (asked : Asked) (before after : Lent) (x : State) : Type 0
   where
     pub read : (n : ℕ) → task.reads before.input.bytes (Err n) → ⊥
     pub agrees : Agrees asked (settings_for asked (entered_state asked x))
     pub valid : AreValid (settings_for asked (entered_state asked x))
     pub suffixes : (input : Taped) → IsInput task before.input.bytes input → Fits x input.suffixes
-    pub room : (input : Taped) (y : State) → IsInput task before.input.bytes input
+    pub room : (input : Taped) (y : State) → IsInput task before.input.bytes input → IsLegal y
         → (crawls : CrawlsInput task (settings_for asked (entered_state asked x)) input (entered_state asked x) y)
         → HasRoom (settings_for asked (entered_state asked x)) (entered_state asked x)
         (handed_by input (entered_state asked x) y crawls.visits)
