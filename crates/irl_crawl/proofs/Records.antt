@@ -128,10 +128,9 @@ pub record HasBays (images : Files → Type 0) (parts : Parts) (x : State) : Typ
   pub held : HoldsUrls images parts.urls x
   pub pairs : Holds images ledger.pairs x.pairs
 
-pub bays : (images : Files → Type 0) (parts : Parts) (told : Option Files) (x : State) → IsDrum parts.urls → IsOpenRest parts.urls parts.rest told → HasBegun parts.rest → HoldsState images parts x
+pub bays_in : (images : Files → Type 0) (parts : Parts) (told : Option Files) (x : State) → IsDrum parts.urls → IsOpenRest parts.urls parts.rest told → HasLedger parts.rest → HoldsState images parts x
     → HasBays images parts x
-bays images parts told x law opened begun held =
-    let crawl = crawl_of parts.rest begun in
+bays_in images parts told x law opened crawl held =
     let kept = (opened.1 crawl.0 crawl.1).1 in
     record {
       ledger = crawl.0;
@@ -144,6 +143,11 @@ bays images parts told x law opened begun held =
       held = held.urls;
       pairs = pairs_of images parts.urls.settings parts.rest x.urls x.pairs x.events crawl.0 crawl.1 held.open_rest;
     }
+
+-- where it has begun
+pub bays : (images : Files → Type 0) (parts : Parts) (told : Option Files) (x : State) → IsDrum parts.urls → IsOpenRest parts.urls parts.rest told → HasBegun parts.rest → HoldsState images parts x
+    → HasBays images parts x
+bays images parts told x law opened begun held = bays_in images parts told x law opened (crawl_of parts.rest begun) held
 
 -- a crawl's store has one ledger
 pub one_ledger : (rest : Rest) (one other : Ledger) → rest ≡ Crawl one → rest ≡ Crawl other → one ≡ other

@@ -15,7 +15,7 @@ use Rattle.irl_yard.specs.declared.parts.Parts.{Parts}
 use Rattle.irl_yard.specs.declared.parts.Rest.{Rest}
 use Rattle.irl_yard.specs.declared.parts.Rest.TheVariants.{Plain, Crawl}
 use Rattle.irl_yard.specs.Adding.{with_event}
-use Rattle.irl_yard.specs.Holding.{HoldsState, IsOpenRest}
+use Rattle.irl_yard.specs.Holding.{HasLedger, HoldsState, IsOpenRest}
 use Rattle.irl_yard.specs.Passing.{suffixes_in}
 use Rattle.irl_yard.specs.Sending.{HasBegun}
 use Rattle.irl_yard.proofs.States.{state_both}
@@ -53,10 +53,15 @@ pub desk_within : AreWithin (just 1 0) (just 1 1)
 desk_within n = (omega arith, omega arith, omega arith)
 
 -- ---- nothing was done
+pub same_batch : (failed : Type 0) (parts : Parts) (now : Told) → IsOpenRest parts.urls parts.rest now.files → IsDrum parts.urls → IsConsistent now → HasLedger parts.rest
+    → Batches failed (just 0 0) (just 0 0) parts parts now now
+same_batch failed parts now opened law consistent crawl =
+    looks_batch failed parts parts now now opened opened law consistent crawl crawl refl (stays now now.images consistent (λ image left. left)) refl (λ x held. held)
+
+-- where it has begun
 pub no_batch : (failed : Type 0) (parts : Parts) (now : Told) → IsOpenRest parts.urls parts.rest now.files → IsDrum parts.urls → IsConsistent now → HasBegun parts.rest
     → Batches failed (just 0 0) (just 0 0) parts parts now now
-no_batch failed parts now opened law consistent begun =
-    looks_batch failed parts parts now now opened opened law consistent begun begun refl (stays now now.images consistent (λ image left. left)) refl (λ x held. held)
+no_batch failed parts now opened law consistent begun = same_batch failed parts now opened law consistent (crawl_of parts.rest begun)
 
 -- from the store that a desk was opened before
 pub batch_from : {S : Type 0} (told : S → Told) (failed : Type 0) (kept left : ℕ → Spare) (opened store : S) (old parts now : Parts) (t : Told) → opened ≡ store → old ≡ parts

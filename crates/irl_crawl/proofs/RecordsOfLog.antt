@@ -1,4 +1,4 @@
--- Calls that change no file of a bay add no record and no cut, where a crawl has begun.
+-- Calls that change no file of a bay add no record and no cut.
 use Rattle.std.proofs.Common.{◌≡◌, ◌∙◌, ◌⊎◌, inl, inr, ⊎_elim, ℕ, ◌+◌, ◌<◌, ◌≤◌, List, [], ◌∷◌, ◌++◌, Option, Some, Result, Ok, Err, OnOk, IsErrOf, refl, sym, ap, subst, arith}
 use Rattle.std.specs.Prelude.{⊤}
 use Rattle.std.specs.Option.{ForSome}
@@ -25,13 +25,12 @@ use Rattle.irl_ledger.specs.declared.ledger.Ledger.{Ledger}
 use Rattle.irl_yard.specs.declared.parts.Parts.{Parts}
 use Rattle.irl_yard.specs.declared.parts.Rest.TheVariants.{Crawl}
 use Rattle.irl_yard.specs.Adding.{AddsEvent, AddsNotes, notes_happened, with_event, with_notes}
-use Rattle.irl_yard.specs.Holding.{HasOneOf, HoldsState, IsOpenRest}
+use Rattle.irl_yard.specs.Holding.{HasLedger, HasOneOf, HoldsState, IsOpenRest}
 use Rattle.irl_yard.specs.Passing.{PassesState, with_pass}
-use Rattle.irl_yard.specs.Sending.{HasBegun}
 use Rattle.irl_yard.specs.Standing.{HasState}
 use Rattle.irl_yard.proofs.Holding.{held_has}
 use Rattle.irl_yard.proofs.States.{event_front, state_same}
-use Rattle.irl_crawl.proofs.Records.{AreBeside, HasBays, bays, held_one, leaves_two, live_as, live_stay, log_beside, log_no_pairs, one_ledger, open_stay}
+use Rattle.irl_crawl.proofs.Records.{AreBeside, HasBays, bays_in, held_one, leaves_two, live_as, live_stay, log_beside, log_no_pairs, one_ledger, open_stay}
 use Rattle.irl_crawl.proofs.RecordsThen.{HoldsOn}
 use Rattle.irl_crawl.specs.Batches.{Batches, ComeInBatches, HasBatched, HaveBoth, Records, Spare, just, turns_since}
 
@@ -77,7 +76,7 @@ abbrev pub LeavesAlike : Told → Parts → Told → Type 0
 LeavesAlike s was t = ForSome s.files (λ _. (x : State) → HoldsState s.images was x → Leaves s t (HasAlike x))
 
 module _ (failed : Type 0) (among : ℕ → Type 0) (was now : Parts) (s t : Told) (opened : IsOpenRest was.urls was.rest s.files) (opened_now : IsOpenRest now.urls now.rest t.files)
-    (law : IsDrum was.urls) (consistent : IsConsistent t) (begun : HasBegun was.rest) (begun_now : HasBegun now.rest) (urls : now.urls ≡ was.urls)
+    (law : IsDrum was.urls) (consistent : IsConsistent t) (crawl : HasLedger was.rest) (crawl_now : HasLedger now.rest) (urls : now.urls ≡ was.urls)
     (beside : (x : State) (has : HasBays s.images was x) → AreBeside among was.urls × AreBeside among has.ledger.pairs) (stops : LeavesBy (ChangesOnly among) s t)
     (told_on : (files : Files) → s.files ≡ Some files → (after : Files) × (t.files ≡ Some after)) (alike : (failed → ⊥) → StaysAlike s was t now) (left : LeavesAlike s was t) where
   abbrev settings : Settings
@@ -89,7 +88,7 @@ module _ (failed : Type 0) (among : ℕ → Type 0) (was now : Parts) (s t : Tol
   left_at : (x : State) (records : Records) → HoldsState s.images was x → HaveBoth s.images was records → Leaves s t (HasAlike x)
       → Leaves s t (HasBatched settings (just 0 0) x records)
   left_at x records held have leaves =
-      let has = bays s.images was s.files x law opened begun held in
+      let has = bays_in s.images was s.files x law opened crawl held in
       let apart = beside x has in
       leaves_two s t (Follows (ChangesOnly among) s.images) (HasAlike x) (HasBatched settings (just 0 0) x records) stops leaves
       (λ image from one. record {
@@ -108,8 +107,8 @@ module _ (failed : Type 0) (among : ℕ → Type 0) (was now : Parts) (s t : Tol
   kept_at : (files : Files) → s.files ≡ Some files → (x y : State) (records : Records) → HoldsState s.images was x → HoldsState t.images now y → HaveBoth s.images was records → IsAlike x y
       → (after : Records) × HaveBoth t.images now after × ComeInBatches settings (just 0 0 0) x y records after
   kept_at files told x y records held last have is =
-      let has = bays s.images was s.files x law opened begun held in
-      let at = bays t.images now t.files y law_now opened_now begun_now last in
+      let has = bays_in s.images was s.files x law opened crawl held in
+      let at = bays_in t.images now t.files y law_now opened_now crawl_now last in
       let apart = beside x has in
       let after = told_on files told in
       let base : at.ledger.pairs.base ≡ has.ledger.pairs.base = at.pairs_base_is ∙ sym has.pairs_base_is in
@@ -176,7 +175,7 @@ log_apart : (images : Files → Type 0) (parts : Parts) (x : State) (has : HasBa
 log_apart images parts x has = (log_beside images parts x has, log_no_pairs images parts x has)
 
 module _ {S : Type 0} (told : S → Told) (lawful : (s : S) → IsConsistent (told s)) (was now : Parts) (before after : S) (opened : IsOpenRest was.urls was.rest (told before).files)
-    (opened_now : IsOpenRest now.urls now.rest (told after).files) (law : IsDrum was.urls) (begun : HasBegun was.rest) where
+    (opened_now : IsOpenRest now.urls now.rest (told after).files) (law : IsDrum was.urls) (crawl : HasLedger was.rest) where
   abbrev s : Told
   s = told before
 
@@ -187,7 +186,7 @@ module _ {S : Type 0} (told : S → Told) (lawful : (s : S) → IsConsistent (to
   same_held : (x : State) → (after ≡ before) × (now ≡ was) → HoldsState s.images was x → HoldsState t.images now x
   same_held x same held = subst (λ (a : S). HoldsState (told a).images now x) (sym same.0) (subst (λ (p : Parts). HoldsState s.images p x) (sym same.1) held)
 
-  module _ (result : Result Unit Fault) (event : Event) (adds : AddsEvent told result event was now before after) (begun_now : HasBegun now.rest) where
+  module _ (result : Result Unit Fault) (event : Event) (adds : AddsEvent told result event was now before after) (crawl_now : HasLedger now.rest) where
     law_event : IsDrum now.urls
     law_event = subst IsDrum (sym adds.urls) law
 
@@ -205,7 +204,7 @@ module _ {S : Type 0} (told : S → Told) (lawful : (s : S) → IsConsistent (to
 
     pub event_batch : Batches (IsErrOf result Failed) (just 0 0) (just 0 0) was now s t
     event_batch =
-        still_batch (IsErrOf result Failed) (λ f. f ≡ crawl_file) was now s t opened opened_now law (lawful after) begun begun_now adds.urls (λ x has. log_apart s.images was x has)
+        still_batch (IsErrOf result Failed) (λ f. f ≡ crawl_file) was now s t opened opened_now law (lawful after) crawl crawl_now adds.urls (λ x has. log_apart s.images was x has)
         (log_only s t adds.others.stops) told_event alike_by_event (λ files is x held. left_either s t x (with_event event [] x) (alike_event event [] x) (adds.stops x held))
 
     pub event_on : HoldsOn (IsErrOf result Failed) was now s t
@@ -223,7 +222,7 @@ module _ {S : Type 0} (told : S → Told) (lawful : (s : S) → IsConsistent (to
         let holds = ok_gives result value (done_event x held) is in
         held_one t now y (with_event event [] x) files (lawful after) law_event here last.urls holds.urls
 
-  module _ (result : Result Unit Fault) (notes : List Note) (adds : AddsNotes told result notes was now before after) (begun_now : HasBegun now.rest) where
+  module _ (result : Result Unit Fault) (notes : List Note) (adds : AddsNotes told result notes was now before after) (crawl_now : HasLedger now.rest) where
     law_notes : IsDrum now.urls
     law_notes = subst IsDrum (sym adds.urls) law
 
@@ -241,7 +240,7 @@ module _ {S : Type 0} (told : S → Told) (lawful : (s : S) → IsConsistent (to
 
     pub notes_batch : Batches (IsErrOf result Failed) (just 0 0) (just 0 0) was now s t
     notes_batch =
-        still_batch (IsErrOf result Failed) (λ f. f ≡ crawl_file) was now s t opened opened_now law (lawful after) begun begun_now adds.urls (λ x has. log_apart s.images was x has)
+        still_batch (IsErrOf result Failed) (λ f. f ≡ crawl_file) was now s t opened opened_now law (lawful after) crawl crawl_now adds.urls (λ x has. log_apart s.images was x has)
         (log_only s t adds.others.stops) told_notes alike_by_notes (λ files is x held. left_either s t x (with_notes notes x) (alike_notes notes x) (adds.stops x held))
 
     pub notes_on : HoldsOn (IsErrOf result Failed) was now s t
@@ -253,7 +252,7 @@ module _ {S : Type 0} (told : S → Told) (lawful : (s : S) → IsConsistent (to
       settings = ap (λ (d : Drum). d.settings) adds.urls;
     }
 
-  module _ (result : Result ℕ Fault) (passes : PassesState told result was now before after) (begun_now : HasBegun now.rest) where
+  module _ (result : Result ℕ Fault) (passes : PassesState told result was now before after) (crawl_now : HasLedger now.rest) where
     law_pass : IsDrum now.urls
     law_pass = subst IsDrum (sym passes.urls) law
 
@@ -271,16 +270,16 @@ module _ {S : Type 0} (told : S → Told) (lawful : (s : S) → IsConsistent (to
 
     pub pass_batch : Batches (IsErrOf result Failed) (just 0 0) (just 0 0) was now s t
     pass_batch =
-        still_batch (IsErrOf result Failed) (λ f. f ≡ crawl_file) was now s t opened opened_now law (lawful after) begun begun_now passes.urls (λ x has. log_apart s.images was x has)
+        still_batch (IsErrOf result Failed) (λ f. f ≡ crawl_file) was now s t opened opened_now law (lawful after) crawl crawl_now passes.urls (λ x has. log_apart s.images was x has)
         (log_only s t passes.others.stops) told_pass alike_by_pass (λ files is x held. left_either s t x (with_pass was.urls.settings x) (alike_pass x) (passes.stops x held))
 
 -- ---- calls that only look
 -- no file changes, and each state that was held is held
-pub looks_batch : (failed : Type 0) (was now : Parts) (s t : Told) → IsOpenRest was.urls was.rest s.files → IsOpenRest now.urls now.rest t.files → IsDrum was.urls → IsConsistent t → HasBegun was.rest
-    → HasBegun now.rest
+pub looks_batch : (failed : Type 0) (was now : Parts) (s t : Told) → IsOpenRest was.urls was.rest s.files → IsOpenRest now.urls now.rest t.files → IsDrum was.urls → IsConsistent t → HasLedger was.rest
+    → HasLedger now.rest
     → now.urls ≡ was.urls → LeavesSame s t → t.files ≡ s.files → ((x : State) → HoldsState s.images was x → HoldsState t.images now x) → Batches failed (just 0 0) (just 0 0) was now s t
-looks_batch failed was now s t opened opened_now law consistent begun begun_now urls same files_same holds =
-    still_batch failed (λ f. ⊥) was now s t opened opened_now law consistent begun begun_now urls (λ x has. ((λ f no of. no), (λ f no of. no)))
+looks_batch failed was now s t opened opened_now law consistent crawl crawl_now urls same files_same holds =
+    still_batch failed (λ f. ⊥) was now s t opened opened_now law consistent crawl crawl_now urls (λ x has. ((λ f no of. no), (λ f no of. no)))
     (same_by s t (ChangesOnly (λ f. ⊥)) (λ image f out. refl) same) (λ files told. (files, files_same ∙ told))
     (λ not files told x y held last.
     subst (IsAlike x) (held_one t now x y files consistent (subst IsDrum (sym urls) law) (files_same ∙ told) (holds x held).urls last.urls) (alike_same x))

@@ -7,6 +7,7 @@ use Rattle.irl_bay.specs.Drum.{IsDrum}
 use Rattle.irl_yard.specs.declared.parts.Parts.{Parts}
 use Rattle.irl_yard.specs.Holding.{IsOpenRest}
 use Rattle.irl_yard.specs.Sending.{HasBegun}
+use Rattle.irl_crawl.proofs.Records.{crawl_of}
 use Rattle.irl_crawl.proofs.RecordsJudged.{just_besides, no_batch, none_besides, ok_or_failed}
 use Rattle.irl_crawl.proofs.RecordsOfLog.{looks_batch}
 use Rattle.irl_crawl.proofs.RecordsThen.{AreWithin, HoldsOn, IsWithin, batches_more, batches_then, same_within}
@@ -19,7 +20,7 @@ use Rattle.irl_crawl.specs.declared.plan.Ended.TheVariants.{Fault}
 pub load_batch : {A : Type 0} (result : Result A FaultValue) (failed : Type 0) (was now : Parts) (s t : Told) → OnlyLooks result was now s t → IsOpenRest was.urls was.rest s.files
     → IsOpenRest now.urls now.rest t.files → IsDrum was.urls → IsConsistent t → HasBegun was.rest → Batches failed (just 0 0) (just 0 0) was now s t
 load_batch result failed was now s t looks opened opened_now law consistent begun =
-    looks_batch failed was now s t opened opened_now law consistent begun (subst HasBegun (sym looks.rest) begun) looks.urls looks.stops looks.files looks.holds
+    looks_batch failed was now s t opened opened_now law consistent (crawl_of was.rest begun) (crawl_of now.rest (subst HasBegun (sym looks.rest) begun)) looks.urls looks.stops looks.files looks.holds
 
 -- and what follows it adds what it does alone
 pub loaded_batch : (first failed : Type 0) (kept left : ℕ → Spare) (was mid now : Parts) (s t u : Told) → (first → ⊥) → ((m n : ℕ) → IsWithin (kept n) (kept (m + n)))

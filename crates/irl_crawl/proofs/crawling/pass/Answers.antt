@@ -8,6 +8,7 @@ use Rattle.irl_crawl.proofs.PassLeads.{pass_keeps, pass_ok, pass_part}
 use Rattle.irl_crawl.specs.Leading.{Leads}
 use Rattle.irl_crawl.specs.Running.{Passes}
 use Rattle.irl_bay.specs.Drum.{IsDrum}
+use Rattle.irl_crawl.proofs.Records.{crawl_of}
 use Rattle.irl_crawl.proofs.RecordsJudged.{begun_passed, failed_on, ok_or_failed}
 use Rattle.irl_crawl.proofs.RecordsOfLog.{pass_batch}
 use Rattle.irl_crawl.proofs.RecordsThen.{batches_more, same_within}
@@ -51,8 +52,9 @@ returns-in_err-pass-clause-batches g c =
     let out = err_from_is_err_and c.from_residual.result c.from_residual.ensures.1 in
     batches_more (IsErrOf c.pass.result Failed) (IsErrOf c.from_residual.result Failed) (just 0 0) (just 0 0) (just 0 0) (just 0 0) was.parts now.parts (tells was.store) (tells now.store)
     (failed_on c.pass.result c.from_residual.result c.in_err-pass.field-0.0 c.in_err-pass.was (out.1 ∙ ap (λ (e : Fault). Err e) out.2)) (same_within (just 0 0)) (same_within (just 0 0))
-    (pass_batch tells g.met.S.Store.is_consistent was.parts now.parts was.store now.store was.rest_is now.rest_is (subst IsDrum passes.urls c.pass.ensures.goes_on.drum) begun c.pass.result passes
-    (begun_passed was.parts now.parts (tells was.store).files (tells now.store).files was.rest_is now.rest_is passes.urls passes.suffixes begun))
+    (pass_batch tells g.met.S.Store.is_consistent was.parts now.parts was.store now.store was.rest_is now.rest_is (subst IsDrum passes.urls c.pass.ensures.goes_on.drum) (crawl_of was.parts.rest begun)
+    c.pass.result passes (crawl_of now.parts.rest
+    (begun_passed was.parts now.parts (tells was.store).files (tells now.store).files was.rest_is now.rest_is passes.urls passes.suffixes begun)))
 
 pub returns-clause-batches : goal.returns-clause-batches
 returns-clause-batches g c =
@@ -63,5 +65,6 @@ returns-clause-batches g c =
     let begun = c.requires.open.begun in
     batches_more (IsErrOf c.pass.result Failed) _ (just 0 0) (just 0 0) (just 0 0) (just 0 0) was.parts now.parts (tells was.store) (tells now.store)
     (λ failed. absurd (ok_or_failed c.pass.result c.in_ok-pass.field-0 c.in_ok-pass.was failed)) (same_within (just 0 0)) (same_within (just 0 0))
-    (pass_batch tells g.met.S.Store.is_consistent was.parts now.parts was.store now.store was.rest_is now.rest_is (subst IsDrum passes.urls c.pass.ensures.goes_on.drum) begun c.pass.result passes
-    (begun_passed was.parts now.parts (tells was.store).files (tells now.store).files was.rest_is now.rest_is passes.urls passes.suffixes begun))
+    (pass_batch tells g.met.S.Store.is_consistent was.parts now.parts was.store now.store was.rest_is now.rest_is (subst IsDrum passes.urls c.pass.ensures.goes_on.drum) (crawl_of was.parts.rest begun)
+    c.pass.result passes (crawl_of now.parts.rest
+    (begun_passed was.parts now.parts (tells was.store).files (tells now.store).files was.rest_is now.rest_is passes.urls passes.suffixes begun)))

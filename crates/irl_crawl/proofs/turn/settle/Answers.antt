@@ -3,6 +3,7 @@ use Rattle.std.proofs.lemmas.Result.{err_from_is_err_and}
 use Rattle.irl_crawl.proofs.Settling.{begun_kept, begun_settled, judged_whole, judges_by, judging_refused, ledger_after, notes_refused, noting_leads, settings_kept, settle_refused, settles_as, settles_still, settling_leads, suffixes_settled}
 use Rattle.irl_base.specs.declared.fault.Fault.TheVariants.{Failed}
 use Rattle.irl_yard.specs.Settling.{settle_of}
+use Rattle.irl_crawl.proofs.Records.{crawl_of}
 use Rattle.irl_crawl.proofs.RecordsJudged.{begun_on, event_judged, failed_on, none_judged, ok_or_failed, refused_batch, settle_batch, suffixes_there, turned_then}
 use Rattle.irl_crawl.proofs.RecordsOfLog.{event_batch, event_on, event_there, notes_batch, notes_on}
 use Rattle.irl_crawl.proofs.RecordsThen.{batches_more, leads_on, same_within}
@@ -134,10 +135,12 @@ returns-in_err-note_all-clause-batches g c =
     let adds = c.in_err-note_all.ensures.adds in
     let out = err_from_is_err_and c.from_residual.result c.from_residual.ensures.1 in
     let begun = c.requires.«open».begun in
+    let crawl = crawl_of was.parts.rest begun in
     batches_more (IsErrOf {T = Unit} (Err fault) Failed) (IsErrOf c.from_residual.result Failed) (just 0 0) (just 0 0) judged_in judged_in was.parts now.parts (tells was.store) (tells now.store)
     (failed_on {A = Unit} (Err fault) c.from_residual.result fault refl (out.1 ∙ ap (λ e. Err e) out.2)) none_judged none_judged
-    (notes_batch tells law was.parts now.parts was.store now.store was.rest_is now.rest_is c.is_sound-is_sound.ensures.drum begun (Err fault) c.args.notes.now adds
-    (begun_on was.parts now.parts (tells was.store).files (tells now.store).files was.rest_is now.rest_is adds.urls (λ old new one two. (adds.tables old new one two).suffixes) begun))
+    (notes_batch tells law was.parts now.parts was.store now.store was.rest_is now.rest_is c.is_sound-is_sound.ensures.drum crawl (Err fault) c.args.notes.now adds
+    (crawl_of now.parts.rest (begun_on was.parts now.parts (tells was.store).files (tells now.store).files was.rest_is now.rest_is adds.urls (λ old new one two. (adds.tables old new one two).suffixes)
+    begun)))
 
 pub returns-in_err-settle-clause-batches : goal.returns-in_err-settle-clause-batches
 returns-in_err-settle-clause-batches g c =
@@ -153,19 +156,22 @@ returns-in_err-settle-clause-batches g c =
     let out = err_from_is_err_and c.from_residual-in_err-settle.result c.from_residual-in_err-settle.ensures.1 in
     let drum = c.is_sound-is_sound.ensures.drum in
     let begun = c.requires.«open».begun in
+    let crawl = crawl_of was.parts.rest begun in
     let begun_mid =
     begun_on was.parts mid.parts (tells was.store).files (tells mid.store).files was.rest_is mid.rest_is noted.urls (λ old new one two. (noted.tables old new one two).suffixes) begun in
+    let crawl_mid = crawl_of mid.parts.rest begun_mid in
     let begun_now =
     begun_on mid.parts now.parts (tells mid.store).files (tells now.store).files mid.rest_is now.rest_is adds.urls (λ old new one two. (adds.tables old new one two).kept.1) begun_mid in
+    let crawl_now = crawl_of now.parts.rest begun_now in
     batches_more (IsErrOf {T = Unit} (Err fault) Failed) (IsErrOf c.from_residual-in_err-settle.result Failed) judged_in judged_in judged_in judged_in was.parts now.parts (tells was.store)
     (tells now.store)
     (failed_on {A = Unit} (Err fault) c.from_residual-in_err-settle.result fault refl (out.1 ∙ ap (λ e. Err e) out.2)) (same_within judged_in) (same_within judged_in)
     (refused_batch (IsErrOf (Ok done) Failed) (IsErrOf {T = Unit} (Err fault) Failed) was.parts mid.parts now.parts (tells was.store) (tells mid.store) (tells now.store)
     (ok_or_failed (Ok done) done refl)
-    (notes_on tells law was.parts mid.parts was.store mid.store was.rest_is mid.rest_is drum begun (Ok done) c.args.notes.now noted begun_mid)
-    (notes_batch tells law was.parts mid.parts was.store mid.store was.rest_is mid.rest_is drum begun (Ok done) c.args.notes.now noted begun_mid)
-    (event_batch tells law mid.parts now.parts mid.store now.store mid.rest_is now.rest_is c.in_ok-note_all.ensures.goes_on.drum begun_mid (Err fault) (settle_of mid.parts.urls c.args.done.now) adds
-    begun_now))
+    (notes_on tells law was.parts mid.parts was.store mid.store was.rest_is mid.rest_is drum crawl (Ok done) c.args.notes.now noted crawl_mid)
+    (notes_batch tells law was.parts mid.parts was.store mid.store was.rest_is mid.rest_is drum crawl (Ok done) c.args.notes.now noted crawl_mid)
+    (event_batch tells law mid.parts now.parts mid.store now.store mid.rest_is now.rest_is c.in_ok-note_all.ensures.goes_on.drum crawl_mid (Err fault) (settle_of mid.parts.urls c.args.done.now) adds
+    crawl_now))
 
 pub returns-in_err-judge-clause-batches : goal.returns-in_err-judge-clause-batches
 returns-in_err-judge-clause-batches g c =
@@ -185,22 +191,25 @@ returns-in_err-judge-clause-batches g c =
     let drum = c.is_sound-is_sound.ensures.drum in
     let drum_mid = c.in_ok-note_all.ensures.goes_on.drum in
     let begun = c.requires.«open».begun in
+    let crawl = crawl_of was.parts.rest begun in
     let begun_mid =
     begun_on was.parts mid.parts (tells was.store).files (tells mid.store).files was.rest_is mid.rest_is noted.urls (λ old new one two. (noted.tables old new one two).suffixes) begun in
+    let crawl_mid = crawl_of mid.parts.rest begun_mid in
     let begun_late =
     begun_on mid.parts late.parts (tells mid.store).files (tells late.store).files mid.rest_is late.rest_is adds.urls (λ old new one two. (adds.tables old new one two).done.1) begun_mid in
+    let crawl_late = crawl_of late.parts.rest begun_late in
     batches_more (IsErrOf {T = Unit} (Err fault) Failed) (IsErrOf c.from_residual-in_err-judge.result Failed) judged_in judged_in judged_in judged_in was.parts now.parts (tells was.store)
     (tells now.store)
     (failed_on {A = Unit} (Err fault) c.from_residual-in_err-judge.result fault refl (out.1 ∙ ap (λ e. Err e) out.2)) (same_within judged_in) (same_within judged_in)
     (settle_batch (IsErrOf (Ok done) Failed) (IsErrOf {T = Unit} (Err fault) Failed) was.parts mid.parts now.parts (tells was.store) (tells mid.store) (tells now.store)
     (ok_or_failed (Ok done) done refl)
-    (notes_on tells law was.parts mid.parts was.store mid.store was.rest_is mid.rest_is drum begun (Ok done) c.args.notes.now noted begun_mid)
-    (notes_batch tells law was.parts mid.parts was.store mid.store was.rest_is mid.rest_is drum begun (Ok done) c.args.notes.now noted begun_mid)
+    (notes_on tells law was.parts mid.parts was.store mid.store was.rest_is mid.rest_is drum crawl (Ok done) c.args.notes.now noted crawl_mid)
+    (notes_batch tells law was.parts mid.parts was.store mid.store was.rest_is mid.rest_is drum crawl (Ok done) c.args.notes.now noted crawl_mid)
     (event_judged (IsErrOf (Ok settled) Failed) (IsErrOf {T = Unit} (Err fault) Failed) event mid.parts late.parts now.parts (tells mid.store) (tells late.store) (tells now.store)
     (ok_or_failed (Ok settled) settled refl) refl
-    (event_on tells law mid.parts late.parts mid.store late.store mid.rest_is late.rest_is drum_mid begun_mid (Ok settled) event adds begun_late)
-    (event_there tells law mid.parts late.parts mid.store late.store mid.rest_is late.rest_is drum_mid begun_mid (Ok settled) event adds begun_late settled refl)
-    (event_batch tells law mid.parts late.parts mid.store late.store mid.rest_is late.rest_is drum_mid begun_mid (Ok settled) event adds begun_late) c.in_err-judge.ensures.batches))
+    (event_on tells law mid.parts late.parts mid.store late.store mid.rest_is late.rest_is drum_mid crawl_mid (Ok settled) event adds crawl_late)
+    (event_there tells law mid.parts late.parts mid.store late.store mid.rest_is late.rest_is drum_mid crawl_mid (Ok settled) event adds crawl_late settled refl)
+    (event_batch tells law mid.parts late.parts mid.store late.store mid.rest_is late.rest_is drum_mid crawl_mid (Ok settled) event adds crawl_late) c.in_err-judge.ensures.batches))
 
 pub returns-clause-batches : goal.returns-clause-batches
 returns-clause-batches g c =
@@ -219,21 +228,24 @@ returns-clause-batches g c =
     let drum = c.is_sound-is_sound.ensures.drum in
     let drum_mid = c.in_ok-note_all.ensures.goes_on.drum in
     let begun = c.requires.«open».begun in
+    let crawl = crawl_of was.parts.rest begun in
     let begun_mid =
     begun_on was.parts mid.parts (tells was.store).files (tells mid.store).files was.rest_is mid.rest_is noted.urls (λ old new one two. (noted.tables old new one two).suffixes) begun in
+    let crawl_mid = crawl_of mid.parts.rest begun_mid in
     let begun_late =
     begun_on mid.parts late.parts (tells mid.store).files (tells late.store).files mid.rest_is late.rest_is adds.urls (λ old new one two. (adds.tables old new one two).done.1) begun_mid in
+    let crawl_late = crawl_of late.parts.rest begun_late in
     batches_more (IsErrOf (Ok judged) Failed) _ judged_in judged_in judged_in judged_in was.parts now.parts (tells was.store) (tells now.store)
     (λ failed. absurd (ok_or_failed (Ok judged) judged refl failed)) (same_within judged_in) (same_within judged_in)
     (settle_batch (IsErrOf (Ok done) Failed) (IsErrOf (Ok judged) Failed) was.parts mid.parts now.parts (tells was.store) (tells mid.store) (tells now.store)
     (ok_or_failed (Ok done) done refl)
-    (notes_on tells law was.parts mid.parts was.store mid.store was.rest_is mid.rest_is drum begun (Ok done) c.args.notes.now noted begun_mid)
-    (notes_batch tells law was.parts mid.parts was.store mid.store was.rest_is mid.rest_is drum begun (Ok done) c.args.notes.now noted begun_mid)
+    (notes_on tells law was.parts mid.parts was.store mid.store was.rest_is mid.rest_is drum crawl (Ok done) c.args.notes.now noted crawl_mid)
+    (notes_batch tells law was.parts mid.parts was.store mid.store was.rest_is mid.rest_is drum crawl (Ok done) c.args.notes.now noted crawl_mid)
     (event_judged (IsErrOf (Ok settled) Failed) (IsErrOf (Ok judged) Failed) event mid.parts late.parts now.parts (tells mid.store) (tells late.store) (tells now.store)
     (ok_or_failed (Ok settled) settled refl) refl
-    (event_on tells law mid.parts late.parts mid.store late.store mid.rest_is late.rest_is drum_mid begun_mid (Ok settled) event adds begun_late)
-    (event_there tells law mid.parts late.parts mid.store late.store mid.rest_is late.rest_is drum_mid begun_mid (Ok settled) event adds begun_late settled refl)
-    (event_batch tells law mid.parts late.parts mid.store late.store mid.rest_is late.rest_is drum_mid begun_mid (Ok settled) event adds begun_late) c.in_ok-judge.ensures.batches))
+    (event_on tells law mid.parts late.parts mid.store late.store mid.rest_is late.rest_is drum_mid crawl_mid (Ok settled) event adds crawl_late)
+    (event_there tells law mid.parts late.parts mid.store late.store mid.rest_is late.rest_is drum_mid crawl_mid (Ok settled) event adds crawl_late settled refl)
+    (event_batch tells law mid.parts late.parts mid.store late.store mid.rest_is late.rest_is drum_mid crawl_mid (Ok settled) event adds crawl_late) c.in_ok-judge.ensures.batches))
 
 pub returns-clause-turned : goal.returns-clause-turned
 returns-clause-turned g c =
@@ -252,15 +264,18 @@ returns-clause-turned g c =
     let drum = c.is_sound-is_sound.ensures.drum in
     let drum_mid = c.in_ok-note_all.ensures.goes_on.drum in
     let begun = c.requires.«open».begun in
+    let crawl = crawl_of was.parts.rest begun in
     let begun_mid =
     begun_on was.parts mid.parts (tells was.store).files (tells mid.store).files was.rest_is mid.rest_is noted.urls (λ old new one two. (noted.tables old new one two).suffixes) begun in
+    let crawl_mid = crawl_of mid.parts.rest begun_mid in
     let begun_late =
     begun_on mid.parts late.parts (tells mid.store).files (tells late.store).files mid.rest_is late.rest_is adds.urls (λ old new one two. (adds.tables old new one two).done.1) begun_mid in
+    let crawl_late = crawl_of late.parts.rest begun_late in
     let suffixes = suffixes_there late.parts (tells late.store).files late.rest_is begun_late in
     let leads = c.in_ok-judge.ensures.leads suffixes.0 suffixes.1 in
     turned_then (IsErrOf (Ok done) Failed) (IsErrOf (Ok settled) Failed) (IsErrOf (Ok judged) Failed) event was.parts mid.parts late.parts now.parts (tells was.store) (tells mid.store)
     (tells late.store) (tells now.store) (ok_or_failed (Ok done) done refl) (ok_or_failed (Ok settled) settled refl) (ok_or_failed (Ok judged) judged refl) (law now.store) leads.goes_on.drum refl
-    (notes_on tells law was.parts mid.parts was.store mid.store was.rest_is mid.rest_is drum begun (Ok done) c.args.notes.now noted begun_mid)
-    (event_on tells law mid.parts late.parts mid.store late.store mid.rest_is late.rest_is drum_mid begun_mid (Ok settled) event adds begun_late)
-    (event_there tells law mid.parts late.parts mid.store late.store mid.rest_is late.rest_is drum_mid begun_mid (Ok settled) event adds begun_late settled refl)
+    (notes_on tells law was.parts mid.parts was.store mid.store was.rest_is mid.rest_is drum crawl (Ok done) c.args.notes.now noted crawl_mid)
+    (event_on tells law mid.parts late.parts mid.store late.store mid.rest_is late.rest_is drum_mid crawl_mid (Ok settled) event adds crawl_late)
+    (event_there tells law mid.parts late.parts mid.store late.store mid.rest_is late.rest_is drum_mid crawl_mid (Ok settled) event adds crawl_late settled refl)
     (leads_on (IsErrOf (Ok judged) Failed) _ _ late.parts now.parts (tells late.store) (tells now.store) leads)
