@@ -12,13 +12,14 @@ use Rattle.irl_disk.specs.Images.{IsConsistent, Told}
 use Rattle.irl_disk.proofs.Effects.{cause_for}
 use Rattle.irl_events.specs.State.{State, IsFrontState}
 use Rattle.irl_fate.specs.declared.counts.Counts.{Counts}
+use Rattle.irl_offer.specs.declared.settings.Kind.TheVariants.{Crawl as CrawlKind}
 use Rattle.irl_offer.specs.declared.settings.Settings.{Settings}
 use Rattle.irl_record.specs.Taped.{Taped}
 use Rattle.irl_record.specs.declared.reading.TapeFault.{TapeFault}
 use Rattle.irl_record.specs.declared.reading.TapeFault.TheVariants.{BadRecord, Failed as TapeFailed, Memory as TapeMemory}
 use Rattle.irl_report.specs.Report.{report_of}
 use Rattle.irl_yard.specs.declared.parts.Parts.{Parts}
-use Rattle.irl_yard.specs.Holding.{HoldsState, IsSound}
+use Rattle.irl_yard.specs.Holding.{HoldsState, IsOpenRest, IsSound}
 use Rattle.irl_yard.specs.Passing.{AreCounts}
 use Rattle.irl_words.specs.declared.command.RunOptions.{RunOptions}
 use Rattle.irl_top.specs.Crawled.{CrawlTask, part_task, suffixes_for, CrawlsInput, CrawlsTape, Crawled, GoesOver, GoesTo, IsCrawled}
@@ -31,6 +32,7 @@ use Rattle.irl_top.specs.Shown.{HasCounts}
 use Rattle.irl_top.specs.Stream.{Stream}
 use Rattle.irl_top.specs.declared.ending.Ending.{Ending}
 use Rattle.irl_top.specs.declared.ending.Ending.TheVariants.{Done, BadSettings, LineRefused, NotOurs, Damaged, OtherSettings, DiskFault, InputFault, OutputFault, NoMemory, Full}
+use Rattle.irl_top.proofs.Batching.{CrawlBatches, named_batch, none_crawled}
 use Rattle.irl_top.proofs.Beginning.{only_wider}
 use Rattle.irl_top.proofs.Giving.{GivesMore}
 use Rattle.irl_top.proofs.Shows.{Printed, at_done, has_report, narrow, none_of, refused_as}
@@ -90,9 +92,10 @@ not_crawled : (fault : TapeFault) → IsCrawledEnding (ending_of_tape fault) →
 not_crawled fault crawled = not_read fault (inl crawled)
 
 pub goes_unread : (task : CrawlTask) (fault : TapeFault) (parts : Parts) (now : Told) (old new output : Stream) → IsConsistent now → IsDrum parts.urls → IsSound parts
+    → IsOpenRest parts.urls parts.rest now.files → parts.urls.settings.kind ≡ CrawlKind
     → ((n : ℕ) → fault ≡ BadRecord n → task.reads old.bytes (Err n)) → HasCause (fault ≡ TapeFailed) old.faults new.faults
     → GoesOver task parts parts (at now old output) (at now new output) (ending_of_tape fault)
-goes_unread task fault parts now old new output law drum sound line cause =
+goes_unread task fault parts now old new output law drum sound opened kind line cause =
     let ending = ending_of_tape fault in
     record {
       text = [];
@@ -107,6 +110,7 @@ goes_unread task fault parts now old new output law drum sound line cause =
             other = λ n kept wanted is. absurd (not_tape fault (OtherSettings n kept wanted) is);
             prints = no_text ending x (λ is. absurd (not_tape fault Done is));
           });
+      batches = none_crawled (ending ≡ DiskFault) parts now law drum opened kind;
       silent = λ is. refl;
       read = λ is. absurd (not_tape fault Done is);
       accepted = λ is. absurd (not_read fault is);
@@ -118,9 +122,10 @@ goes_unread task fault parts now old new output law drum sound line cause =
     }
 
 -- memory ran out before the crawl
-pub goes_nowhere : (task : CrawlTask) (parts : Parts) (now : Told) (old new output : Stream) → IsConsistent now → IsDrum parts.urls → IsSound parts → old.faults ≤ new.faults
+pub goes_nowhere : (task : CrawlTask) (parts : Parts) (now : Told) (old new output : Stream) → IsConsistent now → IsDrum parts.urls → IsSound parts
+    → IsOpenRest parts.urls parts.rest now.files → parts.urls.settings.kind ≡ CrawlKind → old.faults ≤ new.faults
     → GoesOver task parts parts (at now old output) (at now new output) NoMemory
-goes_nowhere task parts now old new output law drum sound later = goes_unread task TapeMemory parts now old new output law drum sound
+goes_nowhere task parts now old new output law drum sound opened kind later = goes_unread task TapeMemory parts now old new output law drum sound opened kind
     (λ n no. let never : ⊥ = cc in absurd never) (record { later = later; rose = λ no. let never : ⊥ = cc in absurd never })
 
 -- ---- the crawl is refused
@@ -143,8 +148,9 @@ err_one a b is = cc
 pub tape_refused : (task : CrawlTask) (input : Taped) (ending : Ending) (was now : Parts) (before after : Told) (output : Stream) → IsCrawlEnding ending
     → RefusesSuffixes (Err ending) input.suffixes
     → Leads (IsErrOf {T = Unit {0}} {E = Ending} (Err ending) DiskFault) (MayCrawlInput task was.urls.settings input) (Crawled (Err ending) task was.urls.settings input) was now before after
+    → CrawlBatches (IsErrOf {T = Unit {0}} {E = Ending} (Err ending) DiskFault) was now before after
     → CrawlsTape task input was now before after output output ending
-tape_refused task input ending was now before after output kind refuses leads =
+tape_refused task input ending was now before after output kind refuses leads batches =
     let not : (e : Ending) → ending ≡ e → IsCrawlEnding e = λ e is. subst IsCrawlEnding is kind in
     let not_done : IsCrawledEnding ending → ⊥ = λ is. elim is [ inl done ↦ not Done done | inr output ↦ not OutputFault output ] in
     record {
@@ -161,6 +167,7 @@ tape_refused task input ending was now before after output kind refuses leads =
             other = λ n kept wanted e. is.other n kept wanted (ap Err e);
             prints = no_text ending y (λ e. absurd (not Done e));
           }));
+      batches = named_batch (IsErrOf {T = Unit {0}} {E = Ending} (Err ending) DiskFault) (ending ≡ DiskFault) was now before after (err_one ending DiskFault) batches;
       silent = λ is. refl;
       kinds = crawl_play ending kind;
       suffixes = λ n kept wanted is. refuses n kept wanted (ap Err is);
@@ -196,9 +203,10 @@ ok_never ending is = cc
 
 pub tape_printed : (task : CrawlTask) (input : Taped) (r : Result (Unit {0}) Ending) (counts : Counts) (was now : Parts) (before after : Told) (output sink : Stream)
     → Leads (IsErrOf {T = Unit {0}} {E = Ending} (Ok tt) DiskFault) (MayCrawlInput task was.urls.settings input) (Crawled (Ok tt) task was.urls.settings input) was now before after
+    → CrawlBatches (IsErrOf {T = Unit {0}} {E = Ending} (Ok tt) DiskFault) was now before after
     → ((y : State) → HoldsState after.images now y → AreCounts now.urls.settings y counts) → Printed r (report_of counts) output sink
     → CrawlsTape task input was now before after output sink (ending_of r)
-tape_printed task input r counts was now before after output sink leads count printed =
+tape_printed task input r counts was now before after output sink leads batches count printed =
     let wide = narrow r printed.kinds in
     let not : (e : Ending) → ending_of r ≡ e → IsPrintedEnding e = λ e is. subst IsPrintedEnding is (write_kind r printed.kinds) in
     record {
@@ -222,6 +230,7 @@ tape_printed task input r counts was now before after output sink leads count pr
               λ e. at_done r (printed.text ≡ report_of counts) wide printed.is.1 e,
             );
           }));
+      batches = named_batch (IsErrOf {T = Unit {0}} {E = Ending} (Ok tt) DiskFault) (ending_of r ≡ DiskFault) was now before after (λ is. absurd (ok_never DiskFault is)) batches;
       silent = λ is. absurd (not DiskFault is);
       kinds = write_play r printed.kinds;
       suffixes = λ n kept wanted is. absurd (not (OtherSettings n kept wanted) is);
@@ -281,6 +290,7 @@ module _ (options : RunOptions) (reads : Option (List ℕ) → Result Taped ℕ 
               other = λ n kept wanted e. let has = is.other n kept wanted e in (has.0, (input, is_input, has.1));
               prints = is.prints;
             });
+        batches = tape.batches;
         silent = tape.silent;
         read = λ is. read;
         accepted = λ is. (input, is_input);

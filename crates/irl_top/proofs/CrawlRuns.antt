@@ -8,7 +8,7 @@ use Rattle.irl_base.specs.Faults.{HasCause}
 use Rattle.irl_bay.specs.Drum.{IsDrum}
 use Rattle.irl_core.specs.States.{begun_with}
 use Rattle.irl_disk.specs.Disk.{Files}
-use Rattle.irl_disk.specs.Images.{IsConsistent, Leaves, Told}
+use Rattle.irl_disk.specs.Images.{IsConsistent, Leaves, LeavesBy, Told}
 use Rattle.irl_disk.proofs.Effects.{cause_for, cause_then}
 use Rattle.irl_disk.proofs.Stretches.{joins, left_now, widens}
 use Rattle.irl_events.specs.State.{State, IsFrontState, blank_state}
@@ -33,13 +33,14 @@ use Rattle.irl_yard.specs.Standing.{HasState, IsLegal}
 use Rattle.irl_yard.proofs.Grounds.{entered_made}
 use Rattle.irl_yard.proofs.Holding.{held_has, held_state}
 use Rattle.irl_yard.proofs.States.{entered_front, state_both, state_same}
-use Rattle.irl_top.specs.Crawled.{CrawlTask, CrawlRun, CrawlsStore, GoesOver, HasOtherSuffixes, IsCrawled, IsFullBy, IsInput, IsCrawledEnding, IsOpenEnding, IsUnreadEnding, MayCrawl, MayLeave, NamesSuffixes, PrintsReport, settings_for}
+use Rattle.irl_top.specs.Crawled.{CrawlTask, CrawlRun, CrawlsStore, GoesOver, HasOtherSuffixes, IsBatched, IsCrawled, IsFullBy, IsInput, IsCrawledEnding, IsOpenEnding, IsUnreadEnding, MayCrawl, MayLeave, NamesSuffixes, PrintsReport, settings_for}
 use Rattle.irl_top.specs.Message.{IsLate, ending_of_open}
 use Rattle.irl_top.specs.Opened.{IsOpenable}
 use Rattle.irl_top.specs.Outside.{Lent}
 use Rattle.irl_top.specs.Stream.{Stream}
 use Rattle.irl_top.specs.declared.ending.Ending.{Ending}
 use Rattle.irl_top.specs.declared.ending.Ending.TheVariants.{Done, BadSettings, LineRefused, NotOurs, Damaged, OtherSettings, DiskFault, InputFault, OutputFault, NoMemory, Full}
+use Rattle.irl_top.proofs.BatchedRuns.{run_batched, run_stops, stops_batched, told_batched}
 use Rattle.irl_top.proofs.Closed.{blank_image, denies_as, entered_valid, failed_or_not, ground_as, legal_entered, legal_has, open_bad, open_damaged, open_disk, open_late, open_other, open_ours, same_told, told_after}
 use Rattle.irl_top.proofs.Ranges.{valid_or_not}
 use Rattle.irl_top.proofs.Shows.{has_report, none_of}
@@ -214,6 +215,8 @@ store_refused task asked before after fault law closed files x is has =
           (λ (blank : x ≡ blank_state). inr (subst (λ (s : State). Agrees asked (settings_for asked (entered_state asked s))) (sym blank) (new_agrees asked))) left.blank;
       now = λ late image stop. ⊎_elim (λ (l : IsLate (ending_of_open fault)). absurd (open_late fault l))
           (λ each. left_now before.store after.store (HasOneBetween x left.most) law (keeps.stops each) image stop) late;
+      batched = told_batched asked before.store after.store files x (fault ≡ OpenFailed) closed.entered is has;
+      batched_stop = λ each. stops_batched asked before.store after.store files x (fault ≡ OpenFailed) closed.entered is has each;
     }
 
 -- an ending that refuses a store as it is
@@ -248,6 +251,17 @@ run_refused task asked before after fault law refused entered input output =
       input = cause_same (ending_of_open fault ≡ InputFault) before.input after.input input (λ is. open_late fault (inr (inr (inl is))));
       output = cause_same (ending_of_open fault ≡ OutputFault) before.output after.output output (λ is. open_late fault (inr (inr (inr (inl is)))));
     }
+
+-- ---- the kind of a store
+crawl_number : (kind : Kind) → kind_number CrawlKind ≡ kind_number kind → kind ≡ CrawlKind
+crawl_number Lines same = cc
+crawl_number Tuples same = cc
+crawl_number CrawlKind same = refl
+
+-- a store that is asked for a crawl is one of a crawl
+pub kind_agrees : (asked : Asked) (settings : Settings) → Agrees asked settings → asked.kind ≡ CrawlKind → settings.kind ≡ CrawlKind
+kind_agrees asked settings agrees is =
+    crawl_number settings.kind (sym (ap kind_number is) ∙ agrees 0 (kind_number asked.kind) (kind_number settings.kind) refl refl)
 
 -- ---- a store that was opened
 disk_or : (ending : Ending) → (ending ≢ DiskFault) ⊎ (ending ≡ DiskFault)
@@ -288,9 +302,10 @@ begun_entered : (asked : Asked) (x : State) (files : Files) → HasState x files
 begun_entered asked x files (inl blank) = subst (λ (s : State). begun_with (entered_state asked s).events ≡ begun_with s.events) (sym blank.1) refl
 begun_entered asked x files (inr (settings, made)) = ap (λ (s : State). begun_with s.events) (entered_made asked settings x made.settings_are)
 
-module _ (task : CrawlTask) (asked : Asked) (before mid after : Lent) (was now : Parts) (ending : Ending) (law : IsConsistent after.store) (drum : IsDrum was.urls)
+module _ (task : CrawlTask) (asked : Asked) (before mid after : Lent) (was now : Parts) (ending : Ending) (law_before : IsConsistent before.store) (law_mid : IsConsistent mid.store)
+    (law : IsConsistent after.store) (drum : IsDrum was.urls)
     (opened : OpensYard asked was before.store.files mid.store) (entered : EntersStore asked ⊥ before.store mid.store) (input : mid.input ≡ before.input) (output : mid.output ≡ before.output)
-    (over : GoesOver task was now mid after ending) where
+    (over : GoesOver task was now mid after ending) (kind : asked.kind ≡ CrawlKind) where
   -- what is told is told on
   tells : (files : Files) → before.store.files ≡ Some files → (later : Files) × (mid.store.files ≡ Some later)
   tells files is = let new = told_after asked before.store.files mid.store.files files entered.files is in (new.0, new.1)
@@ -317,6 +332,16 @@ module _ (task : CrawlTask) (asked : Asked) (before mid after : Lent) (was now :
 
   written_in : Appends before.output.bytes after.output.bytes over.text
   written_in = subst (λ (s : Stream). Appends s.bytes after.output.bytes over.text) output over.written
+
+  -- cuts and records come in batches
+  batched_in : (x : State) (files : Files) → before.store.files ≡ Some files → HasState x files → ForSome before.store.files (λ old. ForSome after.store.files (IsBatched asked x old))
+  batched_in x files is has = run_batched asked before.store mid.store was files x law_mid drum opened entered (kind_agrees asked was.urls.settings opened.agrees kind) is has (ending ≡ DiskFault) now
+      after.store over.batches law
+
+  batched_stop_in : (x : State) (files : Files) → before.store.files ≡ Some files → HasState x files → ((image : Files) → before.store.images image → HasState x image)
+      → LeavesBy (IsBatched asked x) before.store after.store
+  batched_stop_in x files is has each = run_stops asked before.store mid.store was files x law_mid drum opened entered (kind_agrees asked was.urls.settings opened.agrees kind) is has
+      (ending ≡ DiskFault) now after.store over.batches law_before each
 
   -- the store failed
   store_failed : (x : State) (files : Files) → before.store.files ≡ Some files → HasState x files → ending ≡ DiskFault → CrawlsStore task asked before after ending x
@@ -347,6 +372,8 @@ module _ (task : CrawlTask) (asked : Asked) (before mid after : Lent) (was now :
         prints = no_text ending fails.kept (λ done. let no : DiskFault ≡ Done = sym failed ∙ done in let never : ⊥ = cc in absurd never);
         silent = λ was. refl;
         stops = λ each. stops_in x fails.most whole each fails.stops;
+        batched = batched_in x files is has;
+        batched_stop = λ each. batched_stop_in x files is has each;
       }
 
   store_led : (x : State) (files : Files) → before.store.files ≡ Some files → HasState x files → ending ≢ DiskFault → CrawlsStore task asked before after ending x
@@ -388,6 +415,8 @@ module _ (task : CrawlTask) (asked : Asked) (before mid after : Lent) (was now :
         prints = goes.prints;
         silent = λ failed. absurd (fine failed);
         stops = λ each. stops_in x y to.front each to.stops;
+        batched = batched_in x files is has;
+        batched_stop = λ each. batched_stop_in x files is has each;
       }
 
   -- damage is named of no state
@@ -460,14 +489,3 @@ module _ (task : CrawlTask) (asked : Asked) (before mid after : Lent) (was now :
     input = subst (λ (s : Stream). HasCause (ending ≡ InputFault) s.faults after.input.faults) input over.input;
     output = subst (λ (s : Stream). HasCause (ending ≡ OutputFault) s.faults after.output.faults) output over.output;
   }
-
--- ---- the kind of a store
-crawl_number : (kind : Kind) → kind_number CrawlKind ≡ kind_number kind → kind ≡ CrawlKind
-crawl_number Lines same = cc
-crawl_number Tuples same = cc
-crawl_number CrawlKind same = refl
-
--- a store that is asked for a crawl is one of a crawl
-pub kind_agrees : (asked : Asked) (settings : Settings) → Agrees asked settings → asked.kind ≡ CrawlKind → settings.kind ≡ CrawlKind
-kind_agrees asked settings agrees is =
-    crawl_number settings.kind (sym (ap kind_number is) ∙ agrees 0 (kind_number asked.kind) (kind_number settings.kind) refl refl)

@@ -1,4 +1,6 @@
 pub mod AlongTapes
+pub mod BatchedRuns
+pub mod Batching
 pub mod Beginning
 pub mod Calls
 pub mod Closed
@@ -7,6 +9,7 @@ pub mod CrawlInputs
 pub mod CrawlParts
 pub mod CrawlRuns
 pub mod Deciding
+pub mod Entered
 pub mod Giving
 pub mod Going
 pub mod Growing

@@ -18,7 +18,8 @@ use Rattle.irl_layout.specs.BayFiles.{file_of, IsFileOf, IsPartOf}
 use Rattle.irl_layout.specs.declared.files.BayFile.TheVariants.{Manifest, Cache, Judged, Texts, Journal, Aux}
 use Rattle.irl_layout.specs.declared.files.BayFile.{BayFile}
 use Rattle.irl_layout.specs.Commits.{HasLiveRecords}
-use Rattle.irl_bay.specs.Drum.{IsDrum}
+use Rattle.irl_bay.specs.Drum.{Drum, IsDrum}
+use Rattle.irl_bay.specs.Holding.{Holds}
 use Rattle.irl_bay.specs.Making.{IsJournalOf}
 use Rattle.irl_bay.proofs.BatchWrites.{tells_wide, tells_only}
 use Rattle.irl_bay.proofs.Staying.{tells_both, leaves_both, only_wider}
@@ -45,7 +46,7 @@ use Rattle.irl_schedule.proofs.Steps.{choose}
 use Rattle.irl_top.specs.declared.line.LineKind.{LineKind}
 use Rattle.irl_top.specs.Input.{offered}
 use Rattle.irl_top.specs.Outside.{Lent}
-use Rattle.irl_top.specs.Records.{AddsUnevenRecords}
+use Rattle.irl_top.specs.Records.{AddsUnevenAt, AddsUnevenRecords}
 use Rattle.irl_top.specs.Run.{line_task, settings_in, Reaches, HasReached, TakesIn, Extends, Ran, IsStoreFile}
 use Rattle.irl_top.specs.Opened.{IsOpenable}
 use Rattle.irl_top.specs.Printed.{before_last, judged_count}
@@ -99,13 +100,21 @@ bay_of_store : (base buckets f : ℕ) → base ≡ urls_base → buckets ≤ 64 
 bay_of_store base buckets f base_is small is = inr (is.0, part_wider buckets is.0 small is.1, is.2 ∙ ap (λ (n : ℕ). file_of n 0 is.0) base_is)
 
 -- ---- records
--- each bucket's records of a held book
-held_records : (place : Place) (x : Book) → HoldsAt place x → (was : ℕ → List (List ℕ)) × HaveRecords place.moment.store.images place.moment.drum was
-held_records place x holds =
-    let drum = place.moment.drum in
-    choose drum.settings.buckets (λ b payloads. HasJournal place.moment.store.images drum b payloads) (λ b within.
+-- each bucket of a bay has some
+pub some_records : (images : Files → Type 0) (drum : Drum) (book : Book) → Holds images drum book → (records : ℕ → List (List ℕ)) × HaveRecords images drum records
+some_records images drum book holds =
+    choose drum.settings.buckets (λ b payloads. HasJournal images drum b payloads) (λ b within.
     let bucket = holds.buckets b (subst (λ (n : ℕ). b < n) (sym holds.book_is.buckets) within) in
     (_, bucket.journal))
+
+-- the records that a bay's live journals have, over those that they had before the store was entered
+pub uneven_at : (base n buckets array : ℕ) (old mid image : Files) (was now : ℕ → List (List ℕ))
+    → ((b : ℕ) → b < 64 → (records : List (List ℕ)) → HasLiveJournal base buckets b records old → HasLiveJournal base buckets b records mid)
+    → ((b : ℕ) → b < buckets → HasLiveRecords base buckets b (was b) mid) → ((b : ℕ) → b < buckets → HasLiveRecords base buckets b (now b) image)
+    → ((b : ℕ) → b < buckets → uneven_records array (now b) ≤ uneven_records array (was b) + n) → AddsUnevenAt base n buckets array old image
+uneven_at base n buckets array old mid image was now enters held left adds = λ b within small records journal.
+    let same : records ≡ was b = one_journal base buckets b records (was b) mid (enters b small records journal) (records_stand base buckets b (was b) mid (held b within)) in
+    (now b, records_stand base buckets b (now b) image (left b within), omega (arith, adds b within, ap (λ (l : List (List ℕ)). uneven_records array l) same))
 
 -- ---- what entering says of a store that was opened
 pub record IsEntered (asked : Asked) (before : Lent) (old : Place) : Type 0 where
@@ -134,16 +143,15 @@ uneven_from : (asked : Asked) (before : Lent) (old : Place) (files image : Files
     → before.store.files ≡ Some files → HasState x files → HoldsAt old y
     → HaveRecords old.moment.store.images old.moment.drum was → LeavesUneven one_more old.moment.drum was image
     → AddsUnevenRecords 1 old.moment.drum.settings.buckets old.moment.drum.settings.array files image
-uneven_from asked before old files image x y was law entered told has holds have left = λ b within small records journal.
+uneven_from asked before old files image x y was law entered told has holds have left =
     let urls = old.moment.drum in
     let after = tells_from (Enters asked before.store.files) before.store.files old.moment.store.files files entered.files told in
-    let opened : HasLiveJournal urls_base urls.settings.buckets b records after.0 =
-    enters_records asked before.store.files files x files after.0 urls.settings.buckets b records told has has after.2 small journal in
-    let at_base = λ (payloads : List (List ℕ)) (f : Files) (live : HasLiveRecords urls.base urls.settings.buckets b payloads f).
-    subst (λ (n : ℕ). HasLiveJournal n urls.settings.buckets b payloads f) entered.base (records_stand urls.base urls.settings.buckets b payloads f live) in
-    let held = at_base (was b) after.0 (left_records old.moment.store.images urls y entered.drum holds b (was b) after.0 within (have b within) (law.told after.0 after.1)) in
-    let same : records ≡ was b = one_journal urls_base urls.settings.buckets b records (was b) after.0 opened held in
-    (left.0 b, at_base (left.0 b) image (left.1 b within), omega (arith, left.2 b within, ap (λ (l : List (List ℕ)). uneven_records urls.settings.array l) same))
+    let at_base = λ (b : ℕ) (payloads : List (List ℕ)) (f : Files) (live : HasLiveRecords urls.base urls.settings.buckets b payloads f).
+    subst (λ (n : ℕ). HasLiveRecords n urls.settings.buckets b payloads f) entered.base live in
+    uneven_at urls_base 1 urls.settings.buckets urls.settings.array files after.0 image was left.0
+    (λ b small records journal. enters_records asked before.store.files files x files after.0 urls.settings.buckets b records told has has after.2 small journal)
+    (λ b within. at_base b (was b) after.0 (left_records old.moment.store.images urls y entered.drum holds b (was b) after.0 within (have b within) (law.told after.0 after.1)))
+    (λ b within. at_base b (left.0 b) image (left.1 b within)) left.2
 
 -- ---- over a store that stands for a state
 abbrev pub lent_at : Place → Stream → Lent
@@ -212,7 +220,7 @@ extends_opened kind asked before old new input news ending files x law_before la
     let same : was_settings ≡ settings_in asked x = settings_entered asked x was_settings holds.settings in
     let start = starts asked x files has in
     let none : (b : ℕ) → handed_in y.urls old.moment.waits b ≡ list_at y.urls b ++ [] = λ b. ap (λ (l : List Tuple). list_at y.urls b ++ l) (entered.empty b) in
-    let records = held_records old y.urls holds.urls_hold in
+    let records = some_records old.moment.store.images old.moment.drum y.urls holds.urls_hold in
     let was = records.0 in
     let have = records.1 in
     let leaves = e.strands.records_stop was have in

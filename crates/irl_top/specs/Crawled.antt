@@ -7,16 +7,17 @@ use Rattle.std.specs.Option.{ForSome}
 use Rattle.std.specs.Io.KnownBytes.{Appends}
 use Rattle.irl_base.specs.Faults.{HasCause, Rose}
 use Rattle.irl_core.specs.States.{begun_with}
+use Rattle.irl_crawl.specs.Batches.{Batches, besides, turns_since}
 use Rattle.irl_crawl.specs.Crawling.{CrawlsWhole, IsPlan, NoneWaits, OnlyCrawls}
 use Rattle.irl_crawl.specs.declared.plan.Ended.{Ended}
 use Rattle.irl_crawl.specs.declared.plan.Ended.TheVariants.{Done as CrawlDone, Limit as CrawlLimit, Fault as CrawlFault}
 use Rattle.irl_crawl.specs.declared.plan.Plan.{Plan}
-use Rattle.irl_crawl.specs.Leading.{IsFullAt, Leads}
+use Rattle.irl_crawl.specs.Leading.{GrowsInBatches, IsFullAt, Leads}
 use Rattle.irl_crawl.specs.Sending.{pairs_for}
 use Rattle.irl_crawl.specs.Workers.{Given, RoseBetween}
 use Rattle.irl_crawl.specs.Turning.{events_since}
 use Rattle.irl_disk.specs.Disk.{Files}
-use Rattle.irl_disk.specs.Images.{Leaves, Told}
+use Rattle.irl_disk.specs.Images.{Leaves, LeavesBy, Told}
 use Rattle.irl_events.specs.Events.{Begin}
 use Rattle.irl_events.specs.State.{State, IsFrontState}
 use Rattle.irl_fate.specs.Fates.{fate_of}
@@ -53,6 +54,7 @@ use Rattle.irl_top.specs.Message.{IsLate, ending_of_store}
 use Rattle.irl_top.specs.Opened.{IsOpenable, StaysClosed}
 use Rattle.irl_top.specs.Outside.{Lent}
 use Rattle.irl_top.specs.Ports.{Port, given_on}
+use Rattle.irl_top.specs.Records.{AddsUnevenInBoth}
 use Rattle.irl_top.specs.Shown.{IsReportOf}
 use Rattle.irl_top.specs.Stream.{Stream}
 
@@ -326,6 +328,8 @@ pub record CrawlsTape (task : CrawlTask) (input : Taped) (was now : Parts) (befo
   pub leads : Leads (ending ≡ DiskFault) (MayCrawlInput task was.urls.settings input)
       (PrintsCrawl task was.urls.settings input ending text)
       was now before after
+  -- Cuts and records come in batches, but for those of the settled turns, of two desks and of one judging.
+  pub batches : Batches (ending ≡ DiskFault) (besides 2 1) (besides 2 1) was now before after
   -- where the store failed nothing is written
   pub silent : ending ≡ DiskFault → text ≡ []
   pub kinds : IsPlayEnding ending
@@ -352,6 +356,8 @@ pub record GoesOver (task : CrawlTask) (was now : Parts) (before after : Lent) (
   pub written : Appends before.output.bytes after.output.bytes text
   pub leads : Leads (ending ≡ DiskFault) (MayCrawl task was.urls.settings before.input.bytes)
       (GoesTo task was.urls.settings before.input.bytes ending text) was now before.store after.store
+  -- cuts and records come in batches
+  pub batches : Batches (ending ≡ DiskFault) (besides 2 1) (besides 2 1) was now before.store after.store
   -- where the store failed nothing is written
   pub silent : ending ≡ DiskFault → text ≡ []
   pub read : ending ≡ Done → task.ends before.input after.input
@@ -367,6 +373,17 @@ pub record GoesOver (task : CrawlTask) (was now : Parts) (before after : Lent) (
 abbrev pub MayLeave : CrawlTask → Asked → Option (List ℕ) → State → State → Type 0
 MayLeave task asked bytes x y = (y ≡ x)
     ⊎ MayCrawl task (settings_for asked (entered_state asked x)) bytes (entered_state asked x) y
+
+-- From one joint image of a state to another that a run may leave, cuts and records come in batches: of each bay at
+-- most two cuts are early, and two records of each bucket are uneven, besides one for each turn that was settled.
+pub record IsBatched (asked : Asked) (x : State) (old image : Files) : Type 0 where
+  -- the state that the later one stands for, which is the first one, or one that the run led to
+  pub state : State
+  pub has : HasState state image
+  pub cuts : (state ≡ x) ⊎ GrowsInBatches (settings_for asked (entered_state asked x)) (2 + turns_since x state)
+      (entered_state asked x) state
+  pub records : AddsUnevenInBoth (2 + turns_since x state) (settings_for asked (entered_state asked x)).buckets
+      (settings_for asked (entered_state asked x)).array old image
 
 -- What a run leaves of a store whose files stood for a state, whatever ends it.
 pub record CrawlsStore (task : CrawlTask) (asked : Asked) (before after : Lent) (ending : Ending) (x : State) : Type 0
@@ -405,6 +422,10 @@ pub record CrawlsStore (task : CrawlTask) (asked : Asked) (before after : Lent) 
     -- and a stop from now on no less than what was acknowledged, also where the store was opened
     pub now : IsLate ending ⊎ ((image : Files) → before.store.images image → HasState x image)
         → (image : Files) → after.store.images image → HasOneBetween kept most image
+    -- cuts and records came in batches, up to what is told then, and to what a stop at any moment leaves
+    pub batched : ForSome before.store.files (λ old. ForSome after.store.files (IsBatched asked x old))
+    pub batched_stop : ((image : Files) → before.store.images image → HasState x image)
+        → LeavesBy (IsBatched asked x) before.store after.store
 
 -- One run of a command that crawls, between what is told before it and after it.
 pub record CrawlRun (task : CrawlTask) (asked : Asked) (before after : Lent) (ending : Ending) : Type 0 where

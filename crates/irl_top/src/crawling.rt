@@ -6,6 +6,7 @@ ghost use Rattle.irl_pld.specs.Names.{bad_line};
 ghost use Rattle.irl_offer.specs.declared.settings.Kind.TheVariants.{Crawl as CrawlKind};
 ghost use Rattle.irl_words.specs.Words.{AreRunOptions};
 ghost use Rattle.irl_yard.specs.Holding.{IsSound};
+ghost use Rattle.irl_crawl.specs.Batches.{Batches, besides, just};
 ghost use Rattle.irl_crawl.specs.Leading.{IsOpen, Leads};
 ghost use Rattle.irl_crawl.specs.Workers.{AllGoOn, given_by};
 ghost use Rattle.irl_top.specs.Crawled.{crawl_task, part_task, replay_task, site_task, Begins, BeginsAt, Crawled, CrawlsTape, CrawlRun, GoesOver};
@@ -281,6 +282,8 @@ where
         Leads (IsErrOf result.0 DiskEnding) (MayCrawlInput task yard.parts.urls.settings tape.now)
         (Crawled result.0 task yard.parts.urls.settings tape.now) yard.parts result.1.parts
         (S.told yard.store) (S.told result.1.store) }
+    ensures batches { Batches (IsErrOf result.0 DiskEnding) (besides 2 1) (besides 2 1) yard.parts result.1.parts
+        (S.told yard.store) (S.told result.1.store) }
     ensures kinds { IfErr result.0 IsCrawlEnding }
     ensures suffixes { RefusesSuffixes result.0 tape.now.suffixes }
     ensures fetchers { AllGoOn F.asked F.gives F.faults F.last F.aim fetchers.old fetchers.new }
@@ -300,6 +303,8 @@ fn begin<S: Store>(yard: &mut Yard<S>, suffixes: &Text) -> Result<(), Ending>
     requires good { bad_line suffixes.now ≡ None }
     requires short { length suffixes.now ≤ max_suffixes }
     ensures leads { Leads (IsErrOf result DiskEnding) (BeginsAt suffixes.now) (Begins result suffixes.now)
+        yard.old.parts yard.new.parts (S.told yard.old.store) (S.told yard.new.store) }
+    ensures batches { Batches (IsErrOf result DiskEnding) (just 0 0) (just 0 0)
         yard.old.parts yard.new.parts (S.told yard.old.store) (S.told yard.new.store) }
     ensures kinds { IfErr result IsCrawlEnding }
     ensures suffixes { RefusesSuffixes result suffixes.now }
@@ -345,6 +350,8 @@ where
         KeepsSuffixes yard.parts tape.now.suffixes →
         Leads (IsErrOf result.0 DiskEnding) (MayCrawlInput task yard.parts.urls.settings tape.now)
         (Crawled result.0 task yard.parts.urls.settings tape.now) yard.parts result.1.parts
+        (S.told yard.store) (S.told result.1.store) }
+    ensures batches { Batches (IsErrOf result.0 DiskEnding) (besides 2 1) (besides 2 1) yard.parts result.1.parts
         (S.told yard.store) (S.told result.1.store) }
     ensures kinds { IfErr result.0 IsCrawlEnding }
     ensures suffixes { RefusesSuffixes result.0 tape.now.suffixes }

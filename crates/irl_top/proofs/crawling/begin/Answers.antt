@@ -1,8 +1,10 @@
 use Rattle.std.proofs.Common.{◌≡◌, ◌≢◌, ◌∙◌, ◌⊎◌, List, ℕ, [], None, Some, Ok, Err, inl, inr, refl, sym, ap, subst}
+use Rattle.irl_bay.specs.Drum.{Drum}
 use Rattle.irl_key.specs.Key.{key_of}
 use Rattle.irl_yard.specs.Passing.{suffixes_in}
 use Rattle.irl_top.specs.Message.{ending_of_store}
 use Rattle.irl_top.specs.declared.ending.Ending.TheVariants.{OtherSettings}
+use Rattle.irl_top.proofs.Batching.{begin_batch, none_begun}
 use Rattle.irl_top.proofs.Calls.{err_is}
 use Rattle.irl_top.proofs.CrawlParts.{begin_leads, begun_open, begun_then, goes_on_begun, keeps_one, keeps_then, kept_leads, may_begin, other_begun, other_refuses, store_refuses}
 use Rattle.irl_top.proofs.crawling.begin.Goals as goal
@@ -93,3 +95,33 @@ returns-clause-suffixes g c =
     let second : c.key_of-2.result ≡ key_of text = c.key_of-2.ensures ∙ ap key_of c.bytes-2.ensures in
     let named : text ≢ [] = subst (λ (t : List ℕ). t ≢ []) c.bytes.ensures (c.fits.ensures.named c.if-fits.false) in
     other_refuses text c.key_of.result c.key_of-2.result second named
+
+pub returns-in_err-begin-clause-batches : goal.returns-in_err-begin-clause-batches
+returns-in_err-begin-clause-batches g c =
+    let tells = g.S.Store.told in
+    let was = c.args.yard.now in
+    let now = c.begin.new.self in
+    let fault = c.in_err-begin.field-0.0 in
+    let adds = c.in_err-begin.ensures.adds in
+    rw (err_is c.from_residual.result (ending_of_store fault) c.from_residual.ensures.1)
+    (begin_batch tells g.met.S.Store.is_consistent (Err fault) c.args.suffixes.now was.parts now.parts was.store now.store c.is_sound-is_sound.ensures.drum c.requires.kind
+    (ap (λ (d : Drum). d.settings.kind) adds.urls ∙ c.requires.kind) was.rest_is now.rest_is adds)
+
+pub returns-in_default-clause-batches : goal.returns-in_default-clause-batches
+returns-in_default-clause-batches g c =
+    let tells = g.S.Store.told in
+    let was = c.args.yard.now in
+    let now = c.begin.new.self in
+    let adds = c.in_ok-begin.ensures.adds in
+    begin_batch tells g.met.S.Store.is_consistent (Ok tt) c.args.suffixes.now was.parts now.parts was.store now.store c.is_sound-is_sound.ensures.drum c.requires.kind
+    (ap (λ (d : Drum). d.settings.kind) adds.urls ∙ c.requires.kind) was.rest_is now.rest_is adds
+
+pub returns-then-fits-clause-batches : goal.returns-then-fits-clause-batches
+returns-then-fits-clause-batches g c =
+    let was = c.args.yard.now in
+    none_begun _ was.parts (g.S.Store.told was.store) (g.met.S.Store.is_consistent was.store) c.is_sound-is_sound.ensures.drum was.rest_is c.requires.kind
+
+pub returns-clause-batches : goal.returns-clause-batches
+returns-clause-batches g c =
+    let was = c.args.yard.now in
+    none_begun _ was.parts (g.S.Store.told was.store) (g.met.S.Store.is_consistent was.store) c.is_sound-is_sound.ensures.drum was.rest_is c.requires.kind

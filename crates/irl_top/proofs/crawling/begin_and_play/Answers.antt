@@ -5,6 +5,7 @@ use Rattle.irl_crawl.specs.Workers.{given_by}
 use Rattle.irl_top.specs.Crawled.{part_task, Begins, BeginsAt, KeepsSuffixes, RefusesSuffixes}
 use Rattle.irl_top.specs.declared.ending.Ending.{Ending}
 use Rattle.irl_top.specs.declared.ending.Ending.TheVariants.{DiskFault}
+use Rattle.irl_top.proofs.Batching.{behind_batch, none_added}
 use Rattle.irl_top.proofs.CrawlParts.{leads_behind, leads_unbegun}
 use Rattle.irl_top.proofs.Giving.{none_rose}
 use Rattle.irl_top.proofs.crawling.begin_and_play.Goals as goal
@@ -36,3 +37,19 @@ returns-in-Err-clause-leads g c =
 
 pub returns-in-Err-clause-suffixes : goal.returns-in-Err-clause-suffixes
 returns-in-Err-clause-suffixes g c = subst (λ (t : List ℕ). RefusesSuffixes (Err c.in-Err.ending) t) c.suffixes.ensures.value c.in-Err.ensures.suffixes
+
+pub returns-in-Ok-clause-batches : goal.returns-in-Ok-clause-batches
+returns-in-Ok-clause-batches g c =
+    let tells = g.S.Store.told in
+    let was = c.args.yard in
+    let mid = c.begin.new.yard in
+    let now = c.play.result.1 in
+    behind_batch c.play.result.0 c.suffixes.result.now was.parts mid.parts now.parts (tells was.store) (tells mid.store) (tells now.store) c.in-Ok.ensures.leads c.in-Ok.ensures.batches
+    c.play.ensures.batches
+
+pub returns-in-Err-clause-batches : goal.returns-in-Err-clause-batches
+returns-in-Err-clause-batches g c =
+    let tells = g.S.Store.told in
+    let was = c.args.yard in
+    let now = c.begin.new.yard in
+    none_added _ _ was.parts now.parts (tells was.store) (tells now.store) (λ is. is) c.in-Err.ensures.batches

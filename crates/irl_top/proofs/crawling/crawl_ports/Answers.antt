@@ -34,5 +34,6 @@ returns g c =
     let law = g.met.S.Store.is_consistent later.store in
     let task = crawl_task c.args.options.now c.args.number (ports c.args.ports.now) (ports c.crawl_ports_over-ending.new.ports) in
     subst (λ (s : g.row.S.Denot). CrawlRun task c.args.asked.now before (told g s c.crawl_ports_over-ending.new.input c.crawl_ports_over-ending.new.output) ending) (sym c.into_store.ensures)
-    (run_opened task c.args.asked.now before mid after yard.parts later.parts ending law c.in-Ok.ensures.opened.drum c.in-Ok.ensures.opened c.in-Ok.ensures.entered refl
-    refl c.crawl_ports_over-ending.ensures)
+    (run_opened task c.args.asked.now before mid after yard.parts later.parts ending (g.met.S.Store.is_consistent c.args.store)
+    (g.met.S.Store.is_consistent yard.store) law c.in-Ok.ensures.opened.drum c.in-Ok.ensures.opened c.in-Ok.ensures.entered refl
+    refl c.crawl_ports_over-ending.ensures c.requires.kind)

@@ -22,7 +22,8 @@ returns-in-Err g c =
     let law = g.met.S.Store.is_consistent yard.store in
     let task = crawl_task c.args.options.now c.args.number (told c.args.ports.now) (told c.args.ports.now) in
     rw c.ending_of_tape.ensures
-    (goes_unread task fault yard.parts (tells yard.store) old new sink law c.is_sound-is_sound.ensures.drum c.requires.sound (λ n is. c.in-Err.ensures.refused n (ap Err is))
+    (goes_unread task fault yard.parts (tells yard.store) old new sink law c.is_sound-is_sound.ensures.drum c.requires.sound yard.rest_is c.requires.kind
+    (λ n is. c.in-Err.ensures.refused n (ap Err is))
     (cause_for _ (fault ≡ TapeFailed) old.faults new.faults (λ is. ap Err is) c.in-Err.ensures.cause))
 
 pub returns-in_default : goal.returns-in_default
@@ -35,7 +36,8 @@ returns-in_default g c =
     let sink = stream g.O.Sink.written g.O.Sink.faults c.args.output.now in
     let law = g.met.S.Store.is_consistent yard.store in
     let task = crawl_task c.args.options.now c.args.number (told c.args.ports.now) (told c.args.ports.now) in
-    goes_nowhere task yard.parts (tells yard.store) old new sink law c.is_sound-is_sound.ensures.drum c.requires.sound c.in-Ok.ensures.cause.later
+    goes_nowhere task yard.parts (tells yard.store) old new sink law c.is_sound-is_sound.ensures.drum c.requires.sound yard.rest_is c.requires.kind
+    c.in-Ok.ensures.cause.later
 
 pub returns : goal.returns
 returns g c =

@@ -7,6 +7,7 @@ use Rattle.irl_top.specs.Crawled.{part_task, Crawled, IsCrawlEnding, MayCrawlInp
 use Rattle.irl_top.specs.Outside.{stream}
 use Rattle.irl_top.specs.declared.ending.Ending.{Ending}
 use Rattle.irl_top.specs.declared.ending.Ending.TheVariants.{DiskFault}
+use Rattle.irl_top.proofs.Batching.{CrawlBatches}
 use Rattle.irl_top.proofs.CrawlInputs.{tape_printed, tape_refused}
 use Rattle.irl_top.proofs.Shows.{printed_of}
 use Rattle.irl_top.proofs.crawling.crawl_tape.Goals as goal
@@ -21,12 +22,13 @@ returns-in-Ok-clause-tape g c =
     let tape = c.args.tape.now in
     let leads = subst (λ (r : Result Unit Ending). Leads (IsErrOf r DiskFault) (MayCrawlInput task was.parts.urls.settings tape) (Crawled r task was.parts.urls.settings tape) was.parts now.parts
     (tells was.store) (tells now.store)) c.in-Ok.is c.begin_and_play-crawled.ensures.leads in
+    let batches = subst (λ (r : Result Unit Ending). CrawlBatches (IsErrOf r DiskFault) was.parts now.parts (tells was.store) (tells now.store)) c.in-Ok.is c.begin_and_play-crawled.ensures.batches in
     let r = c.print_report-printed.result in
     let h = c.print_report-printed.ensures in
     let out = c.print_report-printed.new.output in
     let printed = printed_of r (sink c.args.output.now) (sink out) (report_of c.counts.result) h.ok h.err h.kinds h.cause in
     rw c.of.ensures
-    (tape_printed task tape r c.counts.result was.parts now.parts (tells was.store) (tells now.store) (sink c.args.output.now) (sink out) leads c.counts.ensures printed)
+    (tape_printed task tape r c.counts.result was.parts now.parts (tells was.store) (tells now.store) (sink c.args.output.now) (sink out) leads batches c.counts.ensures printed)
 
 pub returns-in-Err-clause-tape : goal.returns-in-Err-clause-tape
 returns-in-Err-clause-tape g c =
@@ -39,6 +41,7 @@ returns-in-Err-clause-tape g c =
     let ending = c.in-Err.ending in
     let leads = subst (λ (r : Result Unit Ending). Leads (IsErrOf r DiskFault) (MayCrawlInput task was.parts.urls.settings tape) (Crawled r task was.parts.urls.settings tape) was.parts now.parts
     (tells was.store) (tells now.store)) c.in-Err.is c.begin_and_play-crawled.ensures.leads in
+    let batches = subst (λ (r : Result Unit Ending). CrawlBatches (IsErrOf r DiskFault) was.parts now.parts (tells was.store) (tells now.store)) c.in-Err.is c.begin_and_play-crawled.ensures.batches in
     let kind = subst (λ (r : Result Unit Ending). IfErr r IsCrawlEnding) c.in-Err.is c.begin_and_play-crawled.ensures.kinds in
     let refuses = subst (λ (r : Result Unit Ending). RefusesSuffixes r tape.suffixes) c.in-Err.is c.begin_and_play-crawled.ensures.suffixes in
-    tape_refused task tape ending was.parts now.parts (tells was.store) (tells now.store) (sink c.args.output.now) kind refuses leads
+    tape_refused task tape ending was.parts now.parts (tells was.store) (tells now.store) (sink c.args.output.now) kind refuses leads batches

@@ -1,6 +1,7 @@
 use Rattle.std.proofs.Common.{refl}
 use Rattle.irl_crawl.specs.Workers.{given_by}
 use Rattle.irl_top.specs.Crawled.{part_task}
+use Rattle.irl_top.proofs.Batching.{none_crawled, played_batch}
 use Rattle.irl_top.proofs.CrawlParts.{crawl_kinds, crawl_refuses, kind_begun, played_by, suffixes_begun, unplayed}
 use Rattle.irl_top.proofs.Giving.{none_rose}
 use Rattle.irl_top.proofs.crawling.play.Goals as goal
@@ -29,3 +30,17 @@ returns-clause-kinds g c = rw c.ending_of_crawl.ensures (crawl_kinds c.crawl-end
 
 pub returns-clause-suffixes : goal.returns-clause-suffixes
 returns-clause-suffixes g c = rw c.ending_of_crawl.ensures (crawl_refuses c.crawl-ended.result.0 c.args.tape.now.suffixes)
+
+pub returns-in-Err-clause-batches : goal.returns-in-Err-clause-batches
+returns-in-Err-clause-batches g c =
+    let yard = c.args.yard in
+    let told = g.S.Store.told yard.store in
+    let kind = kind_begun yard.parts.urls yard.parts.rest told.files yard.rest_is c.requires.open.begun in
+    none_crawled _ yard.parts told (g.met.S.Store.is_consistent yard.store) c.is_sound-is_sound.ensures.drum yard.rest_is kind
+
+pub returns-clause-batches : goal.returns-clause-batches
+returns-clause-batches g c =
+    let tells = g.S.Store.told in
+    let yard = c.args.yard in
+    let later = c.crawl-ended.result.1 in
+    rw c.ending_of_crawl.ensures (played_batch c.crawl-ended.result.0 yard.parts later.parts (tells yard.store) (tells later.store) c.crawl-ended.ensures.batches)

@@ -19,8 +19,8 @@ returns-in-Err g c =
     let fault = c.in-Err.fault in
     let law = g.met.S.Store.is_consistent yard.store in
     rw c.ending_of_tape.ensures
-    (goes_unread (replay_task c.args.options.now) fault yard.parts (tells yard.store) old new sink law c.is_sound-is_sound.ensures.drum c.requires.sound (λ n is.
-    c.in-Err.ensures.refused n (ap Err is))
+    (goes_unread (replay_task c.args.options.now) fault yard.parts (tells yard.store) old new sink law c.is_sound-is_sound.ensures.drum c.requires.sound yard.rest_is
+    c.requires.kind (λ n is. c.in-Err.ensures.refused n (ap Err is))
     (cause_for _ (fault ≡ TapeFailed) old.faults new.faults (λ is. ap Err is) c.in-Err.ensures.cause))
 
 pub returns : goal.returns
