@@ -189,6 +189,39 @@ if command -v python3 >/dev/null 2>&1; then
     stop TERM
     right
 
+    # On a terminal, here one that `script` makes, standard error has a line of progress, which is written at most twice a second
+    # and taken away before the report. A crawl of eight pages by the server's own time takes more than two seconds.
+    try 'a line of progress on a terminal' ''
+    if command -v script >/dev/null 2>&1 && script --version 2>/dev/null | grep -q util-linux; then
+        for page in 1 2 3 4 5 6 7 8; do
+            printf 'seed http://a.test/%s\n' "$page"
+        done >in
+        mkdir watched
+        serve watched 0
+        export program port
+        SHELL=/bin/sh script -qec '"$program" watched-store crawl --buckets 1 --port "$port" --delay 300 <in >out' /dev/null >shown
+        gives 0 "$(report '8 8 8 0 0 0 0 0 8 0 0 8 0 0 0 0 0 0')" ''
+        tr '\r' '\n' <shown | sed 's/\x1b\[K/<clear>/' >lines
+        grep -c ' fetched, ' lines >count
+        [ "$(cat count)" -ge 2 ] || fail "it showed '$(tr '\n' '|' <lines)'"
+        sed -e 1d -e '$d' lines | grep -Evx '[0-9]+ fetched, [0-9]+ a second, [0-9]+\.[0-9] MiB, [0-9]+:[0-9]{2}<clear>' >strange
+        has strange ''
+        [ "$(tail -n 1 lines)" = '<clear>' ] || fail "it ends with '$(tail -n 1 lines)'"
+        seconds=$(tail -n 2 lines | awk -F '[ :<]' 'NR == 1 { print 60 * $(NF - 2) + $(NF - 1) }')
+        [ "$(cat count)" -le $((2 * seconds + 2)) ] || fail "it showed $(cat count) lines in $seconds seconds"
+        # The report on the same terminal begins once the line is away.
+        SHELL=/bin/sh script -qec '"$program" watched-too crawl --buckets 1 --port "$port" --delay 300 <in' /dev/null >shown
+        tr -d '\r' <shown | sed -e 's/.*\x1b\[K//' >lines
+        has lines "$(report '8 8 8 0 0 0 0 0 8 0 0 8 0 0 0 0 0 0')"
+        # A file sees nothing of it.
+        "$program" watched-not crawl --buckets 1 --port "$port" --delay 300 <in >out 2>err
+        gives 0 "$(report '8 8 8 0 0 0 0 0 8 0 0 8 0 0 0 0 0 0')" ''
+        stop TERM
+        right
+    else
+        pass_over 'script of util-linux is not installed'
+    fi
+
     # Another agent has rules of its own, and tells its name.
     try 'another agent' 'seed http://a.test/|'
     mkdir agents

@@ -18,10 +18,10 @@ use irl_files::{Failure, FileStore, Lockable};
 use irl_io::{Failed, ReadSource, Sink, Source, WriteSink};
 use irl_record::WireFetch;
 use irl_top::run;
-use irl_wire::Wire;
+use irl_wire::{Cleared, Meter, Metered, Wire};
 use irl_words::help;
 use std::alloc::{AllocError, Global};
-use std::io::{self, Error, ErrorKind};
+use std::io::{self, Eprint, Error, ErrorKind, IsTerminal};
 use std::net::Net;
 use std::process::ExitCode;
 use std::rt::{Env, Files};
@@ -197,28 +197,31 @@ where
 }
 
 /// As many ports as there may be workers. Nothing is connected yet.
-fn new_ports<R: Net + Clock + Drop + AllocGlobal>(
-    rt: &R,
-) -> Result<Vec<WireFetch<Wire<&R>>>, AllocError>
+fn new_ports<'a, R: Net + Clock + Eprint + Drop + AllocGlobal>(
+    rt: &'a R,
+    meter: &'a Meter<&'a R>,
+) -> Result<Vec<WireFetch<Metered<'a, Wire<&'a R>, &'a R>>>, AllocError>
     ensures { IfOk result (λ ports. length ports.items ≡ PORTS) }
 {
     let mut ports = Vec::new(rt.alloc());
     for _ in 0..PORTS {
-        ports.push(WireFetch::new(rt.alloc(), Wire::new(rt)))?;
+        let port = Metered::new(Wire::new(rt), meter);
+        ports.push(WireFetch::new(rt.alloc(), port))?;
     }
     Ok(ports)
 }
 
 /// Runs the command over the folder that the first word names, and gives the exit status and what failed first.
-fn run_files<R, I, O, E>(
-    rt: &R,
+fn run_files<'a, R, I, O, E>(
+    rt: &'a R,
+    meter: &'a Meter<&'a R>,
     words: &[&str],
     input: &mut I,
     output: &mut O,
     errors: &mut E,
 ) -> Result<(u8, Option<Failure>), AllocError>
 where
-    R: Files + Net + Clock + Drop + AllocGlobal + Threads + Wait + Sync,
+    R: Files + Net + Clock + Eprint + Drop + AllocGlobal + Threads + Wait + Sync,
     R::File: Lockable,
     I: Source,
     O: Sink,
@@ -230,7 +233,7 @@ where
 {
     let (_, command) = folder_and_command(words);
     let store = store_in_folder(rt, words)?;
-    let mut ports = new_ports(rt)?;
+    let mut ports = new_ports(rt, meter)?;
     let (status, store) = run(
         rt,
         rt.alloc(),
@@ -248,15 +251,16 @@ where
 
 /// Runs the command over the folder that the first word names, and tells what failed first where a file was refused. Gives the
 /// exit status.
-fn run_in_folder<R, I, O, E>(
-    rt: &R,
+fn run_in_folder<'a, R, I, O, E>(
+    rt: &'a R,
+    meter: &'a Meter<&'a R>,
     words: &[&str],
     input: &mut I,
     output: &mut O,
     errors: &mut E,
 ) -> Result<u8, AllocError>
 where
-    R: Files + Net + Clock + Drop + AllocGlobal + Threads + Wait + Sync,
+    R: Files + Net + Clock + Eprint + Drop + AllocGlobal + Threads + Wait + Sync,
     R::File: Lockable,
     I: Source,
     O: Sink,
@@ -266,22 +270,23 @@ where
         RunsInFolder (folder_in (map (λ word. word.now) words.now)) (map (λ word. word.now) (drop 1 words.now))
         (tells input.old output.old errors.old) (tells input.new output.new errors.new) status) }
 {
-    let (status, first) = run_files(rt, words, input, output, errors)?;
+    let (status, first) = run_files(rt, meter, words, input, output, errors)?;
     let (folder, _) = folder_and_command(words);
     tell_status(rt.alloc(), errors, folder, status, first);
     Ok(status)
 }
 
 /// Does what the words behind the folder ask for: shows the help of their command, or runs them. Gives the exit status.
-fn command<R, I, O, E>(
-    rt: &R,
+fn command<'a, R, I, O, E>(
+    rt: &'a R,
+    meter: &'a Meter<&'a R>,
     words: &[&str],
     input: &mut I,
     output: &mut O,
     errors: &mut E,
 ) -> Result<u8, AllocError>
 where
-    R: Files + Net + Clock + Drop + AllocGlobal + Threads + Wait + Sync,
+    R: Files + Net + Clock + Eprint + Drop + AllocGlobal + Threads + Wait + Sync,
     R::File: Lockable,
     I: Source,
     O: Sink,
@@ -295,20 +300,21 @@ where
     let (_, command) = folder_and_command(words);
     match help(rt.alloc(), command)? {
         Some(text) => Ok(show(output, errors, text.bytes())),
-        None => run_in_folder(rt, words, input, output, errors),
+        None => run_in_folder(rt, meter, words, input, output, errors),
     }
 }
 
 /// Does what the words ask for, and gives the exit status.
-fn obey<R, I, O, E>(
-    rt: &R,
+fn obey<'a, R, I, O, E>(
+    rt: &'a R,
+    meter: &'a Meter<&'a R>,
     words: &[&str],
     input: &mut I,
     output: &mut O,
     errors: &mut E,
 ) -> Result<u8, AllocError>
 where
-    R: Files + Net + Clock + Drop + AllocGlobal + Threads + Wait + Sync,
+    R: Files + Net + Clock + Eprint + Drop + AllocGlobal + Threads + Wait + Sync,
     R::File: Lockable,
     I: Source,
     O: Sink,
@@ -323,19 +329,20 @@ where
         Request::Help => Ok(show(output, errors, HELP.as_bytes())),
         Request::Version => Ok(show(output, errors, VERSION.as_bytes())),
         Request::Refused => Ok(refuse(errors, refusing_word(words))),
-        Request::Command => command(rt, words, input, output, errors),
+        Request::Command => command(rt, meter, words, input, output, errors),
     }
 }
 
 /// Does what the words of the command line ask for, and gives the exit status.
-fn answer<R, I, O, E>(
-    rt: &R,
+fn answer<'a, R, I, O, E>(
+    rt: &'a R,
+    meter: &'a Meter<&'a R>,
     input: &mut I,
     output: &mut O,
     errors: &mut E,
 ) -> Result<u8, AllocError>
 where
-    R: Env + Files + Net + Clock + Drop + AllocGlobal + Threads + Wait + Sync,
+    R: Env + Files + Net + Clock + Eprint + Drop + AllocGlobal + Threads + Wait + Sync,
     R::File: Lockable,
     I: Source,
     O: Sink,
@@ -346,7 +353,7 @@ where
         .iter()
         .map(|word| word.as_str())
         .collect(rt.alloc())?;
-    obey(rt, &words, input, output, errors)
+    obey(rt, meter, &words, input, output, errors)
 }
 
 /// Opens the null device so often that each closed standard stream gets it, and no file that is opened later takes the
@@ -372,13 +379,16 @@ fn refuse_device<R: AllocGlobal, E: Sink>(rt: &R, errors: &mut E, error: &Error)
 fn main(rt: HostRuntime) -> ExitCode {
     let filled = fill_closed_streams(&rt);
     let mut input = ReadSource::new(rt.stdin());
-    let mut output = WriteSink::new(rt.stdout());
-    let mut errors = WriteSink::new(rt.stderr());
+    let meter = Meter::new(&rt, rt.stderr().is_terminal());
+    let mut output = Cleared::new(WriteSink::new(rt.stdout()), &meter);
+    let mut errors = Cleared::new(WriteSink::new(rt.stderr()), &meter);
     if let Err(error) = &filled {
         refuse_device(&rt, &mut errors, error);
         return ExitCode::from(DISK_FAULT);
     }
-    match answer(&rt, &mut input, &mut output, &mut errors) {
+    let answer = answer(&rt, &meter, &mut input, &mut output, &mut errors);
+    meter.clear();
+    match answer {
         Ok(status) => ExitCode::from(status),
         Err(_) => {
             let _ = errors.write(b"no memory\n");

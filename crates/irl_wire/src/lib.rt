@@ -2,8 +2,12 @@
 #![tactic(auto)]
 
 mod limits;
+mod meter;
+mod metered;
 mod wire;
 
+pub use meter::Meter;
+pub use metered::{Cleared, Metered};
 pub use wire::Wire;
 
 #[cfg(test)]

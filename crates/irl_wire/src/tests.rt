@@ -1,7 +1,9 @@
 use crate::limits::Limits;
+use crate::meter::{Line, Meter};
+use crate::metered::{Cleared, Metered};
 use crate::wire::Wire;
 use irl_http::Link;
-use irl_io::Clock;
+use irl_io::{Clock, MemSink, Sink};
 use std::io;
 use std::io::{Read, Write};
 use std::net::{TcpListener, TcpStream};
@@ -221,5 +223,57 @@ fn its_moments_are_those_of_the_system(rt: HostRuntime) -> Result<(), Fail> {
     );
     wire.wait_till(before);
     assert!(rt; wire.now() >= after);
+    Ok(())
+}
+
+// What was fetched, bytes and milliseconds, and the line of them.
+const LINES: [(u64, u64, u64, &str); 4] = [
+    (0, 0, 0, "0 fetched, 0 a second, 0.0 MiB, 0:00"),
+    (7, 104_858, 500, "7 fetched, 14 a second, 0.1 MiB, 0:00"),
+    (
+        1_000,
+        11_000_000,
+        61_000,
+        "1000 fetched, 16 a second, 10.4 MiB, 1:01",
+    ),
+    (
+        90_000,
+        2_147_483_648,
+        3_600_000,
+        "90000 fetched, 25 a second, 2048.0 MiB, 60:00",
+    ),
+];
+
+#[test]
+fn a_line_of_progress(rt: HostRuntime) -> Result<(), Fail> {
+    for (fetches, bytes, millis, expected) in LINES {
+        let line = Line {
+            fetches,
+            bytes,
+            millis,
+        };
+        let text = format!(in rt.alloc(); "{line}")?;
+        let wanted = format!(in rt.alloc(); "\r{expected}\x1b[K")?;
+        assert_eq!(rt; text.as_str(), wanted.as_str());
+    }
+    Ok(())
+}
+
+// A link with a meter and a sink with one do what they do without.
+#[test]
+fn a_meter_that_is_off_changes_nothing(rt: HostRuntime) -> Result<(), Fail> {
+    let meter = Meter::new(&rt, false);
+    let listener = TcpListener::bind(&rt, "127.0.0.1:0")?;
+    let port = listener.local_addr()?.port();
+    let mut link = Metered::new(Wire::with_limits(&rt, short()), &meter);
+    let (_, came) = both(&rt, &listener, &mut link, port, Server::Closing);
+    let came = came?;
+    assert!(rt; came.bytes == 12 && !came.faults);
+    let before = link.now();
+    link.wait_till(before.saturating_add(20));
+    assert!(rt; link.now() >= before.saturating_add(20));
+    let mut sink = Cleared::new(MemSink::new(rt.alloc(), Vec::new(rt.alloc())), &meter);
+    assert!(rt; sink.write(b"a line\n").is_ok());
+    meter.clear();
     Ok(())
 }
