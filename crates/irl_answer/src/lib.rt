@@ -11,6 +11,3 @@ pub use found::{Found, offers};
 pub use laws::chains_are_short;
 pub use notes::{Step, note, robots_step};
 pub use outcomes::outcome;
-
-#[cfg(test)]
-mod tests;

@@ -14,6 +14,3 @@ pub use beast::Beast;
 pub use item::Item;
 pub use laws::a_pass_is_legal;
 pub use plan::Plan;
-
-#[cfg(test)]
-mod tests;

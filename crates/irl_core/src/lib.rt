@@ -20,6 +20,3 @@ pub use states::{
     one_event_more_is_legal, sent_pairs_give_the_budgets,
 };
 pub use step::{Reply, Step};
-
-#[cfg(test)]
-mod tests;

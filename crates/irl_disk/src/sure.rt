@@ -1,9 +1,9 @@
 ghost use Rattle.std.specs.Prelude.{◌≡◌, ◌+◌, ◌-◌, ◌^◌, ◌<◌, ◌≤◌, ℕ, [], Some};
-ghost use Rattle.std.specs.Prelude.{IfOk, IsOk, length, OnErr, OnOk, slice_index, slice_set, take};
+ghost use Rattle.std.specs.Prelude.{IfOk, length, OnErr, OnOk, slice_index, slice_set, take};
 ghost use Rattle.std.specs.List.{sum};
 ghost use Rattle.irl_base.specs.Faults.{Rose, counted};
 ghost use Rattle.irl_disk.specs.Disk.{ChangesFile, Holds};
-ghost use Rattle.irl_disk.specs.Sure.{Resized, SureCall, bytes_held, files_cut, sure_files, told_surely, sure_taken};
+ghost use Rattle.irl_disk.specs.Sure.{Resized, SureCall, files_cut, sure_files, told_surely, sure_taken};
 ghost use Rattle.irl_disk.specs.SureLaws.{sure_consistent};
 
 use crate::{Failed, Store};
@@ -201,90 +201,4 @@ impl Store for SureStore {
     }
 
     ghost is_consistent = { sure_consistent };
-}
-
-#[cfg(test)]
-mod tests {
-    use super::*;
-    use std::test::Fail;
-
-    // Writes into a file that reaches so far.
-    fn put<S: Store>(store: &mut S, f: u16, at: u64, bytes: &[u8]) -> Result<(), Failed>
-        requires { f < 10000 }
-    {
-        if store.length(f)? < at {
-            return Err(Failed);
-        }
-        store.write(f, at, bytes)
-    }
-
-    fn cut<S: Store>(store: &mut S, f: u16, to: u64) -> Result<(), Failed>
-        requires { f < 10000 }
-    {
-        if store.length(f)? < to {
-            return Err(Failed);
-        }
-        store.cut(f, to)
-    }
-
-    // The first bytes of a file.
-    fn shown<S: Store>(store: &mut S, f: u16) -> Result<[u8; 6], Failed>
-        requires { f < 10000 }
-    {
-        let mut into = [0; 6];
-        store.read(f, 0, &mut into)?;
-        Ok(into)
-    }
-
-    // A write that has room is proved to succeed, and leaves room for the next.
-    fn put_surely(store: &mut SureStore, f: u16, bytes: &[u8]) -> Result<(), Failed>
-        requires file { f < 10000 }
-        requires room { bytes_held store.old + length bytes.now ≤ store.old.room }
-        ensures ok { IsOk result }
-        ensures held { bytes_held store.new ≤ bytes_held store.old + length bytes.now }
-        ensures room { store.new.room ≡ store.old.room }
-    {
-        store.write(f, 0, bytes)
-    }
-
-    #[test]
-    fn files_stand_one_behind_the_other(rt: HostRuntime) -> Result<(), Fail> {
-        let mut store = SureStore::new(rt.alloc(), 13)?;
-        for (f, at, bytes) in [
-            (1, 0, "mn"),
-            (0, 0, "abcd"),
-            (9999, 0, "xyz"),
-            (1, 1, "NOPQ"),
-            (0, 1, "B"),
-        ] {
-            put(&mut store, f, at, bytes.as_bytes())?;
-        }
-        for f in [0, 1, 9999] {
-            store.sync(f)?;
-        }
-        assert_eq!(rt; shown(&mut store, 0)?, *b"aBcd\0\0");
-        assert_eq!(rt; shown(&mut store, 1)?, *b"mNOPQ\0");
-        assert_eq!(rt; shown(&mut store, 9999)?, *b"xyz\0\0\0");
-        cut(&mut store, 1, 2)?;
-        put(&mut store, 9999, 3, b"!!!")?;
-        assert_eq!(rt; shown(&mut store, 0)?, *b"aBcd\0\0");
-        assert_eq!(rt; shown(&mut store, 1)?, *b"mN\0\0\0\0");
-        assert_eq!(rt; shown(&mut store, 9999)?, *b"xyz!!!");
-        assert_eq!(rt; store.length(5)?, 0);
-        Ok(())
-    }
-
-    #[test]
-    fn a_write_past_the_room_changes_nothing(rt: HostRuntime) -> Result<(), Fail> {
-        let mut store = SureStore::new(rt.alloc(), 6)?;
-        put_surely(&mut store, 1, b"abcd")?;
-        put_surely(&mut store, 2, b"x")?;
-        assert_eq!(rt; put(&mut store, 1, 3, b"DEF"), Err(Failed));
-        assert_eq!(rt; shown(&mut store, 1)?, *b"abcd\0\0");
-        assert_eq!(rt; shown(&mut store, 2)?, *b"x\0\0\0\0\0");
-        assert_eq!(rt; put(&mut store, 1, 3, b"DE"), Ok(()));
-        assert_eq!(rt; shown(&mut store, 1)?, *b"abcDE\0");
-        assert_eq!(rt; shown(&mut store, 2)?, *b"x\0\0\0\0\0");
-        Ok(())
-    }
 }

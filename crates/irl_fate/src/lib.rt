@@ -22,6 +22,3 @@ pub use laws::{
 };
 pub use plan::Plan;
 pub use rules::{a_front_rose, no_front_fell, numbers_differ};
-
-#[cfg(test)]
-mod tests;

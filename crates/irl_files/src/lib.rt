@@ -11,8 +11,6 @@ mod opening;
 mod paths;
 mod place;
 mod table;
-#[cfg(test)]
-mod tests;
 
 pub use failure::{Call, Failure};
 pub use file_store::FileStore;

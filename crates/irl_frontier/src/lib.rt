@@ -12,6 +12,3 @@ pub use irl_beast::Item;
 pub use irl_fate::{Counts, Event, Fate, FateFault};
 pub use laws::{a_pass_breaks_no_rule, an_event_brings_a_crawl_on, places_go_by_degrees};
 pub use plan::Plan;
-
-#[cfg(test)]
-mod tests;

@@ -14,6 +14,3 @@ pub use link::{Connection, Link};
 pub use mem_link::MemLink;
 pub use message::request;
 pub use reply::read_reply;
-
-#[cfg(test)]
-mod tests;

@@ -9,8 +9,6 @@ mod mem_source;
 mod read_source;
 mod sink;
 mod source;
-#[cfg(test)]
-mod tests;
 mod write_sink;
 
 pub use clock::Clock;

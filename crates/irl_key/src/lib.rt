@@ -8,6 +8,3 @@ mod web;
 pub use canon::{Canon, canonical, robots_of};
 pub use key::key_of;
 pub use web::{Web, Work};
-
-#[cfg(test)]
-mod tests;

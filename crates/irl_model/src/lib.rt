@@ -15,6 +15,3 @@ pub use laws::{
     unique_keys_differ,
 };
 pub use plain::{judged, judged_offers, uniques};
-
-#[cfg(test)]
-mod tests;

@@ -38,6 +38,3 @@ pub trait Offers {
     /// It is so of some calls behind others.
     ghost follows_both: { (x y z : Self) → follows x y → follows y z → follows x z };
 }
-
-#[cfg(test)]
-mod tests;

@@ -8,6 +8,3 @@ mod suffixes;
 
 pub use names::is_name;
 pub use suffixes::{SuffixFault, Suffixes};
-
-#[cfg(test)]
-mod tests;

@@ -13,6 +13,3 @@ mod turns;
 pub use front::Front;
 pub use irl_robots::HostState;
 pub use job::Job;
-
-#[cfg(test)]
-mod tests;

@@ -6,6 +6,3 @@ mod summary;
 
 pub use listing::list_line;
 pub use summary::report;
-
-#[cfg(test)]
-mod tests;

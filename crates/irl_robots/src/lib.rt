@@ -20,6 +20,3 @@ pub use lines::kept;
 pub use robots::Robots;
 pub use rule::PathRule;
 pub use status::class;
-
-#[cfg(test)]
-mod tests;

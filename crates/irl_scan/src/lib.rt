@@ -13,6 +13,3 @@ mod span;
 pub use reference::{one_text, text};
 pub use scan::{base, links, one_cut};
 pub use span::Span;
-
-#[cfg(test)]
-mod tests;

@@ -10,6 +10,3 @@ mod ranking;
 pub use budgets::Budgets;
 pub use degrees::Degrees;
 pub use laws::budgets_depend_on_degrees;
-
-#[cfg(test)]
-mod tests;

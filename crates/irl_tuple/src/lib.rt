@@ -9,6 +9,3 @@ mod verdict;
 pub use laws::{told_keys_are_read_again, tuple_lines_are_their_forms};
 pub use reading::read_tuple;
 pub use verdict::push_verdict;
-
-#[cfg(test)]
-mod tests;

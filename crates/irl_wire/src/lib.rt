@@ -9,6 +9,3 @@ mod wire;
 pub use meter::Meter;
 pub use metered::{Cleared, Metered};
 pub use wire::Wire;
-
-#[cfg(test)]
-mod tests;

@@ -11,6 +11,3 @@ mod words;
 pub use command::{Command, RunOptions, WordFault};
 pub use usage::help;
 pub use words::read_words;
-
-#[cfg(test)]
-mod tests;

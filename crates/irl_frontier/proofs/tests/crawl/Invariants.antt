@@ -1,5 +1,0 @@
-use Rattle.std.proofs.Common.{◌≡◌}
-use Rattle.irl_frontier.proofs.tests.crawl.Given as goal
-
-abbrev pub invariant-loop-front : goal.invariant-loop-front
-invariant-loop-front l = l.frontier.settings.buckets ≡ 1

@@ -1,0 +1,374 @@
+mod crawled;
+mod ports;
+mod resumed;
+mod rows;
+mod shown;
+mod sides;
+mod spoilt;
+
+use crate::runs::{
+    Case, Failing, Left, NEW_OF_ROW, NONE, ONE_BUCKET, ROW, SEEN, check, new_store, refusal,
+    run_over, writes,
+};
+use irl_disk::{MemStore, Part, Store};
+use std::alloc::{AllocError, Global};
+use std::process::Abort;
+use std::sync::Wait;
+use std::test::Fail;
+use std::thread::Threads;
+
+// A line for each of 10,000 keys, which lie in all buckets: what stands before the key, the key, and the rest.
+fn tuples(alloc: Global, before: &[u8], behind: &[u8]) -> Result<Vec<u8>, AllocError> {
+    const DIGITS: [u8; 16] = *b"0123456789abcdef";
+    let mut text = Vec::new(alloc);
+    for i in 0..10_000usize {
+        text.extend_from_slice(before)?;
+        let digits = [i, i / 16, i / 256, i / 4_096].map(|digit| DIGITS[digit % 16]);
+        text.extend_from_slice(&digits)?;
+        text.extend_from_slice(b"000000000000")?;
+        text.extend_from_slice(behind)?;
+    }
+    Ok(text)
+}
+
+// The lines of a text, sorted.
+fn sorted(alloc: Global, text: &[u8]) -> Result<Vec<&[u8]>, AllocError> {
+    let mut lines = Vec::new(alloc);
+    for line in text.split(|byte| *byte == b'\n') {
+        lines.push(line)?;
+    }
+    lines.sort()?;
+    Ok(lines)
+}
+
+// Whether two texts have the same lines, in any order.
+fn has_lines(alloc: Global, text: &[u8], wanted: &[u8]) -> Result<bool, AllocError> {
+    let lines = sorted(alloc, text)?;
+    let wanted = sorted(alloc, wanted)?;
+    Ok(lines == wanted)
+}
+
+// A run on a line for each key, which tells a line of each: what stands in them before and behind the key.
+fn check_tuples<R: Threads + Wait + Sync + Abort + AllocGlobal>(
+    rt: &R,
+    store: MemStore,
+    asked: (&[u8], &[u8]),
+    told: (&[u8], &[u8]),
+) -> Result<MemStore, AllocError> {
+    let alloc = rt.alloc();
+    let words = ["drum", "--array=64", "--trigger=256", "--rule=add"];
+    let input = tuples(alloc, asked.0, asked.1)?;
+    let wanted = tuples(alloc, told.0, told.1)?;
+    let Left {
+        status,
+        output,
+        errors,
+        store,
+    } = run_over(rt, &words, &input, NONE, store)?;
+    assert_eq!(rt; errors.as_slice(), b"".as_slice());
+    assert_eq!(rt; status, 0);
+    let is_told = has_lines(alloc, &output, &wanted)?;
+    assert!(rt; is_told);
+    Ok(store)
+}
+
+// Many flushes and merges, then one more run: each value was added to twice.
+#[test]
+fn many_tuples_are_judged(rt: HostRuntime) -> Result<(), Fail> {
+    let mut store = new_store(rt.alloc(), NONE)?;
+    for (asked, told) in [
+        (
+            (b"b ".as_slice(), b" 1\n".as_slice()),
+            (b"unique ".as_slice(), b"\n".as_slice()),
+        ),
+        ((b"b ", b" 1 text\n"), (b"known ", b" 1 text\n")),
+        ((b"c ", b"\n"), (b"known ", b" 2\n")),
+    ] {
+        store = check_tuples(&rt, store, asked, told)?;
+    }
+    Ok(())
+}
+
+// A line of so many bytes, on an empty store.
+fn check_length<R: Threads + Wait + Sync + Abort + AllocGlobal>(
+    rt: &R,
+    length: usize,
+    is_taken: bool,
+) -> Result<(), AllocError> {
+    let alloc = rt.alloc();
+    let mut line = vec![in alloc; b'x'; length]?;
+    line.push(b'\n')?;
+    let (status, output, errors) = if is_taken {
+        (0, line.as_slice(), b"".as_slice())
+    } else {
+        (2, b"".as_slice(), b"line 1 refused\n".as_slice())
+    };
+    let case = Case {
+        words: SEEN,
+        input: &line,
+        status,
+        output,
+        errors,
+    };
+    let _ = check(rt, new_store(alloc, NONE)?, NONE, case)?;
+    Ok(())
+}
+
+#[test]
+fn a_line_has_at_most_2048_bytes(rt: HostRuntime) -> Result<(), Fail> {
+    for (length, is_taken) in [(2048, true), (2049, false)] {
+        check_length(&rt, length, is_taken)?;
+    }
+    Ok(())
+}
+
+// Puts these bytes in place of a file.
+fn put_file(rt: &impl Abort, store: &mut MemStore, file: u16, bytes: &[u8]) {
+    assert!(rt; file < 10_000);
+    assert_eq!(rt; store.cut(file, 0), Ok(()));
+    assert_eq!(rt; store.write(file, 0, bytes), Ok(()));
+}
+
+// A run over a new store or a made one, of which one file was put in place by these bytes.
+fn check_file<R: Threads + Wait + Sync + Abort + AllocGlobal>(
+    rt: &R,
+    is_made: bool,
+    file: u16,
+    bytes: &[u8],
+    errors: &[u8],
+) -> Result<(), AllocError> {
+    let mut store = new_store(rt.alloc(), NONE)?;
+    if is_made {
+        store = check(rt, store, NONE, writes(SEEN, b"", b""))?;
+    }
+    put_file(rt, &mut store, file, bytes);
+    let case = if errors.is_empty() {
+        writes(SEEN, ROW, NEW_OF_ROW)
+    } else {
+        refusal(SEEN, 3, errors)
+    };
+    let _ = check(rt, store, NONE, case)?;
+    Ok(())
+}
+
+// One byte is an empty file. Files 0998 and 0999 are those of an earlier kind of store.
+#[test]
+fn files_are_opened_or_refused(rt: HostRuntime) -> Result<(), Fail> {
+    for (is_made, file, bytes, errors) in [
+        (false, 998, b"x".as_slice(), b"".as_slice()),
+        (false, 998, b"xy", b"not a store: byte 0 of file 0000\n"),
+        (
+            false,
+            999,
+            b"\xA5\x02\0\0\0ab\0",
+            b"not a store: byte 0 of file 0000\n",
+        ),
+        (true, 110, b"\xA5", b""),
+        (
+            true,
+            110,
+            b"\xA5\xFF\0\0\0\0",
+            b"damaged: byte 0 of file 0110\n",
+        ),
+        (
+            true,
+            0,
+            b"\xA5\xFF\0\0\0\0",
+            b"damaged: byte 0 of file 0000\n",
+        ),
+    ] {
+        check_file(&rt, is_made, file, bytes, errors)?;
+    }
+    Ok(())
+}
+
+// How many calls a run on the row makes of an empty store, where the calls of these numbers fail.
+fn calls_of_row<R: Threads + Wait + Sync + Abort + AllocGlobal>(
+    rt: &R,
+    failing: Failing,
+    status: u8,
+    errors: &[u8],
+) -> Result<u64, AllocError> {
+    let case = if status == 0 {
+        writes(SEEN, ROW, NEW_OF_ROW)
+    } else {
+        refusal(SEEN, status, errors)
+    };
+    Ok(check(rt, new_store(rt.alloc(), failing)?, failing, case)?.calls())
+}
+
+// The first call of each object fails, and the last; one number further none does.
+#[test]
+fn a_fault_ends_the_run(rt: HostRuntime) -> Result<(), Fail> {
+    let calls = calls_of_row(&rt, NONE, 0, b"")?;
+    for (store, input, output, status, errors) in [
+        (Some(0), None, None, 4, b"disk fault\n".as_slice()),
+        (Some(calls), None, None, 0, b""),
+        (None, Some(0), None, 5, b"input fault\n"),
+        (None, Some(1), None, 5, b"input fault\n"),
+        (None, Some(2), None, 0, b""),
+        (None, None, Some(0), 6, b"output fault\n"),
+        (None, None, Some(1), 0, b""),
+    ] {
+        let failing = Failing {
+            store,
+            input,
+            output,
+        };
+        calls_of_row(&rt, failing, status, errors)?;
+    }
+    Ok(())
+}
+
+// ---- the schedule
+// The lines `l0` to `l19`, and the first ten of them again.
+fn thirty(alloc: Global) -> Result<Vec<u8>, AllocError> {
+    let mut text = Vec::new(alloc);
+    for i in 0..30u8 {
+        let n = i % 20;
+        text.push(b'l')?;
+        if n > 9 {
+            text.push(b'0' + n / 10)?;
+        }
+        text.push(b'0' + n % 10)?;
+        text.push(b'\n')?;
+    }
+    Ok(text)
+}
+
+// Sixteen flushes and six merges, by the rules of the schedule. A store with one bucket judges in the order of the input.
+#[test]
+fn merges_stand_in_the_order_of_the_schedule(rt: HostRuntime) -> Result<(), Fail> {
+    let input = thirty(rt.alloc())?;
+    for (buckets, written) in [
+        (
+            "--buckets=2",
+            b"l1\nl5\nl0\nl2\nl3\nl4\nl7\nl8\nl9\nl10\nl11\nl12\nl14\nl15\nl6\nl13\nl17\nl19\nl16\nl18\n".as_slice(),
+        ),
+        (
+            "--buckets=1",
+            b"l0\nl1\nl2\nl3\nl4\nl5\nl6\nl7\nl8\nl9\nl10\nl11\nl12\nl13\nl14\nl15\nl16\nl17\nl18\nl19\n",
+        ),
+    ] {
+        let words = ["seen", buckets, "--array=2", "--trigger=3"];
+        let store = new_store(rt.alloc(), NONE)?;
+        let store = check(&rt, store, NONE, writes(&words, &input, written))?;
+        let _ = check(&rt, store, NONE, writes(&words, &input, b""))?;
+    }
+    Ok(())
+}
+
+// ---- stops
+const TWO: &[u8] = b"a\nb\n";
+
+// One bucket, whose array the two lines fill.
+const SMALL: &[&str] = &["seen", "--buckets=1", "--array=2"];
+
+// What a stop in a call leaves of a store in which a run keeps its lines: 0 none of them, 1 all, unjudged, 2 all,
+// judged. What was unjudged is judged and printed in the next run, and what was lost is new in the one after it.
+fn stage<R: Threads + Wait + Sync + Abort + AllocGlobal>(
+    rt: &R,
+    case: Case<'_>,
+    store: &MemStore,
+    call: u64,
+    part: Part,
+) -> Result<u8, AllocError> {
+    assert!(rt; call < store.calls());
+    let image = store.image(rt.alloc(), call, part)?;
+    let first = run_over(rt, case.words, b"", NONE, image)?;
+    assert_eq!(rt; first.status, 0);
+    let second = run_over(rt, case.words, case.input, NONE, first.store)?;
+    assert_eq!(rt; second.status, 0);
+    let (first, second) = (first.output.as_slice(), second.output.as_slice());
+    if first.is_empty() && second == case.output {
+        return Ok(0);
+    }
+    assert!(rt; second.is_empty());
+    if first == case.output {
+        return Ok(1);
+    }
+    assert!(rt; first.is_empty());
+    Ok(2)
+}
+
+// Stops in the calls of a run over a made store, behind those that open it. Of the six calls of its flush the first
+// four leave no line, and after the last all stay. Of the calls of the merge behind it the last leaves all judged.
+fn check_stops<R: Threads + Wait + Sync + Abort + AllocGlobal>(
+    rt: &R,
+    case: Case<'_>,
+) -> Result<(), AllocError> {
+    let store = new_store(rt.alloc(), NONE)?;
+    let store = check(rt, store, NONE, writes(case.words, b"", b""))?;
+    let made = store.calls();
+    let store = check(rt, store, NONE, writes(case.words, b"", b""))?;
+    let opened = store.calls();
+    let first = opened.saturating_mul(2).saturating_sub(made);
+    let store = check(rt, store, NONE, case)?;
+    let end = store.calls();
+    for call in first..end {
+        let behind = call - first;
+        for part in [Part::Old, Part::New, Part::Torn] {
+            let stage = stage(rt, case, &store, call, part)?;
+            assert!(rt; behind >= 4 || stage == 0, "at {call}");
+            assert!(rt; behind >= 6 || stage <= 1, "at {call}");
+            assert!(rt; behind < 5 || stage >= 1, "at {call}");
+            assert!(rt; end - 1 - call > 0 || stage == 2, "at {call}");
+        }
+    }
+    Ok(())
+}
+
+// Two lines that fill their array, and three of which one stands there twice.
+#[test]
+fn a_stop_leaves_whole_arrays(rt: HostRuntime) -> Result<(), Fail> {
+    for case in [writes(SMALL, TWO, TWO), writes(ONE_BUCKET, ROW, NEW_OF_ROW)] {
+        check_stops(&rt, case)?;
+    }
+    Ok(())
+}
+
+// 20,000 lines, of which seven in eight are one line.
+fn many(alloc: Global) -> Result<Vec<u8>, AllocError> {
+    let mut text = Vec::new(alloc);
+    for i in 0..20_000u32 {
+        if i % 8 < 7 {
+            text.push(b'x')?;
+        } else {
+            text.extend_from_slice(&i.to_le_bytes().map(|byte| b'A' + byte % 16))?;
+            text.extend_from_slice(&i.to_le_bytes().map(|byte| b'A' + byte / 16))?;
+        }
+        text.push(b'\n')?;
+    }
+    Ok(text)
+}
+
+fn count_lines(text: &[u8]) -> usize {
+    text.iter().filter(|byte| **byte == b'\n').count()
+}
+
+// What a stop leaves in the middle of the calls behind the 10,000 that find no store.
+fn left_in_the_middle(
+    rt: &impl Abort,
+    alloc: Global,
+    store: &MemStore,
+) -> Result<MemStore, AllocError> {
+    let middle = store.calls() / 2 + 5_000;
+    assert!(rt; middle < store.calls());
+    store.image(alloc, middle, Part::Torn)
+}
+
+// The first run prints each line once. Stopped in the middle of its calls, and resumed on the same input, it leaves
+// nothing to print.
+#[test]
+fn a_run_is_stopped_and_resumed(rt: HostRuntime) -> Result<(), Fail> {
+    let alloc = rt.alloc();
+    let input = many(alloc)?;
+    let left = run_over(&rt, SEEN, &input, NONE, new_store(alloc, NONE)?)?;
+    assert_eq!(&rt; left.status, 0);
+    assert_eq!(&rt; count_lines(&left.output), 2_501);
+    let image = left_in_the_middle(&rt, alloc, &left.store)?;
+    let left = run_over(&rt, SEEN, &input, NONE, image)?;
+    assert_eq!(&rt; left.status, 0);
+    let _ = check(&rt, left.store, NONE, writes(SEEN, &input, b""))?;
+    Ok(())
+}
