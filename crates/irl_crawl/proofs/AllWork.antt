@@ -19,20 +19,21 @@ use Rattle.irl_offer.specs.declared.note.Note.{Note}
 use Rattle.irl_polite.specs.Inside.{Held, schedule}
 use Rattle.irl_polite.specs.Schedule.{Schedule}
 use Rattle.irl_record.specs.Widening.{Answers, Widens}
+use Rattle.irl_record.specs.Wired.{Made, how_many}
 use Rattle.irl_fetch.specs.declared.working.WorkLog.{WorkLog}
-use Rattle.irl_fetch.specs.Handling.{Handled, IsHandled, IsNoted, Noted, done_of, entered_of}
+use Rattle.irl_fetch.specs.Handling.{Handled, IsHandled, IsNoted, Noted, answered, done_of, entered_of}
 use Rattle.irl_fetch.specs.Telling.{Enters, Fetcher, GoesOn, Offering, fetcher, given_since}
 use Rattle.irl_fetch.specs.Working.{FinishesWork, HasWorked, IsBegun, StopsWork, IsStateOf}
-use Rattle.irl_fetch.proofs.Handling.{handled_wider, noted_wider}
+use Rattle.irl_fetch.proofs.Handling.{answered_both, handled_wider, noted_wider}
 use Rattle.irl_fetch.proofs.Jobs.{part_wider}
 use Rattle.irl_fetch.proofs.Results.{refused_err, refused_fault, refused_if}
 use Rattle.irl_fetch.proofs.Telling.{enters_as, enters_none, enters_then}
-use Rattle.irl_crawl.specs.Workers.{AllGoOn, AreFor, AreReady, Given, IsGivenBy, IsMomentBy, IsStateAmong, RoseBetween, given_by, loaded, schedules}
+use Rattle.irl_crawl.specs.Workers.{AllGoOn, AreFor, AreReady, Given, IsGivenBy, IsMomentBy, IsStateAmong, RoseBetween, given_by, loaded, made_by, schedules}
 use Rattle.irl_crawl.specs.Working.{AreByWorker, FinishAll, HasBegunOne, HaveWorked, KeepDelays, KnowAsNoted, KnowByMoment, StopAll, WorkAll}
 use Rattle.irl_crawl.specs.declared.crew.Crew.{Crew}
 use Rattle.irl_crawl.proofs.Workers.{IsSetAt, among_more, among_one, delays_more, delays_stay, front_at, fronts_set, is_set, know_more, know_none, knows_more, knows_same, same_at}
 use Rattle.irl_crawl.proofs.Going.{all_go_none}
-use Rattle.irl_crawl.proofs.Rising.{rose_between_one, rose_between_same, rose_between_then, unanswered, unanswered_both}
+use Rattle.irl_crawl.proofs.Rising.{made_one, rose_between_one, rose_between_same, rose_between_then, unanswered, unanswered_both}
 use Rattle.irl_crawl.proofs.Workers.{given_by_one, given_more, moment_more, one_goes_on}
 
 abbrev works_of : List Handled → List Work
@@ -106,13 +107,14 @@ order_more befores worker s done own all stands before same is =
 -- ## The loop
 
 -- The workers before this one did all that their fronts say, which is the log, and the others have begun nothing.
-pub record SoFar {F O : Type 0} (asked : F → ℕ) (gives : F → ℕ → Answers) (faults last : F → ℕ) (aim : F → List ℕ) (log : WorkLog) (agent suffixes : List ℕ) (worker : ℕ) (olds nows : List F)
+pub record SoFar {F O : Type 0} (asked : F → Made) (gives : F → ℕ → Answers) (faults last : F → ℕ) (aim : F → List ℕ) (log : WorkLog) (agent suffixes : List ℕ) (worker : ℕ) (olds nows : List F)
     (befores fronts : List Schedule) (o p : Offering O) : Type 0 where
   pub handled : List Handled
   pub noted : List Noted
   pub done : log.done.items ≡ map done_of handled
   pub notes : log.notes.items ≡ map (λ one. one.note) noted
   pub worked : HaveWorked (given_by asked gives faults olds nows) agent suffixes handled noted (loaded (drop worker befores)) befores
+  pub asked_are : made_by asked nows ≤ made_by asked olds + answered handled noted
   pub entered : Enters (flat_map entered_of handled) o p
   pub known : KnowAsNoted agent noted befores fronts
   pub knows : KnowByMoment noted befores fronts
@@ -128,7 +130,7 @@ pub record SoFar {F O : Type 0} (asked : F → ℕ) (gives : F → ℕ → Answe
   pub fronts_same : (at : ℕ) → worker ≤ at → slice_get fronts at ≡ slice_get befores at
   pub fetchers_same : (at : ℕ) → worker ≤ at → slice_get nows at ≡ slice_get olds at
 
-pub far_first : {F O : Type 0} (asked : F → ℕ) (gives : F → ℕ → Answers) (faults last : F → ℕ) (aim : F
+pub far_first : {F O : Type 0} (asked : F → Made) (gives : F → ℕ → Answers) (faults last : F → ℕ) (aim : F
     → List ℕ) (log : WorkLog) (agent suffixes : List ℕ) (olds : List F) (befores : List Schedule) (o : Offering O)
     → log.done.items ≡ [] → log.notes.items ≡ [] → AreFor agent befores → SoFar asked gives faults last aim log agent suffixes 0 olds olds befores befores o o
 far_first asked gives faults last aim log agent suffixes olds befores o done notes for = record {
@@ -137,6 +139,7 @@ far_first asked gives faults last aim log agent suffixes olds befores o done not
   done = done;
   notes = notes;
   worked = have_none (given_by asked gives faults olds olds) agent suffixes befores (rose_between_same faults olds);
+  asked_are = omega arith;
   entered = enters_none o;
   known = know_none agent befores;
   knows = knows_same befores;
@@ -158,7 +161,7 @@ inside_too : (worker : ℕ) (firsts fronts : List Held) → length (schedules fr
 inside_too worker firsts fronts same low = omega (arith, same, low, length-map firsts schedule, length-map fronts schedule)
 
 -- this worker went on, and no other
-pub record RunsOne {F : Type 0} (asked : F → ℕ) (gives : F → ℕ → Answers) (faults last : F → ℕ) (aim : F
+pub record RunsOne {F : Type 0} (asked : F → Made) (gives : F → ℕ → Answers) (faults last : F → ℕ) (aim : F
     → List ℕ) (worker : ℕ) (x y : F) (nows laters : List F) (s t : Schedule) (fronts afters : List Schedule)
     : Type 0 where
   pub stood : slice_get nows worker ≡ Some x
@@ -170,7 +173,7 @@ pub record RunsOne {F : Type 0} (asked : F → ℕ) (gives : F → ℕ → Answe
   pub delay : t.delay ≡ s.delay
 
 -- by the places of its fetcher and its front
-pub runs_at : {F O : Type 0} (asked : F → ℕ) (gives : F → ℕ → Answers) (faults last : F → ℕ) (aim : F → List ℕ) {log : WorkLog} {agent suffixes : List ℕ} (worker : ℕ) (d y : F) (olds nows : List F)
+pub runs_at : {F O : Type 0} (asked : F → Made) (gives : F → ℕ → Answers) (faults last : F → ℕ) (aim : F → List ℕ) {log : WorkLog} {agent suffixes : List ℕ} (worker : ℕ) (d y : F) (olds nows : List F)
     (front after : Held) (firsts fronts : List Held) {o p : Offering O} → SoFar asked gives faults last aim log agent suffixes worker olds nows (schedules firsts) (schedules fronts) o p
     → worker < length olds → length firsts ≡ length olds → front ≡ get_or fronts worker front
     → GoesOn (fetcher asked gives faults last aim (get_or nows worker d)) (fetcher asked gives faults last aim y) → (schedule after).agent ≡ (schedule front).agent
@@ -224,7 +227,7 @@ stood_first : (befores fronts : List Schedule) (worker : ℕ) (s : Schedule) →
     → slice_get befores worker ≡ Some s
 stood_first befores fronts worker s before stands = sym (before worker (omega arith)) ∙ stands
 
-worked_more : {F O : Type 0} (asked : F → ℕ) (gives : F → ℕ → Answers) (faults last : F → ℕ) (aim : F
+worked_more : {F O : Type 0} (asked : F → Made) (gives : F → ℕ → Answers) (faults last : F → ℕ) (aim : F
     → List ℕ) (log : WorkLog) (agent suffixes : List ℕ) (worker : ℕ) (x y : F) (olds nows laters : List F)
     (s t : Schedule) (befores fronts afters : List Schedule) (o p : Offering O) (far : SoFar asked gives faults last aim log agent suffixes worker olds nows befores fronts o p)
     → RunsOne asked gives faults last aim worker x y nows laters s t fronts afters → (handled : List Handled) (noted : List Noted) (left : List Work)
@@ -244,7 +247,7 @@ worked_more asked gives faults last aim log agent suffixes worker x y olds nows 
     (subst (λ (left : List Work). HaveWorked (given_by asked gives faults olds nows) agent suffixes far.handled far.noted left befores) (loaded_rest befores worker s first) far.worked)
     worked
 
-moments_more : {F O : Type 0} (asked : F → ℕ) (gives : F → ℕ → Answers) (faults last : F → ℕ) (aim : F
+moments_more : {F O : Type 0} (asked : F → Made) (gives : F → ℕ → Answers) (faults last : F → ℕ) (aim : F
     → List ℕ) (log : WorkLog) (agent suffixes : List ℕ) (worker : ℕ) (x y : F) (olds nows laters : List F)
     (s t : Schedule) (befores fronts afters : List Schedule) (o p : Offering O) → SoFar asked gives faults last aim log agent suffixes worker olds nows befores fronts o p
     → RunsOne asked gives faults last aim worker x y nows laters s t fronts afters → (noted : List Noted) (own all : List Note) → own ≡ map (λ one. one.note) noted → all ≡ log.notes.items ++ own
@@ -261,7 +264,14 @@ moments_more asked gives faults last aim log agent suffixes worker x y olds nows
     (All-weaker (λ (one : Noted). (last x ≤ one.note.when) × (one.note.when ≤ last y)) (λ (one : Noted). IsOne one.note)
     (λ one when. record { at = worker; old = x; new = y; was = was; is = runs.fetcher_set.here; from = when.0; till = when.1 }) noted moments))))
 
-pub far_next : {F O : Type 0} {asked : F → ℕ} {gives : F → ℕ → Answers} {faults last : F → ℕ} {aim : F
+-- it made no more than it has answers, nor did those before it
+made_more : {F : Type 0} (asked : F → Made) (m n : ℕ) {all : ℕ} (worker : ℕ) (x y : F) (olds nows laters : List F) → IsSetAt worker y nows laters → slice_get nows worker ≡ Some x → all ≡ m + n
+    → made_by asked nows ≤ made_by asked olds + m → how_many (asked y) ≤ how_many (asked x) + n → made_by asked laters ≤ made_by asked olds + all
+made_more asked m n worker x y olds nows laters changed stood both before own =
+    let one = made_one asked nows laters worker x y changed stood in
+    omega (arith, one, both, before, own)
+
+pub far_next : {F O : Type 0} {asked : F → Made} {gives : F → ℕ → Answers} {faults last : F → ℕ} {aim : F
     → List ℕ} {log part whole : WorkLog} {agent suffixes : List ℕ} {worker : ℕ} {x y : F} {olds nows laters : List F}
     {s t : Schedule} {befores fronts afters : List Schedule} {o p q : Offering O} → SoFar asked gives faults last aim log agent suffixes worker olds nows befores fronts o p
     → RunsOne asked gives faults last aim worker x y nows laters s t fronts afters
@@ -276,6 +286,8 @@ far_next {asked} {gives} {faults} {last} {aim} {log} {part} {whole} {agent} {suf
       notes = notes ∙ ap (λ xs. log.notes.items ++ xs) does.notes ∙ ap (λ xs. xs ++ map (λ (one : Noted). one.note) does.noted) far.notes
           ∙ sym (map-append (λ (one : Noted). one.note) far.noted does.noted);
       worked = worked_more asked gives faults last aim log agent suffixes worker x y olds nows laters s t befores fronts afters o p far runs does.handled does.noted [] does.worked;
+      asked_are = made_more asked (answered far.handled far.noted) (answered does.handled does.noted) worker x y olds nows laters runs.fetcher_set runs.stood
+          (answered_both far.handled does.handled far.noted does.noted) far.asked_are does.asked;
       entered = enters_as (flat_map entered_of far.handled ++ flat_map entered_of does.handled) (flat_map entered_of (far.handled ++ does.handled)) o q
           (sym (flat_map-append entered_of far.handled does.handled)) (enters_then (flat_map entered_of far.handled) (flat_map entered_of does.handled) o p q far.entered does.entered);
       known = know_more agent far.noted does.noted befores fronts afters worker s t far.known (stood_first befores fronts worker s far.fronts_same runs.stands)
@@ -295,7 +307,7 @@ far_next {asked} {gives} {faults} {last} {aim} {log} {part} {whole} {agent} {suf
       fetchers_same = same_more olds nows laters worker y runs.fetcher_set far.fetchers_same;
     }
 
-pub fetchers_more : {F O : Type 0} {asked : F → ℕ} {gives : F → ℕ → Answers} {faults last : F → ℕ} {aim : F
+pub fetchers_more : {F O : Type 0} {asked : F → Made} {gives : F → ℕ → Answers} {faults last : F → ℕ} {aim : F
     → List ℕ} {log : WorkLog} {agent suffixes : List ℕ} {worker : ℕ} {x y : F} {olds nows laters : List F}
     {s t : Schedule} {befores fronts afters : List Schedule} {o p : Offering O} → SoFar asked gives faults last aim log agent suffixes worker olds nows befores fronts o p
     → RunsOne asked gives faults last aim worker x y nows laters s t fronts afters → AllGoOn asked gives faults last aim olds laters
@@ -307,7 +319,7 @@ fetchers_more {asked} {gives} {faults} {last} {aim} {worker = worker} {x = x} {y
 pub order_all : (befores : List Schedule) (worker : ℕ) (done : List Done) → AreByWorker (take worker befores) done → length befores ≤ worker → AreByWorker befores done
 order_all befores worker done order all = subst (λ (fronts : List Schedule). AreByWorker fronts done) (take_all worker befores all) order
 
-pub all_done : {F O : Type 0} {asked : F → ℕ} {gives : F → ℕ → Answers} {faults last : F → ℕ} {aim : F → List ℕ} {log : WorkLog} {agent suffixes : List ℕ} {worker : ℕ} {olds nows : List F}
+pub all_done : {F O : Type 0} {asked : F → Made} {gives : F → ℕ → Answers} {faults last : F → ℕ} {aim : F → List ℕ} {log : WorkLog} {agent suffixes : List ℕ} {worker : ℕ} {olds nows : List F}
     {befores fronts : List Schedule} {o p : Offering O} → SoFar asked gives faults last aim log agent suffixes worker olds nows befores fronts o p → length befores ≤ worker
     → WorkAll (Ok log) (given_by asked gives faults olds nows) agent suffixes befores fronts o p
 all_done {asked} {gives} {faults} {last} {aim} {log} {agent} {suffixes} {worker} {olds} {nows} {befores} {fronts} {o} {p} far all = record {
@@ -317,6 +329,7 @@ all_done {asked} {gives} {faults} {last} {aim} {log} {agent} {suffixes} {worker}
     done = far.done;
     notes = far.notes;
     worked = subst (λ (left : List Work). HaveWorked (given_by asked gives faults olds nows) agent suffixes far.handled far.noted left befores) (ap loaded (drop_all worker befores all)) far.worked;
+    asked = omega (arith, far.asked_are);
     entered = far.entered;
     known = far.known;
     knows = far.knows;
@@ -333,7 +346,7 @@ entered_then : (h1 h2 : List Handled) (part : List Entered) → flat_map entered
 entered_then h1 h2 part =
     sym (append_assoc (flat_map entered_of h1) (flat_map entered_of h2) part) ∙ ap (λ xs. xs ++ part) (sym (flat_map-append entered_of h1 h2))
 
-begun_more : {F : Type 0} (asked : F → ℕ) (gives : F → ℕ → Answers) (faults last : F → ℕ) (aim : F → List ℕ) (agent suffixes : List ℕ) (worker : ℕ) (x y : F) (olds laters : List F) (s : Schedule)
+begun_more : {F : Type 0} (asked : F → Made) (gives : F → ℕ → Answers) (faults last : F → ℕ) (aim : F → List ℕ) (agent suffixes : List ℕ) (worker : ℕ) (x y : F) (olds laters : List F) (s : Schedule)
     (befores : List Schedule) (one two : List Noted) (left rest : List Work) (part : List Entered) → slice_get olds worker ≡ Some x → slice_get laters worker ≡ Some y
     → slice_get befores worker ≡ Some s → s.agent ≡ agent → IsBegun suffixes two left part (fetcher asked gives faults last aim x) (fetcher asked gives faults last aim y) s
     → HasBegunOne (IsGivenBy asked gives olds laters) agent suffixes (one ++ two) (left ++ rest) part befores
@@ -348,7 +361,7 @@ begun_more asked gives faults last aim agent suffixes worker x y olds laters s b
       (given_by_one asked gives faults last aim olds laters worker x y was is) suffixes begun.work.web part begun.some;
 }
 
-stops_more : {F O : Type 0} (asked : F → ℕ) (gives : F → ℕ → Answers) (faults last : F → ℕ) (aim : F
+stops_more : {F O : Type 0} (asked : F → Made) (gives : F → ℕ → Answers) (faults last : F → ℕ) (aim : F
     → List ℕ) (log : WorkLog) (agent suffixes : List ℕ) (worker : ℕ) (x y : F) (olds nows laters : List F)
     (s t : Schedule) (befores fronts afters : List Schedule) (o p q : Offering O) → SoFar asked gives faults last aim log agent suffixes worker olds nows befores fronts o p
     → RunsOne asked gives faults last aim worker x y nows laters s t fronts afters
@@ -358,6 +371,11 @@ stops_more asked gives faults last aim log agent suffixes worker x y olds nows l
   noted = far.noted ++ stops.noted;
   left = stops.left ++ loaded (drop (worker + 1) befores);
   worked = worked_more asked gives faults last aim log agent suffixes worker x y olds nows laters s t befores fronts afters o p far runs stops.handled stops.noted stops.left stops.worked;
+  asked =
+      let both : answered (far.handled ++ stops.handled) (far.noted ++ stops.noted) + 6 ≡ answered far.handled far.noted + (answered stops.handled stops.noted + 6) =
+      let all = answered_both far.handled stops.handled far.noted stops.noted in omega (arith, all) in
+      let many = made_more asked (answered far.handled far.noted) (answered stops.handled stops.noted + 6) worker x y olds nows laters runs.fetcher_set runs.stood both far.asked_are stops.asked in
+      omega (arith, many);
   part = stops.part;
   begun = elim stops.begun [
     | inl none ↦ inl none
@@ -370,7 +388,7 @@ stops_more asked gives faults last aim log agent suffixes worker x y olds nows l
 }
 
 -- a worker was refused
-pub all_stopped : {F O : Type 0} {asked : F → ℕ} {gives : F → ℕ → Answers} {faults last : F → ℕ} {aim : F
+pub all_stopped : {F O : Type 0} {asked : F → Made} {gives : F → ℕ → Answers} {faults last : F → ℕ} {aim : F
     → List ℕ} {result : Result WorkLog Fault} {fault : Fault} {log : WorkLog} {agent suffixes : List ℕ}
     {worker : ℕ} {x y : F} {olds nows laters : List F} {s t : Schedule} {befores fronts afters : List Schedule} {o p q : Offering O} → result ≡ Err fault
     → SoFar asked gives faults last aim log agent suffixes worker olds nows befores fronts o p → RunsOne asked gives faults last aim worker x y nows laters s t fronts afters
@@ -388,7 +406,7 @@ all_stopped {asked} {gives} {faults} {last} {aim} {result} {fault} {log} {agent}
     }
 
 -- a worker finished, and there was no memory for what it did
-pub all_lacked : {F O : Type 0} {asked : F → ℕ} {gives : F → ℕ → Answers} {faults last : F → ℕ} {aim : F
+pub all_lacked : {F O : Type 0} {asked : F → Made} {gives : F → ℕ → Answers} {faults last : F → ℕ} {aim : F
     → List ℕ} {result : Result WorkLog Fault} {fault : Fault} {log part : WorkLog} {agent suffixes : List ℕ}
     {worker : ℕ} {x y : F} {olds nows laters : List F} {s t : Schedule} {befores fronts afters : List Schedule} {o p q : Offering O} → result ≡ Err fault → fault ≡ Memory
     → SoFar asked gives faults last aim log agent suffixes worker olds nows befores fronts o p → RunsOne asked gives faults last aim worker x y nows laters s t fronts afters
@@ -401,6 +419,7 @@ all_lacked {p = p} {q = q} is memory far runs does calm =
       noted = does.noted;
       left = [];
       worked = does.worked;
+      asked = omega (arith, does.asked);
       part = [];
       begun = inl refl;
       entered = enters_as (flat_map entered_of does.handled) (flat_map entered_of does.handled ++ []) p q (sym (append-nil (flat_map entered_of does.handled))) does.entered;
@@ -414,7 +433,7 @@ pub fronts_changed : (first mid : Crew) (fronts : Vec Held Global) → mid ≡ r
 fronts_changed first mid fronts same = ap (λ (crew : Crew). record crew { fronts = fronts }) same
 
 -- no robots file is awaited in its front
-pub next_ready : {F O : Type 0} {asked : F → ℕ} {gives : F → ℕ → Answers} {faults last : F → ℕ} {aim : F → List ℕ} {log : WorkLog} {agent suffixes : List ℕ} (worker : ℕ) {olds nows : List F}
+pub next_ready : {F O : Type 0} {asked : F → Made} {gives : F → ℕ → Answers} {faults last : F → ℕ} {aim : F → List ℕ} {log : WorkLog} {agent suffixes : List ℕ} (worker : ℕ) {olds nows : List F}
     (front : Held) (firsts fronts : List Held) {o p : Offering O} → SoFar asked gives faults last aim log agent suffixes worker olds nows (schedules firsts) (schedules fronts) o p
     → worker < length olds → length firsts ≡ length olds → front ≡ get_or fronts worker front → AreReady (schedules firsts) → (name : List ℕ) → (schedule front).awaited name ≡ false
 next_ready worker front firsts fronts far low many stands ready =

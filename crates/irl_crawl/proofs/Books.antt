@@ -33,6 +33,7 @@ use Rattle.irl_ledger.specs.Crawling.{pair_settings}
 use Rattle.irl_schedule.proofs.Chains.{grows_more, grows_same}
 use Rattle.irl_crawl.specs.Leading.{GrowsInBatches, Leads}
 use Rattle.irl_crawl.proofs.Leading.{fails_as}
+use Rattle.irl_crawl.proofs.OtherFiles.{others_urls}
 use Rattle.irl_crawl.proofs.Spread.{IsPage, TakesEach, pages_in, taken_each}
 
 -- a store whose crawl has begun is one of a crawl
@@ -154,4 +155,5 @@ module _ (early : ℕ) (uneven : ℕ → ℕ) (news : List Tuple) (was now : Par
     settings = still.settings;
     goes_on = goes_on;
     cause = cause;
+    others = others_urls was now s t consistent still.base still.others still.others_stop;
   }

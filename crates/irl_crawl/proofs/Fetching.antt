@@ -1,6 +1,6 @@
 -- What the workers did at a desk, and what the desk hands back, together.
-use Rattle.std.proofs.Common.{◌≡◌, ◌∙◌, ◌⊎◌, ⊎_elim, inl, inr, ℕ, List, [], ◌∷◌, ◌++◌, map, Option, Some, Result, Ok, Err, IfOk, IsErrOf, refl, sym, ap, subst}
-use Rattle.std.specs.Prelude.{IfErr}
+use Rattle.std.proofs.Common.{◌≡◌, ◌∙◌, ◌⊎◌, ⊎_elim, inl, inr, ℕ, ◌≤◌, List, [], ◌∷◌, ◌++◌, map, Option, Some, Result, Ok, Err, IfOk, IsErrOf, refl, sym, ap, subst}
+use Rattle.std.specs.Prelude.{IfErr, OnOk}
 use Rattle.std.specs.List.{All, AllByRecursion, flat_map}
 use Rattle.std.specs.Option.{option_map}
 use Rattle.std.proofs.lemmas.List.{append-nil}
@@ -23,7 +23,7 @@ use Rattle.irl_schedule.proofs.Outcomes.{ok_gives}
 use Rattle.irl_yard.specs.declared.parts.Parts.{Parts}
 use Rattle.irl_yard.specs.Holding.{IsOpenRest, IsSound}
 use Rattle.irl_yard.specs.Sending.{HasBegun}
-use Rattle.irl_fetch.specs.Handling.{Handled, Noted, done_of, entered_of, receipts_of}
+use Rattle.irl_fetch.specs.Handling.{Handled, Noted, answered, done_of, entered_of, receipts_of}
 use Rattle.irl_fetch.specs.Telling.{Enters, Offering}
 use Rattle.irl_fetch.specs.declared.working.WorkLog.{WorkLog}
 use Rattle.irl_fetch.proofs.Telling.{enters_as}
@@ -37,6 +37,8 @@ use Rattle.irl_crawl.proofs.AllWork.{have_none}
 use Rattle.irl_crawl.proofs.Batches.{grown_same}
 use Rattle.irl_crawl.proofs.Leading.{leads_none}
 use Rattle.irl_crawl.proofs.Lifting.{IsBehind, closed_behind, closed_leads, hands, last_named, rest_kept, served_behind}
+use Rattle.irl_crawl.proofs.Refusing.{refused_desk}
+use Rattle.irl_crawl.specs.Refusing.{RefusesAsFound}
 
 -- ---- what was done, whatever is answered
 -- all of it, but for what is flushed
@@ -57,6 +59,7 @@ record WasWorked {O : Type 0} (result : Result WorkLog Fault) (given : Given) (a
   begun : (part ≡ []) ⊎ HasBegunOne given.gives agent suffixes noted left part befores
   entered : Enters (entries_of handled part) was now
   whole : IfOk result (λ log. IsWhole log agent handled noted left part befores afters)
+  asked : OnOk result (given.made ≤ answered handled noted)
 
 was_worked : {O : Type 0} (result : Result WorkLog Fault) (given : Given) (agent suffixes : List ℕ) (befores afters : List Schedule) (was now : Offering O)
     → WorkAll result given agent suffixes befores afters was now → WasWorked result given agent suffixes befores afters was now
@@ -71,10 +74,11 @@ was_worked (Ok log) given agent suffixes befores afters was now all =
       begun = inl refl;
       entered = enters_as (flat_map entered_of f.handled) (flat_map entered_of f.handled ++ []) was now (sym (append-nil (flat_map entered_of f.handled))) f.entered;
       whole = record { done = f.done; notes = f.notes; none_left = refl; no_part = refl; known = f.known; items = f.none_left };
+      asked = f.asked;
     }
 was_worked (Err fault) given agent suffixes befores afters was now all =
     let s = all.stop in
-    record { handled = s.handled; noted = s.noted; left = s.left; part = s.part; worked = s.worked; begun = s.begun; entered = s.entered; whole = tt }
+    record { handled = s.handled; noted = s.noted; left = s.left; part = s.part; worked = s.worked; begun = s.begun; entered = s.entered; whole = tt; asked = tt }
 
 -- ---- receipts
 flushed_first : (P : Receipt → Type 0) (entries others : List Entered) → AllByRecursion (λ one. P one.receipt) (entries ++ others)
@@ -143,9 +147,9 @@ module _ {S O : Type 0} (tells : S → Told) (law : (s : S) → IsConsistent (te
 
   -- by the answer, where it is as good as the desk's
   fetched : (answer : Result WorkLog Fault) → IsBehind answer closed (ended mid closed store parts closes.arrays).last
-      → IfOk answer (λ log. FetchesWhole log agent it.handled it.noted it.left it.part befores afters parts)
+      → IfOk answer (λ log. FetchesWhole log agent it.handled it.noted it.left it.part befores afters parts) → OnOk answer (given.made ≤ answered it.handled it.noted)
       → Fetches answer given agent suffixes befores afters first parts (tells start) (tells store)
-  fetched answer behind whole =
+  fetched answer behind whole asked =
       subst (λ (p : Parts). Fetches answer given agent suffixes befores afters p parts (tells start) (tells store)) parts_are
       (subst (λ (s : S). Fetches answer given agent suffixes befores afters old.parts parts (tells s) (tells store)) store_is (record {
         handled = it.handled;
@@ -155,11 +159,26 @@ module _ {S O : Type 0} (tells : S → Told) (law : (s : S) → IsConsistent (te
         worked = it.worked;
         begun = it.begun;
         whole = whole;
+        asked = asked;
         leads = closed_leads tells entries old mid closed store parts law opened old_drum old_begun fresh serves closes answer behind;
         rest = rest_kept tells entries old mid closed store parts law opened old_drum old_begun fresh serves closes;
         count = all.count;
         agents = all.agents;
       }))
+
+  -- what it is refused for
+  reason : (answer : Result WorkLog Fault) → IsBehind answer closed (ended mid closed store parts closes.arrays).last → RefusesAsFound answer parts (tells store)
+  reason answer behind = refused_desk tells entries answer closed old (ended mid closed store parts closes.arrays)
+      (hands tells entries old mid closed store parts law opened old_drum old_begun fresh serves closes) behind
+
+  pub reason_closed : (value : Unit {0}) → closed ≡ Ok value → RefusesAsFound result parts (tells store)
+  reason_closed value is =
+      reason result
+      (served_behind tells entries old mid closed store parts law opened old_drum old_begun fresh serves closes result value is
+      (λ fault. fault_named result fault was.last_fault mid.last (subst (λ (last : Option Fault). IfErr result (λ f. last ≡ fault_or was.last_fault f)) now_last all.fault.1)))
+
+  pub reason_refused : (fault : Fault) → closed ≡ Err fault → RefusesAsFound {A = WorkLog} (Err fault) parts (tells store)
+  reason_refused fault is = reason (Err fault) (closed_behind tells entries old mid closed store parts law opened old_drum old_begun fresh serves closes (Err fault) fault is refl)
 
   -- the desk was closed: what the workers answer,
   pub fetched_closed : (value : Unit {0}) → closed ≡ Ok value → Fetches result given agent suffixes befores afters first parts (tells start) (tells store)
@@ -168,11 +187,11 @@ module _ {S O : Type 0} (tells : S → Told) (law : (s : S) → IsConsistent (te
       (served_behind tells entries old mid closed store parts law opened old_drum old_begun fresh serves closes result value is
       (λ fault. fault_named result fault was.last_fault mid.last (subst (λ (last : Option Fault). IfErr result (λ f. last ≡ fault_or was.last_fault f)) now_last all.fault.1)))
       (whole_flushed result agent it.handled it.noted it.left it.part befores afters parts it.whole
-      (ok_gives closed value (hands tells entries old mid closed store parts law opened old_drum old_begun fresh serves closes).flushed is))
+      (ok_gives closed value (hands tells entries old mid closed store parts law opened old_drum old_begun fresh serves closes).flushed is)) it.asked
 
   -- or its refusal
   pub fetched_refused : (fault : Fault) → closed ≡ Err fault → Fetches (Err fault) given agent suffixes befores afters first parts (tells start) (tells store)
-  fetched_refused fault is = fetched (Err fault) (closed_behind tells entries old mid closed store parts law opened old_drum old_begun fresh serves closes (Err fault) fault is refl) tt
+  fetched_refused fault is = fetched (Err fault) (closed_behind tells entries old mid closed store parts law opened old_drum old_begun fresh serves closes (Err fault) fault is refl) tt tt
 
 -- there was no memory for a desk
 offers_none : {A : Type 0} (suffixes : List ℕ) (settings : Settings) (x : State) → OffersSome {A = A} (Err Memory) suffixes settings [] x x
@@ -196,6 +215,7 @@ not_opened given agent suffixes befores parts now law drum sound agents none = r
   worked = have_none given agent suffixes befores none;
   begun = inl refl;
   whole = tt;
+  asked = tt;
   leads = leads_none (IsErrOf {T = WorkLog} {E = Fault} (Err Memory) Failed) (OnlyOffers parts.urls.settings []) (OffersSome {A = WorkLog} (Err Memory) suffixes parts.urls.settings []) parts now law
       drum sound
       (λ is. cc) (λ x held. offers_none suffixes parts.urls.settings x);

@@ -6,11 +6,12 @@ use Rattle.std.proofs.lemmas.List.{length-set}
 use Rattle.std.proofs.lemmas.Option.{slice_get-get_or}
 use Rattle.irl_polite.proofs.Lists.{get_set_other, get_set_same, get_some, get_within, same_some}
 use Rattle.irl_record.specs.Widening.{Answers}
+use Rattle.irl_record.specs.Wired.{Made}
 use Rattle.irl_fetch.specs.Telling.{Fetcher, GoesOn, fetcher}
 use Rattle.irl_fetch.proofs.Telling.{goes_none, goes_then}
 use Rattle.irl_crawl.specs.Workers.{AllGoOn}
 
-module _ {F : Type 0} (asked : F → ℕ) (gives : F → ℕ → Answers) (faults last : F → ℕ) (aim : F → List ℕ) where
+module _ {F : Type 0} (asked : F → Made) (gives : F → ℕ → Answers) (faults last : F → ℕ) (aim : F → List ℕ) where
   abbrev at_moment : F → Fetcher
   at_moment = fetcher asked gives faults last aim
 

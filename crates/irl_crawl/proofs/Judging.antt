@@ -42,6 +42,7 @@ use Rattle.irl_yard.proofs.SentWhole.{crawl_in}
 use Rattle.irl_crawl.specs.Leading.{GrowsInBatches, HasGround, IsSent, KeepsFront, Leads, NeedsNoGround}
 use Rattle.irl_crawl.specs.Sending.{SendsAll, SendsLinks, links_since, pairs_for}
 use Rattle.irl_crawl.proofs.Leading.{always, fails_wide, leads_then, leads_wide, never}
+use Rattle.irl_crawl.proofs.OtherFiles.{others_sent}
 use Rattle.irl_crawl.proofs.Batches.{covers_among, ground_none, ground_then, grown_to}
 use Rattle.irl_crawl.proofs.Books.{AddsSome, adds_fed, adds_grown, lifts, takes_each}
 use Rattle.irl_crawl.proofs.Sent.{owe_from, sends_all_from, sends_all_to, sends_from, sends_same, sends_to, sent_by}
@@ -245,7 +246,7 @@ failure : {A : Type 0} (result : Result A Fault) (value : A) → result ≡ Ok v
 failure result value is failed = let both = sym is ∙ failed in cc
 
 module _ (suffixes : List ℕ) (result : Result Unit Fault) (was now : Parts) (s t : Told) (sends : SendsPairs result was now s t) (goes_on : StaysSound (IsErrOf result Failed) now)
-    (same : suffixes_in was.rest ≡ Some suffixes) (open_now : IsOpenRest now.urls now.rest t.files) where
+    (same : suffixes_in was.rest ≡ Some suffixes) (open_now : IsOpenRest now.urls now.rest t.files) (consistent : IsConsistent t) where
   abbrev settings : Settings
   settings = was.urls.settings
 
@@ -314,6 +315,7 @@ module _ (suffixes : List ℕ) (result : Result Unit Fault) (was now : Parts) (s
     settings = ap (λ (d : Drum). d.settings) sends.urls;
     goes_on = goes_on;
     cause = sends.cause;
+    others = others_sent was now s t consistent sends.urls sends.others;
   }
 
 -- ---- both

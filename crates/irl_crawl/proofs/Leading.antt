@@ -16,6 +16,7 @@ use Rattle.irl_yard.proofs.Holding.{held_has}
 use Rattle.irl_yard.proofs.Leading.{fails_then, leads_both}
 use Rattle.irl_yard.proofs.States.{state_both, state_same}
 use Rattle.irl_crawl.specs.Leading.{Leads}
+use Rattle.irl_crawl.proofs.OtherFiles.{others_none, others_then}
 
 -- ---- answers
 -- what holds anyway holds at Ok, and what is refused isn't Ok
@@ -80,6 +81,7 @@ leads_then first failed may1 did1 may2 did2 may did was mid now before between a
   settings = two.settings ∙ one.settings;
   goes_on = two.goes_on;
   cause = cause_then failed before.faults between.faults after.faults one.cause.later two.cause;
+  others = others_then was mid now before between after one.settings one.others two.others;
 }
 
 -- What it says of states, said of more of them.
@@ -96,6 +98,7 @@ leads_wide failed may did may_wide did_wide was now before after one wide_may wi
   settings = one.settings;
   goes_on = one.goes_on;
   cause = one.cause;
+  others = one.others;
 }
 
 -- Failures by another name.
@@ -112,6 +115,7 @@ leads_more_failed failed other may did was now before after there back one = rec
     unsound = λ failure. one.goes_on.unsound (back failure);
   };
   cause = cause_for failed other before.faults after.faults back one.cause;
+  others = one.others;
 }
 
 -- Nothing was done.
@@ -133,6 +137,7 @@ leads_none failed may did parts now law drum sound still did_none = record {
   settings = refl;
   goes_on = record { drum = drum; sound = λ _. sound; unsound = λ failure. absurd (still failure) };
   cause = cause_none failed now.faults still;
+  others = others_none parts now law;
 }
   where
     same : (x : State) (image : Files) → HasState x image → HasOneBetween x x image

@@ -1,8 +1,10 @@
 pub mod AllWork
 pub mod Batches
 pub mod Books
+pub mod Damage
 pub mod Deals
 pub mod Fetching
+pub mod Few
 pub mod Fronts
 pub mod Giving
 pub mod Going
@@ -16,6 +18,7 @@ pub mod Looping
 pub mod Numbering
 pub mod Numbers
 pub mod OneTurn
+pub mod OtherFiles
 pub mod PassLeads
 pub mod Passing
 pub mod Records
@@ -26,8 +29,10 @@ pub mod RecordsOfLog
 pub mod RecordsOfPairs
 pub mod RecordsThen
 pub mod RecordsTurned
+pub mod Refusing
 pub mod Resting
 pub mod Rising
+pub mod Room
 pub mod Running
 pub mod Seeding
 pub mod SeedsRun

@@ -20,6 +20,8 @@ use Rattle.irl_yard.specs.declared.parts.Parts.{Parts}
 use Rattle.irl_yard.proofs.Holding.{held_legal, stops_same}
 use Rattle.irl_yard.proofs.Leading.{fails_same, leads_same}
 use Rattle.irl_crawl.specs.Dealing.{OnlyLooks}
+use Rattle.irl_crawl.proofs.Damage.{note_broken, urls_broken}
+use Rattle.irl_crawl.proofs.OtherFiles.{others_same}
 use Rattle.irl_crawl.specs.Leading.{Leads, NeedsNoGround}
 
 -- ---- answers
@@ -28,11 +30,11 @@ calm_failed : {A : Type 0} (result : Result A Fault) → IsOkUnless result Memor
 calm_failed (Ok value) calm is = cc
 calm_failed (Err fault) calm is = let no : Memory ≡ Failed = cc in cc
 
-calm_full : {A : Type 0} (result : Result A Fault) → IsOkUnless result Memory → (n : ℕ) → IsErrOf result (Full n) → ⊥
+pub calm_full : {A : Type 0} (result : Result A Fault) → IsOkUnless result Memory → (n : ℕ) → IsErrOf result (Full n) → ⊥
 calm_full (Ok value) calm n is = cc
 calm_full (Err fault) calm n is = let no : Memory ≡ Full n = cc in cc
 
-calm_damaged : {A : Type 0} (result : Result A Fault) → IsOkUnless result Memory → (f at : ℕ) → IsErrOf result (Damaged f at) → ⊥
+pub calm_damaged : {A : Type 0} (result : Result A Fault) → IsOkUnless result Memory → (f at : ℕ) → IsErrOf result (Damaged f at) → ⊥
 calm_damaged (Ok value) calm f at is = cc
 calm_damaged (Err fault) calm f at is = let no : Memory ≡ Damaged f at = cc in cc
 
@@ -63,6 +65,7 @@ looks_none result now at law sound calm = record {
   unsound = λ failed. absurd (calm_failed result calm failed);
   cause = record { later = omega arith; rose = λ failed. absurd (calm_failed result calm failed) };
   full = λ n is. calm_full result calm n is;
+  spoilt = λ f at is. absurd (calm_damaged result calm f at is);
   whole = λ f at is. absurd (calm_damaged result calm f at is);
 }
 
@@ -79,6 +82,7 @@ looks_then first second was mid now before between after law one two = record {
   unsound = two.unsound;
   cause = cause_then (IsErrOf second Failed) before.faults between.faults after.faults one.cause.later two.cause;
   full = two.full;
+  spoilt = two.spoilt;
   whole = λ f at is files told x holds. two.whole f at is files (one.files ∙ told) x (one.holds x holds);
 }
 
@@ -102,6 +106,7 @@ looks_err first second fault answer was now before after one two same looks = re
   unsound = λ failed. looks.unsound (other_err first second fault answer Failed one two same failed);
   cause = record { later = looks.cause.later; rose = λ failed. looks.cause.rose (other_err first second fault answer Failed one two same failed) };
   full = λ n is. looks.full n (other_err first second fault answer (Full n) one two same is);
+  spoilt = λ f at is. looks.spoilt f at (other_err first second fault answer (Damaged f at) one two same is);
   whole = λ f at is. looks.whole f at (other_err first second fault answer (Damaged f at) one two same is);
 }
 
@@ -123,6 +128,7 @@ looks_note result host moment was now before after reads goes = record {
   unsound = goes.unsound;
   cause = reads.reads.cause;
   full = reads.full;
+  spoilt = λ f at is. note_broken was now before after f at host reads.reads.same reads.rest (reads.spoilt f at is);
   whole = reads.whole;
 }
 
@@ -138,6 +144,7 @@ looks_front result gives is_of was now before after reads states rest goes = rec
   unsound = goes.unsound;
   cause = reads.reads.cause;
   full = reads.full;
+  spoilt = λ f at is. urls_broken was now before after f at reads.reads.same states.same (reads.spoilt f at is);
   whole = states.whole;
 }
 
@@ -161,4 +168,5 @@ looks_lead result did was now before after law drum looks does = record {
   settings = ap (λ (d : Drum). d.settings) looks.urls;
   goes_on = record { drum = subst IsDrum (sym looks.urls) drum; sound = looks.sound; unsound = looks.unsound };
   cause = looks.cause;
+  others = others_same was now before after law looks.urls looks.files looks.stops;
 }

@@ -1,5 +1,5 @@
 -- The steps of a run, over the states that an open store held.
-use Rattle.std.proofs.Common.{◌≡◌, ◌∙◌, ℕ, ◌-◌, ◌≤◌, List, [], length, Some, Result, Ok, Err, IsErrOf, sym, ap, subst, arith, inr}
+use Rattle.std.proofs.Common.{◌≡◌, ◌∙◌, ℕ, ◌-◌, ◌≤◌, List, [], length, Some, Result, Ok, Err, IsErrOf, sym, ap, subst, arith, ◌⊎◌, inl, inr}
 use Rattle.std.specs.List.{flat_map}
 use Rattle.irl_base.specs.declared.fault.Fault.{Fault as FaultValue}
 use Rattle.irl_base.specs.declared.fault.Fault.TheVariants.{Damaged, Failed, Full, Memory}
@@ -11,6 +11,7 @@ use Rattle.irl_polite.specs.Schedule.{Schedule}
 use Rattle.irl_offer.specs.Tuple.{Tuple}
 use Rattle.irl_reach.specs.Crawls.{IsCrawlStore, IsStore, Visit, found_by}
 use Rattle.irl_record.specs.Widening.{Answers}
+use Rattle.irl_record.specs.Wired.{Made}
 use Rattle.irl_schedule.proofs.Outcomes.{same_refusal}
 use Rattle.irl_yard.specs.declared.parts.Parts.{Parts}
 use Rattle.irl_yard.specs.Holding.{HoldsState}
@@ -49,9 +50,14 @@ ground_memory suffixes settings handed x y = record { full = λ n is. let no : �
 pub ground_ok : {A : Type 0} (value : A) (suffixes : List ℕ) (settings : Settings) (handed : List Tuple) (x y : State) → HasGround (Ok value) suffixes settings handed x y
 ground_ok value suffixes settings handed x y = record { full = λ n is. let no : ⊥ = cc in absurd no; whole = λ f at is. let no : ⊥ = cc in absurd no }
 
+-- a fault is neither end
+pub faulted_ends : (fault : FaultValue) → (Fault fault ≡ Done) ⊎ (Fault fault ≡ Limit) → ⊥
+faulted_ends fault (inl done) = cc
+faulted_ends fault (inr limit) = cc
+
 -- ---- a run
 -- how far it came, in memory and over the states
-pub record RunsOn {F : Type 0} (asked : F → ℕ) (gives : F → ℕ → Answers) (faults last : F → ℕ) (aim : F
+pub record RunsOn {F : Type 0} (asked : F → Made) (gives : F → ℕ → Answers) (faults last : F → ℕ) (aim : F
     → List ℕ) (agent suffixes : List ℕ) (pages batch left : ℕ) (fronts : List Schedule) (olds nows : List F)
     (was now : Parts) (before after : Told) : Type 0 where
   pub leads : Leads ⊥ (MayRun (given_by asked gives faults olds nows) agent suffixes was.urls.settings pages batch)
@@ -64,13 +70,13 @@ pub record RunsOn {F : Type 0} (asked : F → ℕ) (gives : F → ℕ → Answer
   pub idle : AreIdle (length olds) agent fronts
   pub goes_on : AllGoOn asked gives faults last aim olds nows
 
-module _ {F : Type 0} {asked : F → ℕ} {gives : F → ℕ → Answers} {faults last : F → ℕ} {aim : F → List ℕ} {agent suffixes : List ℕ} {pages batch : ℕ} where
+module _ {F : Type 0} {asked : F → Made} {gives : F → ℕ → Answers} {faults last : F → ℕ} {aim : F → List ℕ} {agent suffixes : List ℕ} {pages batch : ℕ} where
   pub runs_first : {fronts : List Schedule} {olds : List F} {was : Parts} {before : Told} → IsConsistent before → IsDrum was.urls → IsOpen was → IsSent was → suffixes_in was.rest ≡ Some suffixes
       → AreIdle (length olds) agent fronts → ((x : State) → AreNotedIn agent x.events fronts)
       → RunsOn asked gives faults last aim agent suffixes pages batch pages fronts olds olds was was before before
   runs_first {fronts} {olds} {was} {before} law drum opened sent same idle unknown = record {
     leads = leads_none ⊥ _ _ was before law drum opened.sound (λ no. no)
-        (λ x held judged. far_none (given_by asked gives faults olds olds) (rose_between_same faults olds) agent suffixes was.urls.settings pages batch fronts x
+        (λ x held judged. far_none (given_by asked gives faults olds olds) (rose_between_same faults olds) (omega arith) agent suffixes was.urls.settings pages batch fronts x
         (held_is_crawl before.images was x drum opened.begun held) judged (unknown x));
     drum = drum;
     first = opened.begun;
@@ -101,6 +107,7 @@ module _ {F : Type 0} {asked : F → ℕ} {gives : F → ℕ → Answers} {fault
           only = was_far.only;
           done = λ is. (was_far.whole, subst (λ (s : Settings). NoneWaits s y) far.leads.settings (none y later));
           limit = λ is. let no : ⊥ = cc in absurd no;
+          asks = λ ends. was_far.asks;
           ground = ground_ok tt suffixes settings (flat_map (found_by suffixes y.urls) was_far.only.visits) x y;
         }))
 
@@ -113,6 +120,7 @@ module _ {F : Type 0} {asked : F → ℕ} {gives : F → ℕ → Answers} {fault
           only = was_far.only;
           done = λ is. let no : ⊥ = cc in absurd no;
           limit = λ is. (was_far.whole, omega (arith, count, zero), λ none. some y later (subst (λ (s : Settings). NoneWaits s y) (sym far.leads.settings) none));
+          asks = λ ends. was_far.asks;
           ground = ground_ok tt suffixes settings (flat_map (found_by suffixes y.urls) was_far.only.visits) x y;
         }))
 
@@ -187,6 +195,7 @@ module _ {F : Type 0} {asked : F → ℕ} {gives : F → ℕ → Answers} {fault
             only = more x y z held later one two far_y turn.only;
             done = λ no. let not : ⊥ = cc in absurd not;
             limit = λ no. let not : ⊥ = cc in absurd not;
+            asks = λ ends. absurd (faulted_ends fault ends);
             ground = ground_turn fault x y z held later one two far_y turn.only
                 (ground_fault fault suffixes settings (found z turn.only.visits) y z
                 (subst (λ (r : Result ℕ FaultValue). HasGround r suffixes settings (found z turn.only.visits) y z) is turn.ground));
@@ -203,7 +212,8 @@ module _ {F : Type 0} {asked : F → ℕ} {gives : F → ℕ → Answers} {fault
             let far_y = did judged in
             let all = subst (λ (r : Result ℕ FaultValue). Turns r own agent suffixes settings most fronts afters y z) is (turns far_y.whole.judged) in
             let turn = all far_y.known in
-            far_more first own given joins agent suffixes settings pages batch left most fronts x y z (stood x held) (made y later) one two far_y turn.only within small count afters turn.whole)
+            far_more first own given joins agent suffixes settings pages batch left most fronts x y z (stood x held) (made y later) one two far_y turn.only within small count afters turn.whole
+            turn.asks)
             (λ x y z held later one two did may judged. let far_y = did judged in more x y z held later one two far_y (may far_y.known)));
         drum = far.drum;
         first = far.first;

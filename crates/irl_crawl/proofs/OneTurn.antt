@@ -53,13 +53,14 @@ use Rattle.irl_crawl.specs.Leading.{Leads}
 use Rattle.irl_crawl.specs.Loading.{AreNext, Loads}
 use Rattle.irl_crawl.specs.Offering.{HasOffers, OffersSome, OnlyOffers, offers_in}
 use Rattle.irl_crawl.specs.Settling.{IsSettling, Settles, settled_state}
-use Rattle.irl_crawl.specs.Turning.{MayTurn, OnlyTurns, Turns, TurnsWhole}
+use Rattle.irl_crawl.specs.Turning.{AsksOnce, MayTurn, OnlyTurns, Turns, TurnsWhole, events_since}
 use Rattle.irl_crawl.specs.Sending.{SendsAll}
 use Rattle.irl_crawl.specs.Workers.{AreIdle, AreNotedIn, Given, loaded}
 use Rattle.irl_crawl.specs.Working.{HasBegunOne, HaveWorked}
 use Rattle.irl_crawl.proofs.Batches.{Covers, covers_among, covers_none, fills_among, ground_before}
 use Rattle.irl_crawl.proofs.Fronts.{AreTaken, taken_of_front}
 use Rattle.irl_crawl.proofs.Leading.{leads_more_failed, leads_then, leads_wide}
+use Rattle.irl_crawl.proofs.Resting.{asks_wider}
 use Rattle.irl_crawl.proofs.Rising.{MayMissFewer, WidensGiven}
 use Rattle.irl_crawl.proofs.Turning.{judges_turn, offers_found, offers_turn, turns_none, turns_wider, whole_notes_turn, whole_offers_turn, whole_turn}
 use Rattle.irl_crawl.proofs.Sent.{OweAlike}
@@ -155,6 +156,7 @@ module _ (agent suffixes : List ℕ) (most : ℕ) (olds befores afters : List Sc
       record {
         only = only;
         whole = tt;
+        asks = tt;
         ground = record { full = λ n is. absurd (loads.ground.full n (same_refusal fault (Full n) is)); whole = λ f at is. loads.ground.whole f at (same_refusal fault (Damaged f at) is) };
       }))
 
@@ -197,6 +199,7 @@ module _ (agent suffixes : List ℕ) (most : ℕ) (olds befores afters : List Sc
           record {
             only = turn.0;
             whole = tt;
+            asks = tt;
             ground = ground_before (Err fault) (Err fault) suffixes settings (offers_in (entries_of fetches.handled fetches.part)) (found x z turn.0) x y z (λ other. same_refusal fault other)
                 (subst (λ (s : State). OweAlike suffixes settings x s z.urls) (sym loads.same) (λ b within. refl))
                 (covers_among settings (offers_in (entries_of fetches.handled fetches.part)) (found x z turn.0) x y (ap (λ (s : State). s.urls.lists) loads.same) turn.1) offers.ground;
@@ -212,7 +215,8 @@ module _ (agent suffixes : List ℕ) (most : ℕ) (olds befores afters : List Sc
               (turns_wider given wide wider agent suffixes settings most x z (offers_turn it z both offered), offers_found it z both offered)
 
       -- or all is fetched, and settled or not
-      module _ (log : WorkLog) (fetches : Fetches (Ok log) given agent suffixes befores afters mid now loaded_then fetched_then) where
+      module _ (log : WorkLog) (fetches : Fetches (Ok log) given agent suffixes befores afters mid now loaded_then fetched_then)
+          (limits : (1 ≤ length (front_in first.rest)) × (1 ≤ most) × (most ≤ max_settled)) where
         abbrev handled : List Handled
         handled = fetches.handled
 
@@ -227,6 +231,14 @@ module _ (agent suffixes : List ℕ) (most : ℕ) (olds befores afters : List Sc
 
         all_entries : entries_of handled fetches.part ≡ entries
         all_entries = ap (λ (part : List Entered). entries ++ part) fetches.whole.no_part ∙ append-nil entries
+
+        -- something was loaded
+        some : 1 ≤ length handled
+        some =
+            let taken = done_taken (front_in first.rest) most befores handled fetches.left next fetches.whole.none_left fetches.worked.items in
+            let count = taken.count in
+            let long = length-map (map done_of handled) (λ (d : Done). d.number) ∙ length-map handled done_of in
+            omega (arith, count, long, limits.0, limits.1)
 
         -- the first state stands with all that was entered
         record HasAll (x b : State) : Type 0 where
@@ -267,21 +279,23 @@ module _ (agent suffixes : List ℕ) (most : ℕ) (olds befores afters : List Sc
             turns_wider given wide wider agent suffixes settings most x y (whole_notes_turn (it x b held all known) b y (state_both x b y front further) all.only noted_are)
         may_settled x b y held front further all (inr (inr judges)) known =
             turns_wider given wide wider agent suffixes settings most x y
-            (judges_turn (it x b held all known) b (with_notes kept b) (settled_state kept came b) front all.only all.offered refl refl y (state_both x b y front further) judges)
+            (judges_turn (it x b held all known) b (with_notes kept b) (settled_state kept came b) front all.only all.offered refl refl y (state_both x b y front further) judges some)
 
         -- all of it, by the answer
         did_settled : (result : Result ℕ Fault) (x b y : State) → HoldsState start.images first x → IsFrontState x b → IsFrontState b y → HasAll x b
             → IsSettling suffixes settings kept came b y → OnOk result (OnlyJudges suffixes settings (settled_state kept came b) y × IsJudged settings y × SendsAll suffixes settings b y)
             → IfOk result (λ count. count ≡ length handled)
             → AreNotedIn agent x.events olds → (only : OnlyTurns wide agent suffixes settings most x y) × IfOk result (λ count. TurnsWhole count agent suffixes settings only.visits afters x y)
+            × OnOk result (AsksOnce wide only.visits (events_since x y))
         did_settled (Ok count) x b y held front further all is whole number known =
             let judged =
-            whole_turn (it x b held all known) b (with_notes kept b) (settled_state kept came b) front all.only all.offered refl refl y (state_both x b y front further) whole.0 afters whole.1 whole.2
-            fetches.whole.known in (
+            whole_turn (it x b held all known) b (with_notes kept b) (settled_state kept came b) front all.only all.offered refl refl y (state_both x b y front further) whole.0 some afters
+            whole.1 whole.2 fetches.whole.known fetches.asked in (
               turns_wider given wide wider agent suffixes settings most x y judged.0,
               subst (λ (n : ℕ). TurnsWhole n agent suffixes settings judged.0.visits afters x y) (sym number) judged.1,
+              asks_wider given wide wider judged.0.visits (events_since x y) judged.2,
             )
-        did_settled (Err fault) x b y held front further all is whole number known = (may_settled x b y held front further all is known, tt)
+        did_settled (Err fault) x b y held front further all is whole number known = (may_settled x b y held front further all is known, tt, tt)
 
         pub settled_after : (result : Result ℕ Fault) (last : Parts) (settled_then : Told)
             → Leads (IsErrOf result Failed) (IsSettling suffixes now.urls.settings log.notes.items log.done.items) (Settles result suffixes now.urls.settings log.notes.items log.done.items) now last
@@ -299,6 +313,7 @@ module _ (agent suffixes : List ℕ) (most : ℕ) (olds befores afters : List Sc
             record {
               only = turn.0;
               whole = turn.1;
+              asks = turn.2;
               ground = ground_before result result suffixes settings [] (found x y turn.0) x b y (λ fault answered. answered)
                   (owes suffixes settings x b y.urls (unsent_offered settings x b all.only.others))
                   (covered x b y later both all is turn.0) settles.ground;

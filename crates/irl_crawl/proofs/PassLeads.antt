@@ -1,12 +1,13 @@
 -- A pass of an open store, as a part of a crawl.
 use Rattle.std.proofs.Common.{◌≡◌, ◌∙◌, ℕ, true, Option, None, Some, Result, Ok, Err, IsErrOf, refl, sym, ap, subst}
-use Rattle.std.specs.Prelude.{is_some}
+use Rattle.std.specs.Prelude.{is_some, ⊤}
 use Rattle.irl_base.specs.declared.fault.Fault.{Fault}
 use Rattle.irl_base.specs.declared.fault.Fault.TheVariants.{Failed}
 use Rattle.irl_bay.specs.Drum.{Drum, IsDrum}
-use Rattle.irl_disk.specs.Disk.{Files, TellsBy}
+use Rattle.irl_disk.specs.Disk.{ChangesFile, Files, TellsBy}
 use Rattle.irl_disk.specs.Images.{IsConsistent, Told}
 use Rattle.irl_events.specs.State.{State}
+use Rattle.irl_head.specs.StoreFiles.{crawl_file}
 use Rattle.irl_offer.specs.declared.settings.Kind.TheVariants.{Crawl as CrawlKind}
 use Rattle.irl_offer.specs.declared.settings.Settings.{Settings}
 use Rattle.irl_schedule.proofs.Outcomes.{ok_gives}
@@ -21,6 +22,7 @@ use Rattle.irl_yard.proofs.CallsLead.{pass_leads}
 use Rattle.irl_yard.proofs.MayAsk.{begun_known}
 use Rattle.irl_yard.proofs.SentWhole.{crawl_in}
 use Rattle.irl_crawl.proofs.Leading.{leads_more_failed, leads_wide}
+use Rattle.irl_crawl.proofs.OtherFiles.{others_log}
 use Rattle.irl_crawl.specs.Leading.{IsSent, KeepsBegun, Leads, NeedsNoGround}
 use Rattle.irl_crawl.specs.Running.{Passes}
 
@@ -57,6 +59,7 @@ module _ {S : Type 0} (tells : S → Told) (result : Result ℕ Fault) (was now 
     settings = ap (λ (d : Drum). d.settings) passes.urls;
     goes_on = goes_on;
     cause = passes.others.cause;
+    others = others_log was now (tells before) (tells after) (ChangesFile crawl_file (λ _ _. ⊤)) law passes.urls (λ x y changes. changes.others) passes.others.told passes.others.stops;
   }
 
   -- an answer that gives no count

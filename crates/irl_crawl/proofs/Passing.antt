@@ -18,13 +18,14 @@ use Rattle.irl_yard.specs.Adding.{with_event}
 use Rattle.irl_yard.specs.Leading.{IsEither}
 use Rattle.irl_yard.specs.Passing.{with_pass}
 use Rattle.irl_crawl.proofs.Batches.{ground_none, grown_alike, grown_more}
-use Rattle.irl_crawl.proofs.Resting.{rests_none, since_are}
+use Rattle.irl_crawl.proofs.Few.{few_none}
+use Rattle.irl_crawl.proofs.Resting.{asks_none, rests_none, since_are}
 use Rattle.irl_crawl.proofs.Sent.{sends_all_from, sends_none, sends_same, sent_same}
 use Rattle.irl_crawl.proofs.Turning.{turns_none}
 use Rattle.irl_crawl.specs.Judging.{IsJudged}
 use Rattle.irl_crawl.specs.Running.{Passes}
 use Rattle.irl_crawl.specs.Sending.{SendsAll}
-use Rattle.irl_crawl.specs.Turning.{AreBatches, OnlyTurns, Turns, TurnsWhole, events_since, input_of, turns_in}
+use Rattle.irl_crawl.specs.Turning.{AreBatches, AsksOnce, OnlyTurns, Turns, TurnsWhole, events_since, input_of, turns_in}
 use Rattle.irl_crawl.specs.Workers.{AreNotedIn, Given}
 
 module _ (given : Given) (zero : given.may_miss 0) (agent suffixes : List ℕ) (settings : Settings) (most : ℕ) (x : State) (judged : ℕ) (places : List Place) where
@@ -40,7 +41,9 @@ module _ (given : Given) (zero : given.may_miss 0) (agent suffixes : List ℕ) (
     crawls = crawls_event (input_of suffixes []) given.gives agent [] x passed (Pass judged) places refl refl tt;
     rests = rests_none given zero (events_since x passed) (ap notes_in since);
     front = tt;
-    batch = subst (AreBatches most) (sym since) (omega arith, tt);
+    few = omega arith;
+    behind = few_none settings most x passed;
+    batch = subst (AreBatches most) (sym since) (tt, tt);
     settled = subst (λ (hs : List Happened). length (settled_in hs) ≤ most) (sym since) (omega arith);
     grows = grown_more settings 0 (turns_in (events_since x passed)) x passed (omega arith) (grown_alike settings x passed refl refl);
     sends = sends_same suffixes settings x passed refl;
@@ -71,10 +74,15 @@ module _ (given : Given) (zero : given.may_miss 0) (agent suffixes : List ℕ) (
       settled = tt;
     };
     count_is = ap (λ (hs : List Happened). length (settled_in hs)) (sym since);
+    few = omega arith;
     judged = still_judged is;
     sent = still_sent made is;
     known = still_noted fronts noted;
   }
+
+  pub pass_asks : given.made ≡ 0 → AsksOnce given pass_turns.visits (events_since x passed)
+  unfolding pass_turns
+  pass_asks made = asks_none given zero made (events_since x passed) (ap notes_in since)
 
 -- by the answer
 module _ (given : Given) (zero : given.may_miss 0) (agent suffixes : List ℕ) (settings : Settings) (most : ℕ) (x y : State) (fronts : List Schedule) where
@@ -82,16 +90,21 @@ module _ (given : Given) (zero : given.may_miss 0) (agent suffixes : List ℕ) (
   either_turns (inl same) = subst (OnlyTurns given agent suffixes settings most x) (sym same) (turns_none given agent suffixes settings most x zero)
   either_turns (inr pass) = subst (OnlyTurns given agent suffixes settings most x) (sym pass) (pass_turns given zero agent suffixes settings most x _ _)
 
-  pub pass_step : (result : Result ℕ Fault) → IfOk result (λ count. count ≡ 0) → OnOk result (IsCrawlStore settings y) → Passes result settings x y → IsJudged settings x
+  abbrev Passed : ℕ → State → Type 0
+  Passed count z = (only : OnlyTurns given agent suffixes settings most x z) × TurnsWhole count agent suffixes settings only.visits fronts x z
+      × AsksOnce given only.visits (events_since x z)
+
+  pub pass_step : given.made ≡ 0 → (result : Result ℕ Fault) → IfOk result (λ count. count ≡ 0) → OnOk result (IsCrawlStore settings y) → Passes result settings x y → IsJudged settings x
       → Turns result given agent suffixes settings most fronts fronts x y
-  pass_step (Ok count) none made passes is noted =
-      let turn : (only : OnlyTurns given agent suffixes settings most x y) × TurnsWhole count agent suffixes settings only.visits fronts x y =
-      subst (λ (z : State). (only : OnlyTurns given agent suffixes settings most x z) × TurnsWhole count agent suffixes settings only.visits fronts x z) (sym passes.done)
-      (subst (λ n. (only : OnlyTurns given agent suffixes settings most x (with_pass settings x)) × TurnsWhole n agent suffixes settings only.visits fronts x (with_pass settings x)) (sym none) (
+  pass_step nothing (Ok count) none made passes is noted =
+      let turn : Passed count y =
+      subst (Passed count) (sym passes.done)
+      (subst (λ n. Passed n (with_pass settings x)) (sym none) (
         pass_turns given zero agent suffixes settings most x _ _,
         pass_whole given zero agent suffixes settings most x _ _ fronts (subst (IsCrawlStore settings) passes.done made) is noted,
+        pass_asks given zero agent suffixes settings most x _ _ nothing,
       )) in
-      record { only = turn.0; whole = turn.1; ground = ground_none (Ok count) suffixes settings (flat_map (found_by suffixes y.urls) turn.0.visits) x y passes.ground }
-  pass_step (Err fault) none made passes is noted =
+      record { only = turn.0; whole = turn.1; asks = turn.2; ground = ground_none (Ok count) suffixes settings (flat_map (found_by suffixes y.urls) turn.0.visits) x y passes.ground }
+  pass_step nothing (Err fault) none made passes is noted =
       let only = either_turns (inl passes.kept) in
-      record { only = only; whole = tt; ground = ground_none (Err fault) suffixes settings (flat_map (found_by suffixes y.urls) only.visits) x y passes.ground }
+      record { only = only; whole = tt; asks = tt; ground = ground_none (Err fault) suffixes settings (flat_map (found_by suffixes y.urls) only.visits) x y passes.ground }

@@ -1,5 +1,5 @@
 -- What visits and notes rest on, over stretches of time one behind the other.
-use Rattle.std.proofs.Common.{◌≡◌, ◌∙◌, ℕ, ◌+◌, List, [], ◌++◌, map, length, drop, sym, ap, subst, arith}
+use Rattle.std.proofs.Common.{◌≡◌, ◌∙◌, ℕ, ◌+◌, ◌≤◌, List, [], ◌++◌, map, length, drop, sym, ap, subst, arith, length-append}
 use Rattle.std.specs.Prelude.{flat_map}
 use Rattle.std.proofs.lemmas.List.{append-nil, map-append}
 use Rattle.std.proofs.lemmas.List.Concat.{flat_map-append}
@@ -14,9 +14,10 @@ use Rattle.irl_reach.proofs.Growing.{drop_front}
 use Rattle.irl_reach.specs.Along.{notes_in, notes_of}
 use Rattle.irl_reach.specs.Crawls.{Visit}
 use Rattle.irl_record.specs.Widening.{Answers, Widens}
+use Rattle.irl_record.specs.Wired.{Made}
 use Rattle.irl_crawl.proofs.Giving.{AreEarlier, given_first, given_second}
 use Rattle.irl_crawl.proofs.Rising.{WidensGiven, missed_both}
-use Rattle.irl_crawl.specs.Turning.{RestsOn, events_since}
+use Rattle.irl_crawl.specs.Turning.{AsksOnce, RestsOn, events_since}
 use Rattle.irl_crawl.specs.Workers.{AllGoOn, Given, given_by}
 
 -- ---- events
@@ -27,19 +28,22 @@ pub since_none : (x : State) → events_since x x ≡ []
 since_none x = since_are x x [] (sym (append-nil x.events))
 
 -- ---- what was given
--- Two stretches of time are one: what was given in either is given in it, and as many answers may be missing as in both.
+-- Two stretches of time are one: what was given in either is given in it, as many answers may be missing as in both, and as
+-- many connections were made.
 pub record Joins (one two whole : Given) : Type 0 where
   pub first : Widens one.gives whole.gives
   pub later : Widens two.gives whole.gives
   pub misses : (m n : ℕ) → one.may_miss m → two.may_miss n → whole.may_miss (m + n)
+  pub made : whole.made ≤ one.made + two.made
 
-pub joined_given : {F : Type 0} (asked : F → ℕ) (gives : F → ℕ → Answers) (faults last : F → ℕ) (aim : F → List ℕ) (olds mids news : List F) → AllGoOn asked gives faults last aim olds mids
+pub joined_given : {F : Type 0} (asked : F → Made) (gives : F → ℕ → Answers) (faults last : F → ℕ) (aim : F → List ℕ) (olds mids news : List F) → AllGoOn asked gives faults last aim olds mids
     → AllGoOn asked gives faults last aim mids news → AreEarlier gives
     → Joins (given_by asked gives faults olds mids) (given_by asked gives faults mids news) (given_by asked gives faults olds news)
 joined_given asked gives faults last aim olds mids news one two earlier = record {
   first = given_first asked gives faults last aim olds mids news one two;
   later = given_second asked gives faults last aim olds mids news one two earlier;
   misses = missed_both asked gives faults last aim olds mids news one two;
+  made = omega arith;
 }
 
 -- ---- what is rested on
@@ -56,7 +60,19 @@ rests_wider old new wider visits events rests = record {
   missing_are = wider.may_miss _ rests.missing_are;
 }
 
--- and one behind the other
+-- ---- and no more is asked for
+pub asks_none : (given : Given) → given.may_miss 0 → given.made ≡ 0 → (events : List Happened) → notes_in events ≡ [] → AsksOnce given [] events
+unfolding rests_none
+asks_none given zero made events none = record { rests = rests_none given zero events none; made = omega (arith, made) }
+
+pub asks_wider : (old new : Given) → WidensGiven old new → (visits : List Visit) (events : List Happened) → AsksOnce old visits events → AsksOnce new visits events
+unfolding rests_wider
+asks_wider old new wider visits events asks = record {
+  rests = rests_wider old new wider visits events asks.rests;
+  made = omega (arith, wider.made, asks.made);
+}
+
+-- one behind the other
 module _ (one two whole : Given) (joins : Joins one two whole) (first later : List Visit) (before after : List Happened) (a : RestsOn one first before) (b : RestsOn two later after) where
   abbrev answers_in : List Visit → List Answer
   answers_in visits = map (λ (visit : Visit). visit.answer) visits
@@ -83,3 +99,14 @@ module _ (one two whole : Given) (joins : Joins one two whole) (first later : Li
         let count : m + n ≡ missing (answers_in (first ++ later)) + missing (noted_answers (a.noted ++ b.noted)) = omega (arith, visits, noted) in
         subst whole.may_miss count (joins.misses m n a.missing_are b.missing_are);
   }
+
+pub asks_both : (one two whole : Given) (joins : Joins one two whole) (first later : List Visit) (before after : List Happened) → AsksOnce one first before → AsksOnce two later after
+    → AsksOnce whole (first ++ later) (before ++ after)
+unfolding rests_both
+asks_both one two whole joins first later before after a b =
+    let answers = λ (one : Noted). one.answers in
+    let noted = ap length (flat_map-append answers a.rests.noted b.rests.noted) ∙ length-append (flat_map answers a.rests.noted) (flat_map answers b.rests.noted) in
+    record {
+      rests = rests_both one two whole joins first later before after a.rests b.rests;
+      made = omega (arith, joins.made, a.made, b.made, noted, length-append first later);
+    }

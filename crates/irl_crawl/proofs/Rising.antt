@@ -1,16 +1,17 @@
 -- Counts of faults of several fetchers, which rose by the parts of a number.
-use Rattle.std.proofs.Common.{◌≡◌, ◌∙◌, ℕ, ◌+◌, ◌≤◌, zero, suc, List, [], ◌∷◌, ◌++◌, length, Some, refl, sym, ap, subst, arith}
+use Rattle.std.proofs.Common.{◌≡◌, ◌∙◌, ℕ, ◌+◌, ◌≤◌, zero, suc, List, [], ◌∷◌, ◌++◌, ◌<◌, length, set, get_or, Some, refl, sym, ap, subst, arith}
 use Rattle.std.specs.Prelude.{slice_get}
 use Rattle.std.specs.List.{flat_map}
 use Rattle.std.proofs.lemmas.List.Concat.{flat_map-append}
 use Rattle.std.proofs.lemmas.Option.{same_Some}
 use Rattle.irl_record.specs.Widening.{Answers, Widens}
+use Rattle.irl_record.specs.Wired.{Made, how_many}
 use Rattle.irl_fetch.specs.Handling.{Handled, Noted, answers_of, missing}
 use Rattle.irl_fetch.specs.Telling.{RoseBy}
 use Rattle.irl_fetch.proofs.Handling.{missing_both}
 use Rattle.irl_fetch.proofs.Telling.{rose_none, rose_then}
-use Rattle.irl_crawl.specs.Workers.{AllGoOn, Given, RoseBetween, given_by}
-use Rattle.irl_crawl.proofs.Giving.{AreEarlier, given_first, given_second}
+use Rattle.irl_crawl.specs.Workers.{AllGoOn, Given, RoseBetween, given_by, made_by}
+use Rattle.irl_crawl.proofs.Giving.{AreEarlier, given_second}
 use Rattle.irl_crawl.proofs.Workers.{IsSetAt}
 
 -- ---- answers that never came
@@ -90,45 +91,73 @@ module _ {F : Type 0} (faults : F → ℕ) where
       )
 
 -- of all that go on
-pub none_fell : {F : Type 0} (asked : F → ℕ) (gives : F → ℕ → Answers) (faults last : F → ℕ) (aim : F → List ℕ) (olds news : List F) → AllGoOn asked gives faults last aim olds news
+pub none_fell : {F : Type 0} (asked : F → Made) (gives : F → ℕ → Answers) (faults last : F → ℕ) (aim : F → List ℕ) (olds news : List F) → AllGoOn asked gives faults last aim olds news
     → NoneFell faults olds news
 none_fell asked gives faults last aim olds news on = λ at old new was is. (on.each at old new was is).faults
 
-pub rose_between_all : {F : Type 0} (asked : F → ℕ) (gives : F → ℕ → Answers) (faults last : F → ℕ) (aim : F → List ℕ) (olds news : List F) → AllGoOn asked gives faults last aim olds news
+pub rose_between_all : {F : Type 0} (asked : F → Made) (gives : F → ℕ → Answers) (faults last : F → ℕ) (aim : F → List ℕ) (olds news : List F) → AllGoOn asked gives faults last aim olds news
     → RoseBetween faults olds news 0
 rose_between_all asked gives faults last aim olds news on = rose_between_none faults olds news (none_fell asked gives faults last aim olds news on)
+
+-- ---- connections
+module _ {F : Type 0} (asked : F → Made) where
+  -- the same fetchers
+  pub made_same : (xs ys : List F) → length ys ≡ length xs → ((k : ℕ) → slice_get ys k ≡ slice_get xs k) → made_by asked ys ≡ made_by asked xs
+  made_same [] [] count same = refl
+  made_same [] (y ∷ ys) count same = absurd (omega (arith, count))
+  made_same (x ∷ xs) [] count same = absurd (omega (arith, count))
+  made_same (x ∷ xs) (y ∷ ys) count same =
+      let first : y ≡ x = same_Some y x (same 0) in
+      let rest = made_same xs ys (omega (arith, count)) (λ k. same (suc k)) in
+      omega (arith, rest, ap (λ (f : F). how_many (asked f)) first)
+
+  -- one of them made some
+  pub made_one : (nows laters : List F) (at : ℕ) (x y : F) → IsSetAt at y nows laters → slice_get nows at ≡ Some x
+      → made_by asked laters + how_many (asked x) ≡ made_by asked nows + how_many (asked y)
+  made_one [] laters at x y changed stood = absurd (cc)
+  made_one (w ∷ ws) [] at x y changed stood = let no = changed.count in absurd (omega (arith, no))
+  made_one (w ∷ ws) (l ∷ ls) zero x y changed stood =
+      let was : x ≡ w = same_Some x w (sym stood) in
+      let is : y ≡ l = same_Some y l (sym changed.here) in
+      let rest : made_by asked ls ≡ made_by asked ws = made_same ws ls (omega (arith, changed.count)) (λ k. changed.elsewhere (suc k) (λ same. absurd (omega (arith, same)))) in
+      omega (arith, rest, ap (λ (f : F). how_many (asked f)) was, ap (λ (f : F). how_many (asked f)) is)
+  made_one (w ∷ ws) (l ∷ ls) (suc at) x y changed stood =
+      let first : w ≡ l = same_Some w l (sym (changed.elsewhere 0 (λ same. absurd (omega (arith, same))))) in
+      let rest = made_one ws ls at x y
+      (record { count = omega (arith, changed.count); here = changed.here; elsewhere = λ k other. changed.elsewhere (suc k) (λ same. other (omega (arith, same))) }) stood in
+      omega (arith, rest, ap (λ (f : F). how_many (asked f)) first)
+
+  -- one that made none is put in its place
+  pub made_at : (xs : List F) (at : ℕ) (d new : F) → at < length xs → asked new ≡ asked (get_or xs at d) → made_by asked (set xs at new) ≡ made_by asked xs
+  made_at [] at d new within same = absurd (omega (arith, within))
+  made_at (x ∷ xs) zero d new within same = omega (arith, ap how_many same)
+  made_at (x ∷ xs) (suc at) d new within same = let rest = made_at xs at d new (omega (arith, within)) same in omega (arith, rest)
 
 -- ---- what was given
 -- what may have missed some may have missed fewer
 abbrev pub MayMissFewer : Given → Type 0
 MayMissFewer given = (few many : ℕ) → few ≤ many → given.may_miss many → given.may_miss few
 
--- of what was given in a part of some time: it is given in all of it, and as many may have been missing
+-- of what was given in a part of some time, beside which no connection was made: it is given in all of it, and as many
+-- may have been missing
 pub record WidensGiven (part whole : Given) : Type 0 where
   pub gives : Widens part.gives whole.gives
   pub may_miss : (n : ℕ) → part.may_miss n → whole.may_miss n
+  pub made : whole.made ≤ part.made
 
 pub given_same : (given : Given) → WidensGiven given given
-given_same given = record { gives = λ url want answer is. is; may_miss = λ n may. may }
+given_same given = record { gives = λ url want answer is. is; may_miss = λ n may. may; made = omega arith }
 
-module _ {F : Type 0} (asked : F → ℕ) (gives : F → ℕ → Answers) (faults last : F → ℕ) (aim : F → List ℕ) (olds mids news : List F) (one : AllGoOn asked gives faults last aim olds mids)
+module _ {F : Type 0} (asked : F → Made) (gives : F → ℕ → Answers) (faults last : F → ℕ) (aim : F → List ℕ) (olds mids news : List F) (one : AllGoOn asked gives faults last aim olds mids)
     (two : AllGoOn asked gives faults last aim mids news) where
-  -- that of the first part
-  pub widens_first : WidensGiven (given_by asked gives faults olds mids) (given_by asked gives faults olds news)
-  widens_first = record {
-    gives = given_first asked gives faults last aim olds mids news one two;
-    may_miss = λ n rose.
-        rose_between_fewer faults olds news n (n + 0) (omega arith)
-        (rose_between_then faults olds mids news n 0 one.count two.count rose (rose_between_all asked gives faults last aim mids news two));
-  }
-
-  -- and of the second
-  pub widens_second : AreEarlier gives → WidensGiven (given_by asked gives faults mids news) (given_by asked gives faults olds news)
-  widens_second earlier = record {
+  -- that of the second part
+  pub widens_second : AreEarlier gives → made_by asked mids ≡ made_by asked olds → WidensGiven (given_by asked gives faults mids news) (given_by asked gives faults olds news)
+  widens_second earlier none = record {
     gives = given_second asked gives faults last aim olds mids news one two earlier;
     may_miss = λ n rose.
         rose_between_fewer faults olds news n (0 + n) (omega arith)
         (rose_between_then faults olds mids news 0 n one.count two.count (rose_between_all asked gives faults last aim olds mids one) rose);
+    made = omega (arith, none);
   }
 
   -- both may have missed some

@@ -14,7 +14,7 @@ use Rattle.irl_offer.specs.declared.settings.Settings.{Settings}
 use Rattle.irl_offer.specs.Tuple.{Tuple}
 use Rattle.irl_polite.specs.Schedule.{Schedule}
 use Rattle.irl_reach.proofs.Growing.{grows}
-use Rattle.irl_reach.proofs.Joining.{all_found_later, crawls_join, leaves_join}
+use Rattle.irl_reach.proofs.Joining.{all_found_later, crawls_join, leaves_join, visits_unique}
 use Rattle.irl_reach.proofs.Members.{all_from, all_member, no_member}
 use Rattle.irl_reach.proofs.Settled.{front_unsettled}
 use Rattle.irl_reach.proofs.Turns.{added_same, crawls_behind, crawls_quiet, crawls_unvisited, crawls_wider, leaves_settled, once_more}
@@ -23,7 +23,8 @@ use Rattle.irl_reach.specs.Crawls.{Crawls, IsCrawlStore, IsStore, LeavesNone, Vi
 use Rattle.irl_record.specs.Widening.{Answers}
 use Rattle.irl_yard.specs.Passing.{come}
 use Rattle.irl_crawl.proofs.Batches.{Covers, Fills, covers_append, fills_among, grown_both, grown_more, grown_same, turns_both}
-use Rattle.irl_crawl.proofs.Resting.{Joins, rests_both, rests_none, since_are, since_none}
+use Rattle.irl_crawl.proofs.Few.{batches_both, few_none, few_then, settled_still}
+use Rattle.irl_crawl.proofs.Resting.{Joins, asks_both, asks_none, rests_both, rests_none, since_are, since_none}
 use Rattle.irl_crawl.proofs.Sent.{sends_all_then, sends_none, sends_same, sends_then}
 use Rattle.irl_crawl.specs.Crawling.{CrawlsTo, CrawlsWhole, OnlyCrawls, result_of}
 use Rattle.irl_crawl.specs.declared.plan.Ended.{Ended}
@@ -31,17 +32,12 @@ use Rattle.irl_crawl.specs.Judging.{IsJudged, IsOfPairs}
 use Rattle.irl_crawl.specs.Leading.{HasGround}
 use Rattle.irl_crawl.specs.Offering.{OnlySeeds}
 use Rattle.irl_crawl.specs.Sending.{SendsAll}
-use Rattle.irl_crawl.specs.Turning.{AreBatches, OnlyTurns, RestsOn, TurnsWhole, events_since, input_of, turns_in}
+use Rattle.irl_crawl.specs.Turning.{AreBatches, AreSettled, AsksOnce, OnlyTurns, RestsOn, TurnsWhole, events_since, input_of, turns_in}
 use Rattle.irl_crawl.specs.Workers.{AreNotedIn, Given}
 
 -- ---- events
 settled_both : (xs ys : List Happened) → length (settled_in (xs ++ ys)) ≡ length (settled_in xs) + length (settled_in ys)
 settled_both xs ys = ap length (flat_map-append (λ (h : Happened). outcomes_of h.0) xs ys) ∙ length-append (settled_in xs) (settled_in ys)
-
-batches_both : (batch most : ℕ) (xs ys : List Happened) → most ≤ batch → AreBatches batch xs → AreBatches most ys → AreBatches batch (xs ++ ys)
-batches_both batch most [] [] few one two = tt
-batches_both batch most [] (y ∷ ys) few one two = let first : length (outcomes_of y.0) ≤ most = two.0 in (omega (arith, first, few), batches_both batch most [] ys few tt two.1)
-batches_both batch most (x ∷ xs) ys few one two = (one.0, batches_both batch most xs ys few one.1 two)
 
 -- ---- two crawls, the second without seeds
 module _ (gives : Answers) (agent suffixes : List ℕ) (seeds : List (List ℕ)) (first second : List Visit) (x y z : State) (a : Crawls (input_of suffixes seeds) gives agent first x y)
@@ -63,8 +59,10 @@ module _ (gives : Answers) (agent suffixes : List ℕ) (seeds : List (List ℕ))
 pub record SoFar (given : Given) (agent suffixes : List ℕ) (settings : Settings) (pages batch left : ℕ) (fronts : List Schedule) (x y : State) : Type 0 where
   pub only : OnlyCrawls given agent suffixes [] settings 0 pages batch x y
   pub whole : CrawlsWhole suffixes [] settings only.visits x y
+  pub asks : AsksOnce given only.visits (events_since x y)
   pub known : AreNotedIn agent y.events fronts
   pub count : length (settled_in (events_since x y)) + left ≡ pages
+  pub few : length only.visits + left ≤ pages
 
 -- nothing was done
 pub crawls_none : (given : Given) → given.may_miss 0 → (agent suffixes : List ℕ) (settings : Settings) (pages batch : ℕ) (x : State)
@@ -75,16 +73,18 @@ crawls_none given zero agent suffixes settings pages batch x =
       visits = [];
       crawls = crawls_quiet (input_of suffixes []) given.gives agent [] x x refl refl;
       rests = rests_none given zero (events_since x x) (ap notes_in none);
+      few = omega arith;
+      behind = few_none settings batch x x;
       batches = subst (AreBatches batch) (sym none) tt;
       pages_are = subst (λ (hs : List Happened). length (settled_in hs) ≤ pages) (sym none) (omega arith);
       grows = grown_more settings 0 (0 + turns_in (events_since x x)) x x (omega arith) (grown_same settings x);
       sends = sends_same suffixes settings x x refl;
     }
 
-pub far_none : (given : Given) (zero : given.may_miss 0) (agent suffixes : List ℕ) (settings : Settings) (pages batch : ℕ) (fronts : List Schedule) (x : State) → IsCrawlStore settings x
-    → IsJudged settings x → AreNotedIn agent x.events fronts → SoFar given agent suffixes settings pages batch pages fronts x x
+pub far_none : (given : Given) (zero : given.may_miss 0) → given.made ≡ 0 → (agent suffixes : List ℕ) (settings : Settings) (pages batch : ℕ) (fronts : List Schedule) (x : State)
+    → IsCrawlStore settings x → IsJudged settings x → AreNotedIn agent x.events fronts → SoFar given agent suffixes settings pages batch pages fronts x x
 unfolding crawls_none
-far_none given zero agent suffixes settings pages batch fronts x made judged known = record {
+far_none given zero nothing agent suffixes settings pages batch fronts x made judged known = record {
   only = crawls_none given zero agent suffixes settings pages batch x;
   whole = record {
     leaves = record {
@@ -94,8 +94,10 @@ far_none given zero agent suffixes settings pages batch fronts x made judged kno
     judged = judged;
     sent = sends_none suffixes settings x made judged.sent.0;
   };
+  asks = asks_none given zero nothing (events_since x x) (ap notes_in (since_none x));
   known = known;
   count = subst (λ (hs : List Happened). length (settled_in hs) + pages ≡ pages) (sym (since_none x)) (omega arith);
+  few = omega arith;
 }
 
 -- ---- a turn more
@@ -127,12 +129,19 @@ module _ (before own given : Given) (joins : Joins before own given) (agent suff
   count_both : length (settled_in (events_since x z)) ≡ length (settled_in (events_since x y)) + length (settled_in (events_since y z))
   count_both = ap (λ (hs : List Happened). length (settled_in hs)) since ∙ settled_both (events_since x y) (events_since y z)
 
+  -- what came of the visits before it stays settled
+  still : AreSettled x z far.only.visits
+  still = settled_still x y z since far.only.visits
+      (λ visit there. (grows y z stood two).texts visit.number (visits_unique suffixes before.gives agent y _ far.only.visits far.only.crawls.visited visit there)) far.whole.leaves.settled
+
   pub turn_more : OnlyCrawls given agent suffixes [] settings 0 pages batch x z
   turn_more = record {
     visits = far.only.visits ++ turn.visits;
     crawls = both_crawl given.gives agent suffixes [] far.only.visits turn.visits x y z first_crawl turn_crawl store stood one two once;
     rests = subst (RestsOn given (far.only.visits ++ turn.visits)) (sym since)
         (rests_both before own given joins far.only.visits turn.visits (events_since x y) (events_since y z) far.only.rests turn.rests);
+    few = let were = far.few in let few = turn.few in let both = length-append far.only.visits turn.visits in omega (arith, were, few, both, within);
+    behind = few_then x y z since settings most batch far.only.visits turn.visits small still turn.behind;
     batches = subst (AreBatches batch) (sym since) (batches_both batch most (events_since x y) (events_since y z) small far.only.batches turn.batch);
     pages_are = let few = turn.settled in let many = far.count in let both = count_both in omega (arith, few, many, both, within);
     grows =
@@ -157,17 +166,27 @@ module _ (before own given : Given) (joins : Joins before own given) (agent suff
       (covers_append settings (found far.only.visits) (found turn.visits) x y fills)
 
   -- all that was loaded is settled
-  pub far_more : (count : ℕ) (afters : List Schedule) → TurnsWhole count agent suffixes settings turn.visits afters y z → SoFar given agent suffixes settings pages batch (left - count) afters x z
+  pub far_more : (count : ℕ) (afters : List Schedule) → TurnsWhole count agent suffixes settings turn.visits afters y z → AsksOnce own turn.visits (events_since y z)
+      → SoFar given agent suffixes settings pages batch (left - count) afters x z
   unfolding turn_more
-  far_more count afters whole = record {
+  far_more count afters whole asks = record {
     only = turn_more;
     whole = record {
       leaves = both_leave given.gives agent suffixes [] far.only.visits turn.visits x y z first_crawl turn_crawl store stood one two far.whole.leaves whole.leaves;
       judged = whole.judged;
       sent = sends_all_then suffixes settings x y z store made one two far.whole.judged.sent.0 far.whole.sent whole.sent;
     };
+    asks = subst (AsksOnce given (far.only.visits ++ turn.visits)) (sym since)
+        (asks_both before own given joins far.only.visits turn.visits (events_since x y) (events_since y z) far.asks asks);
     known = whole.known;
     count = let few = turn.settled in let is = whole.count_is in let many = far.count in let both = count_both in omega (arith, few, is, many, both, within);
+    few =
+        let few = turn.settled in
+        let is = whole.count_is in
+        let were = far.few in
+        let visited = whole.few in
+        let both = length-append far.only.visits turn.visits in
+        omega (arith, few, is, were, visited, both, within);
   }
 
 -- ---- seeds
@@ -190,7 +209,7 @@ pairs_unnoted ((Settle fronts outcomes, places) ∷ hs) all = absurd all.0
 pairs_batches : (batch : ℕ) (hs : List Happened) → AllByRecursion (λ h. IsOfPairs h.0) hs → AreBatches batch hs
 pairs_batches batch [] all = tt
 pairs_batches batch ((Begin suffixes, places) ∷ hs) all = absurd all.0
-pairs_batches batch ((Pairs cuts judged pairs, places) ∷ hs) all = (omega arith, pairs_batches batch hs all.1)
+pairs_batches batch ((Pairs cuts judged pairs, places) ∷ hs) all = (tt, pairs_batches batch hs all.1)
 pairs_batches batch ((Pass judged, places) ∷ hs) all = absurd all.0
 pairs_batches batch ((Robots note, places) ∷ hs) all = absurd all.0
 pairs_batches batch ((Settle fronts outcomes, places) ∷ hs) all = absurd all.0
@@ -210,6 +229,8 @@ seeds_crawl given zero agent suffixes seeds settings pages batch x y only =
           (λ h text there is. absurd (pairs_begin h.0 text (all_member (λ (g : Happened). IsOfPairs g.0) only.more h only.pairs there) is))
           (λ note there. absurd (no_member note (subst (λ (notes : List Note). Contains notes note) (pairs_unnoted only.more only.pairs) there))) none;
       rests = rests_none given zero (events_since x y) (ap notes_in since ∙ pairs_unnoted only.more only.pairs);
+      few = omega arith;
+      behind = few_none settings batch x y;
       batches = subst (AreBatches batch) (sym since) (pairs_batches batch only.more only.pairs);
       pages_are = subst (λ (hs : List Happened). length (settled_in hs) ≤ pages) (sym since) (subst (λ (ds : List _). length ds ≤ pages) (sym none) (omega arith));
       grows = grown_more settings 1 (1 + turns_in (events_since x y)) x y (omega arith) only.grows;
@@ -222,7 +243,7 @@ module _ (given : Given) (agent suffixes : List ℕ) (seeds : List (List ℕ)) (
     (run : OnlyCrawls given agent suffixes [] settings 0 pages batch y z) where
   -- so that in the time of the seeds no answer was missing
   abbrev nothing : Given
-  nothing = record { gives = given.gives; may_miss = λ n. n ≡ 0 }
+  nothing = record { gives = given.gives; may_miss = λ n. n ≡ 0; made = 0 }
 
   made_store : IsStore y
   made_store = inr (settings, made)
@@ -246,6 +267,7 @@ module _ (given : Given) (agent suffixes : List ℕ) (seeds : List (List ℕ)) (
     first = λ url want answer gives. gives;
     later = λ url want answer gives. gives;
     misses = λ m n none may. subst given.may_miss (omega (arith, none)) may;
+    made = omega arith;
   }
 
   pub seeds_then : OnlyCrawls given agent suffixes seeds settings 1 pages batch x z
@@ -254,6 +276,8 @@ module _ (given : Given) (agent suffixes : List ℕ) (seeds : List (List ℕ)) (
     visits = run.visits;
     crawls = both_crawl given.gives agent suffixes seeds [] run.visits x y z first.crawls run.crawls store made_store one two run.crawls.once;
     rests = subst (RestsOn given run.visits) (sym since_seeds) (rests_both nothing given given joins [] run.visits (events_since x y) (events_since y z) first.rests run.rests);
+    few = run.few;
+    behind = few_then x y z since_seeds settings batch batch [] run.visits (omega arith) tt run.behind;
     batches = subst (AreBatches batch) (sym since_seeds) (batches_both batch batch (events_since x y) (events_since y z) (omega arith) first.batches run.batches);
     pages_are = let most = run.pages_are in let same = seeds_count in omega (arith, most, same);
     grows =
@@ -262,6 +286,13 @@ module _ (given : Given) (agent suffixes : List ℕ) (seeds : List (List ℕ)) (
         grown_more settings (1 + second) (1 + turns_in (events_since x z)) x z (omega (arith, turns)) (grown_both settings 1 second x y z seeded.grows run.grows);
     sends = sends_then suffixes settings x y z store made one two judged.sent.0 sent run.sends;
   }
+
+  -- nothing was asked for to offer the seeds
+  seeds_asks : AsksOnce given run.visits (events_since y z) → AsksOnce given run.visits (events_since x z)
+  seeds_asks was =
+      let since = since_are x y seeded.more seeded.events in
+      let none = asks_none nothing refl refl (events_since x y) (ap notes_in since ∙ pairs_unnoted seeded.more seeded.pairs) in
+      subst (AsksOnce given run.visits) (sym since_seeds) (asks_both nothing given given joins [] run.visits (events_since x y) (events_since y z) none was)
 
   -- and nothing is left over
   seeds_whole : IsPermutation (added_to x.urls.lists y.urls.lists) (map (offer_from 0) seeds) → CrawlsWhole suffixes [] settings run.visits y z → CrawlsWhole suffixes seeds settings run.visits x z
@@ -292,5 +323,6 @@ seeds_to ended given agent suffixes seeds settings pages batch x y z store made 
         seeds_count given agent suffixes seeds settings pages batch x y z store made one two seeded judged sent to.only ∙ was.1,
         was.2,
       );
+  asks = λ ends. seeds_asks given agent suffixes seeds settings pages batch x y z store made one two seeded judged sent to.only (to.asks ends);
   ground = ground;
 }

@@ -24,7 +24,7 @@ use Rattle.irl_yard.specs.declared.parts.Parts.{Parts}
 use Rattle.irl_yard.specs.Holding.{IsOpenRest, IsSound}
 use Rattle.irl_yard.specs.Passing.{front_in, suffixes_in}
 use Rattle.irl_yard.specs.Sending.{HasBegun}
-use Rattle.irl_desk.specs.Closing.{Closes, last_after}
+use Rattle.irl_desk.specs.Closing.{Closes, ended, last_after}
 use Rattle.irl_desk.specs.Serving.{IsFresh, Serves, Serving}
 use Rattle.irl_desk.proofs.Entering.{both_serve}
 use Rattle.irl_crawl.specs.Judging.{IsJudged, Judges, OnlyJudges}
@@ -34,7 +34,9 @@ use Rattle.irl_crawl.specs.Seeding.{OffersSeeds}
 use Rattle.irl_crawl.specs.Sending.{SendsAll}
 use Rattle.irl_crawl.proofs.Batches.{covers_none, fills_among, ground_more, ground_then, grown_both, grown_more, grown_same}
 use Rattle.irl_crawl.proofs.Leading.{always, leads_none, leads_then, leads_wide, never}
-use Rattle.irl_crawl.proofs.Lifting.{IsBehind, closed_behind, closed_leads, rest_kept, served_behind}
+use Rattle.irl_crawl.proofs.Lifting.{IsBehind, closed_behind, closed_leads, hands, rest_kept, served_behind}
+use Rattle.irl_crawl.proofs.Refusing.{refused_desk}
+use Rattle.irl_crawl.specs.Refusing.{RefusesAsFound}
 use Rattle.irl_crawl.proofs.Sent.{OweAlike, owe_from, sends_all_by, sends_by, sends_same}
 
 -- ---- one seed after another
@@ -171,6 +173,17 @@ module _ {S : Type 0} (told : S → Told) (lawful : (s : S) → IsConsistent (to
 
   pub rest_after : parts.rest ≡ old.parts.rest
   rest_after = rest_kept told offers.entries old mid closed store parts lawful opened law begun fresh offers.serves closes
+
+  -- what it is refused for
+  reason : (answer : Result Unit Fault) → IsAnswer answer → RefusesAsFound answer parts t
+  reason answer behind = refused_desk told offers.entries answer closed old (ended mid closed store parts closes.arrays)
+      (hands told offers.entries old mid closed store parts lawful opened law begun fresh offers.serves closes) behind
+
+  pub close_reason : (answer : Result Unit Fault) (fault : Fault) → closed ≡ Err fault → answer ≡ Err fault → RefusesAsFound answer parts t
+  close_reason answer fault is out = reason answer (closed_behind told offers.entries old mid closed store parts lawful opened law begun fresh offers.serves closes answer fault is out)
+
+  pub offer_reason : (answer : Result Unit Fault) (fault : Fault) (value : Unit) → closed ≡ Ok value → offered ≡ Err fault → answer ≡ Err fault → RefusesAsFound answer parts t
+  offer_reason answer fault value ok is out = reason answer (behind answer value ok (λ other answered. offers.fault other (is ∙ sym out ∙ answered)))
 
   module _ (suffixes : List ℕ) where
     -- a refusal

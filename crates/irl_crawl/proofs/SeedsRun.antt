@@ -16,7 +16,7 @@ use Rattle.irl_yard.specs.Holding.{HoldsState}
 use Rattle.irl_yard.specs.Sending.{HasBegun}
 use Rattle.irl_crawl.proofs.Leading.{leads_more_failed, leads_then, leads_wide}
 use Rattle.irl_crawl.proofs.Batches.{Fills, covers_append, fills_among, ground_more, ground_then}
-use Rattle.irl_crawl.proofs.Looping.{ground_memory}
+use Rattle.irl_crawl.proofs.Looping.{faulted_ends, ground_memory}
 use Rattle.irl_crawl.proofs.Running.{seeds_crawl, seeds_then, seeds_to}
 use Rattle.irl_crawl.proofs.Sent.{owe_then}
 use Rattle.irl_crawl.proofs.Stores.{held_is_crawl}
@@ -58,6 +58,7 @@ module _ (given : Given) (agent suffixes : List ℕ) (pages batch : ℕ) {seeds 
           only = crawls;
           done = λ no. let not : ⊥ = cc in absurd not;
           limit = λ no. let not : ⊥ = cc in absurd not;
+          asks = λ ends. absurd (faulted_ends fault ends);
           ground = ground_more (Err fault) suffixes settings offers (offers ++ found) x y (record { rest = found; is = IsPermutation-refl (offers ++ found) }) ground;
         }
 

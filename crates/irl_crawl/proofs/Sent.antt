@@ -39,7 +39,7 @@ TellsNoPairs (Pass judged) = ⊤
 TellsNoPairs (Robots note) = ⊤
 TellsNoPairs (Settle fronts outcomes) = ⊤
 
-after_both : (p : Progress) (hs more : List Happened) → after_events p (hs ++ more) ≡ after_events (after_events p hs) more
+pub after_both : (p : Progress) (hs more : List Happened) → after_events p (hs ++ more) ≡ after_events (after_events p hs) more
 after_both p [] more = refl
 after_both p (h ∷ hs) more = after_both (after_event p h.0 h.1) hs more
 

@@ -2,16 +2,18 @@
 use Rattle.std.proofs.Common.{◌≡◌, ◌∙◌, inl, inr, ℕ, true, List, [], Option, None, Some, Result, Ok, Err, OnOk, OnErr, IsErrOf, refl, sym, ap, subst, arith}
 use Rattle.std.proofs.lemmas.List.{append-nil}
 use Rattle.std.specs.List.{AllByRecursion}
+use Rattle.std.specs.Prelude.{⊤}
 use Rattle.irl_base.proofs.Among.{among_none}
 use Rattle.irl_base.specs.Faults.{HasCause}
 use Rattle.irl_base.specs.declared.fault.Fault.{Fault}
 use Rattle.irl_base.specs.declared.fault.Fault.TheVariants.{Damaged, Failed, Full}
 use Rattle.irl_bay.specs.Drum.{Drum, IsDrum, durables}
-use Rattle.irl_disk.specs.Disk.{Files, TellsBy}
+use Rattle.irl_disk.specs.Disk.{ChangesFile, Files, TellsBy}
 use Rattle.irl_disk.specs.Images.{IsConsistent, Told}
 use Rattle.irl_events.specs.Events.{Settle, has_number}
 use Rattle.irl_events.specs.State.{State}
 use Rattle.irl_frontier.specs.Frontier.{Frontier}
+use Rattle.irl_head.specs.StoreFiles.{crawl_file}
 use Rattle.irl_ledger.specs.declared.ledger.Ledger.{Ledger}
 use Rattle.irl_ledger.specs.Settling.{IsFlushed, outcomes_of}
 use Rattle.irl_log.specs.Form.{IsNote}
@@ -34,11 +36,12 @@ use Rattle.irl_yard.proofs.Begun.{event_begun, ledger_in, notes_begun, notes_suf
 use Rattle.irl_yard.proofs.CallsLead.{event_leads, notes_lead}
 use Rattle.irl_yard.proofs.SentWhole.{crawl_in}
 use Rattle.irl_crawl.specs.Judging.{Judges, OnlyJudges}
-use Rattle.irl_crawl.specs.Leading.{KeepsBegun, Leads}
+use Rattle.irl_crawl.specs.Leading.{KeepsBegun, KeepsOthers, Leads}
 use Rattle.irl_crawl.specs.Settling.{IsSettling, Settles, settled_state}
 use Rattle.irl_crawl.proofs.Batches.{covers_among, ground_before, grown_more, grown_same}
 use Rattle.irl_crawl.proofs.Books.{kind_begun}
 use Rattle.irl_crawl.proofs.Leading.{leads_more_failed, leads_then, leads_wide}
+use Rattle.irl_crawl.proofs.OtherFiles.{others_log}
 use Rattle.irl_crawl.proofs.Sent.{OweAlike, sends_all_by, sends_same}
 use Rattle.irl_crawl.proofs.Unsent.{SendsNone, owes, unsent_settled}
 
@@ -112,15 +115,16 @@ module _ (result : Result Unit Fault) (to : State → State) (was now : Parts) (
 
   call_leads : ((x : State) → HoldsState before.images was x → LeadsOrStays result x (to x) now before after) →
       ((files : Files) → before.files ≡ Some files → (later : Files) × (after.files ≡ Some later))
-      → now.urls ≡ was.urls → StaysSound (IsErrOf result Failed) now → HasCause (IsErrOf result Failed) before.faults after.faults
+      → now.urls ≡ was.urls → StaysSound (IsErrOf result Failed) now → HasCause (IsErrOf result Failed) before.faults after.faults → KeepsOthers was now before after
       → Leads (IsErrOf result Failed) (λ x. IsEither x (to x)) (Makes result to) was now before after
-  call_leads leads told urls goes_on cause = record {
+  call_leads leads told urls goes_on cause others = record {
     leads = λ still files is x held. let call = leads x held in made result x (IsErrOf result Failed) call.done call.kept still;
     fails = λ failed files is x held. (leads x held).failed failed;
     told = told;
     settings = ap (λ (drum : Drum). drum.settings) urls;
     goes_on = goes_on;
     cause = cause;
+    others = others;
   }
 
 -- what came of a turn, in a state
@@ -134,6 +138,7 @@ module _ {S : Type 0} (tells : S → Told) (law : (s : S) → IsConsistent (tell
   noting_leads notes adds =
       call_leads result (with_notes notes) was now (tells before) (tells after) (λ x held. notes_lead tells law result notes was now x before after drum held adds)
       (told_on _ (tells before).files (tells after).files adds.others.told) adds.urls goes_on adds.others.cause
+      (others_log was now (tells before) (tells after) (ChangesFile crawl_file (λ _ _. ⊤)) (law after) adds.urls (λ x y changes. changes.others) adds.others.told adds.others.stops)
 
   -- a held book has as many offers as are counted
   settle_lead : (done : List Done) → AddsEvent tells result (settle_of was.urls done) was now before after → (x : State) → HoldsState (tells before).images was x
@@ -147,6 +152,7 @@ module _ {S : Type 0} (tells : S → Told) (law : (s : S) → IsConsistent (tell
   settling_leads done adds =
       call_leads result (settle_in done) was now (tells before) (tells after) (settle_lead done adds)
       (told_on _ (tells before).files (tells after).files adds.others.told) adds.urls goes_on adds.others.cause
+      (others_log was now (tells before) (tells after) (ChangesFile crawl_file (λ _ _. ⊤)) (law after) adds.urls (λ x y changes. changes.others) adds.others.told adds.others.stops)
 
 -- ---- one behind the other
 -- a refusal by another name

@@ -22,15 +22,15 @@ module _ (given : Given) (agent suffixes : List ℕ) (most : ℕ) (result : Resu
   abbrev settings : Settings
   settings = was.urls.settings
 
-  pub pass_steps : given.may_miss 0 → (fronts : List Schedule) → IfOk result (λ count. count ≡ 0) → OnOk result (KeepsBegun was now × IsSent now)
+  pub pass_steps : given.may_miss 0 → given.made ≡ 0 → (fronts : List Schedule) → IfOk result (λ count. count ≡ 0) → OnOk result (KeepsBegun was now × IsSent now)
       → Leads (IsErrOf result Failed) (λ x y. IsEither x (with_pass settings x) y) (Passes result settings) was now before after
       → Leads (IsErrOf result Failed) (MayTurn given agent suffixes settings most fronts) (Steps result given agent suffixes settings most fronts fronts) was now before after
-  pass_steps zero fronts none keeps passes =
+  pass_steps zero nothing fronts none keeps passes =
       leads_wide (IsErrOf result Failed) _ _ _ _ was now before after passes (λ x y held front may noted. either_turns given zero agent suffixes settings most x y fronts may)
       (λ x y held later front did judged.
       let made : OnOk result (IsCrawlStore settings y) =
       ok_weaker result keeps (λ both. subst (λ (s : Settings). IsCrawlStore s y) passes.settings (held_is_crawl after.images now y passes.goes_on.drum both.0.begun later)) in
-      pass_step given zero agent suffixes settings most x y fronts result none made did judged)
+      pass_step given zero agent suffixes settings most x y fronts nothing result none made did judged)
 
   pub turn_steps : (olds news : List Schedule) → Leads (IsErrOf result Failed) (MayTurn given agent suffixes settings most olds) (Turns result given agent suffixes settings most olds news) was now
       before after

@@ -13,9 +13,9 @@ use Rattle.irl_answer.specs.Outcomes.{outcome_of}
 use Rattle.irl_base.proofs.Among.{among_trans}
 use Rattle.irl_base.specs.Among.{IsAmong}
 use Rattle.irl_core.specs.States.{url_text}
-use Rattle.irl_events.specs.Events.{Event, Begin, Pairs, Pass, Robots, Settle, Happened}
+use Rattle.irl_events.specs.Events.{Event, Begin, Pairs, Pass, Robots, Settle, Happened, Progress, after_event, after_events, before_all}
 use Rattle.irl_events.specs.State.{State, IsFrontState}
-use Rattle.irl_fetch.specs.Handling.{Fetched, Denied, Handled, IsGiven, IsNoted, Noted, ShutOut, Treated, done_of, entered_of, leave_for, outcome_for}
+use Rattle.irl_fetch.specs.Handling.{Fetched, Denied, Handled, IsGiven, IsNoted, Noted, ShutOut, Treated, answered, done_of, entered_of, leave_for, outcome_for}
 use Rattle.irl_key.specs.Web.{host_of, target_of}
 use Rattle.irl_key.specs.declared.web.Work.{Work}
 use Rattle.irl_ledger.specs.Settling.{outcomes_of as outcomes_from}
@@ -36,20 +36,22 @@ use Rattle.irl_reach.specs.Tapes.{IsNoteBy}
 use Rattle.irl_record.specs.Widening.{Answers}
 use Rattle.irl_robots.specs.Leave.{leave, leave_of}
 use Rattle.irl_yard.specs.Adding.{notes_happened, with_event, with_notes}
+use Rattle.irl_yard.specs.Passing.{come}
 use Rattle.irl_crawl.specs.Judging.{IsJudged, IsOfPairs, OnlyJudges}
 use Rattle.irl_crawl.specs.Leading.{GrowsInBatches}
 use Rattle.irl_crawl.specs.Offering.{HasOffers, OnlyOffers, offers_in}
 use Rattle.irl_crawl.specs.Sending.{SendsAll, SendsLinks}
-use Rattle.irl_crawl.specs.Turning.{AreBatches, OnlyTurns, RestsOn, TurnsWhole, events_since, input_of, turns_in}
+use Rattle.irl_crawl.specs.Turning.{AreBatches, AreSettled, AsksOnce, IsBatch, LeavesFew, OnlyTurns, RestsOn, TurnsWhole, events_since, input_of, turns_in}
 use Rattle.irl_crawl.specs.Workers.{Given, loaded}
 use Rattle.irl_crawl.specs.Working.{HasBegunOne, KnowAsNoted}
 use Rattle.irl_crawl.proofs.Batches.{grown_both, grown_more, grown_same, grown_to, turn_there}
+use Rattle.irl_crawl.proofs.Few.{came_of, few_behind, few_none, few_settled}
 use Rattle.irl_crawl.proofs.Numbers.{loaded_most}
 use Rattle.irl_crawl.proofs.Resting.{rests_none, rests_wider, since_are}
 use Rattle.irl_crawl.proofs.Rising.{WidensGiven}
-use Rattle.irl_crawl.proofs.Sent.{sends_all_by, sends_by, sends_same}
+use Rattle.irl_crawl.proofs.Sent.{after_both, sends_all_by, sends_by, sends_same}
 use Rattle.irl_crawl.proofs.Unsent.{SendsNone, owes, unsent_both, unsent_offered, unsent_settled}
-use Rattle.irl_crawl.proofs.Visits.{TurnOf, are_visits, begun_visits, found_among, found_handled, handled_loaded, is_handled, leave_read, noted_among, noted_by, notes_from, rests_noted, rests_unnoted, visits_for, visits_front, visits_in, visits_of, visits_once, work_text}
+use Rattle.irl_crawl.proofs.Visits.{TurnOf, are_visits, asks_noted, begun_visits, found_among, found_handled, handled_loaded, is_handled, leave_read, noted_among, noted_by, notes_from, rests_noted, rests_unnoted, visits_few, visits_fewer, visits_for, visits_front, visits_in, visits_of, visits_once, work_text}
 
 -- ---- events of a turn
 -- a note that answers give, or sent pairs
@@ -89,6 +91,29 @@ module _ (gives : Answers) where
   pairs_plain (Pass judged) is = is
   pairs_plain (Robots note) is = absurd is
   pairs_plain (Settle fronts outcomes) is = is
+
+  plain_batch : (most : ℕ) (event : Event) → IsPlain gives event → IsBatch most event
+  plain_batch most (Begin suffixes) is = tt
+  plain_batch most (Pairs cuts judged pairs) is = tt
+  plain_batch most (Pass judged) is = tt
+  plain_batch most (Robots note) is = tt
+  plain_batch most (Settle fronts outcomes) is = absurd is
+
+  -- the front stays
+  plain_front : (p : Progress) (hs : List Happened) → AllByRecursion (λ (h : Happened). IsPlain gives h.0) hs → (after_events p hs).front ≡ p.front
+  plain_front p [] plain = refl
+  plain_front p ((Begin suffixes, places) ∷ hs) plain = absurd plain.0
+  plain_front p ((Pairs cuts judged pairs, places) ∷ hs) plain = plain_front (after_event p (Pairs cuts judged pairs) places) hs plain.1
+  plain_front p ((Pass judged, places) ∷ hs) plain = absurd plain.0
+  plain_front p ((Robots note, places) ∷ hs) plain = plain_front (after_event p (Robots note) places) hs plain.1
+  plain_front p ((Settle fronts outcomes, places) ∷ hs) plain = absurd plain.0
+
+  front_stays : (settings : Settings) (x y : State) (more : List Happened) → y.events ≡ x.events ++ more → AllByRecursion (λ (h : Happened). IsPlain gives h.0) more
+      → (come settings x).front ≡ (come settings y).front
+  front_stays settings x y more events plain =
+      let start : Progress = before_all settings.queues settings.buckets in
+      sym (ap (λ (hs : List Happened). (after_events start hs).front) events ∙ ap (λ (p : Progress). p.front) (after_both start x.events more)
+      ∙ plain_front (after_events start x.events) more plain)
 
   note_turn : (event : Event) (note : Note) → IsOfTurn gives event → Contains (notes_of event) note → IsNoteBy gives note.host note.state
   note_turn (Begin suffixes) note is c = absurd is
@@ -155,19 +180,6 @@ all_weaker : {X : Type 0} (P Q : X → Type 0) (xs : List X) → ((x : X) → P 
 all_weaker P Q [] weaker all = tt
 all_weaker P Q (x ∷ xs) weaker all = (weaker x all.0, all_weaker P Q xs weaker all.1)
 
--- an event settles no more than all do
-pub batches_within : (most : ℕ) (hs : List Happened) → length (settled_in hs) ≤ most → AreBatches most hs
-batches_within most [] le = tt
-batches_within most (h ∷ hs) le =
-    let both : length (outcomes_of h.0 ++ settled_in hs) ≡ length (outcomes_of h.0) + length (settled_in hs) = length_both (outcomes_of h.0) (settled_in hs) in
-    (omega (arith, le, both), batches_within most hs (omega (arith, le, both)))
-  where
-    length_both : {X : Type 0} (xs ys : List X) → length (xs ++ ys) ≡ length xs + length ys
-    length_both [] ys = omega arith
-    length_both (z ∷ xs) ys =
-        let rest = length_both xs ys in
-        omega (arith, rest)
-
 -- ---- lists of offers
 -- all that is listed stands below the lengths of the lists
 below_lengths : (firsts : List ℕ) (lists : List (List Tuple)) (offer : Tuple) → length lists ≤ length firsts → Contains (all_of lists) offer
@@ -215,6 +227,8 @@ turns_none given agent suffixes settings most x may =
       crawls = crawls_quiet (input_of suffixes []) given.gives agent [] x x refl refl;
       rests = rests_none given may (events_since x x) (ap notes_in none);
       front = tt;
+      few = omega arith;
+      behind = few_none settings most x x;
       batch = subst (λ hs. AreBatches most hs) (sym none) tt;
       settled = subst (λ hs. length (settled_in hs) ≤ most) (sym none) (omega arith);
       grows = grown_more settings 0 (turns_in (events_since x x)) x x (omega arith) (grown_same settings x);
@@ -229,6 +243,8 @@ turns_wider part whole wider agent suffixes settings most x y only = record {
   crawls = crawls_wider part.gives whole.gives wider.gives (input_of suffixes []) agent [] only.visits x y only.crawls;
   rests = rests_wider part whole wider only.visits (events_since x y) only.rests;
   front = only.front;
+  few = only.few;
+  behind = only.behind;
   batch = only.batch;
   settled = only.settled;
   grows = only.grows;
@@ -243,9 +259,9 @@ module _ {given : Given} {agent suffixes : List ℕ} {settings : Settings} {most
       → AllByRecursion (λ (h : Happened). IsOfTurn given.gives h.0) more → ((earlier later : List Happened) (h : Happened) (fronts : List ℕ) (outcomes : List (ℕ × Outcome))
       → more ≡ earlier ++ h ∷ later
       → h.0 ≡ Settle fronts outcomes → AllByRecursion (λ d. IsSettled suffixes agent (visits_in it) y.urls (x.events ++ earlier) fronts d.0 d.1) outcomes)
-      → length (settled_in more) ≤ most → GrowsInBatches settings (turns_in more) x y → RestsOn given (visits_in it) more → SendsLinks suffixes settings x y
-      → OnlyTurns given agent suffixes settings most x y
-  turns_by y more front among events told settled few grows rests sends =
+      → length (settled_in more) ≤ most → AreBatches most more → LeavesFew settings most (visits_in it) x y → GrowsInBatches settings (turns_in more) x y → RestsOn given (visits_in it) more
+      → SendsLinks suffixes settings x y → OnlyTurns given agent suffixes settings most x y
+  turns_by y more front among events told settled few batches behind grows rests sends =
       let since : events_since x y ≡ more = since_are x y more events in
       record {
         visits = visits_in it;
@@ -265,7 +281,9 @@ module _ {given : Given} {agent suffixes : List ℕ} {settings : Settings} {most
         };
         rests = subst (RestsOn given (visits_in it)) (sym since) rests;
         front = visits_front it;
-        batch = subst (λ hs. AreBatches most hs) (sym since) (batches_within most more few);
+        few = visits_few it;
+        behind = behind;
+        batch = subst (λ hs. AreBatches most hs) (sym since) batches;
         settled = subst (λ hs. length (settled_in hs) ≤ most) (sym since) few;
         grows = subst (λ hs. GrowsInBatches settings (turns_in hs) x y) (sym since) grows;
         sends = sends;
@@ -282,7 +300,11 @@ module _ {given : Given} {agent suffixes : List ℕ} {settings : Settings} {most
       let there : Contains more h = subst (λ l. Contains l h) (sym at) (Contains-append_right earlier (h ∷ later) h (first_member h later)) in
       let no : IsPlain given.gives (Settle fronts outcomes) = subst (λ e. IsPlain given.gives e) is (all_member (λ (g : Happened). IsPlain given.gives g.0) more h plain there) in
       absurd no)
-      (subst (λ ds. length ds ≤ most) (sym (none_settled given.gives more plain)) (omega arith)) (grown_more settings 0 (turns_in more) x y (omega arith) grows) rests
+      (subst (λ ds. length ds ≤ most) (sym (none_settled given.gives more plain)) (omega arith))
+      (all_weaker (λ (h : Happened). IsPlain given.gives h.0) (λ (h : Happened). IsBatch most h.0) more (λ h. plain_batch given.gives most h.0) plain)
+      (few_behind settings most (visits_in it) x y (visits_few it)
+      (subst (λ front. AllByRecursion (λ (visit : Visit). Contains front visit.number) (visits_in it)) (front_stays given.gives settings x y more events plain) (visits_front it)))
+      (grown_more settings 0 (turns_in more) x y (omega arith) grows) rests
       (sends_same suffixes settings x y none)
 
   -- what the workers entered is offered, or some of it
@@ -326,9 +348,12 @@ module _ {given : Given} {agent suffixes : List ℕ} {settings : Settings} {most
       → OnlyTurns given agent suffixes settings most x n
   whole_notes_turn b n front only is = notes_turn it b n front (subst (λ es. OnlyOffers settings es x b) (sym (append-nil (flat_map entered_of handled))) only) is
 
+  settled_count : length settles ≡ length handled
+  settled_count = length-map (map done_of handled) (λ (d : Done). (d.number, d.outcome)) ∙ length-map handled done_of
+
   settled_few : length settles ≤ most
   settled_few =
-      let done : length (outcomes_from (map done_of handled)) ≡ length handled = length-map (map done_of handled) (λ (d : Done). (d.number, d.outcome)) ∙ length-map handled done_of in
+      let done = settled_count in
       let works : length (map (λ (one : Handled). one.work) handled ++ []) ≡ length (loaded befores) =
       length_permutation (loaded befores) (map (λ (one : Handled). one.work) handled ++ []) it.worked.items in
       let all : length (map (λ (one : Handled). one.work) handled ++ []) ≡ length handled =
@@ -447,14 +472,6 @@ module _ {given : Given} {agent suffixes : List ℕ} {settings : Settings} {most
           flat_map-append (λ (h : Happened). notes_of h.0) notes (settling ∷ pairs) ∙ ap (λ ns. ns ++ notes_in pairs) (notes_back (notes_from noted))
           ∙ ap (λ ns. notes_from noted ++ ns) (pairs_unnoted pairs of_pairs) ∙ append-nil (notes_from noted)
 
-      settled_turn : GrowsInBatches settings 1 x y → y.events ≡ x.events ++ more → SendsLinks suffixes settings x y → OnlyTurns given agent suffixes settings most x y
-      settled_turn grows events sends =
-          let among : IsAmong (added_to x.urls.lists y.urls.lists) (offers_in (flat_map entered_of handled ++ [])) =
-          subst (λ es. IsAmong (added_to x.urls.lists y.urls.lists) (offers_in es)) (sym (append-nil (flat_map entered_of handled)))
-          (subst (λ ls. IsAmong (added_to x.urls.lists ls) (offers_in entries)) (sym lists) only.among) in
-          turns_by it y more front among events of_turn settled_at (subst (λ ds. length ds ≤ most) (sym settled_are) settled_few)
-          (grown_more settings 1 (turns_in more) x y (turn_there notes pairs settling refl) grows) (rests_noted it more notes_are) sends
-
       -- ---- nothing is left over
       begun_none : (begun : ([] ≡ []) ⊎ HasBegunOne given.gives agent suffixes noted [] [] befores) → flat_map visits_of handled ++ begun_visits begun ≡ flat_map visits_of handled
       begun_none (inl none) = append-nil (flat_map visits_of handled)
@@ -485,9 +502,35 @@ module _ {given : Given} {agent suffixes : List ℕ} {settings : Settings} {most
           by work (Denied line) done text c = absurd (no_member visit c)
           by work ShutOut done text c = absurd (no_member visit c)
 
+      visits_settled : y.events ≡ x.events ++ more → AreSettled x y (visits_in it)
+      visits_settled events =
+          all_from (λ (visit : Visit). Contains (settled_in (events_since x y)) (came_of y.urls visit)) (visits_in it) (λ visit v.
+          subst (λ ds. Contains ds (came_of y.urls visit)) (sym (ap settled_in (since_are x y more events) ∙ settled_are))
+          (visit_settled visit (subst (λ vs. Contains vs visit) visits_are v)))
+
+      -- some were loaded
+      more_batches : 1 ≤ length handled → AreBatches most more
+      more_batches some =
+          let plain : (hs : List Happened) → AllByRecursion (λ (h : Happened). IsPlain given.gives h.0) hs → AreBatches most hs =
+          λ hs. all_weaker (λ (h : Happened). IsPlain given.gives h.0) (λ (h : Happened). IsBatch most h.0) hs (λ h. plain_batch given.gives most h.0) in
+          let count = settled_count in
+          all_both (λ (h : Happened). IsBatch most h.0) notes (settling ∷ pairs) (plain notes plain_notes) ((omega (arith, some, count), settled_few), plain pairs plain_pairs)
+
+      settled_turn : 1 ≤ length handled → GrowsInBatches settings 1 x y → y.events ≡ x.events ++ more → SendsLinks suffixes settings x y → OnlyTurns given agent suffixes settings most x y
+      settled_turn some grows events sends =
+          let among : IsAmong (added_to x.urls.lists y.urls.lists) (offers_in (flat_map entered_of handled ++ [])) =
+          subst (λ es. IsAmong (added_to x.urls.lists y.urls.lists) (offers_in es)) (sym (append-nil (flat_map entered_of handled)))
+          (subst (λ ls. IsAmong (added_to x.urls.lists ls) (offers_in entries)) (sym lists) only.among) in
+          turns_by it y more front among events of_turn settled_at (subst (λ ds. length ds ≤ most) (sym settled_are) settled_few) (more_batches some)
+          (few_settled settings most (visits_in it) x y (visits_settled events)) (grown_more settings 1 (turns_in more) x y (turn_there notes pairs settling refl) grows)
+          (rests_noted it more notes_are) sends
+
       module _ (events : y.events ≡ x.events ++ more) where
         since : events_since x y ≡ more
         since = since_are x y more events
+
+        settled_asks : given.made ≤ answered handled noted → AsksOnce given (visits_in it) (events_since x y)
+        settled_asks few = subst (AsksOnce given (visits_in it)) (sym since) (asks_noted it few more notes_are)
 
         settled_leaves : LeavesNone (input_of suffixes []) (visits_in it) x y
         settled_leaves = record {
@@ -496,10 +539,7 @@ module _ {given : Given} {agent suffixes : List ℕ} {settings : Settings} {most
               found_handled it y front ∙ ap (λ vs. flat_map (found_by suffixes y.urls) vs) (sym visits_are) in
               subst (λ os. IsPermutation (added_to x.urls.lists y.urls.lists) os) found
               (subst (λ ls. IsPermutation (added_to x.urls.lists ls) (offers_in entries)) (sym lists) offered.all);
-          settled =
-              all_from (λ (visit : Visit). Contains (settled_in (drop (length x.events) y.events)) (visit.number, outcome_of (url_text y.urls visit.number) visit.answer)) (visits_in it) (λ visit v.
-              subst (λ ds. Contains ds (visit.number, outcome_of (url_text y.urls visit.number) visit.answer)) (sym (ap settled_in since ∙ settled_are))
-              (visit_settled visit (subst (λ vs. Contains vs visit) visits_are v)));
+          settled = visits_settled events;
         }
 
         settled_whole : (afters : List Schedule) → IsJudged settings y → SendsAll suffixes settings x y → KnowAsNoted agent noted befores afters
@@ -507,7 +547,8 @@ module _ {given : Given} {agent suffixes : List ℕ} {settings : Settings} {most
         settled_whole afters judged sent knows = record {
           leaves = settled_leaves;
           count_is = sym (ap length (ap settled_in since ∙ settled_are)
-              ∙ length-map (map done_of handled) (λ (d : Done). (d.number, d.outcome)) ∙ length-map handled done_of);
+              ∙ settled_count);
+          few = subst (λ vs. length vs ≤ length handled) (sym visits_are) (visits_fewer handled);
           judged = judged;
           sent = sent;
           known = λ at front is name known has.
@@ -543,7 +584,7 @@ module _ {given : Given} {agent suffixes : List ℕ} {settings : Settings} {most
         (unsent_settled settings (notes_from noted) (map done_of handled) b))
 
     -- what is unjudged is judged, or some of it
-    module _ (y : State) (front : IsFrontState x y) (judges : OnlyJudges suffixes settings s y) where
+    module _ (y : State) (front : IsFrontState x y) (judges : OnlyJudges suffixes settings s y) (some : 1 ≤ length handled) where
       judged_lists : y.urls.lists ≡ b.urls.lists
       judged_lists = judges.lists ∙ settled_lists
 
@@ -560,14 +601,16 @@ module _ {given : Given} {agent suffixes : List ℕ} {settings : Settings} {most
 
       pub judges_turn : OnlyTurns given agent suffixes settings most x y
       judges_turn =
-          settled_turn b begins only offered y front judged_lists judges.more judges.pairs judged_grown judged_events
+          settled_turn b begins only offered y front judged_lists judges.more judges.pairs some judged_grown judged_events
           (sends_by suffixes settings x s y (owes suffixes settings x s y.urls settled_unsent) judges.sends)
 
-      pub whole_turn : (afters : List Schedule) → IsJudged settings y → SendsAll suffixes settings b y → KnowAsNoted agent noted befores afters
+      pub whole_turn : (afters : List Schedule) → IsJudged settings y → SendsAll suffixes settings b y → KnowAsNoted agent noted befores afters → given.made ≤ answered handled noted
           → (turns : OnlyTurns given agent suffixes settings most x y) × TurnsWhole (length handled) agent suffixes settings turns.visits afters x y
+          × AsksOnce given turns.visits (events_since x y)
       unfolding judges_turn settled_turn turns_by
-      whole_turn afters judged sent knows = (
+      whole_turn afters judged sent knows few = (
         judges_turn,
         settled_whole b begins only offered y front judged_lists judges.more judges.pairs judged_events afters judged
             (sends_all_by suffixes settings x b y (owes suffixes settings x b y.urls (unsent_offered settings x b only.others)) sent) knows,
+        settled_asks b begins only offered y front judged_lists judges.more judges.pairs judged_events few,
       )

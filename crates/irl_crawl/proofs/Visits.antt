@@ -4,9 +4,9 @@ use Rattle.std.specs.Prelude.{AllPairs, flat_map}
 use Rattle.std.specs.List.{AllByRecursion, Contains}
 use Rattle.std.specs.List.Sorted.{IsPermutation}
 use Rattle.std.proofs.lemmas.Grind.{flat_map-append}
-use Rattle.std.proofs.lemmas.List.{append-nil, map-append}
+use Rattle.std.proofs.lemmas.List.{append-nil, length-append, length-map, map-append}
 use Rattle.std.proofs.lemmas.List.Elements.{All-contains, All-nil, Contains-append_cases, Contains-append_left, Contains-append_right}
-use Rattle.std.proofs.lemmas.List.Sorted.{Contains-permutation, IsPermutation-map, IsPermutation-refl, IsPermutation-sym}
+use Rattle.std.proofs.lemmas.List.Sorted.{Contains-permutation, IsPermutation-map, IsPermutation-refl, IsPermutation-sym, length_permutation}
 use Rattle.irl_answer.specs.Found.{offers_of}
 use Rattle.irl_base.proofs.Among.{among_append, among_none, among_same}
 use Rattle.irl_base.specs.Among.{IsAmong}
@@ -15,7 +15,7 @@ use Rattle.irl_events.specs.Events.{Happened, Robots}
 use Rattle.irl_events.specs.State.{State, IsFrontState}
 use Rattle.irl_fate.specs.Standing.{count}
 use Rattle.irl_fate.specs.Fronts.{AreFirst}
-use Rattle.irl_fetch.specs.Handling.{Fetched, Denied, Handled, IsGiven, IsHandled, IsNoted, Noted, ShutOut, Treated, answers_for, answers_of, entered_for, entered_of, missing}
+use Rattle.irl_fetch.specs.Handling.{Fetched, Denied, Handled, IsGiven, IsHandled, IsNoted, Noted, ShutOut, Treated, answered, answers_for, answers_of, entered_for, entered_of, missing}
 use Rattle.irl_fetch.specs.Pages.{IsPart}
 use Rattle.irl_fetch.proofs.Handling.{missing_both}
 use Rattle.irl_key.specs.Web.{host_of, target_of}
@@ -43,11 +43,11 @@ use Rattle.irl_robots.specs.declared.host.Leave.TheVariants.{Allowed}
 use Rattle.irl_yard.specs.Adding.{notes_happened}
 use Rattle.irl_yard.specs.Passing.{AreWorks, come}
 use Rattle.irl_crawl.specs.Offering.{offers_in}
-use Rattle.irl_crawl.specs.Turning.{RestsOn}
+use Rattle.irl_crawl.specs.Turning.{AsksOnce, RestsOn}
 use Rattle.irl_crawl.specs.Workers.{AreNotedIn, Given, IsNotedIn, IsStateAmong, loaded}
 use Rattle.irl_crawl.specs.Working.{HasBegunOne, HaveWorked}
 use Rattle.irl_crawl.proofs.Rising.{MayMissFewer}
-use Rattle.irl_crawl.proofs.Numbers.{count_both, count_permuted, front_unique, loaded_front, loaded_once, once_differ}
+use Rattle.irl_crawl.proofs.Numbers.{count_both, count_permuted, front_unique, loaded_front, loaded_most, loaded_once, once_differ}
 
 -- ---- the visits
 abbrev pub visits_for : ℕ → Treated → List Visit
@@ -189,6 +189,27 @@ numbers_fewer n (one ∷ handled) = by one.treated (numbers_fewer n handled)
     by (Denied line) rest = omega (arith, rest)
     by ShutOut rest = omega (arith, rest)
 
+-- ---- how many they are
+pub visits_fewer : (handled : List Handled) → length (flat_map visits_of handled) ≤ length handled
+visits_fewer [] = omega arith
+visits_fewer (one ∷ handled) = by one.treated (visits_fewer handled)
+  where
+    by : (treated : Treated) → length (flat_map visits_of handled) ≤ length handled → length (visits_for one.work.number treated ++ flat_map visits_of handled) ≤ length (one ∷ handled)
+    by (Fetched answer entered) rest = omega (arith, rest)
+    by (Denied line) rest = omega (arith, rest)
+    by ShutOut rest = omega (arith, rest)
+
+begun_within : {gives : Answers} {agent suffixes : List ℕ} {noted : List Noted} {left : List Work} {part : List Entered} {befores : List Schedule}
+    (begun : (part ≡ []) ⊎ HasBegunOne gives agent suffixes noted left part befores) → length (begun_visits begun) ≤ length left
+begun_within (inl none) = omega arith
+begun_within {gives = gives} {suffixes = suffixes} {left = left} {part = part} (inr one) =
+    let long : length (one.work ∷ one.others) ≡ length left = length_permutation left (one.work ∷ one.others) one.is_left in
+    by one.some long
+  where
+    by : (some : IsPart gives suffixes one.work.web part) → length (one.work ∷ one.others) ≡ length left → length (part_visits gives suffixes one.work.web part one.work.number some) ≤ length left
+    by (inl none) long = omega arith
+    by (inr some) long = omega (arith, long)
+
 -- ---- a turn
 module _ {given : Given} {agent suffixes : List ℕ} {settings : Settings} {most : ℕ} {x : State} {befores : List Schedule} {handled : List Handled} {noted : List Noted}
     {left : List Work} {part : List Entered} (it : TurnOf given agent suffixes settings most x befores handled noted left part) where
@@ -297,6 +318,17 @@ module _ {given : Given} {agent suffixes : List ℕ} {settings : Settings} {most
   pub visits_once : AllPairs (λ n m. n ≢ m) (map (λ (v : Visit). v.number) visits_in)
   visits_once = once_differ (map (λ (v : Visit). v.number) visits_in) visited_once
 
+  -- and no more than were asked for
+  pub visits_few : length visits_in ≤ most
+  visits_few =
+      let works = length_permutation (loaded befores) (works_handled ++ left) it.worked.items in
+      let all = length-append works_handled left in
+      let handled_are = length-map handled (λ (one : Handled). one.work) in
+      let names = length-map (loaded befores) (λ (work : Work). work.number) in
+      let within = loaded_most settings x it.store most it.numbers numbers_loaded it.first it.each in
+      let both = length-append (flat_map visits_of handled) (begun_visits it.one_begun) in
+      omega (arith, works, all, handled_are, names, within, both, visits_fewer handled, begun_within it.one_begun)
+
   pub visits_front : AllByRecursion (λ (visit : Visit). Contains (come settings x).front visit.number) visits_in
   visits_front = all_from (λ (visit : Visit). Contains (come settings x).front visit.number) visits_in (λ visit v.
       let is = each_fetches visit v in
@@ -329,6 +361,15 @@ module _ {given : Given} {agent suffixes : List ℕ} {settings : Settings} {most
     missing_are = it.fewer (missing (answers_in visits_in) + missing (flat_map (λ (one : Noted). one.answers) noted))
         (missing (flat_map answers_of handled) + missing (flat_map (λ (one : Noted). one.answers) noted)) (omega (arith, visits_missing)) it.worked.missing_are;
   }
+
+  -- no more connections were made than there are answers
+  pub asks_noted : given.made ≤ answered handled noted → (events : List Happened) → notes_in events ≡ notes_from noted → AsksOnce given visits_in events
+  unfolding rests_noted
+  asks_noted few events are =
+      let done = flat_map visits_of handled in
+      let both = length-append done (begun_visits it.one_begun) in
+      let same = sym (length-map done (λ (visit : Visit). visit.answer)) ∙ ap length (answers_handled handled) in
+      record { rests = rests_noted events are; made = omega (arith, few, both, same) }
 
   -- ---- at a later state
   module _ (y : State) (front : IsFrontState x y) where

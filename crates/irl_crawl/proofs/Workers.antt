@@ -9,6 +9,7 @@ use Rattle.irl_polite.specs.Inside.{Held, schedule}
 use Rattle.irl_polite.specs.Schedule.{Schedule}
 use Rattle.irl_polite.specs.declared.known.Known.{Known}
 use Rattle.irl_record.specs.Widening.{Answers, Widens}
+use Rattle.irl_record.specs.Wired.{Made, how_many}
 use Rattle.irl_robots.specs.Leave.{host_state}
 use Rattle.irl_robots.specs.declared.host.HostState.{HostState}
 use Rattle.irl_fetch.specs.Handling.{Noted}
@@ -62,7 +63,7 @@ same_at xs at x y one two = same_Some x y (sym one ∙ two)
 -- ## Fetchers
 
 -- what was given still is
-pub given_more : {F : Type 0} (asked : F → ℕ) (gives : F → ℕ → Answers) (faults last : F → ℕ) (aim : F → List ℕ) (olds nows laters : List F) (at : ℕ) (x y : F) → IsSetAt at y nows laters
+pub given_more : {F : Type 0} (asked : F → Made) (gives : F → ℕ → Answers) (faults last : F → ℕ) (aim : F → List ℕ) (olds nows laters : List F) (at : ℕ) (x y : F) → IsSetAt at y nows laters
     → slice_get nows at ≡ Some x → GoesOn (fetcher asked gives faults last aim x) (fetcher asked gives faults last aim y) → Widens (IsGivenBy asked gives olds nows) (IsGivenBy asked gives olds laters)
 given_more asked gives faults last aim olds nows laters at x y changed stood on = λ url want answer is. elim (cases_eq is.at at) [
   | inl same ↦
@@ -73,17 +74,17 @@ given_more asked gives faults last aim olds nows laters at x y changed stood on 
         new = y;
         was = subst (λ (k : ℕ). slice_get olds k ≡ Some is.old) same is.was;
         is = changed.here;
-        given = on.wider (asked is.old) url want answer (subst (λ (f : _). gives f (asked is.old) url want answer) one is.given);
+        given = on.wider (how_many (asked is.old)) url want answer (subst (λ (f : _). gives f (how_many (asked is.old)) url want answer) one is.given);
       }
   | inr other ↦ record { at = is.at; old = is.old; new = is.new; was = is.was; is = changed.elsewhere is.at other ∙ is.is; given = is.given }
 ]
 
 -- what one gave is given by one of them
-pub given_by_one : {F : Type 0} (asked : F → ℕ) (gives : F → ℕ → Answers) (faults last : F → ℕ) (aim : F → List ℕ) (olds laters : List F) (at : ℕ) (x y : F) → slice_get olds at ≡ Some x
+pub given_by_one : {F : Type 0} (asked : F → Made) (gives : F → ℕ → Answers) (faults last : F → ℕ) (aim : F → List ℕ) (olds laters : List F) (at : ℕ) (x y : F) → slice_get olds at ≡ Some x
     → slice_get laters at ≡ Some y → Widens (given_since (fetcher asked gives faults last aim x) (fetcher asked gives faults last aim y)) (IsGivenBy asked gives olds laters)
 given_by_one asked gives faults last aim olds laters at x y was is = λ url want answer given. record { at = at; old = x; new = y; was = was; is = is; given = given }
 
-pub one_goes_on : {F : Type 0} (asked : F → ℕ) (gives : F → ℕ → Answers) (faults last : F → ℕ) (aim : F → List ℕ) (olds nows laters : List F) (at : ℕ) (x y : F)
+pub one_goes_on : {F : Type 0} (asked : F → Made) (gives : F → ℕ → Answers) (faults last : F → ℕ) (aim : F → List ℕ) (olds nows laters : List F) (at : ℕ) (x y : F)
     → AllGoOn asked gives faults last aim olds nows
     → IsSetAt at y nows laters → slice_get nows at ≡ Some x → GoesOn (fetcher asked gives faults last aim x) (fetcher asked gives faults last aim y) → AllGoOn asked gives faults last aim olds laters
 one_goes_on asked gives faults last aim olds nows laters at x y all changed stood on = record {
@@ -99,7 +100,7 @@ one_goes_on asked gives faults last aim olds nows laters at x y all changed stoo
 }
 
 -- a moment of this time stays one as it goes on
-pub moment_more : {F : Type 0} (asked : F → ℕ) (gives : F → ℕ → Answers) (faults last : F → ℕ) (aim : F → List ℕ) (olds nows laters : List F) (at : ℕ) (x y : F) → IsSetAt at y nows laters
+pub moment_more : {F : Type 0} (asked : F → Made) (gives : F → ℕ → Answers) (faults last : F → ℕ) (aim : F → List ℕ) (olds nows laters : List F) (at : ℕ) (x y : F) → IsSetAt at y nows laters
     → slice_get nows at ≡ Some x → GoesOn (fetcher asked gives faults last aim x) (fetcher asked gives faults last aim y) → (moment : ℕ) → IsMomentBy last olds nows moment
     → IsMomentBy last olds laters moment
 moment_more asked gives faults last aim olds nows laters at x y changed stood on moment is = elim (cases_eq is.at at) [

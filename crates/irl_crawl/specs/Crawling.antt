@@ -1,5 +1,5 @@
 -- A crawl over an open store.
-use Rattle.std.specs.Prelude.{◌≡◌, ◌<◌, ◌≤◌, ◌+◌, ℕ, List, [], ◌++◌, flat_map, length, map, Result, Ok, Err}
+use Rattle.std.specs.Prelude.{◌≡◌, ◌⊎◌, ◌<◌, ◌≤◌, ◌+◌, ℕ, List, [], ◌++◌, flat_map, length, map, Result, Ok, Err}
 use Rattle.irl_base.specs.declared.fault.Fault.{Fault as FaultValue}
 use Rattle.irl_base.specs.declared.fault.Fault.TheVariants.{Failed}
 use Rattle.std.specs.List.{AllByRecursion}
@@ -19,7 +19,7 @@ use Rattle.irl_yard.specs.Passing.{come}
 use Rattle.irl_crawl.specs.Judging.{IsJudged}
 use Rattle.irl_crawl.specs.Leading.{GrowsInBatches, HasGround}
 use Rattle.irl_crawl.specs.Sending.{SendsAll, SendsLinks}
-use Rattle.irl_crawl.specs.Turning.{AreBatches, RestsOn, events_since, input_of, turns_in}
+use Rattle.irl_crawl.specs.Turning.{AreBatches, AsksOnce, LeavesFew, RestsOn, events_since, input_of, turns_in}
 use Rattle.irl_crawl.specs.Workers.{Given}
 
 -- no unique URL is fresh, in front, in a queue or in the last list
@@ -35,14 +35,16 @@ result_of Done = Ok tt
 result_of Limit = Ok tt
 result_of (Fault fault) = Err fault
 
--- Some URLs were visited, and nothing is offered but the seeds and what the visits name; no more are settled than the
--- plan says, nor in one turn. Merges come in batches: in each book one cut for each turn that is settled may be early,
--- and so many others.
+-- Some URLs were visited, and nothing is offered but the seeds and what the visits name; no more are visited, nor are
+-- more settled, than the plan says, in all and in one turn, and what came of each visit is settled, but for one turn's
+-- at most. Merges come in batches: in each book one cut for each turn that is settled may be early, and so many others.
 pub record OnlyCrawls (given : Given) (agent suffixes : List ℕ) (seeds : List (List ℕ)) (settings : Settings)
     (spare pages batch : ℕ) (x y : State) : Type 0 where
   pub visits : List Visit
   pub crawls : Crawls (input_of suffixes seeds) given.gives agent visits x y
   pub rests : RestsOn given visits (events_since x y)
+  pub few : length visits ≤ pages
+  pub behind : LeavesFew settings batch visits x y
   pub batches : AreBatches batch (events_since x y)
   pub pages_are : length (settled_in (events_since x y)) ≤ pages
   pub grows : GrowsInBatches settings (spare + turns_in (events_since x y)) x y
@@ -62,6 +64,8 @@ pub record CrawlsTo (ended : Ended) (given : Given) (agent suffixes : List ℕ) 
   pub done : ended ≡ Done → CrawlsWhole suffixes seeds settings only.visits x y × NoneWaits settings y
   pub limit : ended ≡ Limit → CrawlsWhole suffixes seeds settings only.visits x y
       × (length (settled_in (events_since x y)) ≡ pages) × (NoneWaits settings y → ⊥)
+  -- at Done and at Limit nothing was asked for twice
+  pub asks : (ended ≡ Done) ⊎ (ended ≡ Limit) → AsksOnce given only.visits (events_since x y)
   -- the seeds were handed in, and what the visits found
   pub ground : HasGround (result_of ended) suffixes settings
       (map (offer_from 0) seeds ++ flat_map (found_by suffixes y.urls) only.visits) x y

@@ -15,6 +15,7 @@ use Rattle.irl_polite.specs.Schedule.{Schedule, loaded}
 use Rattle.irl_reach.specs.Along.{notes_in}
 use Rattle.irl_yard.specs.Holding.{HoldsState, IsSound}
 use Rattle.irl_yard.specs.declared.parts.Parts.{Parts}
+use Rattle.irl_crawl.specs.Refusing.{IsBrokenAt}
 use Rattle.irl_crawl.specs.Serving.{IsServedAt, KeepsNumbers}
 use Rattle.irl_crawl.specs.declared.dealing.Share.{Share}
 use Rattle.irl_crawl.specs.declared.hosts.Hosts.{Hosts}
@@ -32,8 +33,9 @@ pub record OnlyLooks {A : Type 0} (result : Result A Fault) (was now : Parts) (b
   pub sound : (IsErrOf result Failed → ⊥) → IsSound now
   pub unsound : IsErrOf result Failed → IsSound now → ⊥
   pub cause : HasCause (IsErrOf result Failed) before.faults after.faults
-  -- room is never lacking, and damage is named of no state
+  -- room is never lacking, and damage is named only where it is, and of no state
   pub full : (n : ℕ) → IsErrOf result (Full n) → ⊥
+  pub spoilt : (f at : ℕ) → IsErrOf result (Damaged f at) → ForSome after.files (λ files. IsBrokenAt now files f at)
   pub whole : (f at : ℕ) → IsErrOf result (Damaged f at) → ForSome before.files (λ _. (x : State)
       → HoldsState before.images was x → ⊥)
 

@@ -1,5 +1,5 @@
 -- The fetches of a turn, and the offers of what was found, over the states of an open store.
-use Rattle.std.specs.Prelude.{◌≡◌, ◌⊎◌, ℕ, List, [], ◌++◌, map, length, Result, IfOk, IsErrOf}
+use Rattle.std.specs.Prelude.{◌≡◌, ◌⊎◌, ◌≤◌, ℕ, List, [], ◌++◌, map, length, Result, IfOk, IsErrOf, OnOk}
 use Rattle.std.specs.List.{All, AllByRecursion, flat_map}
 use Rattle.irl_base.specs.declared.fault.Fault.{Fault}
 use Rattle.irl_base.specs.declared.fault.Fault.TheVariants.{Failed}
@@ -9,7 +9,7 @@ use Rattle.irl_ledger.specs.Settling.{IsFlushed}
 use Rattle.irl_offer.specs.Offering.{Entered}
 use Rattle.irl_polite.specs.Schedule.{Schedule}
 use Rattle.irl_yard.specs.declared.parts.Parts.{Parts}
-use Rattle.irl_fetch.specs.Handling.{Handled, Noted, done_of, entered_of}
+use Rattle.irl_fetch.specs.Handling.{Handled, Noted, answered, done_of, entered_of}
 use Rattle.irl_fetch.specs.declared.working.WorkLog.{WorkLog}
 use Rattle.irl_crawl.specs.Leading.{Leads}
 use Rattle.irl_crawl.specs.Offering.{OffersSome, OnlyOffers}
@@ -42,6 +42,7 @@ pub record Fetches (result : Result WorkLog Fault) (given : Given) (agent suffix
   pub worked : HaveWorked given agent suffixes handled noted left befores
   pub begun : (part ≡ []) ⊎ HasBegunOne given.gives agent suffixes noted left part befores
   pub whole : IfOk result (λ log. FetchesWhole log agent handled noted left part befores afters now)
+  pub asked : OnOk result (given.made ≤ answered handled noted)
   pub leads : Leads (IsErrOf result Failed) (OnlyOffers was.urls.settings (entries_of handled part))
       (OffersSome result suffixes was.urls.settings (entries_of handled part)) was now before after
   -- nothing changes beside the bay of URLs, and the fronts are as many, for the same agent

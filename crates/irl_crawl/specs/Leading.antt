@@ -4,9 +4,10 @@ use Rattle.std.specs.Option.{ForSome}
 use Rattle.irl_base.specs.Faults.{HasCause}
 use Rattle.irl_base.specs.declared.fault.Fault.{Fault}
 use Rattle.irl_base.specs.declared.fault.Fault.TheVariants.{Damaged, Full}
-use Rattle.irl_disk.specs.Disk.{Files}
-use Rattle.irl_disk.specs.Images.{Told}
+use Rattle.irl_disk.specs.Disk.{ChangesOnly, Files}
+use Rattle.irl_disk.specs.Images.{Follows, Told}
 use Rattle.irl_events.specs.State.{State}
+use Rattle.irl_layout.specs.BayFiles.{IsFileOf}
 use Rattle.irl_model.specs.Book.{part}
 use Rattle.irl_offer.specs.Tuple.{Tuple}
 use Rattle.irl_offer.specs.declared.settings.Settings.{Settings}
@@ -18,7 +19,7 @@ use Rattle.irl_yard.specs.declared.parts.Rest.TheVariants.{Crawl}
 use Rattle.irl_yard.specs.Holding.{HoldsState, IsSound, StaysSound}
 use Rattle.irl_yard.specs.Leading.{FailsAt, LeadsTo}
 use Rattle.irl_yard.specs.Passing.{front_in, suffixes_in}
-use Rattle.irl_yard.specs.Sending.{HasBegun}
+use Rattle.irl_yard.specs.Sending.{HasBegun, IsSentFile, OnlyThese}
 use Rattle.irl_crawl.specs.Sending.{pairs_for}
 
 -- ---- what is open
@@ -41,6 +42,19 @@ pub record KeepsFront (was now : Parts) : Type 0 where
   pub keeps : KeepsBegun was now
   pub front : front_in now.rest ≡ front_in was.rest
 
+-- ---- the files
+-- those of an open store of a crawl: of its bay of URLs, by where that begins, of its bay of pairs, and its log
+abbrev pub IsCrawlFile : ℕ → ℕ → ℕ → Type 0
+IsCrawlFile base buckets f = IsFileOf base buckets f ⊎ IsSentFile buckets f
+
+-- Whatever is answered, and whatever the files stand for, no other one changes: as it is told, as a stop at any moment
+-- leaves it, and as one from now on does.
+pub record KeepsOthers (was later : Parts) (before after : Told) : Type 0 where
+  pub base : later.urls.base ≡ was.urls.base
+  pub only : OnlyThese (IsCrawlFile was.urls.base was.urls.settings.buckets) before after
+  pub now : (image : Files) → after.images image
+      → Follows (ChangesOnly (IsCrawlFile was.urls.base was.urls.settings.buckets)) before.images image
+
 -- ---- the states
 -- What a part of a crawl made of the states that an open store held, where the store tells: each is led to one that it
 -- `did`; where the store failed, those that it left are ones that it `may` have made.
@@ -56,6 +70,8 @@ pub record Leads (failed : Type 0) (may did : State → State → Type 0) (was n
     -- the store may be asked again, but where it failed, which it did only where its count of faults rose
     pub goes_on : StaysSound failed now
     pub cause : HasCause failed before.faults after.faults
+    -- no file changes but those of the crawl
+    pub others : KeepsOthers was now before after
 
 -- From one state to a later one: in both books a list that has grown is within the cap, and at most so many cuts were
 -- made before a bucket had enough new offers.

@@ -6,6 +6,8 @@ pub mod Judging
 pub mod Leading
 pub mod Loading
 pub mod Offering
+pub mod Refusing
+pub mod Room
 pub mod Running
 pub mod Seeding
 pub mod Sending

@@ -1,5 +1,5 @@
 -- The workers of a run: fetchers, each with a front of its own.
-use Rattle.std.specs.Prelude.{◌≡◌, ◌⊎◌, ◌≤◌, ◌+◌, ℕ, List, [], ◌∷◌, length, map, false, Some, slice_get}
+use Rattle.std.specs.Prelude.{◌≡◌, ◌⊎◌, ◌≤◌, ◌+◌, ◌-◌, ℕ, List, [], ◌∷◌, length, map, false, Some, slice_get}
 use Rattle.std.specs.List.{All, Any, Contains, flat_map}
 use Rattle.irl_events.specs.Events.{Happened}
 use Rattle.irl_key.specs.declared.web.Work.{Work}
@@ -11,6 +11,7 @@ use Rattle.irl_polite.specs.Schedule.{Schedule}
 use Rattle.irl_polite.specs.declared.known.Known.{Known}
 use Rattle.irl_reach.specs.Along.{notes_in}
 use Rattle.irl_record.specs.Widening.{Answers}
+use Rattle.irl_record.specs.Wired.{Made, how_many}
 use Rattle.irl_robots.specs.Leave.{host_state}
 use Rattle.irl_robots.specs.declared.host.HostState.{HostState}
 use Rattle.irl_fetch.specs.Handling.{Noted}
@@ -18,14 +19,14 @@ use Rattle.irl_fetch.specs.Telling.{GoesOn, RoseBy, fetcher}
 
 -- ---- fetchers
 -- an answer that one of them gives at a later moment, since an earlier one
-pub record IsGivenBy {F : Type 0} (asked : F → ℕ) (gives : F → ℕ → Answers) (olds news : List F) (url : List ℕ)
+pub record IsGivenBy {F : Type 0} (asked : F → Made) (gives : F → ℕ → Answers) (olds news : List F) (url : List ℕ)
     (want : Want) (answer : Answer) : Type 0 where
   pub at : ℕ
   pub old : F
   pub new : F
   pub was : slice_get olds at ≡ Some old
   pub is : slice_get news at ≡ Some new
-  pub given : gives new (asked old) url want answer
+  pub given : gives new (how_many (asked old)) url want answer
 
 -- Their counts of faults rose by parts of this at least.
 abbrev pub RoseBetween : {F : Type 0} → (F → ℕ) → List F → List F → ℕ → Type 0
@@ -34,20 +35,28 @@ RoseBetween faults (old ∷ olds) [] n = n ≡ 0
 RoseBetween faults (old ∷ olds) (new ∷ news) n = (own others : ℕ) × (n ≤ own + others)
     × RoseBy own (faults old) (faults new) × RoseBetween faults olds news others
 
--- What fetchers gave in some time: their answers, and how many of these may never have come.
+-- how many connections they made, where they tell them
+abbrev pub made_by : {F : Type 0} → (F → Made) → List F → ℕ
+made_by asked [] = 0
+made_by asked (fetcher ∷ fetchers) = how_many (asked fetcher) + made_by asked fetchers
+
+-- What fetchers gave in some time: their answers, how many of these may never have come, and how many connections they
+-- made, where they tell them.
 pub record Given : Type 1 where
   pub gives : Answers
   pub may_miss : ℕ → Type 0
+  pub made : ℕ
 
 -- that of some, where each that didn't come is a fault of its fetcher
-abbrev pub given_by : {F : Type 0} → (F → ℕ) → (F → ℕ → Answers) → (F → ℕ) → List F → List F → Given
+abbrev pub given_by : {F : Type 0} → (F → Made) → (F → ℕ → Answers) → (F → ℕ) → List F → List F → Given
 given_by asked gives faults olds news = record {
   gives = IsGivenBy asked gives olds news;
   may_miss = RoseBetween faults olds news;
+  made = made_by asked news - made_by asked olds;
 }
 
 -- each goes on, and there are as many
-pub record AllGoOn {F : Type 0} (asked : F → ℕ) (gives : F → ℕ → Answers) (faults last : F → ℕ) (aim : F
+pub record AllGoOn {F : Type 0} (asked : F → Made) (gives : F → ℕ → Answers) (faults last : F → ℕ) (aim : F
     → List ℕ) (olds news : List F)
     : Type 0 where
   pub count : length news ≡ length olds

@@ -1,5 +1,5 @@
 -- What all workers do of what their fronts say.
-use Rattle.std.specs.Prelude.{◌≡◌, ◌⊎◌, ◌+◌, ℕ, List, [], ◌∷◌, ◌++◌, map, length, Some, Result, IfOk, OnErr, slice_get}
+use Rattle.std.specs.Prelude.{◌≡◌, ◌⊎◌, ◌+◌, ◌≤◌, ℕ, List, [], ◌∷◌, ◌++◌, map, length, Some, Result, IfOk, OnErr, slice_get}
 use Rattle.std.specs.List.{All, flat_map}
 use Rattle.std.specs.List.Sorted.{IsPermutation}
 use Rattle.irl_base.specs.declared.fault.Fault.{Fault}
@@ -13,7 +13,7 @@ use Rattle.irl_record.specs.Widening.{Answers}
 use Rattle.irl_robots.specs.Leave.{leave_of}
 use Rattle.irl_robots.specs.declared.host.HostState.{HostState}
 use Rattle.irl_robots.specs.declared.host.Leave.TheVariants.{Allowed}
-use Rattle.irl_fetch.specs.Handling.{Handled, Noted, IsHandled, IsNoted, answers_of, done_of, entered_of, missing}
+use Rattle.irl_fetch.specs.Handling.{Handled, Noted, IsHandled, IsNoted, answered, answers_of, done_of, entered_of, missing}
 use Rattle.irl_fetch.specs.Pages.{FaultIs, IsPart}
 use Rattle.irl_fetch.specs.Telling.{Enters, Offering}
 use Rattle.irl_fetch.specs.Working.{IsKnownOf}
@@ -63,6 +63,7 @@ pub record FinishAll {O : Type 0} (log : WorkLog) (given : Given) (agent suffixe
   pub done : log.done.items ≡ map done_of handled
   pub notes : log.notes.items ≡ map (λ one. one.note) noted
   pub worked : HaveWorked given agent suffixes handled noted [] befores
+  pub asked : given.made ≤ answered handled noted
   pub entered : Enters (flat_map entered_of handled) was now
   pub known : KnowAsNoted agent noted befores afters
   pub knows : KnowByMoment noted befores afters
@@ -86,6 +87,8 @@ pub record StopAll {O : Type 0} (given : Given) (agent suffixes : List ℕ) (bef
   pub noted : List Noted
   pub left : List Work
   pub worked : HaveWorked given agent suffixes handled noted left befores
+  -- for that, or for a robots file, up to six connections may be made
+  pub asked : given.made ≤ answered handled noted + 6
   pub part : List Entered
   pub begun : (part ≡ []) ⊎ HasBegunOne given.gives agent suffixes noted left part befores
   pub entered : Enters (flat_map entered_of handled ++ part) was now

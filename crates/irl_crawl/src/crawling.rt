@@ -9,8 +9,9 @@ ghost use Rattle.irl_yard.specs.Leading.{IsEither};
 ghost use Rattle.irl_yard.specs.Passing.{front_in, suffixes_in, with_pass};
 ghost use Rattle.irl_yard.specs.Sending.{HasBegun};
 ghost use Rattle.irl_crawl.specs.Batches.{Batches, a_desk_unless, besides, just};
-ghost use Rattle.irl_crawl.specs.Crawling.{CrawlsTo, IsPlan, NoneWaits, OnlyCrawls};
+ghost use Rattle.irl_crawl.specs.Crawling.{CrawlsTo, IsPlan, NoneWaits, OnlyCrawls, result_of};
 ghost use Rattle.irl_crawl.specs.Leading.{IsOpen, IsSent, KeepsBegun, Leads};
+ghost use Rattle.irl_crawl.specs.Refusing.{RefusesAsFound};
 ghost use Rattle.irl_crawl.specs.Running.{MayRun, Passes, Runs, Steps};
 ghost use Rattle.irl_crawl.specs.Turning.{MayTurn};
 ghost use Rattle.irl_crawl.specs.Workers.{AllGoOn, AreIdle, AreNotedIn, given_by, schedules};
@@ -58,6 +59,8 @@ where
         (CrawlsTo result.0 (given_by F.asked F.gives F.faults fetchers.old fetchers.new) plan.now.agent suffixes
         plan.now.seeds.items yard.parts.urls.settings 1 plan.now.pages plan.now.batch)
         yard.parts result.1.parts (S.told yard.store) (S.told result.1.store) }
+    // A refusal has its reason in what is kept in memory and told of the files, whatever these stand for.
+    ensures refused { RefusesAsFound (result_of result.0) result.1.parts (S.told result.1.store) }
     // Cuts and records come in batches, but for those of the settled turns, of two desks and of one judging.
     ensures batches { Batches (result.0 ≡ Ended.Fault Fault.Failed) (besides 2 1) (besides 2 1)
         yard.parts result.1.parts (S.told yard.store) (S.told result.1.store) }
@@ -115,6 +118,7 @@ fn go_on<R: Wait, S: Store, F: Fetch, G: Gate>(
         (Runs result.0 (given_by F.asked F.gives F.faults fetchers.old fetchers.new) crew.agent crew.suffixes
         yard.parts.urls.settings plan.now.pages plan.now.batch)
         yard.parts result.1.parts (S.told yard.store) (S.told result.1.store) }
+    ensures refused { RefusesAsFound (result_of result.0) result.1.parts (S.told result.1.store) }
     ensures batches { Batches (result.0 ≡ Ended.Fault Fault.Failed) (besides 1 0) (besides 1 0)
         yard.parts result.1.parts (S.told yard.store) (S.told result.1.store) }
     ensures fetchers { AllGoOn F.asked F.gives F.faults F.last F.aim fetchers.old fetchers.new }
@@ -165,6 +169,7 @@ fn step<R: Wait, S: Store, F: Fetch, G: Gate>(
         yard.parts result.1.parts (S.told yard.store) (S.told result.1.store) }
     ensures batches { Batches (IsErrOf result.0 Fault.Failed) (a_desk_unless result.0) (besides 1 0)
         yard.parts result.1.parts (S.told yard.store) (S.told result.1.store) }
+    ensures refused { RefusesAsFound result.0 result.1.parts (S.told result.1.store) }
     ensures keeps { OnOk result.0 (KeepsBegun yard.parts result.1.parts × IsSent result.1.parts) }
     ensures count { IfOk result.0 (λ count. count ≤ most) }
     ensures idle { OnOk result.0 (AreIdle (length fetchers.old) crew.new.agent (schedules crew.new.fronts.items)) }
@@ -189,6 +194,7 @@ fn pass<S: Store>(yard: &mut Yard<S>) -> Result<u32, Fault>
         (S.told yard.old.store) (S.told yard.new.store) }
     ensures batches { Batches (IsErrOf result Fault.Failed) (just 0 0) (just 0 0) yard.old.parts yard.new.parts
         (S.told yard.old.store) (S.told yard.new.store) }
+    ensures refused { RefusesAsFound result yard.new.parts (S.told yard.new.store) }
     ensures keeps { OnOk result (KeepsBegun yard.old.parts yard.new.parts × IsSent yard.new.parts) }
     ensures none { IfOk result (λ count. count ≡ 0) }
 {

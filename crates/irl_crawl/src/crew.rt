@@ -10,8 +10,9 @@ ghost use Rattle.irl_crawl.specs.Batches.{Batches, just};
 ghost use Rattle.irl_crawl.specs.Dealing.{SomeHaveTaken};
 ghost use Rattle.irl_crawl.specs.Leading.{Leads};
 ghost use Rattle.irl_crawl.specs.Loading.{AreNext, Loads};
+ghost use Rattle.irl_crawl.specs.Refusing.{RefusesAsFound};
 ghost use Rattle.irl_crawl.specs.Serving.{AreServed, KeepsNumbers};
-ghost use Rattle.irl_crawl.specs.Workers.{AllGoOn, AreFor, AreIdle, AreNotedIn, AreReady, schedules};
+ghost use Rattle.irl_crawl.specs.Workers.{AllGoOn, AreFor, AreIdle, AreNotedIn, AreReady, made_by, schedules};
 
 use crate::dealing::{deal_all, hand_out, no_shares};
 use crate::hosts::Hosts;
@@ -86,6 +87,7 @@ impl Crew {
             (S.told yard.old.store) (S.told yard.new.store) }
         ensures batches { HasBegun yard.old.parts.rest → Batches (IsErrOf result Fault.Failed) (just 0 0) (just 0 0)
             yard.old.parts yard.new.parts (S.told yard.old.store) (S.told yard.new.store) }
+        ensures refused { RefusesAsFound result yard.new.parts (S.told yard.new.store) }
         ensures next { OnOk result (AreNext (front_in yard.old.parts.rest) most (schedules self.new.fronts.items)) }
         ensures ready { OnOk result (AreReady (schedules self.new.fronts.items)) }
         ensures count { length self.new.fronts.items ≡ length self.old.fronts.items }
@@ -101,6 +103,8 @@ impl Crew {
         ensures urls { yard.new.parts.urls ≡ yard.old.parts.urls }
         ensures rest { yard.new.parts.rest ≡ yard.old.parts.rest }
         ensures fetchers { AllGoOn F.asked F.gives F.faults F.last F.aim fetchers.old fetchers.new }
+        // No connection is made.
+        ensures made { made_by F.asked fetchers.new ≡ made_by F.asked fetchers.old }
     {
         let works = yard.front(self.alloc, most)?;
         let mut shares = no_shares(self.alloc, fetchers.len())?;

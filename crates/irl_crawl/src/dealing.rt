@@ -3,7 +3,7 @@ ghost use Rattle.std.specs.List.{All};
 ghost use Rattle.irl_yard.specs.Holding.{IsSound};
 ghost use Rattle.irl_fetch.specs.Telling.{GoesOn, fetcher};
 ghost use Rattle.irl_crawl.specs.Dealing.{AddsNotes, Deals, HaveTaken, ServesOn, SomeHaveTaken};
-ghost use Rattle.irl_crawl.specs.Workers.{AllGoOn, schedules};
+ghost use Rattle.irl_crawl.specs.Workers.{AllGoOn, made_by, schedules};
 
 use crate::crew::keep;
 use crate::hosts::Hosts;
@@ -55,6 +55,7 @@ pub fn deal_all<S: Store, F: Fetch>(
         (S.told yard.old.store) (S.told yard.new.store) shares.old shares.new }
     ensures serves { ServesOn result (length fetchers.old) hosts.old hosts.new shares.old shares.new }
     ensures fetchers { AllGoOn F.asked F.gives F.faults F.last F.aim fetchers.old fetchers.new }
+    ensures made { made_by F.asked fetchers.new ≡ made_by F.asked fetchers.old }
 {
     for work in works {
         deal(alloc, yard, fetchers, hosts, shares, work)?;
@@ -78,6 +79,7 @@ fn deal<S: Store, F: Fetch>(
         (S.told yard.old.store) (S.told yard.new.store) shares.old shares.new }
     ensures serves { ServesOn result (length fetchers.old) hosts.old hosts.new shares.old shares.new }
     ensures fetchers { AllGoOn F.asked F.gives F.faults F.last F.aim fetchers.old fetchers.new }
+    ensures made { made_by F.asked fetchers.new ≡ made_by F.asked fetchers.old }
 {
     let host = work.web.host();
     let met = hosts.name(host)?;
@@ -103,6 +105,7 @@ fn read_note<S: Store, F: Fetch>(
         (S.told yard.old.store) (S.told yard.new.store) notes.old.items notes.new.items }
     ensures goes_on { GoesOn (fetcher F.asked F.gives F.faults F.last F.aim fetch.old)
         (fetcher F.asked F.gives F.faults F.last F.aim fetch.new) }
+    ensures asked { F.asked fetch.new ≡ F.asked fetch.old }
 {
     if again {
         return Ok(());

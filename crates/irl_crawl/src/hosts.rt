@@ -74,6 +74,3 @@ impl Hosts {
         })
     }
 }
-
-#[cfg(test)]
-mod tests;

@@ -6,13 +6,12 @@ mod crawling;
 mod crew;
 mod dealing;
 mod hosts;
+mod laws;
 mod plan;
 mod seeds;
 mod turn;
 mod work;
 
 pub use crawling::crawl;
+pub use laws::a_crawl_of_few_pages_has_room;
 pub use plan::{Ended, Plan};
-
-#[cfg(test)]
-mod tests;

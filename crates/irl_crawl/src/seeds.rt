@@ -12,6 +12,7 @@ ghost use Rattle.irl_crawl.specs.Batches.{Batches, just};
 ghost use Rattle.irl_crawl.specs.Judging.{Judges, OnlyJudges};
 ghost use Rattle.irl_crawl.specs.Leading.{IsOpen, IsSent, KeepsFront, Leads};
 ghost use Rattle.irl_crawl.specs.Offering.{OnlySeeds, Seeds};
+ghost use Rattle.irl_crawl.specs.Refusing.{RefusesAsFound};
 ghost use Rattle.irl_crawl.specs.Seeding.{OffersSeeds};
 
 use irl_desk::{Desk, serves_same};
@@ -35,6 +36,7 @@ pub fn seed<R: Wait, S: Store>(
         Leads (IsErrOf result.0 Fault.Failed) (OnlySeeds suffixes yard.parts.urls.settings seeds.now)
         (Seeds result.0 suffixes yard.parts.urls.settings seeds.now) yard.parts result.1.parts
         (S.told yard.store) (S.told result.1.store) }
+    ensures refused { RefusesAsFound result.0 result.1.parts (S.told result.1.store) }
     ensures keeps { OnOk result.0 (KeepsFront yard.parts result.1.parts × IsSent result.1.parts) }
     ensures batches { Batches (IsErrOf result.0 Fault.Failed) (just 1 1) (just 1 1) yard.parts result.1.parts
         (S.told yard.store) (S.told result.1.store) }
@@ -64,6 +66,7 @@ pub fn judge<S: Store>(yard: &mut Yard<S>) -> Result<(), Fault>
         Leads (IsErrOf result Fault.Failed) (OnlyJudges suffixes yard.old.parts.urls.settings)
         (Judges result suffixes yard.old.parts.urls.settings) yard.old.parts yard.new.parts
         (S.told yard.old.store) (S.told yard.new.store) }
+    ensures refused { RefusesAsFound result yard.new.parts (S.told yard.new.store) }
     ensures keeps { OnOk result (KeepsFront yard.old.parts yard.new.parts × IsSent yard.new.parts) }
     ensures batches { Batches (IsErrOf result Fault.Failed) (just 0 1) (just 0 1) yard.old.parts yard.new.parts
         (S.told yard.old.store) (S.told yard.new.store) }

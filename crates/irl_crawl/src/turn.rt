@@ -8,6 +8,7 @@ ghost use Rattle.irl_yard.specs.Settling.{MaySettle};
 ghost use Rattle.irl_crawl.specs.Batches.{Batches, Turned, a_desk_unless, besides, judged_in, just};
 ghost use Rattle.irl_crawl.specs.Fetching.{Fetches};
 ghost use Rattle.irl_crawl.specs.Leading.{IsOpen, IsSent, KeepsBegun, Leads};
+ghost use Rattle.irl_crawl.specs.Refusing.{RefusesAsFound};
 ghost use Rattle.irl_crawl.specs.Serving.{KeepsNumbers};
 ghost use Rattle.irl_crawl.specs.Settling.{IsSettling, Settles};
 ghost use Rattle.irl_crawl.specs.Turning.{MayTurn, Turns};
@@ -48,6 +49,7 @@ pub fn turn<R: Wait, S: Store, F: Fetch, G: Gate>(
         yard.parts result.1.parts (S.told yard.store) (S.told result.1.store) }
     ensures batches { Batches (IsErrOf result.0 Fault.Failed) (a_desk_unless result.0) (besides 1 0)
         yard.parts result.1.parts (S.told yard.store) (S.told result.1.store) }
+    ensures refused { RefusesAsFound result.0 result.1.parts (S.told result.1.store) }
     ensures keeps { OnOk result.0 (KeepsBegun yard.parts result.1.parts × IsSent result.1.parts) }
     ensures count { IfOk result.0 (λ count. (1 ≤ count) × (count ≤ most)) }
     ensures all { IfOk result.0 (λ count. count ≡ min most (length (front_in yard.parts.rest))) }
@@ -93,6 +95,7 @@ fn fetch_all<R: Wait, S: Store, F: Fetch, G: Gate>(
         yard.parts result.1.parts (S.told yard.store) (S.told result.1.store) }
     ensures batches { Batches (IsErrOf result.0 Fault.Failed) (just 1 0) (just 1 0) yard.parts result.1.parts
         (S.told yard.store) (S.told result.1.store) }
+    ensures refused { RefusesAsFound result.0 result.1.parts (S.told result.1.store) }
     ensures fetchers { AllGoOn F.asked F.gives F.faults F.last F.aim fetchers.old fetchers.new }
     ensures crew { crew.new ≡ record crew.old { fronts = crew.new.fronts } }
 {
@@ -122,6 +125,7 @@ fn settle<S: Store>(yard: &mut Yard<S>, notes: &[Note], done: &[Done]) -> Result
         (S.told yard.old.store) (S.told yard.new.store) }
     ensures batches { Batches (IsErrOf result Fault.Failed) judged_in judged_in yard.old.parts yard.new.parts
         (S.told yard.old.store) (S.told yard.new.store) }
+    ensures refused { RefusesAsFound result yard.new.parts (S.told yard.new.store) }
     ensures turned { Turned result yard.old.parts yard.new.parts (S.told yard.old.store) (S.told yard.new.store) }
     ensures keeps { OnOk result (KeepsBegun yard.old.parts yard.new.parts × IsSent yard.new.parts) }
     ensures count { IfOk result (λ count. count ≡ length done.now) }

@@ -1,5 +1,5 @@
 -- The requests for a robots file, one after another.
-use Rattle.std.proofs.Common.{◌≡◌, ◌∙◌, ℕ, ◌+◌, ◌≤◌, List, [], ◌∷◌, ◌++◌, length, Some, Ok, refl, sym, ap, subst, arith}
+use Rattle.std.proofs.Common.{◌≡◌, ◌∙◌, ℕ, ◌+◌, ◌<◌, ◌≤◌, List, [], ◌∷◌, ◌++◌, length, Some, Ok, Err, refl, sym, ap, subst, arith}
 use Rattle.std.specs.Prelude.{Result}
 use Rattle.std.specs.List.{AllZip}
 use Rattle.std.proofs.lemmas.List.{append-nil, append_assoc}
@@ -15,10 +15,11 @@ use Rattle.irl_answer.specs.declared.notes.Step.TheVariants.{Follow, Found}
 use Rattle.irl_answer.specs.Notes.{step_of, note_from, note_of, note_after, requests_from, requests_of, requests_after}
 use Rattle.irl_record.specs.Widening.{Answers, Widens}
 use Rattle.irl_fetch.specs.Handling.{missing}
-use Rattle.irl_fetch.specs.Robots.{FindsNote}
-use Rattle.irl_fetch.specs.Telling.{Fetcher, GoesOn, RoseBy, given_since}
+use Rattle.irl_fetch.specs.Robots.{FetchesNote, FindsNote}
+use Rattle.irl_fetch.specs.Telling.{Fetcher, GoesOn, MakesAtMost, RoseBy, given_since}
 use Rattle.irl_fetch.proofs.Handling.{missing_one, missing_both}
-use Rattle.irl_fetch.proofs.Telling.{IsEarlier, goes_none, goes_then, given_then, given_before, rose_none, rose_then}
+use Rattle.irl_fetch.proofs.Results.{refused_if}
+use Rattle.irl_fetch.proofs.Telling.{IsEarlier, goes_none, goes_then, given_then, given_before, makes_then, rose_none, rose_then}
 
 -- Each answer so far asked for the next request, which is this one.
 pub record Chained (host asked : List ℕ) (followed : ℕ) (a b : Fetcher) : Type 0 where
@@ -30,6 +31,7 @@ pub record Chained (host asked : List ℕ) (followed : ℕ) (a b : Fetcher) : Ty
   pub given : AllZip (λ url answer. given_since a b url Robots answer) urls answers
   pub goes_on : GoesOn a b
   pub lost : RoseBy (missing answers) a.faults b.faults
+  pub asked_are : MakesAtMost followed a b
 
 pub chain_first : (host : List ℕ) (a : Fetcher) → Chained host (robots_text host) 0 a a
 chain_first host a = record {
@@ -41,6 +43,7 @@ chain_first host a = record {
   given = tt;
   goes_on = goes_none a;
   lost = rose_none a.faults a.faults (omega arith);
+  asked_are = omega arith;
 }
 
 zip_more : (gives more : Answers) → Widens gives more → (urls : List (List ℕ)) (answers : List Answer) (url : List ℕ) (answer : Answer) → AllZip (λ url answer. gives url Robots answer) urls answers
@@ -73,9 +76,10 @@ more_lost answers answer a b c lost cause =
 
 -- a redirect is followed
 pub chain_more : {E : Type 0} (host asked web : List ℕ) (followed : ℕ) (answer : Answer) (a b c : Fetcher) → IsEarlier c.gives → Chained host asked followed a b → GoesOn b c
+    → MakesAtMost 1 b c
     → given_since b c asked Robots answer → HasCause (◌≡◌ {A = Result Answer E} (Ok answer) (Ok NoReply)) b.faults c.faults → Follow web ≡ step_of asked followed answer
     → Chained host web (followed + 1) a c
-chain_more host asked web followed answer a b c earlier far on given cause step = record {
+chain_more host asked web followed answer a b c earlier far on one given cause step = record {
   answers = far.answers ++ answer ∷ [];
   urls = far.urls ++ asked ∷ [];
   count = more_counted far.answers answer followed far.count;
@@ -85,13 +89,14 @@ chain_more host asked web followed answer a b c earlier far on given cause step 
   given = zip_more (given_since a b) (given_since a c) (given_then a b c on) far.urls far.answers asked answer far.given (given_before a b c earlier far.goes_on asked Robots answer given);
   goes_on = goes_then a b c far.goes_on on;
   lost = more_lost far.answers answer a b c far.lost cause;
+  asked_are = makes_then followed 1 a b c far.asked_are one;
 }
 
 -- it ends with what was found
 pub chain_found : {E : Type 0} (host asked : List ℕ) (when followed : ℕ) (answer : Answer) (state : NoteState) (note : Note) (a b c : Fetcher) → IsEarlier c.gives → IsHost host
-    → Chained host asked followed a b → GoesOn b c → given_since b c asked Robots answer → HasCause (◌≡◌ {A = Result Answer E} (Ok answer) (Ok NoReply)) b.faults c.faults
+    → Chained host asked followed a b → GoesOn b c → MakesAtMost 1 b c → given_since b c asked Robots answer → HasCause (◌≡◌ {A = Result Answer E} (Ok answer) (Ok NoReply)) b.faults c.faults
     → Found state ≡ step_of asked followed answer → note.host ≡ host → note.when ≡ when → note.state ≡ state → FindsNote host when note a c
-chain_found host asked when followed answer state note a b c earlier is_host far on given cause step of_host of_when of_state =
+chain_found host asked when followed answer state note a b c earlier is_host far on one given cause step of_host of_when of_state =
     let answers = far.answers ++ answer ∷ [] in
     let urls = far.urls ++ asked ∷ [] in
     let given_all = zip_more (given_since a b) (given_since a c) (given_then a b c on) far.urls far.answers asked answer far.given (given_before a b c earlier far.goes_on asked Robots answer given) in
@@ -110,7 +115,17 @@ chain_found host asked when followed answer state note a b c earlier is_host far
       host_is = of_host;
       when_is = of_when;
       lost = more_lost far.answers answer a b c far.lost cause;
+      asked = let count = more_counted far.answers answer followed far.count in omega (arith, far.asked_are, one, count);
     }
+
+-- memory ran out on the way
+pub chain_refused : {E : Type 0} (result : Result Note E) (y : E) (host asked : List ℕ) (when followed : ℕ) (a b c : Fetcher) → result ≡ Err y → followed < 6 → Chained host asked followed a b
+    → GoesOn b c → MakesAtMost 1 b c → FetchesNote result host when a c
+chain_refused result y host asked when followed a b c is low far on one = record {
+  ok = refused_if (λ (note : Note). FindsNote host when note a c) result y is;
+  goes_on = goes_then a b c far.goes_on on;
+  asked = omega (arith, low, far.asked_are, one);
+}
 
 -- one more answer would make the chain too long
 pub chain_ends : (host asked : List ℕ) (a b : Fetcher) → ((host : List ℕ) (answers : List Answer) (state : NoteState) → note_of host answers ≡ Some state → length answers ≤ 6)

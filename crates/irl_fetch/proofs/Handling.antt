@@ -1,7 +1,8 @@
 -- What was handled and noted, by answers that are given, stays so as more are.
-use Rattle.std.proofs.Common.{◌≡◌, ℕ, ◌+◌, List, [], ◌∷◌, ◌++◌, Ok, refl, arith}
+use Rattle.std.proofs.Common.{◌≡◌, ◌∙◌, ℕ, ◌+◌, List, [], ◌∷◌, ◌++◌, Ok, length, refl, ap, arith, append-nil, length-append}
 use Rattle.std.specs.Prelude.{Result}
-use Rattle.std.specs.List.{AllZip, Any}
+use Rattle.std.specs.List.{AllZip, Any, flat_map}
+use Rattle.std.proofs.lemmas.List.Concat.{flat_map-append}
 use Rattle.std.proofs.lemmas.List.Elements.{Contains-append_left, Contains-append_right}
 use Rattle.std.proofs.lemmas.List.Sums.{sum_by-append}
 use Rattle.irl_base.specs.Faults.{HasCause}
@@ -12,7 +13,7 @@ use Rattle.irl_answer.specs.Notes.{requests_of}
 use Rattle.irl_robots.specs.declared.host.HostState.{HostState}
 use Rattle.irl_record.specs.Widening.{Answers, Widens}
 use Rattle.irl_fetch.specs.Telling.{RoseBy}
-use Rattle.irl_fetch.specs.Handling.{Treated, Fetched, Denied, ShutOut, Handled, Noted, IsGiven, IsHandled, IsNoted, missing}
+use Rattle.irl_fetch.specs.Handling.{Treated, Fetched, Denied, ShutOut, Handled, Noted, IsGiven, IsHandled, IsNoted, answered, answers_of, missing}
 use Rattle.irl_fetch.proofs.Telling.{rose_none}
 
 pub given_wider : (gives more : Answers) → Widens gives more → (suffixes url : List ℕ) (treated : Treated) → IsGiven gives suffixes url treated → IsGiven more suffixes url treated
@@ -56,6 +57,21 @@ any_weaker P Q xs gives any = (any.0, any.1, any.2, any.3, gives any.1 any.4)
 
 pub any_alone : {X : Type 0} (P : X → Type 0) (x : X) → P x → Any P (x ∷ [])
 any_alone P x holds = (0, x, omega arith, refl, holds)
+
+-- ## Answers
+
+pub answered_both : (h1 h2 : List Handled) (n1 n2 : List Noted) → answered (h1 ++ h2) (n1 ++ n2) ≡ answered h1 n1 + answered h2 n2
+answered_both h1 h2 n1 n2 =
+    let notes = λ (one : Noted). one.answers in
+    let handled = ap length (flat_map-append answers_of h1 h2) ∙ length-append (flat_map answers_of h1) (flat_map answers_of h2) in
+    let noted = ap length (flat_map-append notes n1 n2) ∙ length-append (flat_map notes n1) (flat_map notes n2) in
+    omega (arith, handled, noted)
+
+pub answered_one : (handled : Handled) → answered (handled ∷ []) [] ≡ length (answers_of handled)
+answered_one handled = let same = ap length (append-nil (answers_of handled)) in omega (arith, same)
+
+pub answered_noted : (noted : Noted) → answered [] (noted ∷ []) ≡ length noted.answers
+answered_noted noted = let same = ap length (append-nil noted.answers) in omega (arith, same)
 
 -- ## Answers that never came
 

@@ -1,5 +1,5 @@
 -- What one job of a front does.
-use Rattle.std.proofs.Common.{◌≡◌, ◌∙◌, ℕ, ◌≤◌, Bool, true, false, List, [], ◌∷◌, ◌++◌, Some, inl, inr, refl, sym, ap, subst, arith}
+use Rattle.std.proofs.Common.{◌≡◌, ◌∙◌, ℕ, ◌≤◌, Bool, true, false, List, [], ◌∷◌, ◌++◌, Some, length, inl, inr, refl, sym, ap, subst, arith}
 use Rattle.std.specs.Prelude.{Result, Ok, Err}
 use Rattle.std.specs.List.{All}
 use Rattle.std.specs.List.Sorted.{IsPermutation}
@@ -22,14 +22,15 @@ use Rattle.irl_polite.specs.Answers.{Answers as Replies, IsAnswered, AllAwaited}
 use Rattle.irl_polite.specs.Schedule.{Schedule, host, raised, changed, asked, handed_in}
 use Rattle.irl_polite.proofs.Lists.{cases_text, changed_same, changed_other}
 use Rattle.irl_record.specs.Widening.{Answers, Widens}
+use Rattle.irl_record.specs.Wired.{KeepsMade}
 use Rattle.irl_fetch.specs.declared.working.WorkLog.{WorkLog}
-use Rattle.irl_fetch.specs.Telling.{Fetcher, Offering, GoesOn, Enters, RoseBy, given_since}
+use Rattle.irl_fetch.specs.Telling.{Fetcher, Offering, GoesOn, Enters, MakesAtMost, RoseBy, given_since}
 use Rattle.irl_fetch.specs.Handling.{Handled, Noted, IsGiven, leave_for, missing, answers_of, entered_of, done_of}
 use Rattle.irl_fetch.specs.Pages.{IsPart}
 use Rattle.irl_fetch.specs.Robots.{FindsNote}
 use Rattle.irl_fetch.specs.Working.{IsStateOf, HasWorked, DoesSome, DoesNext, StopsWork}
-use Rattle.irl_fetch.proofs.Telling.{IsEarlier, goes_none, goes_then, given_before, rose_none, rose_wide, enters_none, enters_as}
-use Rattle.irl_fetch.proofs.Handling.{given_wider, noted_wider}
+use Rattle.irl_fetch.proofs.Telling.{IsEarlier, goes_none, goes_then, given_before, keeps_as, makes_more, rose_none, rose_wide, enters_none, enters_as}
+use Rattle.irl_fetch.proofs.Handling.{answered_noted, answered_one, given_wider, noted_wider}
 use Rattle.irl_fetch.proofs.Results.{refused_ok, refused_if, refused_err, refused_fault}
 use Rattle.irl_fetch.proofs.Pieces.{works_none, works_one, works_noted}
 
@@ -87,8 +88,8 @@ pub does_one : {O : Type 0} (first last : WorkLog) (suffixes : List ℕ) (a b c 
     → IsReady s
     → IsTaken s t handled.work (leave_for handled.treated) → IsGiven (given_since b c) suffixes handled.work.web handled.treated
     → last.done.items ≡ first.done.items ++ done_of handled ∷ [] → last.notes.items ≡ first.notes.items → Enters (entered_of handled) o p
-    → RoseBy (missing (answers_of handled)) b.faults c.faults → DoesSome first last suffixes a c s t o p
-does_one first last suffixes a b c s t o p handled earlier ab bc ready taken given done notes enters rose = record {
+    → RoseBy (missing (answers_of handled)) b.faults c.faults → MakesAtMost (length (answers_of handled)) a c → DoesSome first last suffixes a c s t o p
+does_one first last suffixes a b c s t o p handled earlier ab bc ready taken given done notes enters rose makes = record {
   handled = handled ∷ [];
   noted = [];
   done = done;
@@ -101,18 +102,21 @@ does_one first last suffixes a b c s t o p handled earlier ab bc ready taken giv
         given = given_wider (given_since b c) (given_since a c) (given_before a b c earlier ab) suffixes handled.work.web handled.treated given;
       })
       (rose_wide (missing (answers_of handled)) a.faults b.faults c.faults c.faults ab.faults rose (omega arith));
+  asked = subst (λ n. MakesAtMost n a c) (sym (answered_one handled)) makes;
   entered = enters_as (entered_of handled) (entered_of handled ++ []) o p (sym (append-nil (entered_of handled))) enters;
   ready = λ name. ap (λ (f : List ℕ → Bool). f name) taken.awaited ∙ ready name;
 }
 
-pub does_none : {O : Type 0} (log : WorkLog) (suffixes : List ℕ) (a c : Fetcher) (s t : Schedule) (now : ℕ) (o : Offering O) → GoesOn a c → IsReady s → t ≡ raised s now
+pub does_none : {O : Type 0} (log : WorkLog) (suffixes : List ℕ) (a c : Fetcher) (s t : Schedule) (now : ℕ) (o : Offering O) → GoesOn a c → MakesAtMost 0 a c → IsReady s
+    → t ≡ raised s now
     → DoesSome log log suffixes a c s t o o
-does_none log suffixes a c s t now o on ready is = record {
+does_none log suffixes a c s t now o on makes ready is = record {
   handled = [];
   noted = [];
   done = sym (append-nil log.done.items);
   notes = sym (append-nil log.notes.items);
   worked = subst (λ left. HasWorked suffixes [] [] left a c s t) (sym (ap (λ (x : Schedule). x.items) is)) (works_none suffixes a c s t on (ap (λ (x : Schedule). x.known) is));
+  asked = makes;
   entered = enters_none o;
   ready = λ name. ap (λ (x : Schedule). x.awaited name) is ∙ ready name;
 }
@@ -125,9 +129,9 @@ ready_again s t u name ready one two at = ap (λ (f : List ℕ → Bool). f at) 
 
 pub does_noted : {O : Type 0} (first last : WorkLog) (suffixes : List ℕ) (a b c : Fetcher) (s t u : Schedule) (o : Offering O) (now : ℕ) (name : List ℕ) (note : Note) → IsEarlier c.gives → GoesOn a b
     → GoesOn b c
-    → b.last ≡ now → IsReady s → t ≡ asked (raised s now) name → FindsNote name now note b c → u ≡ handed_in t name (host_state note.state t.agent) now
-    → last.done.items ≡ first.done.items → last.notes.items ≡ first.notes.items ++ note ∷ [] → DoesSome first last suffixes a c s u o o
-does_noted first last suffixes a b c s t u o now name note earlier ab bc moment ready took finds handed done notes =
+    → b.last ≡ now → IsReady s → t ≡ asked (raised s now) name → (finds : FindsNote name now note b c) → u ≡ handed_in t name (host_state note.state t.agent) now
+    → last.done.items ≡ first.done.items → last.notes.items ≡ first.notes.items ++ note ∷ [] → MakesAtMost (length finds.answers) a c → DoesSome first last suffixes a c s u o o
+does_noted first last suffixes a b c s t u o now name note earlier ab bc moment ready took finds handed done notes makes =
     let one : Noted = record { note = note; answers = finds.answers } in
     let agent : t.agent ≡ s.agent = ap (λ (x : Schedule). x.agent) took in
     record {
@@ -141,6 +145,7 @@ does_noted first last suffixes a b c s t u o now name note earlier ab bc moment 
           finds.host_is finds.when_is (noted_wider (given_since b c) (given_since a c) (given_before a b c earlier ab) one finds.noted)
           (omega (arith, ab.last, moment, finds.when_is), omega (arith, bc.last, moment, finds.when_is))
           (rose_wide (missing finds.answers) a.faults b.faults c.faults c.faults ab.faults finds.lost (omega arith));
+      asked = subst (λ n. MakesAtMost n a c) (sym (answered_noted one)) makes;
       entered = enters_none o;
       ready = ready_again s t u name ready (ap (λ (x : Schedule). x.awaited) took) (ap (λ (x : Schedule). x.awaited) handed);
     }
@@ -162,12 +167,13 @@ part_wider gives more wider suffixes url entered part = elim part [
 ]
 
 pub stops_page : {O : Type 0} (suffixes : List ℕ) (a b c : Fetcher) (s t : Schedule) (o p : Offering O) (work : Work) (entered : List Entered) → IsEarlier c.gives → GoesOn a b → GoesOn b c
-    → IsTaken s t work leave.Allowed → IsPart (given_since b c) suffixes work.web entered → Enters entered o p → StopsWork suffixes a c s t o p
-stops_page suffixes a b c s t o p work entered earlier ab bc taken part enters = record {
+    → IsTaken s t work leave.Allowed → IsPart (given_since b c) suffixes work.web entered → Enters entered o p → MakesAtMost 6 a c → StopsWork suffixes a c s t o p
+stops_page suffixes a b c s t o p work entered earlier ab bc taken part enters makes = record {
   handled = [];
   noted = [];
   left = s.items;
   worked = works_none suffixes a c s t (goes_then a b c ab bc) taken.known;
+  asked = makes;
   part = entered;
   begun = inr (record {
     work = work;
@@ -181,12 +187,14 @@ stops_page suffixes a b c s t o p work entered earlier ab bc taken part enters =
   entered = enters;
 }
 
-pub stops_none : {O : Type 0} (suffixes : List ℕ) (a c : Fetcher) (s t : Schedule) (o : Offering O) → GoesOn a c → t.known ≡ s.known → StopsWork suffixes a c s t o o
-stops_none suffixes a c s t o on known = record {
+pub stops_none : {O : Type 0} (suffixes : List ℕ) (a c : Fetcher) (s t : Schedule) (o : Offering O) → GoesOn a c → t.known ≡ s.known → MakesAtMost 6 a c
+    → StopsWork suffixes a c s t o o
+stops_none suffixes a c s t o on known makes = record {
   handled = [];
   noted = [];
   left = s.items;
   worked = works_none suffixes a c s t on known;
+  asked = makes;
   part = [];
   begun = inl refl;
   entered = enters_none o;
@@ -197,7 +205,7 @@ stops_none suffixes a c s t o on known = record {
 -- the clock told the moment
 pub goes_now : (a b : Fetcher) (now : ℕ) → b.asked ≡ a.asked → ((since : ℕ) → Widens (a.gives since) (b.gives since)) → a.faults ≤ b.faults → a.last ≤ now → b.last ≡ now → b.aim ≡ a.aim
     → GoesOn a b
-goes_now a b now asked wider faults later told aim = record { asked = omega (arith, asked); wider = wider; faults = faults; last = omega (arith, later, told); aim = aim }
+goes_now a b now asked wider faults later told aim = record { asked = keeps_as a.asked b.asked asked; wider = wider; faults = faults; last = omega (arith, later, told); aim = aim }
 
 pub next_does : {O : Type 0} (more : Bool) (first last : WorkLog) (suffixes : List ℕ) (a c : Fetcher) (s t : Schedule) (o p : Offering O) → DoesSome first last suffixes a c s t o p
     → (more ≡ false → t.items ≡ []) → p.last_fault ≡ o.last_fault → GoesOn a c → t.agent ≡ s.agent → t.delay ≡ s.delay → DoesNext (Ok more) first last suffixes a c s t o p
@@ -223,56 +231,61 @@ next_stops result y first last suffixes a c s t o p is stops fault on agent dela
   delay = delay;
 }
 
-pub goes_asked : (b d : Fetcher) → d.asked ≡ b.asked → b.asked ≤ d.asked
-goes_asked b d same = omega (arith, same)
+pub goes_asked : (b d : Fetcher) → d.asked ≡ b.asked → KeepsMade b.asked d.asked
+goes_asked b d same = keeps_as b.asked d.asked same
 
 -- more is left
 pub true_is_more : {P : Type 0} → true ≡ false → P
 true_is_more is = let no : ⊥ = cc in absurd no
 
 -- it was waited
-pub next_waits : {O : Type 0} (log : WorkLog) (suffixes : List ℕ) (a c : Fetcher) (s t : Schedule) (now : ℕ) (o : Offering O) → GoesOn a c → IsReady s → t ≡ raised s now
+pub next_waits : {O : Type 0} (log : WorkLog) (suffixes : List ℕ) (a c : Fetcher) (s t : Schedule) (now : ℕ) (o : Offering O) → GoesOn a c → MakesAtMost 0 a c
+    → IsReady s → t ≡ raised s now
     → DoesNext (Ok true) log log suffixes a c s t o o
-next_waits log suffixes a c s t now o on ready same =
-    next_does true log log suffixes a c s t o o (does_none log suffixes a c s t now o on ready same) true_is_more refl on (ap (λ (x : Schedule). x.agent) same) (ap (λ (x : Schedule). x.delay) same)
+next_waits log suffixes a c s t now o on makes ready same =
+    next_does true log log suffixes a c s t o o (does_none log suffixes a c s t now o on makes ready same) true_is_more refl on (ap (λ (x : Schedule). x.agent) same)
+    (ap (λ (x : Schedule). x.delay) same)
 
 -- nothing is left
-pub next_ends : {O : Type 0} (log : WorkLog) (suffixes : List ℕ) (a c : Fetcher) (s t : Schedule) (now : ℕ) (o : Offering O) → GoesOn a c → IsReady s → AllAwaited (raised s now) → t ≡ raised s now
+pub next_ends : {O : Type 0} (log : WorkLog) (suffixes : List ℕ) (a c : Fetcher) (s t : Schedule) (now : ℕ) (o : Offering O) → GoesOn a c → MakesAtMost 0 a c
+    → IsReady s → AllAwaited (raised s now) → t ≡ raised s now
     → DoesNext (Ok false) log log suffixes a c s t o o
-next_ends log suffixes a c s t now o on ready all same =
-    next_does false log log suffixes a c s t o o (does_none log suffixes a c s t now o on ready same) (λ is. ap (λ (x : Schedule). x.items) same ∙ none_left s.awaited s.items ready all) refl on
+next_ends log suffixes a c s t now o on makes ready all same =
+    next_does false log log suffixes a c s t o o (does_none log suffixes a c s t now o on makes ready same) (λ is. ap (λ (x : Schedule). x.items) same ∙ none_left s.awaited s.items ready all) refl on
     (ap (λ (x : Schedule). x.agent) same) (ap (λ (x : Schedule). x.delay) same)
 
 -- a robots file was noted
 pub next_notes : {O : Type 0} (first last : WorkLog) (suffixes : List ℕ) (a b c : Fetcher) (s t u : Schedule) (o : Offering O) (now : ℕ) (name : List ℕ) (note : Note) → IsEarlier c.gives → GoesOn a b
     → GoesOn b c
-    → b.last ≡ now → IsReady s → t ≡ asked (raised s now) name → FindsNote name now note b c → u ≡ handed_in t name (host_state note.state t.agent) now
-    → last.done.items ≡ first.done.items → last.notes.items ≡ first.notes.items ++ note ∷ [] → DoesNext (Ok true) first last suffixes a c s u o o
-next_notes first last suffixes a b c s t u o now name note earlier ab bc moment ready took finds handed done notes =
-    next_does true first last suffixes a c s u o o (does_noted first last suffixes a b c s t u o now name note earlier ab bc moment ready took finds handed done notes) true_is_more refl
+    → b.last ≡ now → IsReady s → t ≡ asked (raised s now) name → (finds : FindsNote name now note b c) → u ≡ handed_in t name (host_state note.state t.agent) now
+    → last.done.items ≡ first.done.items → last.notes.items ≡ first.notes.items ++ note ∷ [] → MakesAtMost (length finds.answers) a c → DoesNext (Ok true) first last suffixes a c s u o o
+next_notes first last suffixes a b c s t u o now name note earlier ab bc moment ready took finds handed done notes makes =
+    next_does true first last suffixes a c s u o o (does_noted first last suffixes a b c s t u o now name note earlier ab bc moment ready took finds handed done notes makes) true_is_more refl
     (goes_then a b c ab bc) (ap (λ (x : Schedule). x.agent) handed ∙ ap (λ (x : Schedule). x.agent) took) (ap (λ (x : Schedule). x.delay) handed ∙ ap (λ (x : Schedule). x.delay) took)
 
 -- a robots file could not be noted
 pub next_lacks : {O : Type 0} (result : Result Bool Fault) (y : Fault) (first last : WorkLog) (suffixes : List ℕ) (a c : Fetcher) (s t u : Schedule) (o : Offering O) (now : ℕ) (name : List ℕ)
     → result ≡ Err y
-    → y ≡ Memory → GoesOn a c → t ≡ asked (raised s now) name → u ≡ t → DoesNext result first last suffixes a c s u o o
-next_lacks result y first last suffixes a c s t u o now name is memory on took same =
-    next_stops result y first last suffixes a c s u o o is (stops_none suffixes a c s u o on (ap (λ (x : Schedule). x.known) same ∙ ap (λ (x : Schedule). x.known) took))
+    → y ≡ Memory → GoesOn a c → MakesAtMost 6 a c → t ≡ asked (raised s now) name → u ≡ t → DoesNext result first last suffixes a c s u o o
+next_lacks result y first last suffixes a c s t u o now name is memory on makes took same =
+    next_stops result y first last suffixes a c s u o o is (stops_none suffixes a c s u o on (ap (λ (x : Schedule). x.known) same ∙ ap (λ (x : Schedule). x.known) took) makes)
     (ap (fault_or o.last_fault) (sym memory)) on (ap (λ (x : Schedule). x.agent) same ∙ ap (λ (x : Schedule). x.agent) took) (ap (λ (x : Schedule). x.delay) same ∙ ap (λ (x : Schedule). x.delay) took)
 
 -- an item that may not be fetched could not be kept
 pub next_drops : {O : Type 0} (result : Result Bool Fault) (y : Fault) (first last : WorkLog) (suffixes : List ℕ) (a c : Fetcher) (s t : Schedule) (o : Offering O) (work : Work) (says : Leave)
     → result ≡ Err y
-    → y ≡ Memory → GoesOn a c → IsTaken s t work says → DoesNext result first last suffixes a c s t o o
-next_drops result y first last suffixes a c s t o work says is memory on taken =
-    next_stops result y first last suffixes a c s t o o is (stops_none suffixes a c s t o on taken.known) (ap (fault_or o.last_fault) (sym memory)) on taken.agent taken.delay
+    → y ≡ Memory → GoesOn a c → MakesAtMost 0 a c → IsTaken s t work says → DoesNext result first last suffixes a c s t o o
+next_drops result y first last suffixes a c s t o work says is memory on makes taken =
+    next_stops result y first last suffixes a c s t o o is (stops_none suffixes a c s t o on taken.known (makes_more 0 6 a c (omega arith) makes))
+    (ap (fault_or o.last_fault) (sym memory)) on taken.agent taken.delay
 
 -- an item that may not be fetched was kept
-pub next_refuses : {O : Type 0} (first last : WorkLog) (suffixes : List ℕ) (a c : Fetcher) (s t : Schedule) (o : Offering O) (handled : Handled) → IsEarlier c.gives → GoesOn a c → IsReady s
+pub next_refuses : {O : Type 0} (first last : WorkLog) (suffixes : List ℕ) (a c : Fetcher) (s t : Schedule) (o : Offering O) (handled : Handled) → IsEarlier c.gives → GoesOn a c
+    → MakesAtMost 0 a c → IsReady s
     → IsTaken s t handled.work (leave_for handled.treated) → IsGiven (given_since c c) suffixes handled.work.web handled.treated → answers_of handled ≡ [] → entered_of handled ≡ []
     → last.done.items ≡ first.done.items ++ done_of handled ∷ [] → last.notes.items ≡ first.notes.items → DoesNext (Ok true) first last suffixes a c s t o o
-next_refuses first last suffixes a c s t o handled earlier on ready taken given answers entered done notes =
+next_refuses first last suffixes a c s t o handled earlier on makes ready taken given answers entered done notes =
     next_does true first last suffixes a c s t o o
     (does_one first last suffixes a c c s t o o handled earlier on (goes_none c) ready taken given done notes (enters_as [] (entered_of handled) o o (sym entered) (enters_none o))
-    (subst (λ (xs : List Answer). RoseBy (missing xs) c.faults c.faults) (sym answers) (rose_none c.faults c.faults (goes_none c).faults)))
+    (subst (λ (xs : List Answer). RoseBy (missing xs) c.faults c.faults) (sym answers) (rose_none c.faults c.faults (goes_none c).faults)) (makes_more 0 _ a c (omega arith) makes))
     true_is_more refl on taken.agent taken.delay

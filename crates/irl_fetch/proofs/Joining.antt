@@ -1,5 +1,5 @@
 -- What the loop over a front's jobs keeps.
-use Rattle.std.proofs.Common.{◌≡◌, ◌∙◌, ℕ, List, [], ◌++◌, map, inl, inr, refl, sym, ap, subst}
+use Rattle.std.proofs.Common.{◌≡◌, ◌∙◌, ℕ, List, [], ◌++◌, map, inl, inr, refl, sym, ap, subst, arith}
 use Rattle.std.specs.Prelude.{Result, Ok, Err}
 use Rattle.std.specs.List.{flat_map}
 use Rattle.std.proofs.lemmas.List.{append_assoc, map-append}
@@ -8,10 +8,11 @@ use Rattle.irl_base.specs.declared.fault.Fault.{Fault}
 use Rattle.irl_offer.specs.Offering.{Entered, fault_or}
 use Rattle.irl_polite.specs.Schedule.{Schedule}
 use Rattle.irl_fetch.specs.declared.working.WorkLog.{WorkLog}
-use Rattle.irl_fetch.specs.Telling.{Fetcher, Offering, GoesOn, Enters, given_since}
-use Rattle.irl_fetch.specs.Handling.{Handled, Noted, entered_of, done_of}
+use Rattle.irl_fetch.specs.Telling.{Fetcher, Offering, GoesOn, Enters, MakesAtMost, given_since}
+use Rattle.irl_fetch.specs.Handling.{Handled, Noted, answered, entered_of, done_of}
 use Rattle.irl_fetch.specs.Working.{HasWorked, DoesSome, StopsWork, FinishesWork, Works}
-use Rattle.irl_fetch.proofs.Telling.{IsEarlier, goes_none, goes_then, given_before, enters_none, enters_then, enters_as}
+use Rattle.irl_fetch.proofs.Telling.{IsEarlier, goes_none, goes_then, given_before, makes_none, enters_none, enters_then, enters_as}
+use Rattle.irl_fetch.proofs.Handling.{answered_both}
 use Rattle.irl_fetch.proofs.Pieces.{works_none, works_then, state_then}
 use Rattle.irl_fetch.proofs.Jobs.{IsReady, part_wider}
 use Rattle.irl_fetch.proofs.Results.{refused_if, refused_err, refused_fault}
@@ -23,6 +24,7 @@ pub record SoFar {O : Type 0} (log : WorkLog) (suffixes : List ℕ) (a b : Fetch
   pub done : log.done.items ≡ map done_of handled
   pub notes : log.notes.items ≡ map (λ one. one.note) noted
   pub worked : HasWorked suffixes handled noted t.items a b s t
+  pub asked : MakesAtMost (answered handled noted) a b
   pub entered : Enters (flat_map entered_of handled) o p
   pub ready : IsReady t
   pub calm : p.last_fault ≡ o.last_fault
@@ -37,6 +39,7 @@ far_first log suffixes a s o done notes ready = record {
   done = done;
   notes = notes;
   worked = works_none suffixes a a s s (goes_none a) refl;
+  asked = makes_none a a refl;
   entered = enters_none o;
   ready = ready;
   calm = refl;
@@ -44,6 +47,9 @@ far_first log suffixes a s o done notes ready = record {
   agent = refl;
   delay = refl;
 }
+
+asked_then : (h1 h2 : List Handled) (n1 n2 : List Noted) (a b c : Fetcher) → MakesAtMost (answered h1 n1) a b → MakesAtMost (answered h2 n2) b c → MakesAtMost (answered (h1 ++ h2) (n1 ++ n2)) a c
+asked_then h1 h2 n1 n2 a b c one two = let all = answered_both h1 h2 n1 n2 in omega (arith, all, one, two)
 
 pub far_next : {O : Type 0} (first last : WorkLog) (suffixes : List ℕ) (a b c : Fetcher) (s t u : Schedule) (o p q : Offering O) → IsEarlier c.gives → SoFar first suffixes a b s t o p
     → DoesSome first last suffixes b c t u p q → GoesOn b c → q.last_fault ≡ p.last_fault → u.agent ≡ t.agent → u.delay ≡ t.delay → SoFar last suffixes a c s u o q
@@ -53,6 +59,7 @@ far_next first last suffixes a b c s t u o p q earlier far does on calm agent de
   done = does.done ∙ ap (λ xs. xs ++ map done_of does.handled) far.done ∙ sym (map-append done_of far.handled does.handled);
   notes = does.notes ∙ ap (λ xs. xs ++ map (λ (one : Noted). one.note) does.noted) far.notes ∙ sym (map-append (λ (one : Noted). one.note) far.noted does.noted);
   worked = works_then suffixes far.handled does.handled far.noted does.noted u.items a b c s t u earlier far.goes_on on far.agent far.worked does.worked;
+  asked = asked_then far.handled does.handled far.noted does.noted a b c far.asked does.asked;
   entered = enters_as (flat_map entered_of far.handled ++ flat_map entered_of does.handled) (flat_map entered_of (far.handled ++ does.handled)) o q
       (sym (flat_map-append entered_of far.handled does.handled)) (enters_then (flat_map entered_of far.handled) (flat_map entered_of does.handled) o p q far.entered does.entered);
   ready = does.ready;
@@ -70,6 +77,7 @@ far_finishes log suffixes a b s t o p far none = record {
   done = far.done;
   notes = far.notes;
   worked = subst (λ left. HasWorked suffixes far.handled far.noted left a b s t) none far.worked;
+  asked = far.asked;
   entered = far.entered;
   none_left = none;
 }
@@ -85,6 +93,7 @@ far_stops log suffixes a b c s t u o p q earlier far on stops = record {
   noted = far.noted ++ stops.noted;
   left = stops.left;
   worked = works_then suffixes far.handled stops.handled far.noted stops.noted stops.left a b c s t u earlier far.goes_on on far.agent far.worked stops.worked;
+  asked = let all = answered_both far.handled stops.handled far.noted stops.noted in omega (arith, all, far.asked, stops.asked);
   part = stops.part;
   begun = elim stops.begun [
     | inl none ↦ inl none

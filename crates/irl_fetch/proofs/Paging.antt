@@ -16,7 +16,7 @@ use Rattle.irl_offer.specs.declared.reply.Answer.TheVariants.{NoReply}
 use Rattle.irl_offer.specs.declared.reply.Want.TheVariants.{Page}
 use Rattle.irl_answer.specs.Found.{offers_of}
 use Rattle.irl_fetch.specs.Handling.{receipts_of}
-use Rattle.irl_fetch.specs.Telling.{Fetcher, Offering, GoesOn, Enters, given_since}
+use Rattle.irl_fetch.specs.Telling.{Fetcher, Offering, GoesOn, Enters, MakesAtMost, given_since}
 use Rattle.irl_fetch.specs.Pages.{OffersAll, Settles, FetchesPage}
 use Rattle.irl_fetch.proofs.Handling.{missing_one}
 use Rattle.irl_fetch.proofs.Results.{refused_ok, refused_if, refused_err, refused_fault}
@@ -117,21 +117,24 @@ fetched_err A B (Ok x) holds gives = tt
 fetched_err A B (Err y) holds gives = gives holds
 
 pub fetches_settled : {O E : Type 0} (result : Result Unit Fault) (suffixes : List ℕ) (work : Work) (answer : Answer) (a b : Fetcher) (o p : Offering O) (was now : List Done)
-    → given_since a b work.web Page answer → GoesOn a b → HasCause (◌≡◌ {A = Result Answer E} (Ok answer) (Ok NoReply)) a.faults b.faults → Settles result suffixes work answer o p was now
+    → given_since a b work.web Page answer → GoesOn a b → MakesAtMost 1 a b
+    → HasCause (◌≡◌ {A = Result Answer E} (Ok answer) (Ok NoReply)) a.faults b.faults → Settles result suffixes work answer o p was now
     → FetchesPage result suffixes work a b o p was now
-fetches_settled result suffixes work answer a b o p was now given on cause settles = record {
+fetches_settled result suffixes work answer a b o p was now given on makes cause settles = record {
   ok = fetched_ok _ _ result settles.ok (λ told. (answer, told.0, (given, told.1), told.2, told.3, missing_one answer a.faults b.faults cause));
   err = fetched_err _ _ result settles.err (λ told. (told.0, inr (answer, given, told.1, told.2), told.3));
   fault = settles.fault;
   goes_on = on;
+  asked = makes;
 }
 
 pub fetches_none : {O : Type 0} (result : Result Unit Fault) (y : Fault) (suffixes : List ℕ) (work : Work) (a b : Fetcher) (o : Offering O) (was now : List Done) → result ≡ Err y → y ≡ Memory
-    → GoesOn a b
+    → GoesOn a b → MakesAtMost 1 a b
     → FetchesPage result suffixes work a b o o was now
-fetches_none result y suffixes work a b o was now is memory on = record {
+fetches_none result y suffixes work a b o was now is memory on makes = record {
   ok = refused_ok _ result y is;
   err = refused_err _ result y is ([], inl refl, enters_none o);
   fault = refused_fault result y o o is (memory_kept o.last_fault o.last_fault y memory refl);
   goes_on = on;
+  asked = makes;
 }

@@ -1,11 +1,49 @@
 -- What goes on between moments of a fetcher, and what is entered between moments of offers.
-use Rattle.std.proofs.Common.{◌≡◌, ◌∙◌, ℕ, ◌+◌, ◌-◌, ◌^◌, ◌≤◌, List, [], ◌++◌, Option, Some, None, refl, sym, ap, arith}
+use Rattle.std.proofs.Common.{◌≡◌, ◌∙◌, ℕ, ◌+◌, ◌-◌, ◌^◌, ◌≤◌, List, [], ◌++◌, Option, Some, None, length, refl, sym, ap, subst, arith, length-append}
 use Rattle.std.specs.Prelude.{min}
 use Rattle.std.specs.Option.{option_map}
 use Rattle.std.proofs.lemmas.List.{append-nil, append_assoc}
 use Rattle.irl_offer.specs.Offering.{Entered}
 use Rattle.irl_record.specs.Widening.{Answers, Widens}
-use Rattle.irl_fetch.specs.Telling.{Fetcher, GoesOn, RoseBy, given_since, Offering, Enters}
+use Rattle.irl_record.specs.Wired.{KeepsMade, Made, MakesAtMostOne, how_many}
+use Rattle.irl_fetch.specs.Telling.{Fetcher, GoesOn, MakesAtMost, RoseBy, given_since, Offering, Enters}
+
+-- ## Connections
+
+pub keeps_same : (made : Made) → KeepsMade made made
+keeps_same None = tt
+keeps_same (Some made) = ([], sym (append-nil made))
+
+pub keeps_as : (one two : Made) → two ≡ one → KeepsMade one two
+keeps_as one two same = subst (KeepsMade one) (sym same) (keeps_same one)
+
+pub keeps_one : (one two : Made) → MakesAtMostOne one two → KeepsMade one two
+keeps_one None None makes = tt
+keeps_one None (Some two) makes = absurd makes
+keeps_one (Some one) None makes = absurd makes
+keeps_one (Some one) (Some two) (more, is, few) = (more, is)
+
+pub keeps_then : (one two three : Made) → KeepsMade one two → KeepsMade two three → KeepsMade one three
+keeps_then None None three first second = second
+keeps_then None (Some two) three first second = absurd first
+keeps_then (Some one) None three first second = absurd first
+keeps_then (Some one) (Some two) None first second = absurd second
+keeps_then (Some one) (Some two) (Some three) (more, is) (others, then) =
+    (more ++ others, then ∙ ap (λ l. l ++ others) is ∙ append_assoc one more others)
+
+-- one more at most
+pub counts_one : (one two : Made) → MakesAtMostOne one two → how_many two ≤ how_many one + 1
+counts_one None None makes = omega arith
+counts_one None (Some two) makes = absurd makes
+counts_one (Some one) None makes = absurd makes
+counts_one (Some one) (Some two) (more, is, few) = omega (arith, ap length is, length-append one more, few)
+
+-- their count doesn't fall
+pub keeps_count : (one two : Made) → KeepsMade one two → how_many one ≤ how_many two
+keeps_count None None keeps = omega arith
+keeps_count None (Some two) keeps = absurd keeps
+keeps_count (Some one) None keeps = absurd keeps
+keeps_count (Some one) (Some two) (more, is) = omega (arith, ap length is, length-append one more)
 
 -- ## A fetcher
 
@@ -14,24 +52,34 @@ abbrev pub IsEarlier : (ℕ → Answers) → Type 0
 IsEarlier gives = (since later : ℕ) → since ≤ later → Widens (gives later) (gives since)
 
 pub goes_none : (a : Fetcher) → GoesOn a a
-goes_none a = record { asked = omega arith; wider = λ since url want answer given. given; faults = omega arith; last = omega arith; aim = refl }
+goes_none a = record { asked = keeps_same a.asked; wider = λ since url want answer given. given; faults = omega arith; last = omega arith; aim = refl }
 
 pub goes_then : (a b c : Fetcher) → GoesOn a b → GoesOn b c → GoesOn a c
 goes_then a b c one two = record {
-  asked = omega (arith, one.asked, two.asked);
+  asked = keeps_then a.asked b.asked c.asked one.asked two.asked;
   wider = λ since url want answer given. two.wider since url want answer (one.wider since url want answer given);
   faults = omega (arith, one.faults, two.faults);
   last = omega (arith, one.last, two.last);
   aim = two.aim ∙ one.aim;
 }
 
+-- by numbers of connections
+pub makes_none : (a b : Fetcher) → b.asked ≡ a.asked → MakesAtMost 0 a b
+makes_none a b same = omega (arith, ap how_many same)
+
+pub makes_then : (m n : ℕ) (a b c : Fetcher) → MakesAtMost m a b → MakesAtMost n b c → MakesAtMost (m + n) a c
+makes_then m n a b c one two = omega (arith, one, two)
+
+pub makes_more : (m n : ℕ) (a b : Fetcher) → m ≤ n → MakesAtMost m a b → MakesAtMost n a b
+makes_more m n a b few makes = omega (arith, few, makes)
+
 -- what was given still is
 pub given_then : (a b c : Fetcher) → GoesOn b c → Widens (given_since a b) (given_since a c)
-given_then a b c on = on.wider a.asked
+given_then a b c on = on.wider (how_many a.asked)
 
 -- what is given since a later moment is given since an earlier one
 pub given_before : (a b c : Fetcher) → IsEarlier c.gives → GoesOn a b → Widens (given_since b c) (given_since a c)
-given_before a b c earlier on = earlier a.asked b.asked on.asked
+given_before a b c earlier on = earlier (how_many a.asked) (how_many b.asked) (keeps_count a.asked b.asked on.asked)
 
 -- ## Counts
 

@@ -1,6 +1,6 @@
 -- What is done for an item of a front, and for the robots file of a host.
-use Rattle.std.specs.Prelude.{◌≡◌, ℕ, List, [], ◌∷◌, map, Bool, true, false, cond, Some, ⊤}
-use Rattle.std.specs.List.{AllZip, sum_by}
+use Rattle.std.specs.Prelude.{◌≡◌, ℕ, ◌+◌, List, [], ◌∷◌, length, map, Bool, true, false, cond, Some, ⊤}
+use Rattle.std.specs.List.{AllZip, flat_map, sum_by}
 use Rattle.irl_key.specs.declared.web.Work.{Work}
 use Rattle.irl_key.specs.Web.{IsHost, target_of}
 use Rattle.irl_offer.specs.Offering.{Entered}
@@ -101,6 +101,10 @@ pub record IsNoted (gives : Answers) (noted : Noted) : Type 0 where
   pub host : IsHost noted.note.host
   pub says : note_of noted.note.host noted.answers ≡ Some noted.note.state
   pub given : AllZip (λ url answer. gives url Robots answer) (requests_of noted.note.host noted.answers) noted.answers
+
+-- how many answers it all rests on
+abbrev pub answered : List Handled → List Noted → ℕ
+answered handled noted = length (flat_map answers_of handled) + length (flat_map (λ one. one.answers) noted)
 
 -- ---- answers that never came
 abbrev pub is_missing : Answer → Bool

@@ -11,7 +11,7 @@ use Rattle.irl_offer.specs.declared.reply.Want.TheVariants.{Page}
 use Rattle.irl_record.specs.Widening.{Answers}
 use Rattle.irl_answer.specs.Found.{offers_of}
 use Rattle.irl_fetch.specs.Handling.{Fetched, done_of, missing, answers_of, receipts_of, IsGiven}
-use Rattle.irl_fetch.specs.Telling.{Fetcher, Offering, GoesOn, Enters, RoseBy, given_since}
+use Rattle.irl_fetch.specs.Telling.{Fetcher, Offering, GoesOn, Enters, MakesAtMost, RoseBy, given_since}
 
 -- the last fault of the offers after an answer: want of memory is none
 abbrev pub FaultIs : {O A : Type 0} → Result A Fault → Offering O → Offering O → Type 0
@@ -55,3 +55,4 @@ pub record FetchesPage {O : Type 0} (result : Result Unit Fault) (suffixes : Lis
       × Enters entered before after)
   pub fault : FaultIs result before after
   pub goes_on : GoesOn old new
+  pub asked : MakesAtMost 1 old new

@@ -6,11 +6,12 @@ use Rattle.irl_offer.specs.Offering.{Entered}
 use Rattle.irl_offer.specs.Tuple.{Tuple}
 use Rattle.irl_answer.specs.Found.{IsTaken}
 use Rattle.irl_record.specs.Widening.{Answers, WidensSince}
+use Rattle.irl_record.specs.Wired.{KeepsMade, Made, how_many}
 
 -- ---- a fetcher
 pub record Fetcher : Type 1 where
-  -- how much it did to get answers, and those that it gives since such a count
-  pub asked : ℕ
+  -- the connections that it made to get answers, where it tells them, and those that it gives since such a count
+  pub asked : Made
   pub gives : ℕ → Answers
   -- how often nothing came
   pub faults : ℕ
@@ -20,21 +21,26 @@ pub record Fetcher : Type 1 where
   pub aim : List ℕ
 
 -- that of a value, by what is told of it
-abbrev pub fetcher : {F : Type 0} → (F → ℕ) → (F → ℕ → Answers) → (F → ℕ) → (F → ℕ) → (F → List ℕ) → F → Fetcher
+abbrev pub fetcher : {F : Type 0} → (F → Made) → (F → ℕ → Answers) → (F → ℕ) → (F → ℕ) → (F → List ℕ) → F → Fetcher
 fetcher asked gives faults last aim x =
     record { asked = asked x; gives = gives x; faults = faults x; last = last x; aim = aim x }
 
 -- the answers since one moment, told at a later one
 abbrev pub given_since : Fetcher → Fetcher → Answers
-given_since old new = new.gives old.asked
+given_since old new = new.gives (how_many old.asked)
 
--- What it gave it still gives, it is aimed at the same, and neither its counts nor its moment fall.
+-- The connections that it made stay, and others come behind them; what it gave it still gives, it is aimed at the same,
+-- and neither its faults nor its moment fall.
 pub record GoesOn (old new : Fetcher) : Type 0 where
-  pub asked : old.asked ≤ new.asked
+  pub asked : KeepsMade old.asked new.asked
   pub wider : WidensSince old.gives new.gives
   pub faults : old.faults ≤ new.faults
   pub last : old.last ≤ new.last
   pub aim : new.aim ≡ old.aim
+
+-- so many connections were made at most, where they are told
+abbrev pub MakesAtMost : ℕ → Fetcher → Fetcher → Type 0
+MakesAtMost n old new = how_many new.asked ≤ how_many old.asked + n
 
 -- a count has risen by so many at least; one that stands at its last value counts as risen by any number
 abbrev pub RoseBy : ℕ → ℕ → ℕ → Type 0

@@ -12,9 +12,9 @@ use Rattle.irl_robots.specs.declared.host.Leave.TheVariants.{Allowed}
 use Rattle.irl_polite.specs.Schedule.{Schedule, host}
 use Rattle.irl_polite.specs.declared.known.Known.{Known}
 use Rattle.irl_fetch.specs.declared.working.WorkLog.{WorkLog}
-use Rattle.irl_fetch.specs.Handling.{Handled, Noted, IsHandled, IsNoted, answers_of, done_of, entered_of, missing}
+use Rattle.irl_fetch.specs.Handling.{Handled, Noted, IsHandled, IsNoted, answered, answers_of, done_of, entered_of, missing}
 use Rattle.irl_fetch.specs.Pages.{FaultIs, IsPart}
-use Rattle.irl_fetch.specs.Telling.{Fetcher, Offering, GoesOn, Enters, RoseBy, given_since}
+use Rattle.irl_fetch.specs.Telling.{Fetcher, Offering, GoesOn, Enters, MakesAtMost, RoseBy, given_since}
 
 -- what is known of a host's robots file: what the front knew of it at first, or what was noted since
 abbrev pub IsStateOf : Schedule → List Noted → List ℕ → HostState → Type 0
@@ -51,7 +51,8 @@ pub record FinishesWork {O : Type 0} (log : WorkLog) (suffixes : List ℕ) (old 
   pub done : log.done.items ≡ map done_of handled
   pub notes : log.notes.items ≡ map (λ one. one.note) noted
   pub worked : HasWorked suffixes handled noted [] old new before after
-  -- nothing else is entered
+  -- no more connections were made than there are answers, and nothing else is entered
+  pub asked : MakesAtMost (answered handled noted) old new
   pub entered : Enters (flat_map entered_of handled) was now
   pub none_left : after.items ≡ []
 
@@ -73,6 +74,8 @@ pub record StopsWork {O : Type 0} (suffixes : List ℕ) (old new : Fetcher) (bef
   pub noted : List Noted
   pub left : List Work
   pub worked : HasWorked suffixes handled noted left old new before after
+  -- for that, or for a robots file, up to six connections may be made
+  pub asked : MakesAtMost (answered handled noted + 6) old new
   pub part : List Entered
   pub begun : (part ≡ []) ⊎ IsBegun suffixes noted left part old new before
   pub entered : Enters (flat_map entered_of handled ++ part) was now
@@ -98,6 +101,7 @@ pub record DoesSome {O : Type 0} (first last : WorkLog) (suffixes : List ℕ) (o
   pub done : last.done.items ≡ first.done.items ++ map done_of handled
   pub notes : last.notes.items ≡ first.notes.items ++ map (λ one. one.note) noted
   pub worked : HasWorked suffixes handled noted after.items old new before after
+  pub asked : MakesAtMost (answered handled noted) old new
   pub entered : Enters (flat_map entered_of handled) was now
   -- no robots file is awaited then
   pub ready : (name : List ℕ) → after.awaited name ≡ false

@@ -13,6 +13,3 @@ mod working;
 pub use gate::{Gate, NoGate};
 pub use laws::notes_are_short;
 pub use working::{WorkLog, work};
-
-#[cfg(test)]
-mod tests;

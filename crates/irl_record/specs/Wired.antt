@@ -9,6 +9,10 @@ use Rattle.irl_offer.specs.declared.reply.Answer.TheVariants.{NoReply}
 use Rattle.irl_offer.specs.declared.reply.Want.{Want}
 use Rattle.irl_record.specs.Widening.{Answers}
 
+-- the connections that were made, where they are told
+abbrev pub Made : Type 0
+Made = Option (List Connection)
+
 -- its port, the number of the peers' port and the agent's name, and the moment that it told last
 pub record Wired (P : Type 0) : Type 0 where
   pub port : P
@@ -41,12 +45,16 @@ by_wire number agent faults (Some made) since url want answer =
     ((answer ≡ NoReply) × (1 ≤ faults)) ⊎ HasExchangeSince since made number agent url want answer
 
 -- how many connections were made, where they are told
-abbrev pub how_many : Option (List Connection) → ℕ
+abbrev pub how_many : Made → ℕ
 how_many None = 0
 how_many (Some made) = length made
 
+-- those before stay, with what was written on them, and others may stand behind them
+abbrev pub KeepsMade : Made → Made → Type 0
+KeepsMade before after = OfKnown (λ old new. (more : List Connection) × (new ≡ old ++ more)) before after
+
 -- one connection was made at most, and those before it stay, with what was written on them
-abbrev pub MakesAtMostOne : Option (List Connection) → Option (List Connection) → Type 0
+abbrev pub MakesAtMostOne : Made → Made → Type 0
 MakesAtMostOne before after =
     OfKnown (λ old new. (more : List Connection) × (new ≡ old ++ more) × (length more ≤ 1)) before after
 

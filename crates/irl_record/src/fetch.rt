@@ -1,6 +1,7 @@
 ghost use Rattle.std.specs.Prelude.{◌≡◌, ◌≤◌, ℕ, List, [], IfOk, Ok};
 ghost use Rattle.irl_base.specs.Faults.{HasCause};
 ghost use Rattle.irl_record.specs.Widening.{Answers, Widens, WidensSince};
+ghost use Rattle.irl_record.specs.Wired.{Made, MakesAtMostOne, how_many};
 
 use irl_key::Web;
 use irl_offer::{Answer, Want};
@@ -8,8 +9,9 @@ use std::alloc::{AllocError, Global};
 
 /// What gets pages: a fetcher with a clock.
 pub trait Fetch {
-    /// A count of what it did to get answers, as of its connections, which never falls. By it a moment is named.
-    ghost asked: { Self → ℕ };
+    /// The connections that it made to get answers, where it tells them, of which none is ever taken back. By their
+    /// count a moment is named.
+    ghost asked: { Self → Made };
 
     /// The answers that it gives, by what it did since such a count. A fetcher that tells nothing of them has them all, and
     /// one whose answers stand from the beginning gives them since every count.
@@ -24,11 +26,11 @@ pub trait Fetch {
     /// What it is aimed at, as where it connects to, which no call changes. One that isn't aimed says nothing.
     ghost aim: { Self → List ℕ } = { λ _. [] };
 
-    /// Gets a page, or a robots file. `NoReply` comes only where a fault was counted in this call.
+    /// Gets a page, or a robots file, on one connection at most. `NoReply` comes only where a fault was counted in this call.
     fn fetch(&mut self, alloc: Global, web: &Web, want: Want) -> Result<Answer, AllocError>
-        ensures told { IfOk result (λ answer. gives self.new (asked self.old) web.now want answer) }
+        ensures told { IfOk result (λ answer. gives self.new (how_many (asked self.old)) web.now want answer) }
         ensures wider { WidensSince (gives self.old) (gives self.new) }
-        ensures asked { asked self.old ≤ asked self.new }
+        ensures asked { MakesAtMostOne (asked self.old) (asked self.new) }
         ensures cause { HasCause (result ≡ Ok Answer.NoReply) (faults self.old) (faults self.new) }
         ensures later { last self.old ≤ last self.new }
         ensures aim { aim self.new ≡ aim self.old };
@@ -54,5 +56,5 @@ pub trait Fetch {
     ghost earlier: { (x : Self) (since later : ℕ) → since ≤ later → Widens (gives x later) (gives x since) };
 
     /// An answer since now is nothing new: it is one since every count.
-    ghost nothing_new: { (x : Self) (since : ℕ) → Widens (gives x (asked x)) (gives x since) };
+    ghost nothing_new: { (x : Self) (since : ℕ) → Widens (gives x (how_many (asked x))) (gives x since) };
 }

@@ -23,6 +23,3 @@ pub use reading::TapeFault;
 pub use tape::Tape;
 pub use tape_fetch::TapeFetch;
 pub use wire_fetch::WireFetch;
-
-#[cfg(test)]
-mod tests;

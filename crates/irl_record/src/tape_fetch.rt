@@ -1,7 +1,8 @@
-ghost use Rattle.std.specs.Prelude.{◌≡◌, ◌≤◌, Ok, IfOk, max};
+ghost use Rattle.std.specs.Prelude.{◌≡◌, ◌≤◌, None, Ok, IfOk, max};
 ghost use Rattle.irl_record.specs.Taped.{record_at, answer_of, not_found};
 ghost use Rattle.irl_record.specs.Fetched.{by_tape, faults_after};
 ghost use Rattle.irl_record.specs.Widening.{WidensSince};
+ghost use Rattle.irl_record.specs.Wired.{MakesAtMostOne};
 ghost use Rattle.irl_base.specs.Faults.{HasCause};
 
 use crate::fetch::Fetch;
@@ -43,8 +44,8 @@ impl<'a> TapeFetch<'a> {
 }
 
 impl Fetch for TapeFetch<'_> {
-    // Its answers are the tape's from the beginning.
-    ghost asked = { λ _. 0 };
+    // It makes none, and its answers are the tape's from the beginning.
+    ghost asked = { λ _. None };
 
     ghost gives = { λ f _. by_tape f.tape };
 
@@ -60,8 +61,7 @@ impl Fetch for TapeFetch<'_> {
     fn fetch(&mut self, alloc: Global, web: &Web, want: Want) -> Result<Answer, AllocError>
         ensures told { IfOk result (λ answer. by_tape self.new.tape web.now want answer) }
         ensures wider { WidensSince (λ _. by_tape self.old.tape) (λ _. by_tape self.new.tape) }
-        // The count stays.
-        ensures asked { 0 ≤ 0 }
+        ensures asked { MakesAtMostOne None None }
         ensures cause { HasCause (result ≡ Ok Answer.NoReply) self.old.faults self.new.faults }
         ensures later { self.old.moment ≤ self.new.moment }
         ensures answer { IfOk result (λ answer. answer ≡ answer_of (record_at self.old.tape.records web.now)) }

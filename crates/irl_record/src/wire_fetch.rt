@@ -59,8 +59,8 @@ impl<P> WireFetch<P> {
 }
 
 impl<P: Link> Fetch for WireFetch<P> {
-    // The connections that its port made, where it tells them.
-    ghost asked = { λ f. how_many (P.connections f.port) };
+    // Those that its port made.
+    ghost asked = { λ f. P.connections f.port };
 
     ghost gives = { λ f since. by_wire f.number f.agent (P.faults f.port) (P.connections f.port) since };
 
@@ -82,11 +82,10 @@ impl<P: Link> Fetch for WireFetch<P> {
         ensures wider { WidensSince
             (by_wire self.old.number self.old.agent (P.faults self.old.port) (P.connections self.old.port))
             (by_wire self.new.number self.new.agent (P.faults self.new.port) (P.connections self.new.port)) }
-        ensures asked { how_many (P.connections self.old.port) ≤ how_many (P.connections self.new.port) }
+        ensures asked { MakesAtMostOne (P.connections self.old.port) (P.connections self.new.port) }
         ensures cause { HasCause (result ≡ Ok Answer.NoReply) (P.faults self.old.port) (P.faults self.new.port) }
         ensures later { self.old.last ≤ self.new.last }
         ensures aim { self.new.number ∷ self.new.agent ≡ self.old.number ∷ self.old.agent }
-        ensures made { MakesAtMostOne (P.connections self.old.port) (P.connections self.new.port) }
         ensures rest { self.new ≡ record self.old { port = self.new.port } }
     {
         let request = request(alloc, web, self.agent.bytes())?;
@@ -103,10 +102,9 @@ impl<P: Link> Fetch for WireFetch<P> {
         ensures wider { WidensSince
             (by_wire self.old.number self.old.agent (P.faults self.old.port) (P.connections self.old.port))
             (by_wire self.new.number self.new.agent (P.faults self.new.port) (P.connections self.new.port)) }
-        ensures asked { how_many (P.connections self.new.port) ≡ how_many (P.connections self.old.port) }
+        ensures asked { P.connections self.new.port ≡ P.connections self.old.port }
         ensures faults { P.faults self.old.port ≤ P.faults self.new.port }
-        ensures port { (P.connections self.new.port ≡ P.connections self.old.port)
-            × (P.faults self.new.port ≡ P.faults self.old.port) }
+        ensures port { P.faults self.new.port ≡ P.faults self.old.port }
         ensures aim { self.new.number ∷ self.new.agent ≡ self.old.number ∷ self.old.agent }
         ensures moment { result ≡ max self.old.last (P.last self.new.port) }
         ensures rest { self.new ≡ record self.old { port = self.new.port; last = result } }
@@ -120,10 +118,9 @@ impl<P: Link> Fetch for WireFetch<P> {
         ensures wider { WidensSince
             (by_wire self.old.number self.old.agent (P.faults self.old.port) (P.connections self.old.port))
             (by_wire self.new.number self.new.agent (P.faults self.new.port) (P.connections self.new.port)) }
-        ensures asked { how_many (P.connections self.new.port) ≡ how_many (P.connections self.old.port) }
+        ensures asked { P.connections self.new.port ≡ P.connections self.old.port }
         ensures faults { P.faults self.old.port ≤ P.faults self.new.port }
-        ensures port { (P.connections self.new.port ≡ P.connections self.old.port)
-            × (P.faults self.new.port ≡ P.faults self.old.port) }
+        ensures port { P.faults self.new.port ≡ P.faults self.old.port }
         ensures aim { self.new.number ∷ self.new.agent ≡ self.old.number ∷ self.old.agent }
         ensures rest { self.new ≡ record self.old { port = self.new.port } }
     {

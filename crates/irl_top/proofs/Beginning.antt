@@ -7,10 +7,11 @@ use Rattle.std.proofs.lemmas.List.Elements.{All-nil, All-weaker}
 use Rattle.std.proofs.lemmas.List.Sorted.{IsPermutation-refl}
 use Rattle.std.proofs.Math.Seq.{drop-append_seam, drop-length}
 use Rattle.irl_core.specs.States.{begun_with}
+use Rattle.irl_crawl.proofs.Few.{few_none, few_then}
 use Rattle.irl_crawl.specs.Crawling.{CrawlsWhole, OnlyCrawls}
 use Rattle.irl_crawl.specs.Leading.{GrowsInBatches}
 use Rattle.irl_crawl.specs.Sending.{SendsLinks, links_since, pairs_for}
-use Rattle.irl_crawl.specs.Turning.{AreBatches, RestsOn, events_since, input_of, turns_in}
+use Rattle.irl_crawl.specs.Turning.{AreBatches, AsksOnce, RestsOn, events_since, input_of, turns_in}
 use Rattle.irl_crawl.specs.Workers.{Given}
 use Rattle.irl_events.specs.Events.{Begin, Event, Happened, Progress, after_event, after_events, before_all}
 use Rattle.irl_events.specs.State.{State, IsFrontState}
@@ -73,6 +74,14 @@ rests_wider old new visits events more rests = record {
 pub rests_alike : (given : Given) (visits : List Visit) (old new : List Happened) → notes_in new ≡ notes_in old → RestsOn given visits old → RestsOn given visits new
 rests_alike given visits old new same rests = record { noted = rests.noted; notes = rests.notes ∙ sym same; each = rests.each; missing_are = rests.missing_are }
 
+pub asks_wider : (old new : Given) (visits : List Visit) (events : List Happened) → GivesMore old new → AsksOnce old visits events → AsksOnce new visits events
+unfolding rests_wider
+asks_wider old new visits events more asks = record { rests = rests_wider old new visits events more asks.rests; made = omega (arith, more.made, asks.made) }
+
+pub asks_alike : (given : Given) (visits : List Visit) (old new : List Happened) → notes_in new ≡ notes_in old → AsksOnce given visits old → AsksOnce given visits new
+unfolding rests_alike
+asks_alike given visits old new same asks = record { rests = rests_alike given visits old new same asks.rests; made = asks.made }
+
 module _ (given : Given) (agent suffixes : List ℕ) (seeds : List (List ℕ)) (settings : Settings) (spare pages batch : ℕ) where
   -- nothing was crawled yet
   pub only_none : given.may_miss 0 → (x : State) → OnlyCrawls given agent suffixes seeds settings spare pages batch x x
@@ -80,6 +89,8 @@ module _ (given : Given) (agent suffixes : List ℕ) (seeds : List (List ℕ)) (
     visits = [];
     crawls = crawls_quiet (input_of suffixes seeds) given.gives agent [] x x refl refl;
     rests = rests_none given (events_since x x) missed (ap notes_in (drop-length x.events));
+    few = omega arith;
+    behind = few_none settings batch x x;
     batches = subst (AreBatches batch) (sym (drop-length x.events)) tt;
     pages_are = subst (λ (hs : List Happened). length (settled_in hs) ≤ pages) (sym (drop-length x.events)) (omega arith);
     grows = grows_none settings (spare + turns_in (events_since x x)) x;
@@ -100,6 +111,11 @@ module _ (given : Given) (agent suffixes : List ℕ) (seeds : List (List ℕ)) (
     pub later : (y : State) (more : List Happened) → y.events ≡ start.events ++ more → events_since start y ≡ more
     later y more is = ap (drop (length start.events)) is ∙ drop-append_seam start.events more
 
+    pub since_both : (y : State) (more : List Happened) → y.events ≡ start.events ++ more → events_since x y ≡ events_since x start ++ events_since start y
+    since_both y more is =
+        since_start y more is ∙ ap (λ (hs : List Happened). (Begin suffixes, []) ∷ hs) (sym (later y more is))
+        ∙ ap (λ (hs : List Happened). hs ++ events_since start y) (sym (since_start start [] (sym (append-nil start.events))))
+
     pub settled_later : (y : State) (more : List Happened) → y.events ≡ start.events ++ more → settled_in (events_since x y) ≡ settled_in (events_since start y)
     settled_later y more is = ap settled_in (since_start y more is) ∙ sym (ap settled_in (later y more is))
 
@@ -118,7 +134,9 @@ module _ (given : Given) (agent suffixes : List ℕ) (seeds : List (List ℕ)) (
       visits = [];
       crawls = crawls_event (input_of suffixes seeds) given.gives agent [] x start (Begin suffixes) [] refl refl refl;
       rests = rests_none given (events_since x start) missed (ap notes_in (since_start start [] (sym (append-nil start.events))));
-      batches = subst (AreBatches batch) (sym (since_start start [] (sym (append-nil start.events)))) (omega arith, tt);
+      few = omega arith;
+      behind = few_none settings batch x start;
+      batches = subst (AreBatches batch) (sym (since_start start [] (sym (append-nil start.events)))) (tt, tt);
       pages_are = subst (λ (hs : List Happened). length (settled_in hs) ≤ pages) (sym (since_start start [] (sym (append-nil start.events)))) (omega arith);
       grows = grows_begun settings (spare + turns_in (events_since x start)) x start refl refl;
       sends = sends_none suffixes settings x start refl;
@@ -131,8 +149,10 @@ module _ (given : Given) (agent suffixes : List ℕ) (seeds : List (List ℕ)) (
         visits = only.visits;
         crawls = crawls_follow (input_of suffixes seeds) given.gives agent [] [] only.visits x start y begins only.crawls only.crawls.once store begun front goes;
         rests = rests_alike given only.visits (events_since start y) (events_since x y) (notes_later y only.crawls.more only.crawls.events) only.rests;
+        few = only.few;
+        behind = few_then x start y (since_both y only.crawls.more only.crawls.events) settings batch batch [] only.visits (omega arith) tt only.behind;
         batches = subst (AreBatches batch) (sym (since_start y only.crawls.more only.crawls.events))
-            (omega arith, subst (AreBatches batch) (later y only.crawls.more only.crawls.events) only.batches);
+            (tt, subst (AreBatches batch) (later y only.crawls.more only.crawls.events) only.batches);
         pages_are = subst (λ (ds : List (ℕ × Outcome)). length ds ≤ pages) (sym (settled_later y only.crawls.more only.crawls.events)) only.pages_are;
         grows = subst (λ (n : ℕ). GrowsInBatches settings (spare + n) x y) (sym (turns_later y only.crawls.more only.crawls.events))
             (record { urls = only.grows.urls; pairs = only.grows.pairs });
@@ -152,6 +172,9 @@ module _ (given : Given) (agent suffixes : List ℕ) (seeds : List (List ℕ)) (
         sent = λ b lt. whole.sent b lt ∙ pairs_begun suffixes suffixes settings x y.urls b;
       }
 
+      pub asks_behind : AsksOnce given only.visits (events_since start y) → AsksOnce given only.visits (events_since x y)
+      asks_behind asks = asks_alike given only.visits (events_since start y) (events_since x y) (notes_later y only.crawls.more only.crawls.events) asks
+
       pub settled_behind : settled_in (events_since x y) ≡ settled_in (events_since start y)
       settled_behind = settled_later y only.crawls.more only.crawls.events
 
@@ -162,6 +185,8 @@ only_wider old new agent suffixes seeds settings spare pages batch x y more only
   visits = only.visits;
   crawls = crawls_wider old.gives new.gives more.wider (input_of suffixes seeds) agent [] only.visits x y only.crawls;
   rests = rests_wider old new only.visits (events_since x y) more only.rests;
+  few = only.few;
+  behind = only.behind;
   batches = only.batches;
   pages_are = only.pages_are;
   grows = only.grows;

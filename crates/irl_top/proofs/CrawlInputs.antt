@@ -6,6 +6,7 @@ use Rattle.std.proofs.KnownBytes.{Appends-nil}
 use Rattle.irl_base.specs.Faults.{HasCause}
 use Rattle.irl_bay.specs.Drum.{IsDrum}
 use Rattle.irl_crawl.specs.Leading.{Leads}
+use Rattle.irl_crawl.specs.Turning.{events_since}
 use Rattle.irl_crawl.specs.Workers.{Given}
 use Rattle.irl_crawl.proofs.Leading.{leads_more_failed, leads_none, leads_wide}
 use Rattle.irl_disk.specs.Images.{IsConsistent, Told}
@@ -22,8 +23,8 @@ use Rattle.irl_yard.specs.declared.parts.Parts.{Parts}
 use Rattle.irl_yard.specs.Holding.{HoldsState, IsOpenRest, IsSound}
 use Rattle.irl_yard.specs.Passing.{AreCounts}
 use Rattle.irl_words.specs.declared.command.RunOptions.{RunOptions}
-use Rattle.irl_top.specs.Crawled.{CrawlTask, part_task, suffixes_for, CrawlsInput, CrawlsTape, Crawled, GoesOver, GoesTo, IsCrawled}
-use Rattle.irl_top.specs.Crawled.{IsCrawledEnding, IsCrawlEnding, IsOpenEnding, IsPlayEnding, IsReadEnding, IsUnreadEnding, MayCrawl, MayCrawlInput}
+use Rattle.irl_top.specs.Crawled.{CrawlTask, part_task, suffixes_for, CrawlsInput, CrawlsTape, Crawled, EndsAsFound, GoesOver, GoesTo, IsCrawled}
+use Rattle.irl_top.specs.Crawled.{IsCrawledEnding, IsCrawlEnding, IsOpenEnding, IsPlayEnding, IsPrintEnding, IsReadEnding, IsUnreadEnding, MayCrawl, MayCrawlInput}
 use Rattle.irl_top.specs.Crawled.{PrintsCrawl, PrintsReport, RefusesSuffixes, ending_of_tape}
 use Rattle.irl_top.specs.Listing.{IsWriteEnding}
 use Rattle.irl_top.specs.Message.{ending_of}
@@ -33,7 +34,7 @@ use Rattle.irl_top.specs.Stream.{Stream}
 use Rattle.irl_top.specs.declared.ending.Ending.{Ending}
 use Rattle.irl_top.specs.declared.ending.Ending.TheVariants.{Done, BadSettings, LineRefused, NotOurs, Damaged, OtherSettings, DiskFault, InputFault, OutputFault, NoMemory, Full}
 use Rattle.irl_top.proofs.Batching.{CrawlBatches, named_batch, none_crawled}
-use Rattle.irl_top.proofs.Beginning.{only_wider}
+use Rattle.irl_top.proofs.Beginning.{asks_wider, only_wider}
 use Rattle.irl_top.proofs.Giving.{GivesMore}
 use Rattle.irl_top.proofs.Shows.{Printed, at_done, has_report, narrow, none_of, refused_as}
 
@@ -111,6 +112,7 @@ goes_unread task fault parts now old new output law drum sound opened kind line 
             prints = no_text ending x (λ is. absurd (not_tape fault Done is));
           });
       batches = none_crawled (ending ≡ DiskFault) parts now law drum opened kind;
+      found = record { spoilt = λ f at is. absurd (not_tape fault (Damaged f at) is) };
       silent = λ is. refl;
       read = λ is. absurd (not_tape fault Done is);
       accepted = λ is. absurd (not_read fault is);
@@ -149,8 +151,9 @@ pub tape_refused : (task : CrawlTask) (input : Taped) (ending : Ending) (was now
     → RefusesSuffixes (Err ending) input.suffixes
     → Leads (IsErrOf {T = Unit {0}} {E = Ending} (Err ending) DiskFault) (MayCrawlInput task was.urls.settings input) (Crawled (Err ending) task was.urls.settings input) was now before after
     → CrawlBatches (IsErrOf {T = Unit {0}} {E = Ending} (Err ending) DiskFault) was now before after
+    → EndsAsFound (IsErrOf {T = Unit {0}} {E = Ending} (Err ending)) now after
     → CrawlsTape task input was now before after output output ending
-tape_refused task input ending was now before after output kind refuses leads batches =
+tape_refused task input ending was now before after output kind refuses leads batches found =
     let not : (e : Ending) → ending ≡ e → IsCrawlEnding e = λ e is. subst IsCrawlEnding is kind in
     let not_done : IsCrawledEnding ending → ⊥ = λ is. elim is [ inl done ↦ not Done done | inr output ↦ not OutputFault output ] in
     record {
@@ -168,6 +171,7 @@ tape_refused task input ending was now before after output kind refuses leads ba
             prints = no_text ending y (λ e. absurd (not Done e));
           }));
       batches = named_batch (IsErrOf {T = Unit {0}} {E = Ending} (Err ending) DiskFault) (ending ≡ DiskFault) was now before after (err_one ending DiskFault) batches;
+      found = record { spoilt = λ f at is. found.spoilt f at (ap Err is) };
       silent = λ is. refl;
       kinds = crawl_play ending kind;
       suffixes = λ n kept wanted is. refuses n kept wanted (ap Err is);
@@ -201,6 +205,19 @@ write_play (Err ending) (inr is) = subst IsPlayEnding (sym is) tt
 ok_never : (ending : Ending) → IsErrOf {T = Unit {0}} {E = Ending} (Ok tt) ending → ⊥
 ok_never ending is = cc
 
+print_of : (ending : Ending) → IsPrintedEnding ending → IsPrintEnding ending
+print_of Done kind = inl refl
+print_of (BadSettings n) kind = absurd kind
+print_of (LineRefused n) kind = absurd kind
+print_of (NotOurs at) kind = absurd kind
+print_of (Damaged f at) kind = absurd kind
+print_of (OtherSettings n kept wanted) kind = absurd kind
+print_of DiskFault kind = absurd kind
+print_of InputFault kind = absurd kind
+print_of OutputFault kind = inr (inl refl)
+print_of NoMemory kind = inr (inr refl)
+print_of (Full n) kind = absurd kind
+
 pub tape_printed : (task : CrawlTask) (input : Taped) (r : Result (Unit {0}) Ending) (counts : Counts) (was now : Parts) (before after : Told) (output sink : Stream)
     → Leads (IsErrOf {T = Unit {0}} {E = Ending} (Ok tt) DiskFault) (MayCrawlInput task was.urls.settings input) (Crawled (Ok tt) task was.urls.settings input) was now before after
     → CrawlBatches (IsErrOf {T = Unit {0}} {E = Ending} (Ok tt) DiskFault) was now before after
@@ -231,7 +248,8 @@ tape_printed task input r counts was now before after output sink leads batches 
             );
           }));
       batches = named_batch (IsErrOf {T = Unit {0}} {E = Ending} (Ok tt) DiskFault) (ending_of r ≡ DiskFault) was now before after (λ is. absurd (ok_never DiskFault is)) batches;
-      silent = λ is. absurd (not DiskFault is);
+      found = record { spoilt = λ f at e. absurd (not (Damaged f at) e) };
+      silent = λ none. absurd (none (print_of (ending_of r) (write_kind r printed.kinds)));
       kinds = write_play r printed.kinds;
       suffixes = λ n kept wanted is. absurd (not (OtherSettings n kept wanted) is);
       output = cause_for (IsErrOf r OutputFault) (ending_of r ≡ OutputFault) output.faults sink.faults (refused_as r OutputFault (λ e. cc)) printed.output;
@@ -264,7 +282,13 @@ module _ (options : RunOptions) (reads : Option (List ℕ) → Result Taped ℕ 
   crawls_more settings x y = only_wider given (gives input) options.agent (suffixes_for x input) input.seeds settings 1 options.pages options.batch x y more
 
   crawled_more : (settings : Settings) (x y : State) → IsCrawled (part_task options given) settings input x y → IsCrawled task settings input x y
-  crawled_more settings x y is = record { fits = is.fits; crawls = crawls_more settings x y is.crawls; whole = is.whole; ends = is.ends }
+  crawled_more settings x y is = record {
+    fits = is.fits;
+    crawls = crawls_more settings x y is.crawls;
+    whole = is.whole;
+    asks = asks_wider given (gives input) is.crawls.visits (events_since x y) more is.asks;
+    ends = is.ends;
+  }
 
   may_more : (bytes : Option (List ℕ)) (settings : Settings) (x y : State) → reads bytes (Ok input) → IsFrontState x y → MayCrawlInput (part_task options given) settings input x y
       → MayCrawl task settings bytes x y
@@ -291,6 +315,7 @@ module _ (options : RunOptions) (reads : Option (List ℕ) → Result Taped ℕ 
               prints = is.prints;
             });
         batches = tape.batches;
+        found = tape.found;
         silent = tape.silent;
         read = λ is. read;
         accepted = λ is. (input, is_input);

@@ -1,23 +1,26 @@
 -- What beginning a crawl and crawling an input make of an open store.
 use Rattle.std.proofs.Common.{◌≡◌, ◌≢◌, ◌∙◌, ◌⊎◌, inl, inr, ℕ, ◌<◌, ◌≤◌, List, [], ◌++◌, length, Option, None, Some, true, false, refl, sym, ap, subst, arith}
-use Rattle.std.specs.Prelude.{Result, Ok, Err, OnOk, OnErr, IfErr, IsErrOf, flat_map, is_some, unwrap_or}
+use Rattle.std.specs.Prelude.{Result, Ok, Err, OnOk, OnErr, IfErr, IsErrOf, flat_map, is_some, unwrap_or, ⊤}
 use Rattle.irl_base.specs.declared.fault.Fault.{Fault}
 use Rattle.irl_base.specs.declared.fault.Fault.TheVariants.{Failed as StoreFailed, Memory as StoreMemory, Full as StoreFull, Damaged as StoreDamaged}
 use Rattle.irl_bay.specs.Drum.{Drum, IsDrum}
 use Rattle.irl_core.specs.States.{begun_with}
 use Rattle.irl_crawl.specs.Crawling.{CrawlsTo, CrawlsWhole, NoneWaits, OnlyCrawls, result_of}
 use Rattle.irl_crawl.specs.Leading.{IsFullAt, Leads}
-use Rattle.irl_crawl.specs.Turning.{events_since}
+use Rattle.irl_crawl.specs.Refusing.{RefusesAsFound}
+use Rattle.irl_crawl.specs.Turning.{AsksOnce, events_since}
 use Rattle.irl_crawl.specs.Workers.{Given}
 use Rattle.irl_crawl.specs.declared.plan.Ended.{Ended}
 use Rattle.irl_crawl.specs.declared.plan.Ended.TheVariants.{Done as CrawlDone, Limit as CrawlLimit, Fault as CrawlFault}
 use Rattle.irl_crawl.specs.declared.plan.Plan.{Plan}
 use Rattle.irl_crawl.proofs.Leading.{leads_more_failed, leads_none, leads_then, leads_wide}
-use Rattle.irl_disk.specs.Disk.{Files, TellsBy}
+use Rattle.irl_crawl.proofs.OtherFiles.{others_log}
+use Rattle.irl_disk.specs.Disk.{ChangesFile, Files, TellsBy}
 use Rattle.irl_disk.specs.Images.{IsConsistent, Told}
 use Rattle.irl_disk.proofs.Effects.{cause_for}
 use Rattle.irl_events.specs.Events.{Begin, Happened}
 use Rattle.irl_events.specs.State.{State, IsFrontState}
+use Rattle.irl_head.specs.StoreFiles.{crawl_file}
 use Rattle.irl_ledger.specs.declared.ledger.Ledger.{Ledger}
 use Rattle.irl_key.specs.Key.{key_of}
 use Rattle.irl_log.specs.Form.{max_suffixes}
@@ -43,12 +46,12 @@ use Rattle.irl_yard.proofs.Begun.{ledger_in}
 use Rattle.irl_yard.proofs.CallsLead.{event_leads}
 use Rattle.irl_yard.proofs.Leading.{fails_wider}
 use Rattle.irl_yard.proofs.StoreOfCrawl.{held_crawl}
-use Rattle.irl_top.specs.Crawled.{CrawlTask, part_task, suffixes_for, Begins, BeginsAt, Crawled, CrawlsInput, Fits, HasOtherSuffixes}
+use Rattle.irl_top.specs.Crawled.{CrawlTask, part_task, suffixes_for, Begins, BeginsAt, Crawled, CrawlsInput, EndsAsFound, Fits, HasOtherSuffixes}
 use Rattle.irl_top.specs.Crawled.{IsCrawled, IsCrawlEnding, IsFullBy, IsPlanOf, KeepsSuffixes, MayCrawlInput, RefusesSuffixes, ending_of_crawl}
 use Rattle.irl_top.specs.Message.{ending_of_store}
 use Rattle.irl_top.specs.declared.ending.Ending.{Ending}
 use Rattle.irl_top.specs.declared.ending.Ending.TheVariants.{DiskFault, Damaged, Full, NoMemory, OtherSettings}
-use Rattle.irl_top.proofs.Beginning.{only_begun, only_behind, only_none, only_wider, pairs_begun, settled_behind, whole_behind}
+use Rattle.irl_top.proofs.Beginning.{asks_behind, asks_wider, only_begun, only_behind, only_none, only_wider, pairs_begun, settled_behind, whole_behind}
 use Rattle.irl_top.proofs.Giving.{GivesMore, gives_same}
 
 -- ---- what an open store has of its crawl
@@ -239,6 +242,7 @@ module _ {S : Type 0} (tells : S → Told) (law : (s : S) → IsConsistent (tell
       unsound = λ failed. sound.unsound (answer_failed r failed);
     };
     cause = cause_for (IsErrOf r StoreFailed) (IsErrOf (answer_of r) DiskFault) (tells before).faults (tells after).faults (answer_failed r) adds.others.cause;
+    others = others_log was now (tells before) (tells after) (ChangesFile crawl_file (λ _ _. ⊤)) (law after) adds.urls (λ x y changes. changes.others) adds.others.told adds.others.stops;
   }
 
 -- it had begun
@@ -287,16 +291,17 @@ other_refuses text k w w_is named n l v other =
 record IsWhole (task : CrawlTask) (settings : Settings) (input : Taped) (suffixes : List ℕ) (x y : State) : Type 0 where
   only : OnlyCrawls (task.given input) task.agent suffixes input.seeds settings 1 task.pages task.batch x y
   whole : CrawlsWhole suffixes input.seeds settings only.visits x y
+  asks : AsksOnce (task.given input) only.visits (events_since x y)
   ends : NoneWaits settings y ⊎ (length (settled_in (events_since x y)) ≡ task.pages)
 
 crawled_of : (task : CrawlTask) (settings : Settings) (input : Taped) (suffixes : List ℕ) (x y : State) → suffixes_for x input ≡ suffixes → Fits x input.suffixes
     → IsWhole task settings input suffixes x y → IsCrawled task settings input x y
 crawled_of task settings input suffixes x y same fits is =
     let has = subst (λ (s : List ℕ). IsWhole task settings input s x y) (sym same) is in
-    record { fits = fits; crawls = has.only; whole = has.whole; ends = has.ends }
+    record { fits = fits; crawls = has.only; whole = has.whole; asks = has.asks; ends = has.ends }
 
 whole_of : (task : CrawlTask) (settings : Settings) (input : Taped) (x y : State) → IsCrawled task settings input x y → IsWhole task settings input (suffixes_for x input) x y
-whole_of task settings input x y is = record { only = is.crawls; whole = is.whole; ends = is.ends }
+whole_of task settings input x y is = record { only = is.crawls; whole = is.whole; asks = is.asks; ends = is.ends }
 
 -- an offer of a crawl by some suffixes, or a link that it shows, has no room
 abbrev IsFullIn : CrawlTask → Settings → Taped → List ℕ → State → State → ℕ → Type 0
@@ -309,11 +314,13 @@ to_whole : (task : CrawlTask) (settings : Settings) (input : Taped) (suffixes : 
 to_whole task settings input suffixes given x y more CrawlDone to = record {
   only = only_wider given (task.given input) task.agent suffixes input.seeds settings 1 task.pages task.batch x y more to.only;
   whole = (to.done refl).0;
+  asks = asks_wider given (task.given input) to.only.visits (events_since x y) more (to.asks (inl refl));
   ends = inl (to.done refl).1;
 }
 to_whole task settings input suffixes given x y more CrawlLimit to = record {
   only = only_wider given (task.given input) task.agent suffixes input.seeds settings 1 task.pages task.batch x y more to.only;
   whole = (to.limit refl).0;
+  asks = asks_wider given (task.given input) to.only.visits (events_since x y) more (to.asks (inr refl));
   ends = inr (to.limit refl).1;
 }
 to_whole task settings input suffixes given x y more (CrawlFault fault) to = tt
@@ -349,6 +356,26 @@ pub crawl_kinds : (ended : Ended) → IfErr (ending_of_crawl ended) IsCrawlEndin
 crawl_kinds CrawlDone = tt
 crawl_kinds CrawlLimit = tt
 crawl_kinds (CrawlFault fault) = store_kind fault
+
+-- what a crawl is refused for
+pub crawl_found : (ended : Ended) (now : Parts) (after : Told) → RefusesAsFound (result_of ended) now after → EndsAsFound (IsErrOf (ending_of_crawl ended)) now after
+crawl_found ended now after refused = record { spoilt = λ f at is. refused.spoilt f at (crawl_damaged ended f at is) }
+
+-- a beginning names no damage
+pub begin_found : (fault : Fault) (now : Parts) (after : Told) → ((n : ℕ) → IsErrOf {T = Unit {0}} {E = Fault} (Err fault) (StoreFull n) → ⊥)
+    → ((f at : ℕ) → IsErrOf {T = Unit {0}} {E = Fault} (Err fault) (StoreDamaged f at) → ⊥) → EndsAsFound (IsErrOf {T = Unit {0}} {E = Ending} (Err (ending_of_store fault))) now after
+begin_found fault now after full damaged = record {
+  spoilt = λ f at is. absurd (damaged f at (ap Err (store_damaged fault f at (err_one (ending_of_store fault) (Damaged f at) is))));
+}
+
+pub other_found : (n kept wanted : ℕ) (now : Parts) (after : Told) → EndsAsFound (IsErrOf {T = Unit {0}} {E = Ending} (Err (OtherSettings n kept wanted))) now after
+other_found n kept wanted now after = record { spoilt = λ f at is. let no : ⊥ = cc in absurd no }
+
+pub memory_found : (now : Parts) (after : Told) → EndsAsFound (IsErrOf {T = Unit {0}} {E = Ending} (Err NoMemory)) now after
+memory_found now after = record { spoilt = λ f at is. let no : ⊥ = cc in absurd no }
+
+pub ok_found : (now : Parts) (after : Told) → EndsAsFound (IsErrOf {T = Unit {0}} {E = Ending} (Ok tt)) now after
+ok_found now after = record { spoilt = λ f at is. let no : ⊥ = cc in absurd no }
 
 module _ (task : CrawlTask) (input : Taped) (ended : Ended) (suffixes : List ℕ) (given : Given) (was now : Parts) (before after : Told) (kind : was.urls.settings.kind ≡ CrawlKind)
     (more : GivesMore given (task.given input)) (named : suffixes_in was.rest ≡ Some suffixes) (keeps : KeepsSuffixes was input.suffixes) where
@@ -459,6 +486,7 @@ module _ (task : CrawlTask) (settings : Settings) (input : Taped) (x y z : State
         crawled_of task settings input input.suffixes x z named_x fits (record {
           only = only;
           whole = whole_behind (task.given input) task.agent input.suffixes input.seeds settings 1 task.pages task.batch x z store begun_start front_start goes_start has.only has.whole;
+          asks = asks_behind (task.given input) task.agent input.suffixes input.seeds settings 1 task.pages task.batch x z store begun_start front_start goes_start has.only has.asks;
           ends = elim has.ends [
             | inl none ↦ inl none
             | inr all ↦ inr (ap (λ (ds : List (ℕ × Outcome)). length ds)

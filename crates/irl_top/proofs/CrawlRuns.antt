@@ -1,11 +1,12 @@
 -- One run of a command that crawls, by what entering its store says and what is done over an open one.
-use Rattle.std.proofs.Common.{◌≡◌, ◌≢◌, ◌∙◌, ◌⊎◌, inl, inr, ⊎_elim, ℕ, List, [], Option, None, Some, refl, sym, ap, subst, arith}
+use Rattle.std.proofs.Common.{◌≡◌, ◌≢◌, ◌∙◌, ◌⊎◌, inl, inr, ⊎_elim, ℕ, true, List, [], Option, None, Some, refl, sym, ap, subst, arith}
 use Rattle.std.specs.Prelude.{Err, unwrap_or}
 use Rattle.std.specs.Option.{ForSome}
 use Rattle.std.specs.Io.KnownBytes.{Appends}
 use Rattle.std.proofs.KnownBytes.{Appends-nil}
 use Rattle.irl_base.specs.Faults.{HasCause}
 use Rattle.irl_bay.specs.Drum.{IsDrum}
+use Rattle.irl_bay.specs.Holding.{IsLong}
 use Rattle.irl_core.specs.States.{begun_with}
 use Rattle.irl_disk.specs.Disk.{Files}
 use Rattle.irl_disk.specs.Images.{IsConsistent, Leaves, LeavesBy, Told}
@@ -14,7 +15,7 @@ use Rattle.irl_disk.proofs.Stretches.{joins, left_now, widens}
 use Rattle.irl_events.specs.State.{State, IsFrontState, blank_state}
 use Rattle.irl_head.specs.Asking.{Agrees}
 use Rattle.irl_head.specs.Head.{kind_number}
-use Rattle.irl_head.specs.Opening.{IsBlank, IsUnwanted}
+use Rattle.irl_head.specs.Opening.{HasSettings, IsBlank, IsUnwanted}
 use Rattle.irl_head.specs.declared.open_fault.OpenFault.{OpenFault}
 use Rattle.irl_head.specs.declared.open_fault.OpenFault.TheVariants.{NotOurs as OpenNotOurs, Damaged as OpenDamaged, OtherSettings as OpenOtherSettings, BadSettings as OpenBadSettings, Failed as OpenFailed}
 use Rattle.irl_head.proofs.Asking.{new_agrees}
@@ -26,20 +27,21 @@ use Rattle.irl_offer.specs.declared.settings.Settings.{Settings}
 use Rattle.irl_record.specs.Taped.{Taped}
 use Rattle.irl_yard.specs.declared.parts.Parts.{Parts}
 use Rattle.irl_yard.specs.Entering.{EntersStore, OpensYard, OpeningRefused}
-use Rattle.irl_yard.specs.Holding.{HasOneOf, HoldsState}
+use Rattle.irl_yard.specs.Holding.{HasOneOf, HoldsState, IsOpenRest}
 use Rattle.irl_yard.specs.Leading.{HasOneBetween}
 use Rattle.irl_yard.specs.Opening.{entered_state}
 use Rattle.irl_yard.specs.Standing.{HasState, IsLegal}
 use Rattle.irl_yard.proofs.Grounds.{entered_made}
 use Rattle.irl_yard.proofs.Holding.{held_has, held_state}
 use Rattle.irl_yard.proofs.States.{entered_front, state_both, state_same}
-use Rattle.irl_top.specs.Crawled.{CrawlTask, CrawlRun, CrawlsStore, GoesOver, HasOtherSuffixes, IsBatched, IsCrawled, IsFullBy, IsInput, IsCrawledEnding, IsOpenEnding, IsUnreadEnding, MayCrawl, MayLeave, NamesSuffixes, PrintsReport, settings_for}
+use Rattle.irl_top.specs.Crawled.{CrawlTask, CrawlRun, CrawlsStore, GoesOver, HasOtherSuffixes, IsBatched, IsCrawled, IsFullBy, IsInput, IsCrawledEnding, IsOpenEnding, IsOpenOver, IsPrintEnding, IsRefusedStore, IsUnreadEnding, MayCrawl, MayLeave, NamesSuffixes, PrintsReport, settings_for}
 use Rattle.irl_top.specs.Message.{IsLate, ending_of_open}
 use Rattle.irl_top.specs.Opened.{IsOpenable}
 use Rattle.irl_top.specs.Outside.{Lent}
 use Rattle.irl_top.specs.Stream.{Stream}
 use Rattle.irl_top.specs.declared.ending.Ending.{Ending}
 use Rattle.irl_top.specs.declared.ending.Ending.TheVariants.{Done, BadSettings, LineRefused, NotOurs, Damaged, OtherSettings, DiskFault, InputFault, OutputFault, NoMemory, Full}
+use Rattle.irl_top.proofs.CrawlFiles.{enters_stops, enters_told, stop_others, told_others}
 use Rattle.irl_top.proofs.BatchedRuns.{run_batched, run_stops, stops_batched, told_batched}
 use Rattle.irl_top.proofs.Closed.{blank_image, denies_as, entered_valid, failed_or_not, ground_as, legal_entered, legal_has, open_bad, open_damaged, open_disk, open_late, open_other, open_ours, same_told, told_after}
 use Rattle.irl_top.proofs.Ranges.{valid_or_not}
@@ -219,11 +221,7 @@ store_refused task asked before after fault law closed files x is has =
       batched_stop = λ each. stops_batched asked before.store after.store files x (fault ≡ OpenFailed) closed.entered is has each;
     }
 
--- an ending that refuses a store as it is
-abbrev IsRefusal : Ending → Type 0
-IsRefusal ending = ((n : ℕ) × (ending ≡ BadSettings n)) ⊎ ((at : ℕ) × (ending ≡ NotOurs at)) ⊎ ((n kept wanted : ℕ) × (ending ≡ OtherSettings n kept wanted) × (n ≢ 12))
-
-unwanted : (fault : OpenFault) → IsRefusal (ending_of_open fault) → IsUnwanted fault
+unwanted : (fault : OpenFault) → IsRefusedStore (ending_of_open fault) → IsUnwanted fault
 unwanted fault (inl bad) = subst IsUnwanted (sym (open_bad fault bad.0 bad.1)) tt
 unwanted fault (inr (inl ours)) = subst IsUnwanted (sym (open_ours fault ours.0 ours.1)) tt
 unwanted fault (inr (inr other)) = subst IsUnwanted (sym (open_other fault other.0 other.1 other.2 other.3)) tt
@@ -235,8 +233,12 @@ run_refused task asked before after fault law refused entered input output =
     record {
       crawls = λ files is x has. store_refused task asked before after fault law (record { refused = refused; entered = entered; input = input; output = output }) files x is has;
       tells = λ files is. let new = told_after asked before.store.files after.store.files files entered.files is in (new.0, new.1);
+      others = enters_told asked told told after.store.files entered.files;
+      others_stop = enters_stops asked told before.store after.store entered.steps;
       opened = inr (record { files = entered.files; steps = entered.steps; input = input; output = output; late = open_late fault });
       unopened = λ is. (refused.same (unwanted fault is), input, output);
+      unopened_stop = λ is. refused.same_stops (unwanted fault is);
+      silent = λ none. wrote_none before.output after.output output;
       accepted = λ is. absurd (⊎_elim (no_crawled fault) (λ (full : (n : ℕ) × (ending_of_open fault ≡ Full n)). no_full fault full.0 full.1) is);
       read = λ is. absurd (no_done fault is);
       bad = λ n is. (ground_as asked told fault (OpenBadSettings n) (open_bad fault n is) refused.ground).0;
@@ -292,6 +294,11 @@ disk_crawled : (ending : Ending) → ending ≡ DiskFault → IsCrawledEnding en
 disk_crawled ending failed (inl done) = let no : DiskFault ≡ Done = sym failed ∙ done in cc
 disk_crawled ending failed (inr output) = let no : DiskFault ≡ OutputFault = sym failed ∙ output in cc
 
+disk_printed : (ending : Ending) → ending ≡ DiskFault → IsPrintEnding ending → ⊥
+disk_printed ending failed (inl done) = let no : DiskFault ≡ Done = sym failed ∙ done in cc
+disk_printed ending failed (inr (inl output)) = let no : DiskFault ≡ OutputFault = sym failed ∙ output in cc
+disk_printed ending failed (inr (inr memory)) = let no : DiskFault ≡ NoMemory = sym failed ∙ memory in cc
+
 -- a state that is held
 legal_held : (images : Files → Type 0) (parts : Parts) (state : State) → IsDrum parts.urls → HoldsState images parts state → IsLegal state
 legal_held images parts state law holds =
@@ -305,7 +312,8 @@ begun_entered asked x files (inr (settings, made)) = ap (λ (s : State). begun_w
 module _ (task : CrawlTask) (asked : Asked) (before mid after : Lent) (was now : Parts) (ending : Ending) (law_before : IsConsistent before.store) (law_mid : IsConsistent mid.store)
     (law : IsConsistent after.store) (drum : IsDrum was.urls)
     (opened : OpensYard asked was before.store.files mid.store) (entered : EntersStore asked ⊥ before.store mid.store) (input : mid.input ≡ before.input) (output : mid.output ≡ before.output)
-    (over : GoesOver task was now mid after ending) (kind : asked.kind ≡ CrawlKind) where
+    (over : GoesOver task was now mid after ending) (kind : asked.kind ≡ CrawlKind) (long : now.urls.is_sound ≡ true → ForSome after.store.files (IsLong now.urls))
+    (rest : IsOpenRest now.urls now.rest after.store.files) where
   -- what is told is told on
   tells : (files : Files) → before.store.files ≡ Some files → (later : Files) × (mid.store.files ≡ Some later)
   tells files is = let new = told_after asked before.store.files mid.store.files files entered.files is in (new.0, new.1)
@@ -349,7 +357,7 @@ module _ (task : CrawlTask) (asked : Asked) (before mid after : Lent) (was now :
       let later = tells files is in
       let fails = over.leads.fails failed later.0 later.1 (entered_state asked x) (opened.holds files is x has) in
       let whole = state_both (entered_state asked x) fails.kept fails.most fails.first (state_both fails.kept fails.state fails.most fails.fronts.0 fails.fronts.1) in
-      let text : Appends before.output.bytes after.output.bytes [] = subst (λ (t : List ℕ). Appends before.output.bytes after.output.bytes t) (over.silent failed) written_in in
+      let text : Appends before.output.bytes after.output.bytes [] = subst (λ (t : List ℕ). Appends before.output.bytes after.output.bytes t) (over.silent (disk_printed ending failed)) written_in in
       record {
         kept = fails.kept;
         state = fails.state;
@@ -449,7 +457,7 @@ module _ (task : CrawlTask) (asked : Asked) (before mid after : Lent) (was now :
   suffixes_in : (n kept wanted : ℕ) → ending ≡ OtherSettings n kept wanted → (n ≡ 12) × NamesSuffixes task before.input.bytes wanted
   suffixes_in n kept wanted other = subst (λ (s : Stream). (n ≡ 12) × NamesSuffixes task s.bytes wanted) input (over.suffixes n kept wanted other)
 
-  never_refused : IsRefusal ending → ⊥
+  never_refused : IsRefusedStore ending → ⊥
   never_refused (inl bad) = never_bad ending bad.0 over.kinds bad.1
   never_refused (inr (inl ours)) = never_ours ending ours.0 over.kinds ours.1
   never_refused (inr (inr other)) = other.4 (over.suffixes other.0 other.1 other.2 other.3).0
@@ -467,13 +475,37 @@ module _ (task : CrawlTask) (asked : Asked) (before mid after : Lent) (was now :
     undamaged = opened.undamaged files told;
   }
 
+  -- it is open still, unless the store failed
+  still_open : ending ≢ DiskFault → (files : Files) → after.store.files ≡ Some files → IsOpenOver asked before.store.files (Some files) now
+  still_open fine files told =
+      let sound = over.leads.goes_on.sound fine in
+      record {
+        sound = sound;
+        drum = over.leads.goes_on.drum;
+        base = over.leads.others.base ∙ opened.base;
+        settings = subst (λ (s : Settings). ForSome before.store.files (λ was. HasSettings asked was s)) (sym over.leads.settings) opened.settings;
+        long = λ last is. long sound.0 last (told ∙ is);
+        rest = subst (IsOpenRest now.urls now.rest) told rest;
+      }
+
   pub run_opened : CrawlRun task asked before after ending
   run_opened = record {
     crawls = λ files is x has. ⊎_elim (store_led x files is has) (store_failed x files is has) (disk_or ending);
+    others = told_others asked before.store mid.store after.store was now opened.base drum entered over.leads.others;
+    others_stop = stop_others asked before.store mid.store after.store was now law_mid opened.base drum entered over.leads.others;
     opened = inl openable;
-    damaged = λ f at is. inr openable;
+    damaged = λ f at is. inr (
+      openable,
+      λ files told. record {
+        parts = now;
+        is_open = still_open (λ failed. let no : DiskFault ≡ Damaged f at = sym failed ∙ is in let never : ⊥ = cc in never) files told;
+        broken = over.found.spoilt f at is files told;
+      },
+    );
     tells = λ files is. let later = tells files is in over.leads.told later.0 later.1;
     unopened = λ is. absurd (never_refused is);
+    unopened_stop = λ is. absurd (never_refused is);
+    silent = λ none. subst (λ (t : List ℕ). Appends before.output.bytes after.output.bytes t) (over.silent none) written_in;
     accepted = read_in;
     read = λ is. subst (λ (s : Stream). task.ends s after.input) input (over.read is);
     bad = λ n is. absurd (never_bad ending n over.kinds is);

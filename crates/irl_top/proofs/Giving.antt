@@ -1,5 +1,5 @@
 -- What the fetchers of a tape give is what the tape gives, and what one over a port gives is what the port tells.
-use Rattle.std.proofs.Common.{◌≡◌, ◌∙◌, ℕ, zero, suc, List, [], ◌∷◌, ◌++◌, ◌≤◌, length, take, drop, set, get_or, map, Option, Some, refl, sym, ap, subst, arith}
+use Rattle.std.proofs.Common.{◌≡◌, ◌∙◌, ℕ, zero, suc, List, [], ◌∷◌, ◌++◌, ◌≤◌, length, take, drop, set, get_or, map, Option, None, Some, refl, sym, ap, subst, arith}
 use Rattle.std.specs.Prelude.{slice_get}
 use Rattle.irl_crawl.specs.Workers.{AllGoOn, Given, IsGivenBy, RoseBetween, given_by}
 use Rattle.irl_fetch.specs.Telling.{RoseBy}
@@ -13,13 +13,14 @@ use Rattle.irl_top.specs.Crawled.{given_by_ports as ports_give, given_by_tape as
 use Rattle.irl_top.specs.Ports.{Port, given_on, port_of, ports_of}
 
 -- ---- what is given
--- one gives all that another does, and may miss as many answers
+-- one gives all that another does, may miss as many answers, and made no more connections for them
 pub record GivesMore (old new : Given) : Type 0 where
   pub wider : Widens old.gives new.gives
   pub missed : (n : ℕ) → old.may_miss n → new.may_miss n
+  pub made : new.made ≤ old.made
 
 pub gives_same : (given : Given) → GivesMore given given
-gives_same given = record { wider = λ url want answer is. is; missed = λ n is. is }
+gives_same given = record { wider = λ url want answer is. is; missed = λ n is. is; made = omega arith }
 
 -- no count need rise where none was missed
 pub none_rose : {F : Type 0} (faults : F → ℕ) (fs : List F) → RoseBetween faults fs fs 0
@@ -32,8 +33,8 @@ only_at x y zero is = (refl, cc)
 only_at x y (suc at) is = let no : ⊥ = cc in absurd no
 
 given_by_one : (tape : Taped) (start : Playing) (news : List Playing) → start ≡ record { tape = tape; faults = 0; moment = 0 }
-    → AllGoOn (λ _. 0) (λ f _. by_tape f.tape) (λ f. f.faults) (λ f. f.moment) (λ _. []) (start ∷ []) news
-    → Widens (IsGivenBy (λ _. 0) (λ f _. by_tape f.tape) (start ∷ []) news) (by_tape tape)
+    → AllGoOn (λ _. None) (λ f _. by_tape f.tape) (λ f. f.faults) (λ f. f.moment) (λ _. []) (start ∷ []) news
+    → Widens (IsGivenBy (λ _. None) (λ f _. by_tape f.tape) (start ∷ []) news) (by_tape tape)
 given_by_one tape start news is all url want answer given =
     let goes = all.each given.at given.old given.new given.was given.is in
     let same : given.old ≡ start = (only_at start given.old given.at given.was).1 in
@@ -41,9 +42,9 @@ given_by_one tape start news is all url want answer given =
     given.given ∙ sym still ∙ ap (λ (f : Playing). answer_of (record_at f.tape.records url)) (same ∙ is)
 
 pub more_by_tape : (tape : Taped) (start : Playing) (news : List Playing) → start ≡ record { tape = tape; faults = 0; moment = 0 }
-    → AllGoOn (λ _. 0) (λ f _. by_tape f.tape) (λ f. f.faults) (λ f. f.moment) (λ _. []) (start ∷ []) news
-    → GivesMore (given_by (λ _. 0) (λ f _. by_tape f.tape) (λ f. f.faults) (start ∷ []) news) (tape_gives tape)
-more_by_tape tape start news is all = record { wider = given_by_one tape start news is all; missed = λ n missed. tt }
+    → AllGoOn (λ _. None) (λ f _. by_tape f.tape) (λ f. f.faults) (λ f. f.moment) (λ _. []) (start ∷ []) news
+    → GivesMore (given_by (λ _. None) (λ f _. by_tape f.tape) (λ f. f.faults) (start ∷ []) news) (tape_gives tape)
+more_by_tape tape start news is all = record { wider = given_by_one tape start news is all; missed = λ n missed. tt; made = omega arith }
 
 -- ---- ports
 map_at : {A B : Type 0} (f : A → B) (xs : List A) (at : ℕ) (x : A) → slice_get xs at ≡ Some x → slice_get (map f xs) at ≡ Some (f x)
@@ -55,14 +56,14 @@ heads : {A : Type 0} (x y : A) (xs ys : List A) → x ∷ xs ≡ y ∷ ys → (x
 heads x y xs ys is = (cc, cc)
 
 module _ {P : Type 0} (connections : P → Option (List Connection)) (faults : P → ℕ) where
-  abbrev told : Wired P → ℕ → Answers
+  abbrev pub told : Wired P → ℕ → Answers
   told f since = by_wire f.number f.agent (faults f.port) (connections f.port) since
 
   -- the first of some ports is aimed, and is the one that was asked
   given_by_ports : (number : ℕ) (agent : List ℕ) (old aimed : Wired P) (news before after : List (Wired P)) → aimed ≡ record old { number = number; agent = agent }
       → slice_get before 0 ≡ Some old → ((new : Wired P) → slice_get news 0 ≡ Some new → slice_get after 0 ≡ Some new)
-      → AllGoOn (λ f. how_many (connections f.port)) told (λ f. faults f.port) (λ f. f.last) (λ f. f.number ∷ f.agent) (aimed ∷ []) news
-      → Widens (IsGivenBy (λ f. how_many (connections f.port)) told (aimed ∷ []) news) (given_on number agent (ports_of connections faults before) (ports_of connections faults after))
+      → AllGoOn (λ f. connections f.port) told (λ f. faults f.port) (λ f. f.last) (λ f. f.number ∷ f.agent) (aimed ∷ []) news
+      → Widens (IsGivenBy (λ f. connections f.port) told (aimed ∷ []) news) (given_on number agent (ports_of connections faults before) (ports_of connections faults after))
   given_by_ports number agent old aimed news before after is first there all url want answer given =
       let goes = all.each given.at given.old given.new given.was given.is in
       let only = only_at aimed given.old given.at given.was in
@@ -102,11 +103,20 @@ one_rose connections faults old aimed (new ∷ []) ports n same one rose = (
   none_rose (λ (port : Port). port.faults) (ports_of connections faults ports),
 )
 
+-- what it made is what all made
+one_made : {P : Type 0} (connections : P → Option (List Connection)) (faults : P → ℕ) (old aimed : Wired P) (news ports : List (Wired P)) → aimed.port ≡ old.port → length news ≡ 1
+    → (ports_give 0 [] (ports_of connections faults (old ∷ ports)) (ports_of connections faults (news ++ ports))).made
+    ≤ (given_by (λ f. connections f.port) (told connections faults) (λ f. faults f.port) (aimed ∷ []) news).made
+one_made connections faults old aimed [] ports same one = let no : ⊥ = cc in absurd no
+one_made connections faults old aimed (new ∷ next ∷ news) ports same one = absurd (omega (arith, one))
+one_made connections faults old aimed (new ∷ []) ports same one =
+    omega (arith, ap (λ (q : _). how_many (connections q)) same)
+
 -- the first of some ports is aimed, and crawls
 pub more_by_first : {P : Type 0} (connections : P → Option (List Connection)) (faults : P → ℕ) (number : ℕ) (agent : List ℕ) (ports : List (Wired P)) (d aimed : Wired P)
     (news : List (Wired P)) → 1 ≤ length ports → aimed ≡ record (get_or ports 0 d) { number = number; agent = agent }
-    → AllGoOn (λ f. how_many (connections f.port)) (told connections faults) (λ f. faults f.port) (λ f. f.last) (λ f. f.number ∷ f.agent) (take 1 (set ports 0 aimed)) news
-    → GivesMore (given_by (λ f. how_many (connections f.port)) (told connections faults) (λ f. faults f.port) (take 1 (set ports 0 aimed)) news)
+    → AllGoOn (λ f. connections f.port) (told connections faults) (λ f. faults f.port) (λ f. f.last) (λ f. f.number ∷ f.agent) (take 1 (set ports 0 aimed)) news
+    → GivesMore (given_by (λ f. connections f.port) (told connections faults) (λ f. faults f.port) (take 1 (set ports 0 aimed)) news)
     (ports_give number agent (ports_of connections faults ports) (ports_of connections faults (news ++ drop 1 (set ports 0 aimed))))
 more_by_first connections faults number agent [] d aimed news some is all = absurd (omega (arith, some))
 more_by_first {P = P} connections faults number agent (p ∷ ports) d aimed news some is all = record {
@@ -114,4 +124,5 @@ more_by_first {P = P} connections faults number agent (p ∷ ports) d aimed news
       given_by_ports connections faults number agent p aimed news (p ∷ ports) (news ++ drop 1 (set (p ∷ ports) 0 aimed)) is refl
       (λ new at. front_of news (drop 1 (set (p ∷ ports) 0 aimed)) new at) all;
   missed = λ n rose. one_rose connections faults p aimed news ports n (ap (λ (f : Wired P). f.port) is) all.count rose;
+  made = one_made connections faults p aimed news ports (ap (λ (f : Wired P). f.port) is) all.count;
 }

@@ -5,6 +5,7 @@ pub mod Beginning
 pub mod Calls
 pub mod Closed
 pub mod CompletesCrawl
+pub mod CrawlFiles
 pub mod CrawlInputs
 pub mod CrawlParts
 pub mod CrawlRuns
@@ -17,6 +18,7 @@ pub mod InputLines
 pub mod Listed
 pub mod Obeying
 pub mod Opened
+pub mod PortsGoing
 pub mod Ranges
 pub mod Shows
 pub mod Sinks

@@ -11,7 +11,7 @@ use Rattle.irl_top.specs.Ports.{Port}
 use Rattle.irl_top.specs.Run.{Does, WaitsForNobody}
 use Rattle.irl_top.specs.declared.ending.Ending.{Ending}
 use Rattle.irl_top.proofs.AlongTapes.{keeps_along}
-use Rattle.irl_top.proofs.CompletesCrawl.{completes_crawl}
+use Rattle.irl_top.proofs.CompletesCrawl.{crawls_through}
 use Rattle.irl_top.proofs.Deciding.{does_plain, gen_asked, replay_asked}
 
 pub does_replay : (command : Command) (asked : Asked) (options : RunOptions) (olds news : List Port) (before after : Lent) (ending : Ending) → command ≡ Replay asked options → IsInRange command
@@ -19,7 +19,7 @@ pub does_replay : (command : Command) (asked : Asked) (options : RunOptions) (ol
 does_replay command asked options olds news before after ending is range run =
     let kind = (replay_asked asked options (subst IsInRange is range)).0 in
     subst (λ (c : Command). Does c olds news before after ending) (sym is) (record {
-      through = record { run = run; completes = completes_crawl (replay_task options) asked before after ending run };
+      through = crawls_through (replay_task options) asked before after ending run;
       along = keeps_along (replay_task options) asked before after ending (λ input url want answer given. given) kind run;
     })
 
@@ -28,7 +28,7 @@ pub does_gen : (command : Command) (asked : Asked) (options : RunOptions) (pages
 does_gen command asked options pages olds news before after ending is range run =
     let kind = (gen_asked asked options pages (subst IsInRange is range)).0 in
     subst (λ (c : Command). Does c olds news before after ending) (sym is) (record {
-      through = record { run = run; completes = completes_crawl (site_task options pages) asked before after ending run };
+      through = crawls_through (site_task options pages) asked before after ending run;
       along = keeps_along (site_task options pages) asked before after ending (λ input url want answer given. given) kind run;
     })
 
@@ -36,7 +36,7 @@ pub does_crawl : (command : Command) (asked : Asked) (options : RunOptions) (num
     → IsInRange command → CrawlRun (crawl_task options number olds news) asked before after ending → Does command olds news before after ending
 does_crawl command asked options number olds news before after ending is range run =
     subst (λ (c : Command). Does c olds news before after ending) (sym is)
-    (record { run = run; completes = completes_crawl (crawl_task options number olds news) asked before after ending run })
+    (crawls_through (crawl_task options number olds news) asked before after ending run)
 
 pub does_other : (command : Command) (olds news : List Port) (before after : Lent) (ending : Ending) → WaitsForNobody command → Does command [] [] before after ending
     → Does command olds news before after ending

@@ -88,7 +88,7 @@ enters_told asked told old new plain tells = tells_only IsStoreFile old new (tel
 pub enters_stops : (asked : Asked) (told : Option Files) (old new : Told) → asked.kind ≢ Crawl → LeavesBy (Enters asked told) old new → LeavesBy (ChangesOnly IsStoreFile) old new
 enters_stops asked told old new plain steps = widens old new _ _ steps (λ image from. (from.0, from.1, enters_only asked told from.0 image plain from.2))
 
-part_wider : (buckets : ℕ) (p : BayFile) → buckets ≤ 64 → IsPartOf buckets p → IsPartOf 64 p
+pub part_wider : (buckets : ℕ) (p : BayFile) → buckets ≤ 64 → IsPartOf buckets p → IsPartOf 64 p
 part_wider buckets Manifest small is = tt
 part_wider buckets (Cache side) small is = is
 part_wider buckets Judged small is = tt

@@ -1,29 +1,35 @@
 -- What a command that crawls does: it enters a store, reads its input whole, leads the store on by the answers that its
 -- fetches are given, and prints the report.
-use Rattle.std.specs.Prelude.{◌≡◌, ◌≢◌, ◌⊎◌, ◌↔◌, ℕ, ◌+◌, ◌<◌, ◌≤◌, Bool, true, false, List, [], ◌++◌, flat_map, length, map, Option, None, Some, Result, Ok, Err}
+use Rattle.std.specs.Prelude.{◌≡◌, ◌≢◌, ◌⊎◌, ◌↔◌, ℕ, ◌+◌, ◌-◌, ◌<◌, ◌≤◌, Bool, true, false, List, [], ◌++◌, flat_map, length, map, Option, None, Some, Result, Ok, Err}
 use Rattle.std.specs.Prelude.{OnOk, OnErr, IsErrOf, unwrap_or, ⊤}
 use Rattle.std.specs.List.{Contains}
 use Rattle.std.specs.Option.{ForSome}
 use Rattle.std.specs.Io.KnownBytes.{Appends}
 use Rattle.irl_base.specs.Faults.{HasCause, Rose}
+use Rattle.irl_bay.specs.Drum.{IsDrum}
+use Rattle.irl_bay.specs.Holding.{IsLong}
 use Rattle.irl_core.specs.States.{begun_with}
 use Rattle.irl_crawl.specs.Batches.{Batches, besides, turns_since}
 use Rattle.irl_crawl.specs.Crawling.{CrawlsWhole, IsPlan, NoneWaits, OnlyCrawls}
 use Rattle.irl_crawl.specs.declared.plan.Ended.{Ended}
 use Rattle.irl_crawl.specs.declared.plan.Ended.TheVariants.{Done as CrawlDone, Limit as CrawlLimit, Fault as CrawlFault}
 use Rattle.irl_crawl.specs.declared.plan.Plan.{Plan}
-use Rattle.irl_crawl.specs.Leading.{GrowsInBatches, IsFullAt, Leads}
+use Rattle.irl_crawl.specs.Leading.{GrowsInBatches, IsCrawlFile, IsFullAt, Leads}
+use Rattle.irl_crawl.specs.Refusing.{IsBrokenAt}
+use Rattle.irl_crawl.specs.Room.{HasRoomFor, most_handed}
 use Rattle.irl_crawl.specs.Sending.{pairs_for}
-use Rattle.irl_crawl.specs.Workers.{Given, RoseBetween}
-use Rattle.irl_crawl.specs.Turning.{events_since}
-use Rattle.irl_disk.specs.Disk.{Files}
+use Rattle.irl_crawl.specs.Turning.{AsksOnce, events_since}
+use Rattle.irl_crawl.specs.Workers.{Given, RoseBetween, made_by}
+use Rattle.irl_disk.specs.Disk.{ChangesFile, ChangesOnly, Files, TellsOnly}
 use Rattle.irl_disk.specs.Images.{Leaves, LeavesBy, Told}
 use Rattle.irl_events.specs.Events.{Begin}
 use Rattle.irl_events.specs.State.{State, IsFrontState}
 use Rattle.irl_fate.specs.Fates.{fate_of}
 use Rattle.irl_fate.specs.declared.fate.Fate.TheVariants.{Done as DoneFate}
 use Rattle.irl_head.specs.Asking.{Agrees, IsBadAsked}
-use Rattle.irl_head.specs.Opening.{IsBadStore, IsKeptOtherwise, IsNotOursAt}
+use Rattle.irl_head.specs.Opening.{HasSettings, IsBadStore, IsKeptOtherwise, IsNotOursAt}
+use Rattle.irl_head.specs.StoreFiles.{head_file, urls_base}
+use Rattle.irl_journal.specs.Visiting.{IsOpened}
 use Rattle.irl_key.specs.Key.{key_of}
 use Rattle.irl_model.specs.Book.{Book, IsPrefixOf, part, uniques}
 use Rattle.irl_offer.specs.Settings.{AreValid, settings_of}
@@ -44,6 +50,7 @@ use Rattle.irl_words.specs.declared.command.RunOptions.{RunOptions}
 use Rattle.irl_schedule.specs.Feeding.{list_at}
 use Rattle.irl_yard.specs.declared.parts.Parts.{Parts}
 use Rattle.irl_yard.specs.Adding.{with_event}
+use Rattle.irl_yard.specs.Holding.{IsOpenRest, IsSound}
 use Rattle.irl_yard.specs.Leading.{HasOneBetween}
 use Rattle.irl_yard.specs.Opening.{IsDamageAt, entered_state}
 use Rattle.irl_yard.specs.Passing.{come, suffixes_in}
@@ -90,15 +97,17 @@ tape_task pages options given = record {
   batch = options.batch;
 }
 
--- the answers of a tape, of which any number may be that none comes
+-- the answers of a tape, of which any number may be that none comes, and for which no connection is made
 abbrev pub given_by_tape : Taped → Given
-given_by_tape tape = record { gives = by_tape tape; may_miss = λ _. ⊤ }
+given_by_tape tape = record { gives = by_tape tape; may_miss = λ _. ⊤; made = 0 }
 
--- those that ports gave on connections to this number of a port; each that didn't come is a fault of its port
+-- Those that ports gave on connections to this number of a port, and how many of these they made. Each that didn't come
+-- is a fault of its port.
 abbrev pub given_by_ports : ℕ → List ℕ → List Port → List Port → Given
 given_by_ports number agent before after = record {
   gives = given_on number agent before after;
   may_miss = RoseBetween (λ port. port.faults) before after;
+  made = made_by (λ port. port.connections) after - made_by (λ port. port.connections) before;
 }
 
 -- that of `replay`: a tape with pages, which gives the answers
@@ -174,6 +183,8 @@ pub record IsCrawled (task : CrawlTask) (settings : Settings) (input : Taped) (x
   pub fits : Fits x input.suffixes
   pub crawls : CrawlsInput task settings input x y
   pub whole : CrawlsWhole (suffixes_for x input) input.seeds settings crawls.visits x y
+  -- nothing was asked for twice
+  pub asks : AsksOnce (task.given input) crawls.visits (events_since x y)
   pub ends : NoneWaits settings y ⊎ (length (settled_in (events_since x y)) ≡ task.pages)
 
 -- an input names other suffixes than none, and this is their key
@@ -184,6 +195,10 @@ pub record NamesSuffixes (task : CrawlTask) (bytes : Option (List ℕ)) (wanted 
   pub wanted_is : wanted ≡ key_of input.suffixes
 
 -- ---- what parts of it make of an open store
+-- damage of an open store is answered only where it is, by what is kept in memory and told of the files then
+pub record EndsAsFound (answered : Ending → Type 0) (now : Parts) (after : Told) : Type 0 where
+  pub spoilt : (f at : ℕ) → answered (Damaged f at) → ForSome after.files (λ files. IsBrokenAt now files f at)
+
 -- a crawl is begun with these suffixes, unless it has begun
 abbrev pub BeginsAt : List ℕ → State → State → Type 0
 BeginsAt suffixes x y = (y ≡ x) ⊎ ((begun_with x.events ≡ None) × (y ≡ with_event (Begin suffixes) [] x))
@@ -284,6 +299,15 @@ IsReadEnding ending = IsCrawledEnding ending ⊎ ((n : ℕ) × (ending ≡ Full 
 abbrev pub IsUnreadEnding : Ending → Type 0
 IsUnreadEnding ending = (ending ≡ InputFault) ⊎ ((n : ℕ) × (ending ≡ LineRefused n))
 
+-- an ending at which something may be printed
+abbrev pub IsPrintEnding : Ending → Type 0
+IsPrintEnding ending = (ending ≡ Done) ⊎ (ending ≡ OutputFault) ⊎ (ending ≡ NoMemory)
+
+-- an ending that refuses a store as it is: it can't be made as is asked, is of another make, or was made otherwise
+abbrev pub IsRefusedStore : Ending → Type 0
+IsRefusedStore ending = ((n : ℕ) × (ending ≡ BadSettings n)) ⊎ ((at : ℕ) × (ending ≡ NotOurs at))
+    ⊎ ((n kept wanted : ℕ) × (ending ≡ OtherSettings n kept wanted) × (n ≢ 12))
+
 -- an ending of a run over an open store
 abbrev pub IsOpenEnding : Ending → Type 0
 IsOpenEnding Done = ⊤
@@ -330,8 +354,8 @@ pub record CrawlsTape (task : CrawlTask) (input : Taped) (was now : Parts) (befo
       was now before after
   -- Cuts and records come in batches, but for those of the settled turns, of two desks and of one judging.
   pub batches : Batches (ending ≡ DiskFault) (besides 2 1) (besides 2 1) was now before after
-  -- where the store failed nothing is written
-  pub silent : ending ≡ DiskFault → text ≡ []
+  pub found : EndsAsFound (λ answered. ending ≡ answered) now after
+  pub silent : (IsPrintEnding ending → ⊥) → text ≡ []
   pub kinds : IsPlayEnding ending
   -- of what the store was made with, only the suffixes may differ
   pub suffixes : (n kept wanted : ℕ) → ending ≡ OtherSettings n kept wanted
@@ -358,8 +382,9 @@ pub record GoesOver (task : CrawlTask) (was now : Parts) (before after : Lent) (
       (GoesTo task was.urls.settings before.input.bytes ending text) was now before.store after.store
   -- cuts and records come in batches
   pub batches : Batches (ending ≡ DiskFault) (besides 2 1) (besides 2 1) was now before.store after.store
-  -- where the store failed nothing is written
-  pub silent : ending ≡ DiskFault → text ≡ []
+  -- and a refusal has its reason, whatever the files stand for
+  pub found : EndsAsFound (λ answered. ending ≡ answered) now after.store
+  pub silent : (IsPrintEnding ending → ⊥) → text ≡ []
   pub read : ending ≡ Done → task.ends before.input after.input
   pub accepted : IsReadEnding ending → (input : Taped) × IsInput task before.input.bytes input
   pub line : (n : ℕ) → ending ≡ LineRefused n → task.reads before.input.bytes (Err n)
@@ -427,18 +452,44 @@ pub record CrawlsStore (task : CrawlTask) (asked : Asked) (before after : Lent) 
     pub batched_stop : ((image : Files) → before.store.images image → HasState x image)
         → LeavesBy (IsBatched asked x) before.store after.store
 
+-- the files of a store of a crawl: its head, its two bays and its log
+abbrev pub IsCrawlStoreFile : ℕ → Type 0
+IsCrawlStoreFile f = (f ≡ head_file) ⊎ IsCrawlFile urls_base 64 f
+
+-- What is kept in memory of an open store over files that were told as these, and then as those: each file of a bay is
+-- at least as long as is kept of it.
+pub record IsOpenOver (asked : Asked) (old new : Option Files) (parts : Parts) : Type 0 where
+  pub sound : IsSound parts
+  pub drum : IsDrum parts.urls
+  pub base : parts.urls.base ≡ urls_base
+  pub settings : ForSome old (λ told. HasSettings asked told parts.urls.settings)
+  pub long : ForSome new (IsLong parts.urls)
+  pub rest : IsOpenRest parts.urls parts.rest new
+
+-- what is told of an open store breaks its form at this place
+pub record IsBrokenStore (asked : Asked) (old : Option Files) (f at : ℕ) (files : Files) : Type 0 where
+  pub parts : Parts
+  pub is_open : IsOpenOver asked old (Some files) parts
+  pub broken : IsBrokenAt parts files f at
+
 -- One run of a command that crawls, between what is told before it and after it.
 pub record CrawlRun (task : CrawlTask) (asked : Asked) (before after : Lent) (ending : Ending) : Type 0 where
   pub crawls : ForSome before.store.files (λ files. (x : State) → HasState x files
       → CrawlsStore task asked before after ending x)
   -- a store that tells goes on telling
   pub tells : (files : Files) → before.store.files ≡ Some files → (later : Files) × (after.store.files ≡ Some later)
-  -- over any it is opened, or it stays closed
+  -- over any no other file changes
+  pub others : TellsOnly IsCrawlStoreFile before.store.files after.store.files
+  pub others_stop : LeavesBy (ChangesOnly IsCrawlStoreFile) before.store after.store
+  -- it is opened, or it stays closed
   pub opened : ForSome before.store.files (IsOpenable asked) ⊎ StaysClosed asked before after ending
   -- a store that is refused as it is keeps its files, and nothing is read or written
-  pub unopened : ((n : ℕ) × (ending ≡ BadSettings n)) ⊎ ((at : ℕ) × (ending ≡ NotOurs at))
-      ⊎ ((n kept wanted : ℕ) × (ending ≡ OtherSettings n kept wanted) × (n ≢ 12))
-      → (after.store.files ≡ before.store.files) × (after.input ≡ before.input) × (after.output ≡ before.output)
+  pub unopened : IsRefusedStore ending → (after.store.files ≡ before.store.files) × (after.input ≡ before.input)
+      × (after.output ≡ before.output)
+  -- and a stop leaves it, but for the head's gate
+  pub unopened_stop : IsRefusedStore ending → LeavesBy (ChangesFile head_file IsOpened) before.store after.store
+  -- nothing is printed but at Done, where the output fails, and where memory runs out
+  pub silent : (IsPrintEnding ending → ⊥) → Appends before.output.bytes after.output.bytes []
   -- 0, 6 and 8 come only behind an input that isn't refused
   pub accepted : IsCrawledEnding ending ⊎ ((n : ℕ) × (ending ≡ Full n)) → (input : Taped)
       × IsInput task before.input.bytes input
@@ -449,9 +500,10 @@ pub record CrawlRun (task : CrawlTask) (asked : Asked) (before after : Lent) (en
   pub bad_asked : (n : ℕ) → ending ≡ BadSettings n → IsBadAsked (settings_of asked) n
   pub line : (n : ℕ) → ending ≡ LineRefused n → task.reads before.input.bytes (Err n)
   pub not_ours : (at : ℕ) → ending ≡ NotOurs at → ForSome before.store.files (λ files. IsNotOursAt files at)
-  -- what shows where it is opened, or a damage of an open store
+  -- what shows where it is opened, or a damage that is found in an open store
   pub damaged : (f at : ℕ) → ending ≡ Damaged f at → ForSome before.store.files (λ files. IsDamageAt asked files f at)
-      ⊎ ForSome before.store.files (IsOpenable asked)
+      ⊎ (ForSome before.store.files (IsOpenable asked)
+      × ForSome after.store.files (IsBrokenStore asked before.store.files f at))
   -- settings that differ, or of a crawl that has begun the text of its suffixes
   pub other : (n kept wanted : ℕ) → ending ≡ OtherSettings n kept wanted
       → ForSome before.store.files (λ files. IsKeptOtherwise asked files n kept wanted)
@@ -479,28 +531,48 @@ HasRoomForLinks suffixes settings x urls = (b : ℕ) → b < settings.buckets
     → length (pairs_for suffixes settings x urls b) ≤ settings.cap
 
 -- Over a store that stands for a state and was made, or can be made, as is asked, by an input that isn't refused and
--- names no other suffixes, where nothing fails, and each list has room for all that a crawl of the input hands in and
--- links, in whatever state that keeps the laws of one.
-pub record MayComplete (task : CrawlTask) (asked : Asked) (before after : Lent) (x : State) : Type 0
+-- names no other suffixes, where nothing fails.
+pub record NothingFails (task : CrawlTask) (asked : Asked) (before after : Lent) (x : State) : Type 0
   where
     pub read : (n : ℕ) → task.reads before.input.bytes (Err n) → ⊥
     pub agrees : Agrees asked (settings_for asked (entered_state asked x))
     pub valid : AreValid (settings_for asked (entered_state asked x))
     pub suffixes : (input : Taped) → IsInput task before.input.bytes input → Fits x input.suffixes
+    pub store : Rose before.store.faults after.store.faults → ⊥
+    pub input : Rose before.input.faults after.input.faults → ⊥
+    pub output : Rose before.output.faults after.output.faults → ⊥
+
+-- And each list has room for all that a crawl of the input hands in and links, in whatever state that keeps the laws of
+-- one.
+pub record MayComplete (task : CrawlTask) (asked : Asked) (before after : Lent) (x : State) : Type 0
+  where
+    pub fine : NothingFails task asked before after x
     pub room : (input : Taped) (y : State) → IsInput task before.input.bytes input → IsLegal y
         → (crawls : CrawlsInput task (settings_for asked (entered_state asked x)) input (entered_state asked x) y)
         → HasRoom (settings_for asked (entered_state asked x)) (entered_state asked x)
         (handed_by input (entered_state asked x) y crawls.visits)
         × HasRoomForLinks (suffixes_for (entered_state asked x) input) (settings_for asked (entered_state asked x))
         (entered_state asked x) y.urls
-    pub store : Rose before.store.faults after.store.faults → ⊥
-    pub input : Rose before.input.faults after.input.faults → ⊥
-    pub output : Rose before.output.faults after.output.faults → ⊥
+
+-- Or for the input's seeds and 10,000 offers of each page that may be visited: that is known before a run, whatever
+-- it is answered.
+pub record MayCompleteFew (task : CrawlTask) (asked : Asked) (before after : Lent) (x : State) : Type 0
+  where
+    pub fine : NothingFails task asked before after x
+    pub room : (input : Taped) → IsInput task before.input.bytes input
+        → HasRoomFor (most_handed task.pages input.seeds) (settings_for asked (entered_state asked x))
+        (entered_state asked x)
 
 -- there a run is done, or memory ran out
+abbrev pub CompletesWhere : (State → Type 0) → Lent → Ending → Type 0
+CompletesWhere may before ending = (files : Files) (x : State) → before.store.files ≡ Some files
+    → HasState x files → may x → (ending ≡ NoMemory) ⊎ (ending ≡ Done)
+
 abbrev pub CompletesCrawl : CrawlTask → Asked → Lent → Lent → Ending → Type 0
-CompletesCrawl task asked before after ending = (files : Files) (x : State) → before.store.files ≡ Some files
-    → HasState x files → MayComplete task asked before after x → (ending ≡ NoMemory) ⊎ (ending ≡ Done)
+CompletesCrawl task asked before after ending = CompletesWhere (MayComplete task asked before after) before ending
+
+abbrev pub CompletesFew : CrawlTask → Asked → Lent → Lent → Ending → Type 0
+CompletesFew task asked before after ending = CompletesWhere (MayCompleteFew task asked before after) before ending
 
 -- ---- along a tape
 -- each unique URL of a state is done
@@ -540,6 +612,7 @@ KeepsAlong task before after ending = (tape : Taped) → IsOnlyInput task before
 pub record CrawlsThrough (task : CrawlTask) (asked : Asked) (before after : Lent) (ending : Ending) : Type 0 where
   pub run : CrawlRun task asked before after ending
   pub completes : CompletesCrawl task asked before after ending
+  pub completes_few : CompletesFew task asked before after ending
 
 -- the same of one over a tape that gives the answers, by which a store stays along it
 pub record PlaysTape (task : CrawlTask) (asked : Asked) (before after : Lent) (ending : Ending) : Type 0 where

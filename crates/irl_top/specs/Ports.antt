@@ -1,10 +1,11 @@
 -- What ports tell: the connections that they made, and how often they failed.
-use Rattle.std.specs.Prelude.{◌≡◌, ℕ, List, map, Option, Some, slice_get}
+use Rattle.std.specs.Prelude.{◌≡◌, ◌≤◌, ℕ, List, map, Option, Some, slice_get}
+use Rattle.std.specs.List.{AllZip}
 use Rattle.irl_http.specs.declared.link.Connection.{Connection}
 use Rattle.irl_offer.specs.declared.reply.Answer.{Answer}
 use Rattle.irl_offer.specs.declared.reply.Want.{Want}
 use Rattle.irl_record.specs.Widening.{Answers}
-use Rattle.irl_record.specs.Wired.{Wired, by_wire, how_many}
+use Rattle.irl_record.specs.Wired.{KeepsMade, Wired, by_wire, how_many}
 
 -- what a port tells at one moment
 pub record Port : Type 0 where
@@ -18,6 +19,16 @@ port_of connections faults fetcher =
 
 abbrev pub ports_of : {P : Type 0} → (P → Option (List Connection)) → (P → ℕ) → List (Wired P) → List Port
 ports_of connections faults fetchers = map (port_of connections faults) fetchers
+
+-- From one moment to a later one: the connections that a port made before stay, with what was written on them, and
+-- others come behind them; its faults are no fewer.
+pub record PortGoesOn (old new : Port) : Type 0 where
+  pub made : KeepsMade old.connections new.connections
+  pub faults : old.faults ≤ new.faults
+
+-- there are as many, and each goes on in its place
+abbrev pub PortsGoOn : List Port → List Port → Type 0
+PortsGoOn before after = AllZip PortGoesOn before after
 
 -- An answer that one of them gave between two moments, where they are aimed at this number of a port, by this agent:
 -- the answer of all that a connection gives, which was made since, to that number, and on which the request for the URL

@@ -37,7 +37,7 @@ use Rattle.irl_top.specs.Input.{refused, offered}
 use Rattle.irl_top.specs.Message.{Says, message, refusal, status_of, refused_status, IsAllPrinted, IsLate, IsUnopened}
 use Rattle.irl_top.specs.Opened.{IsOpenable, StaysClosed}
 use Rattle.irl_top.specs.Outside.{Lent, Outside, IsUntouched}
-use Rattle.irl_top.specs.Ports.{Port}
+use Rattle.irl_top.specs.Ports.{Port, PortsGoOn}
 use Rattle.irl_top.specs.Printed.{before_last, added}
 use Rattle.irl_top.specs.Records.{AddsUnevenRecords}
 use Rattle.irl_top.specs.Shown.{Shown, IsReportOf, IsListingOf}
@@ -261,7 +261,8 @@ pub record Obeys (command : Command) (before after : Outside) (status : ℕ) : T
   pub ending : Ending
   pub status_is : status ≡ status_of ending
   pub does : Does command before.ports after.ports before.lent after.lent ending
-  -- no other command calls a port
+  -- each port goes on in its place, and no other command calls one
+  pub ports : PortsGoOn before.ports after.ports
   pub offline : IsOnline command ⊎ (after.ports ≡ before.ports)
   -- the error sink is given the ending's line, or a prefix of it where the sink failed
   pub says : Says (message ending) before.errors after.errors

@@ -10,10 +10,10 @@ ghost use Rattle.irl_crawl.specs.Batches.{Batches, besides, just};
 ghost use Rattle.irl_crawl.specs.Leading.{IsOpen, Leads};
 ghost use Rattle.irl_crawl.specs.Workers.{AllGoOn, given_by};
 ghost use Rattle.irl_top.specs.Crawled.{crawl_task, part_task, replay_task, site_task, Begins, BeginsAt, Crawled, CrawlsTape, CrawlRun, GoesOver};
-ghost use Rattle.irl_top.specs.Crawled.{IsCrawlEnding, IsPlanOf, KeepsSuffixes, MayCrawlInput, RefusesSuffixes};
+ghost use Rattle.irl_top.specs.Crawled.{EndsAsFound, IsCrawlEnding, IsPlanOf, KeepsSuffixes, MayCrawlInput, RefusesSuffixes};
 ghost use Rattle.irl_top.specs.Crawled.{ending_of_crawl, ending_of_tape};
 ghost use Rattle.irl_top.specs.Outside.{lent, lent_beside, stream};
-ghost use Rattle.irl_top.specs.Ports.{ports_of};
+ghost use Rattle.irl_top.specs.Ports.{PortsGoOn, ports_of};
 ghost use Rattle.irl_top.specs.Stream.{Stream};
 ghost use Rattle.irl_top.specs.declared.ending.Ending.TheVariants.{DiskFault as DiskEnding};
 
@@ -174,10 +174,11 @@ where
     requires kind { asked.now.kind ≡ CrawlKind }
     requires options { AreRunOptions options.now }
     requires some { 1 ≤ length ports.old }
-    ensures { let tells = lent S.told I.left I.faults O.written O.faults in
+    ensures run { let tells = lent S.told I.left I.faults O.written O.faults in
         let told = ports_of P.connections P.faults in
         CrawlRun (crawl_task options.now number (told ports.old) (told ports.new)) asked.now
         (tells store input.old output.old) (tells result.1 input.new output.new) result.0 }
+    ensures ports { let told = ports_of P.connections P.faults in PortsGoOn (told ports.old) (told ports.new) }
 {
     let yard = match Yard::enter(alloc, store, asked) {
         Ok(yard) => yard,
@@ -208,10 +209,11 @@ where
     requires kind { yard.parts.urls.settings.kind ≡ CrawlKind }
     requires options { AreRunOptions options.now }
     requires some { 1 ≤ length ports.old }
-    ensures { let tells = lent S.told I.left I.faults O.written O.faults in
+    ensures over { let tells = lent S.told I.left I.faults O.written O.faults in
         let told = ports_of P.connections P.faults in
         GoesOver (crawl_task options.now number (told ports.old) (told ports.new)) yard.parts result.1.parts
         (tells yard.store input.old output.old) (tells result.1.store input.new output.new) result.0 }
+    ensures ports { let told = ports_of P.connections P.faults in PortsGoOn (told ports.old) (told ports.new) }
 {
     let _is_sound = yard.is_sound();
     let tape = match Tape::read(alloc, input, false) {
@@ -284,6 +286,7 @@ where
         (S.told yard.store) (S.told result.1.store) }
     ensures batches { Batches (IsErrOf result.0 DiskEnding) (besides 2 1) (besides 2 1) yard.parts result.1.parts
         (S.told yard.store) (S.told result.1.store) }
+    ensures found { EndsAsFound (IsErrOf result.0) result.1.parts (S.told result.1.store) }
     ensures kinds { IfErr result.0 IsCrawlEnding }
     ensures suffixes { RefusesSuffixes result.0 tape.now.suffixes }
     ensures fetchers { AllGoOn F.asked F.gives F.faults F.last F.aim fetchers.old fetchers.new }
@@ -306,6 +309,7 @@ fn begin<S: Store>(yard: &mut Yard<S>, suffixes: &Text) -> Result<(), Ending>
         yard.old.parts yard.new.parts (S.told yard.old.store) (S.told yard.new.store) }
     ensures batches { Batches (IsErrOf result DiskEnding) (just 0 0) (just 0 0)
         yard.old.parts yard.new.parts (S.told yard.old.store) (S.told yard.new.store) }
+    ensures found { EndsAsFound (IsErrOf result) yard.new.parts (S.told yard.new.store) }
     ensures kinds { IfErr result IsCrawlEnding }
     ensures suffixes { RefusesSuffixes result suffixes.now }
     ensures open { OnOk result (IsOpen yard.new.parts × KeepsSuffixes yard.new.parts suffixes.now) }
@@ -353,6 +357,7 @@ where
         (S.told yard.store) (S.told result.1.store) }
     ensures batches { Batches (IsErrOf result.0 DiskEnding) (besides 2 1) (besides 2 1) yard.parts result.1.parts
         (S.told yard.store) (S.told result.1.store) }
+    ensures found { EndsAsFound (IsErrOf result.0) result.1.parts (S.told result.1.store) }
     ensures kinds { IfErr result.0 IsCrawlEnding }
     ensures suffixes { RefusesSuffixes result.0 tape.now.suffixes }
     ensures fetchers { AllGoOn F.asked F.gives F.faults F.last F.aim fetchers.old fetchers.new }

@@ -14,6 +14,3 @@ mod telling;
 
 pub use ending::Ending;
 pub use program::{plain, run};
-
-#[cfg(test)]
-mod tests;

@@ -1,4 +1,4 @@
-use Rattle.std.proofs.Common.{◌≡◌, ◌∙◌, Some, sym, IsErrOf}
+use Rattle.std.proofs.Common.{◌≡◌, ◌∙◌, Err, Some, refl, sym, IsErrOf}
 use Rattle.irl_schedule.proofs.Outcomes.{ok_gives}
 use Rattle.irl_crawl.proofs.Rising.{rose_between_same}
 use Rattle.irl_crawl.proofs.SeedsRun.{crawl_lacks, crawl_refused, crawl_runs, seeds_are}
@@ -6,6 +6,7 @@ use Rattle.irl_base.specs.declared.fault.Fault.TheVariants.{Failed}
 use Rattle.irl_crawl.proofs.RecordsJudged.{ok_or_failed, suffixes_there}
 use Rattle.irl_crawl.proofs.RecordsThen.{leads_on}
 use Rattle.irl_crawl.proofs.RecordsTurned.{crawl_batch, ended_failed, seeds_alone}
+use Rattle.irl_crawl.proofs.Refusing.{refused_memory, refused_on}
 use Rattle.irl_crawl.proofs.crawling.crawl.Goals as goal
 
 pub returns-in-Err-clause-leads : goal.returns-in-Err-clause-leads
@@ -52,3 +53,14 @@ returns-in-Ok-clause-batches g c =
     crawl_batch seeded c.in_default.field-0 _ was.parts mid.parts now.parts (tells was.store) (tells mid.store) (tells now.store) c.in_default.is
     (leads_on (IsErrOf seeded Failed) _ _ was.parts mid.parts (tells was.store) (tells mid.store) (c.seed-seeded.ensures.leads suffixes.0 suffixes.1)) c.seed-seeded.ensures.batches
     c.go_on.ensures.batches
+
+pub returns-in-Err-clause-refused : goal.returns-in-Err-clause-refused
+returns-in-Err-clause-refused g c =
+    let now = c.seed-seeded.result.1 in
+    refused_on {B = Unit} c.seed-seeded.result.0 (Err c.in-Err.fault) c.in-Err.fault now.parts (g.S.Store.told now.store) c.in-Err.is refl c.seed-seeded.ensures.refused
+
+pub returns-in-Err-crew_of-clause-refused : goal.returns-in-Err-crew_of-clause-refused
+returns-in-Err-crew_of-clause-refused g c = refused_memory c.seed-seeded.result.1.parts (g.S.Store.told c.seed-seeded.result.1.store)
+
+pub returns-in-Ok-clause-refused : goal.returns-in-Ok-clause-refused
+returns-in-Ok-clause-refused g c = c.go_on.ensures.refused

@@ -1,10 +1,11 @@
-use Rattle.std.proofs.Common.{◌≡◌, ◌∙◌, ◌≤◌, ℕ, List, length, refl, sym, subst, arith}
+use Rattle.std.proofs.Common.{◌≡◌, ◌∙◌, ◌≤◌, ℕ, Err, List, length, refl, sym, subst, arith}
 use Rattle.irl_schedule.proofs.Outcomes.{ok_gives}
 use Rattle.irl_crawl.proofs.Going.{all_go_then}
 use Rattle.irl_crawl.proofs.Looping.{runs_done, runs_first, runs_limit, runs_next, runs_stop}
 use Rattle.irl_crawl.specs.Workers.{AreIdle, schedules}
 use Rattle.irl_crawl.proofs.RecordsThen.{leads_on}
 use Rattle.irl_crawl.proofs.RecordsTurned.{ended_batch, first_batch, step_batch, stopped_batch}
+use Rattle.irl_crawl.proofs.Refusing.{refused_ok, refused_on}
 use Rattle.irl_crawl.proofs.crawling.go_on.Goals as goal
 
 pub loop-init : goal.loop-init
@@ -89,3 +90,14 @@ returns-in-Err-clause-batches g c =
     let far = c.loop.invariant.2 in
     stopped_batch c.step-settled.result.0 c.in-Err.fault was.parts mid.parts now.parts (tells was.store) (tells mid.store) (tells now.store) c.in-Err.is
     (leads_on ⊥ _ _ was.parts mid.parts (tells was.store) (tells mid.store) far.runs.leads) far.batches c.step-settled.ensures.batches
+
+pub returns-then-is_done-clause-refused : goal.returns-then-is_done-clause-refused
+returns-then-is_done-clause-refused g c = refused_ok tt c.loop.yard.parts (g.S.Store.told c.loop.yard.store)
+
+pub returns-then-left-eq0-clause-refused : goal.returns-then-left-eq0-clause-refused
+returns-then-left-eq0-clause-refused g c = refused_ok tt c.loop.yard.parts (g.S.Store.told c.loop.yard.store)
+
+pub returns-in-Err-clause-refused : goal.returns-in-Err-clause-refused
+returns-in-Err-clause-refused g c =
+    let now = c.step-settled.result.1 in
+    refused_on {B = Unit} c.step-settled.result.0 (Err c.in-Err.fault) c.in-Err.fault now.parts (g.S.Store.told now.store) c.in-Err.is refl c.step-settled.ensures.refused

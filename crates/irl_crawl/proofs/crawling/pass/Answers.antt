@@ -13,6 +13,7 @@ use Rattle.irl_crawl.proofs.RecordsJudged.{begun_passed, failed_on, ok_or_failed
 use Rattle.irl_crawl.proofs.RecordsOfLog.{pass_batch}
 use Rattle.irl_crawl.proofs.RecordsThen.{batches_more, same_within}
 use Rattle.irl_crawl.specs.Batches.{just}
+use Rattle.irl_crawl.proofs.Refusing.{refused_ok, refused_on, refused_passes}
 use Rattle.irl_crawl.proofs.crawling.pass.Goals as goal
 
 pub returns-in_err-pass-clause-leads : goal.returns-in_err-pass-clause-leads
@@ -68,3 +69,16 @@ returns-clause-batches g c =
     (pass_batch tells g.met.S.Store.is_consistent was.parts now.parts was.store now.store was.rest_is now.rest_is (subst IsDrum passes.urls c.pass.ensures.goes_on.drum) (crawl_of was.parts.rest begun)
     c.pass.result passes (crawl_of now.parts.rest
     (begun_passed was.parts now.parts (tells was.store).files (tells now.store).files was.rest_is now.rest_is passes.urls passes.suffixes begun)))
+
+pub returns-in_err-pass-clause-refused : goal.returns-in_err-pass-clause-refused
+returns-in_err-pass-clause-refused g c =
+    let tells = g.S.Store.told in
+    let was = c.args.yard.now in
+    let now = c.pass.new.self in
+    let passes = c.pass.ensures.passes in
+    let out = err_from_is_err_and c.from_residual.result c.from_residual.ensures.1 in
+    refused_on c.pass.result c.from_residual.result c.in_err-pass.field-0.0 now.parts (tells now.store) c.in_err-pass.was (out.1 ∙ ap (λ (e : Fault). Err e) out.2)
+    (refused_passes tells c.pass.result was.parts now.parts was.store now.store (subst IsDrum passes.urls c.pass.ensures.goes_on.drum) was.rest_is c.requires.open.begun passes)
+
+pub returns-clause-refused : goal.returns-clause-refused
+returns-clause-refused g c = refused_ok 0 c.pass.new.self.parts (g.S.Store.told c.pass.new.self.store)

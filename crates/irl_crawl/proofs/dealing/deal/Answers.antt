@@ -5,6 +5,7 @@ use Rattle.std.proofs.lemmas.Result.{IfOk-at_ok}
 use Rattle.irl_crawl.specs.Serving.{number_of}
 use Rattle.irl_crawl.proofs.Deals.{deals_one, serves_one}
 use Rattle.irl_crawl.proofs.Going.{all_go_at}
+use Rattle.irl_crawl.proofs.Rising.{made_at}
 use Rattle.irl_crawl.proofs.dealing.deal.Goals as goal
 
 pub returns-in_err-read_note-clause-fetchers : goal.returns-in_err-read_note-clause-fetchers
@@ -49,3 +50,21 @@ returns-clause-serves g c =
     (record { items = c.keep.new.items; notes = c.read_note.new.notes }) c.name.ensures.kept
     (ap (number_of c.name.new.self) (sym c.host-host.ensures.value) ∙ c.in_ok-met.ensures.number) refl
     (slice_get-get_or c.args.shares.now worker c.index-shares-worker.result within) pushed
+
+pub returns-in_err-read_note-clause-made : goal.returns-in_err-read_note-clause-made
+returns-in_err-read_note-clause-made g c =
+    let worker = c.in_ok-met.met.number % length c.args.fetchers.now in
+    let within : worker < length c.args.fetchers.now = omega arith in
+    made_at g.F.Fetch.asked c.args.fetchers.now worker c.index-fetchers-worker.result c.read_note.new.fetch within c.read_note.ensures.asked
+
+pub returns-in_err-keep-clause-made : goal.returns-in_err-keep-clause-made
+returns-in_err-keep-clause-made g c =
+    let worker = c.in_ok-met.met.number % length c.args.fetchers.now in
+    let within : worker < length c.args.fetchers.now = omega arith in
+    made_at g.F.Fetch.asked c.args.fetchers.now worker c.index-fetchers-worker.result c.read_note.new.fetch within c.read_note.ensures.asked
+
+pub returns-clause-made : goal.returns-clause-made
+returns-clause-made g c =
+    let worker = c.in_ok-met.met.number % length c.args.fetchers.now in
+    let within : worker < length c.args.fetchers.now = omega arith in
+    made_at g.F.Fetch.asked c.args.fetchers.now worker c.index-fetchers-worker.result c.read_note.new.fetch within c.read_note.ensures.asked

@@ -1,4 +1,4 @@
-use Rattle.std.proofs.Common.{◌≡◌, ℕ, [], ◌∷◌, ◌++◌, length, Ok, subst}
+use Rattle.std.proofs.Common.{◌≡◌, ◌∙◌, ℕ, [], ◌∷◌, ◌++◌, length, Ok, subst}
 use Rattle.std.proofs.lemmas.Result.{err_from_is_err_and}
 use Rattle.irl_crawl.specs.Dealing.{ServesOn}
 use Rattle.irl_crawl.proofs.Deals.{deals_other, deals_then, serves_then, serves_unit}
@@ -18,6 +18,7 @@ loop-work-preserved g c =
           (serves_unit c.in_ok-deal.field-0 (length c.args.fetchers.now) c.loop-work.hosts c.deal.new.hosts c.loop-work.shares c.deal.new.shares kept);
       fetchers = all_go_then g.F.Fetch.asked g.F.Fetch.gives g.F.Fetch.faults g.F.Fetch.last g.F.Fetch.aim c.args.fetchers.now c.loop-work.fetchers c.deal.new.fetchers c.loop-work.invariant.fetchers
           c.deal.ensures.fetchers;
+      made = c.deal.ensures.made ∙ c.loop-work.invariant.made;
     }
 
 pub returns-in_err-deal-clause-deals : goal.returns-in_err-deal-clause-deals
@@ -33,3 +34,6 @@ pub returns-in_err-deal-clause-fetchers : goal.returns-in_err-deal-clause-fetche
 returns-in_err-deal-clause-fetchers g c =
     all_go_then g.F.Fetch.asked g.F.Fetch.gives g.F.Fetch.faults g.F.Fetch.last g.F.Fetch.aim c.args.fetchers.now c.loop-work.fetchers c.deal.new.fetchers c.loop-work.invariant.fetchers
     c.deal.ensures.fetchers
+
+pub returns-in_err-deal-clause-made : goal.returns-in_err-deal-clause-made
+returns-in_err-deal-clause-made g c = c.deal.ensures.made ∙ c.loop-work.invariant.made

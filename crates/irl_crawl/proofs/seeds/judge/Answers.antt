@@ -9,6 +9,7 @@ use Rattle.irl_crawl.proofs.RecordsOfDesks.{merge_batch, merge_on, no_waiting}
 use Rattle.irl_crawl.proofs.RecordsOfPairs.{pairs_batch}
 use Rattle.irl_crawl.proofs.RecordsThen.{a_merge, batches_more}
 use Rattle.irl_crawl.specs.Batches.{just}
+use Rattle.irl_crawl.proofs.Refusing.{refused_merge, refused_on, refused_sends}
 use Rattle.irl_crawl.proofs.seeds.judge.Goals as goal
 
 pub returns-in_err-merge_rest-clause-leads : goal.returns-in_err-merge_rest-clause-leads
@@ -33,7 +34,7 @@ returns-clause-leads g c = λ suffixes is.
     (merge_leads c.merge_rest.result was.parts mid.parts (tells was.store) (tells mid.store) was.rest_is c.is_sound-is_sound.ensures.drum (g.met.S.Store.is_consistent mid.store) c.requires.open.begun
     (c.merge_rest.ensures.schedules no_waits) c.merge_rest.ensures.merges.judged c.merge_rest.ensures.rest c.merge_rest.ensures.goes_on)
     (send_leads suffixes c.send_pairs.result mid.parts last.parts (tells mid.store) (tells last.store) c.send_pairs.ensures.sends c.send_pairs.ensures.goes_on
-    (ap suffixes_in c.merge_rest.ensures.rest ∙ is) last.rest_is)
+    (ap suffixes_in c.merge_rest.ensures.rest ∙ is) last.rest_is (g.met.S.Store.is_consistent last.store))
 
 pub returns-clause-keeps : goal.returns-clause-keeps
 returns-clause-keeps g c =
@@ -68,3 +69,20 @@ returns-clause-batches g c =
     (merge_batch c.merge_rest.result was.parts mid.parts (tells was.store) (tells mid.store) was.rest_is drum merge.goes_on.drum (law mid.store) begun (merge.schedules no_waiting) merge.rest)
     (pairs_batch c.send_pairs.result mid.parts last.parts (tells mid.store) (tells last.store) c.send_pairs.ensures.sends mid.rest_is last.rest_is merge.goes_on.drum
     c.send_pairs.ensures.goes_on.drum (law last.store) (subst HasBegun (sym merge.rest) begun))
+
+pub returns-in_err-merge_rest-clause-refused : goal.returns-in_err-merge_rest-clause-refused
+returns-in_err-merge_rest-clause-refused g c =
+    let tells = g.S.Store.told in
+    let was = c.args.yard.now in
+    let next = c.merge_rest.new.self in
+    let out = err_from_is_err_and c.from_residual.result c.from_residual.ensures.1 in
+    refused_on c.merge_rest.result c.from_residual.result c.in_err-merge_rest.field-0.0 next.parts (tells next.store) c.in_err-merge_rest.was (out.1 ∙ ap (λ e. Err e) out.2)
+    (refused_merge c.merge_rest.result was.parts next.parts (tells was.store) (tells next.store) (c.merge_rest.ensures.schedules no_waiting))
+
+pub returns-clause-refused : goal.returns-clause-refused
+returns-clause-refused g c =
+    let tells = g.S.Store.told in
+    let mid = c.merge_rest.new.self in
+    let last = c.send_pairs.new.self in
+    refused_sends c.send_pairs.result mid.parts last.parts (tells mid.store) (tells last.store) c.merge_rest.ensures.goes_on.drum mid.rest_is
+    (subst HasBegun (sym c.merge_rest.ensures.rest) c.requires.open.begun) c.send_pairs.ensures.sends

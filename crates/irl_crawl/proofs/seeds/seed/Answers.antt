@@ -7,11 +7,12 @@ use Rattle.irl_yard.specs.Passing.{suffixes_in}
 use Rattle.irl_yard.specs.Sending.{HasBegun}
 use Rattle.irl_desk.specs.Serving.{serving_of}
 use Rattle.irl_schedule.proofs.Outcomes.{ok_gives}
-use Rattle.irl_crawl.proofs.Seeding.{close_refused, judged_then, keeps_behind, offer_refused, open_then, rest_after, seeds_back, seeds_from, seeds_none}
+use Rattle.irl_crawl.proofs.Seeding.{close_reason, close_refused, judged_then, keeps_behind, offer_reason, offer_refused, open_then, rest_after, seeds_back, seeds_from, seeds_none}
 use Rattle.irl_crawl.proofs.RecordsJudged.{back_batch, batch_from, desk_within, failed_on, ok_or_failed, seed_batch}
 use Rattle.irl_crawl.proofs.RecordsOfDesks.{desk_batch, desk_on}
 use Rattle.irl_crawl.proofs.RecordsThen.{batches_more}
 use Rattle.irl_crawl.specs.Batches.{just}
+use Rattle.irl_crawl.proofs.Refusing.{refused_memory}
 use Rattle.irl_crawl.proofs.seeds.seed.Goals as goal
 
 pub returns-in-Err-clause-leads : goal.returns-in-Err-clause-leads
@@ -154,3 +155,29 @@ returns-clause-batches g c =
     (desk_on tells law offers.entries desk mid closed after.store after.parts yard.rest_is drum begun c.in-Ok.ensures.fresh offers.serves c.close-closed.ensures)
     (desk_batch tells law offers.entries desk mid closed after.store after.parts yard.rest_is drum begun c.in-Ok.ensures.fresh offers.serves c.close-closed.ensures)
     c.judge-judged.ensures.batches)
+
+pub returns-in-Err-clause-refused : goal.returns-in-Err-clause-refused
+returns-in-Err-clause-refused g c = refused_memory c.in-Err.yard.parts (g.S.Store.told c.in-Err.yard.store)
+
+pub returns-in-Err-closed-clause-refused : goal.returns-in-Err-closed-clause-refused
+returns-in-Err-closed-clause-refused g c =
+    let yard = c.in-Ok.desk.intake.yard in
+    let after = c.close-closed.result.1 in
+    let parts = c.in-Ok.ensures.yard.1 in
+    close_reason g.S.Store.told g.met.S.Store.is_consistent c.args.seeds.now (serving_of c.in-Ok.desk) (serving_of c.offer_seeds-offered.new.desk) c.offer_seeds-offered.result
+    c.close-closed.result.0 after.store after.parts yard.rest_is (subst (λ (p : Parts). IsDrum p.urls) (sym parts) c.is_sound-is_sound.ensures.drum)
+    (subst (λ (p : Parts). HasBegun p.rest) (sym parts) c.requires.open.begun) c.in-Ok.ensures.fresh c.offer_seeds-offered.ensures c.close-closed.ensures (Err c.in-Err-closed.fault)
+    c.in-Err-closed.fault c.in-Err-closed.is refl
+
+pub returns-in-Err-offered-clause-refused : goal.returns-in-Err-offered-clause-refused
+returns-in-Err-offered-clause-refused g c =
+    let yard = c.in-Ok.desk.intake.yard in
+    let after = c.close-closed.result.1 in
+    let parts = c.in-Ok.ensures.yard.1 in
+    offer_reason g.S.Store.told g.met.S.Store.is_consistent c.args.seeds.now (serving_of c.in-Ok.desk) (serving_of c.offer_seeds-offered.new.desk) c.offer_seeds-offered.result
+    c.close-closed.result.0 after.store after.parts yard.rest_is (subst (λ (p : Parts). IsDrum p.urls) (sym parts) c.is_sound-is_sound.ensures.drum)
+    (subst (λ (p : Parts). HasBegun p.rest) (sym parts) c.requires.open.begun) c.in-Ok.ensures.fresh c.offer_seeds-offered.ensures c.close-closed.ensures (Err c.in-Err-offered.fault)
+    c.in-Err-offered.fault c.in_default.field-0 c.in_default.is c.in-Err-offered.is refl
+
+pub returns-clause-refused : goal.returns-clause-refused
+returns-clause-refused g c = c.judge-judged.ensures.refused

@@ -3,7 +3,7 @@ use Rattle.irl_base.specs.declared.fault.Fault.TheVariants.{Memory, Failed}
 use Rattle.irl_desk.specs.Serving.{serving_of}
 use Rattle.irl_crawl.specs.Fetching.{Fetches}
 use Rattle.irl_crawl.specs.Workers.{given_by, schedules}
-use Rattle.irl_crawl.proofs.Fetching.{fetched_closed, fetched_refused, not_opened}
+use Rattle.irl_crawl.proofs.Fetching.{fetched_closed, fetched_refused, not_opened, reason_closed, reason_refused}
 use Rattle.irl_crawl.proofs.Rising.{rose_between_same}
 use Rattle.irl_base.specs.declared.fault.Fault.{Fault}
 use Rattle.irl_bay.specs.Drum.{IsDrum}
@@ -14,6 +14,7 @@ use Rattle.irl_crawl.proofs.RecordsJudged.{back_batch, batch_from, failed_on, ok
 use Rattle.irl_crawl.proofs.RecordsOfDesks.{desk_batch, served_all}
 use Rattle.irl_crawl.proofs.RecordsThen.{batches_more, same_within}
 use Rattle.irl_crawl.specs.Batches.{just}
+use Rattle.irl_crawl.proofs.Refusing.{refused_memory}
 use Rattle.irl_crawl.proofs.turn.fetch_all.Goals as goal
 
 pub returns-in-Err-clause-fetches : goal.returns-in-Err-clause-fetches
@@ -99,3 +100,36 @@ returns-in-Err-closed-clause-batches g c =
     (failed_on {B = WorkLog} closed (Err c.in-Err-closed.fault) c.in-Err-closed.fault c.in-Err-closed.is refl) (same_within (just 1 0)) (same_within (just 1 0))
     (desk_batch tells law all.0 desk mid closed after.store after.parts yard.rest_is (subst (λ (p : Parts). IsDrum p.urls) (sym parts) c.is_sound-is_sound.ensures.drum)
     (subst (λ (p : Parts). HasBegun p.rest) (sym parts) c.requires.«open».begun) c.in-Ok.ensures.fresh all.1 c.close-closed.ensures))
+
+pub returns-in-Err-clause-refused : goal.returns-in-Err-clause-refused
+returns-in-Err-clause-refused g c = refused_memory c.in-Err.yard.parts (g.S.Store.told c.in-Err.yard.store)
+
+pub returns-in-Ok-closed-clause-refused : goal.returns-in-Ok-closed-clause-refused
+returns-in-Ok-closed-clause-refused g c =
+    let given = given_by g.F.Fetch.asked g.F.Fetch.gives g.F.Fetch.faults c.args.fetchers.now c.work_all-worked.new.fetchers in
+    let was = c.args.yard in
+    let crew = c.args.crew.now in
+    let desk = c.in-Ok.desk in
+    let last = c.work_all-worked.new.offers in
+    let back = c.close-closed.result.1 in
+    reason_closed g.S.Store.told g.met.S.Store.is_consistent c.work_all-worked.result given crew.agent crew.suffixes (schedules crew.fronts.items) (schedules c.work_all-worked.new.crew.fronts.items)
+    _ _
+    (serving_of desk) (serving_of last) back.store back.parts c.work_all-worked.ensures.works c.in-Ok.ensures.fresh
+    (λ news same. c.serves_entered.ensures news (serving_of last) c.work_all-worked.ensures.follows same) refl refl refl was.store was.parts
+    c.in-Ok.ensures.yard.0 c.in-Ok.ensures.yard.1 desk.intake.yard.rest_is c.is_sound-is_sound.ensures.drum c.requires.«open».begun c.close-closed.result.0 c.close-closed.ensures
+    c.in-Ok-closed.field-0 c.in-Ok-closed.is
+
+pub returns-in-Err-closed-clause-refused : goal.returns-in-Err-closed-clause-refused
+returns-in-Err-closed-clause-refused g c =
+    let given = given_by g.F.Fetch.asked g.F.Fetch.gives g.F.Fetch.faults c.args.fetchers.now c.work_all-worked.new.fetchers in
+    let was = c.args.yard in
+    let crew = c.args.crew.now in
+    let desk = c.in-Ok.desk in
+    let last = c.work_all-worked.new.offers in
+    let back = c.close-closed.result.1 in
+    reason_refused g.S.Store.told g.met.S.Store.is_consistent c.work_all-worked.result given crew.agent crew.suffixes (schedules crew.fronts.items)
+    (schedules c.work_all-worked.new.crew.fronts.items) _ _
+    (serving_of desk) (serving_of last) back.store back.parts c.work_all-worked.ensures.works c.in-Ok.ensures.fresh
+    (λ news same. c.serves_entered.ensures news (serving_of last) c.work_all-worked.ensures.follows same) refl refl refl was.store was.parts
+    c.in-Ok.ensures.yard.0 c.in-Ok.ensures.yard.1 desk.intake.yard.rest_is c.is_sound-is_sound.ensures.drum c.requires.«open».begun c.close-closed.result.0 c.close-closed.ensures
+    c.in-Err-closed.fault c.in-Err-closed.is

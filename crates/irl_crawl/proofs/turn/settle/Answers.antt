@@ -8,6 +8,7 @@ use Rattle.irl_crawl.proofs.RecordsJudged.{begun_on, event_judged, failed_on, no
 use Rattle.irl_crawl.proofs.RecordsOfLog.{event_batch, event_on, event_there, notes_batch, notes_on}
 use Rattle.irl_crawl.proofs.RecordsThen.{batches_more, leads_on, same_within}
 use Rattle.irl_crawl.specs.Batches.{judged_in, just}
+use Rattle.irl_crawl.proofs.Refusing.{refused_never, refused_ok, refused_on}
 use Rattle.irl_crawl.proofs.turn.settle.Goals as goal
 
 pub returns-in_err-note_all-clause-leads : goal.returns-in_err-note_all-clause-leads
@@ -279,3 +280,31 @@ returns-clause-turned g c =
     (event_on tells law mid.parts late.parts mid.store late.store mid.rest_is late.rest_is drum_mid crawl_mid (Ok settled) event adds crawl_late)
     (event_there tells law mid.parts late.parts mid.store late.store mid.rest_is late.rest_is drum_mid crawl_mid (Ok settled) event adds crawl_late settled refl)
     (leads_on (IsErrOf (Ok judged) Failed) _ _ late.parts now.parts (tells late.store) (tells now.store) leads)
+
+pub returns-in_err-note_all-clause-refused : goal.returns-in_err-note_all-clause-refused
+returns-in_err-note_all-clause-refused g c =
+    let now = c.note_all.new.self in
+    let fault = c.in_err-note_all.field-0.0 in
+    let adds = c.in_err-note_all.ensures.adds in
+    let out = err_from_is_err_and c.from_residual.result c.from_residual.ensures.1 in
+    refused_on {A = Unit} (Err fault) c.from_residual.result fault now.parts (g.S.Store.told now.store) refl (out.1 ∙ ap (λ e. Err e) out.2)
+    (refused_never (Err fault) now.parts (g.S.Store.told now.store) adds.full adds.damaged)
+
+pub returns-in_err-settle-clause-refused : goal.returns-in_err-settle-clause-refused
+returns-in_err-settle-clause-refused g c =
+    let now = c.settle.new.self in
+    let fault = c.in_err-settle.field-0.0 in
+    let adds = c.in_err-settle.ensures.adds in
+    let out = err_from_is_err_and c.from_residual-in_err-settle.result c.from_residual-in_err-settle.ensures.1 in
+    refused_on {A = Unit} (Err fault) c.from_residual-in_err-settle.result fault now.parts (g.S.Store.told now.store) refl (out.1 ∙ ap (λ e. Err e) out.2)
+    (refused_never (Err fault) now.parts (g.S.Store.told now.store) adds.full adds.damaged)
+
+pub returns-in_err-judge-clause-refused : goal.returns-in_err-judge-clause-refused
+returns-in_err-judge-clause-refused g c =
+    let now = c.judge.new.yard in
+    let fault = c.in_err-judge.field-0.0 in
+    let out = err_from_is_err_and c.from_residual-in_err-judge.result c.from_residual-in_err-judge.ensures.1 in
+    refused_on {A = Unit} (Err fault) c.from_residual-in_err-judge.result fault now.parts (g.S.Store.told now.store) refl (out.1 ∙ ap (λ e. Err e) out.2) c.in_err-judge.ensures.refused
+
+pub returns-clause-refused : goal.returns-clause-refused
+returns-clause-refused g c = refused_ok (length c.args.done.now) c.judge.new.yard.parts (g.S.Store.told c.judge.new.yard.store)

@@ -23,6 +23,7 @@ use Rattle.irl_crawl.proofs.RecordsJudged.{failed_on, just_besides, none_besides
 use Rattle.irl_crawl.proofs.RecordsThen.{batches_more, leads_on}
 use Rattle.irl_crawl.proofs.RecordsTurned.{besides_rising, just_rising, loaded_batch, turn_batch, unless_rising}
 use Rattle.irl_crawl.specs.Batches.{a_desk_unless, besides, just}
+use Rattle.irl_crawl.proofs.Refusing.{refused_on}
 use Rattle.irl_crawl.proofs.turn.turn.Goals as goal
 
 pub returns-in-Err-clause-leads : goal.returns-in-Err-clause-leads
@@ -86,13 +87,13 @@ returns-in-Ok-clause-leads g c =
     c.fetch_all-worked.ensures.fetches) in
     settled_after old.agent old.suffixes c.args.most (schedules old.fronts.items) befores afters given wide
     (widens_second g.F.Fetch.asked g.F.Fetch.gives g.F.Fetch.faults g.F.Fetch.last g.F.Fetch.aim c.args.fetchers.now c.load.new.fetchers c.fetch_all-worked.new.fetchers c.load.ensures.fetchers
-    c.fetch_all-worked.ensures.fetchers g.met.F.Fetch.earlier)
+    c.fetch_all-worked.ensures.fetchers g.met.F.Fetch.earlier c.load.ensures.made)
     (rose_between_fewer g.F.Fetch.faults c.load.new.fetchers c.fetch_all-worked.new.fetchers) was.parts mid.parts (tells was.store) (tells mid.store)
     (rose_between_all g.F.Fetch.asked g.F.Fetch.gives g.F.Fetch.faults g.F.Fetch.last g.F.Fetch.aim c.args.fetchers.now c.fetch_all-worked.new.fetchers
     (all_go_then g.F.Fetch.asked g.F.Fetch.gives g.F.Fetch.faults g.F.Fetch.last g.F.Fetch.aim c.args.fetchers.now c.load.new.fetchers c.fetch_all-worked.new.fetchers c.load.ensures.fetchers
     c.fetch_all-worked.ensures.fetchers))
     (λ x held. held_is_crawl (tells was.store).images was.parts x c.is_sound-is_sound.ensures.drum c.requires.«open».begun held) c.requires.suffixes c.in_default.field-0 c.in_default.ensures.leads
-    c.in_default.ensures.next now.parts (tells now.store) log fetches c.settle-settled.result last.parts (tells last.store)
+    c.in_default.ensures.next now.parts (tells now.store) log fetches c.requires.front c.settle-settled.result last.parts (tells last.store)
     (settles_for old.suffixes c.settle-settled.result now.parts.urls.settings c.deref-in-Ok.result.now log.notes.items c.deref-in-Ok-2.result.now log.done.items now.parts last.parts (tells now.store)
     (tells last.store)
     c.deref-in-Ok.ensures.value c.deref-in-Ok-2.ensures.value
@@ -172,7 +173,7 @@ returns-in-Err-worked-clause-leads g c =
     c.fetch_all-worked.ensures.fetches) in
     not_fetched old.agent old.suffixes c.args.most (schedules old.fronts.items) befores afters given wide
     (widens_second g.F.Fetch.asked g.F.Fetch.gives g.F.Fetch.faults g.F.Fetch.last g.F.Fetch.aim c.args.fetchers.now c.load.new.fetchers c.fetch_all-worked.new.fetchers c.load.ensures.fetchers
-    c.fetch_all-worked.ensures.fetchers g.met.F.Fetch.earlier)
+    c.fetch_all-worked.ensures.fetchers g.met.F.Fetch.earlier c.load.ensures.made)
     (rose_between_fewer g.F.Fetch.faults c.load.new.fetchers c.fetch_all-worked.new.fetchers) was.parts mid.parts (tells was.store) (tells mid.store)
     (rose_between_all g.F.Fetch.asked g.F.Fetch.gives g.F.Fetch.faults g.F.Fetch.last g.F.Fetch.aim c.args.fetchers.now c.fetch_all-worked.new.fetchers
     (all_go_then g.F.Fetch.asked g.F.Fetch.gives g.F.Fetch.faults g.F.Fetch.last g.F.Fetch.aim c.args.fetchers.now c.load.new.fetchers c.fetch_all-worked.new.fetchers c.load.ensures.fetchers
@@ -234,3 +235,17 @@ returns-in-Ok-clause-batches g c =
     (turn_batch (IsErrOf worked Failed) result mid.parts now.parts last.parts (tells mid.store) (tells now.store) (tells last.store) (ok_or_failed worked log c.in-Ok.is)
     (leads_on (IsErrOf worked Failed) _ _ mid.parts now.parts (tells mid.store) (tells now.store) c.fetch_all-worked.ensures.fetches.leads) c.fetch_all-worked.ensures.batches
     c.settle-settled.ensures.batches c.settle-settled.ensures.turned)
+
+pub returns-in-Err-clause-refused : goal.returns-in-Err-clause-refused
+returns-in-Err-clause-refused g c =
+    let now = c.load.new.yard in
+    refused_on {A = Unit} {B = ℕ} (Err c.in-Err.fault) (Err c.in-Err.fault) c.in-Err.fault now.parts (g.S.Store.told now.store) refl refl c.in-Err.ensures.refused
+
+pub returns-in-Err-worked-clause-refused : goal.returns-in-Err-worked-clause-refused
+returns-in-Err-worked-clause-refused g c =
+    let now = c.fetch_all-worked.result.1 in
+    let fault = c.in-Err-worked.fault in
+    refused_on {B = ℕ} c.fetch_all-worked.result.0 (Err fault) fault now.parts (g.S.Store.told now.store) c.in-Err-worked.is refl c.fetch_all-worked.ensures.refused
+
+pub returns-in-Ok-clause-refused : goal.returns-in-Ok-clause-refused
+returns-in-Ok-clause-refused g c = c.settle-settled.ensures.refused

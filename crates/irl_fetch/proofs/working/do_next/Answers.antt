@@ -1,4 +1,4 @@
-use Rattle.std.proofs.Common.{◌≡◌, ◌∙◌, true, refl, sym, ap}
+use Rattle.std.proofs.Common.{◌≡◌, ◌∙◌, true, refl, sym, ap, arith}
 use Rattle.std.proofs.lemmas.Result.{err_from_is_err_and, IfOk-at_ok, IfErr-at_err}
 use Rattle.irl_offer.specs.Offering.{fault_or}
 use Rattle.irl_robots.specs.declared.host.Leave.TheVariants as leave
@@ -6,8 +6,8 @@ use Rattle.irl_polite.specs.Inside.{schedule}
 use Rattle.irl_polite.specs.Schedule.{Schedule, raised}
 use Rattle.irl_polite.proofs.Awaited.{asked_awaited}
 use Rattle.irl_fetch.specs.Handling.{Handled, Fetched, Denied, ShutOut}
-use Rattle.irl_fetch.specs.Telling.{Fetcher, GoesOn, Offering, fetcher, offering}
-use Rattle.irl_fetch.proofs.Telling.{goes_then}
+use Rattle.irl_fetch.specs.Telling.{Fetcher, GoesOn, MakesAtMost, Offering, fetcher, offering}
+use Rattle.irl_fetch.proofs.Telling.{goes_then, makes_none, makes_then}
 use Rattle.irl_fetch.proofs.Jobs.{taken_page, taken_denied, taken_shut, does_one, stops_page, goes_asked, goes_now, next_does, next_drops, next_ends, next_lacks, next_notes, next_refuses, next_stops, next_waits, true_is_more}
 use Rattle.irl_fetch.proofs.working.do_next.Given.{Over}
 use Rattle.irl_fetch.proofs.working.do_next.Goals as goal
@@ -39,6 +39,10 @@ now_on g c =
     let now = c.now-now.ensures in
     goes_now (first g c) (looked g c) c.now-now.result now.asked now.wider now.faults now.later now.told now.aim
 
+-- its clock makes no connection
+now_makes : (g : Over) (c : After-take g) → MakesAtMost 0 (first g c) (looked g c)
+now_makes g c = makes_none (first g c) (looked g c) c.now-now.ensures.asked
+
 -- ---- goals
 pub returns-in_err-fetch_page-in-Page : goal.returns-in_err-fetch_page-in-Page
 returns-in_err-fetch_page-in-Page g c =
@@ -53,7 +57,7 @@ returns-in_err-fetch_page-in-Page g c =
     let fault = IfErr-at_err _ c.in_err-fetch_page-in-Page.was c.fetch_page.ensures.fault.1 in
     next_stops c.from_residual.result out.0 _ _ c.args.suffixes.now (first g at) d (stood g at) (left g at) (way g c.args.offers.now) p out.1
     (stops_page c.args.suffixes.now (first g at) (looked g at) d (stood g at) (left g at) (way g c.args.offers.now) p work told.0 (g.met.F.Fetch.earlier c.fetch_page.new.fetch) (now_on g at) bd taken
-    told.1 told.2) (fault ∙ ap (fault_or (way g c.args.offers.now).last_fault) (sym out.2))
+    told.1 told.2 (omega (arith, now_makes g at, c.fetch_page.ensures.asked))) (fault ∙ ap (fault_or (way g c.args.offers.now).last_fault) (sym out.2))
     (goes_then (first g at) (looked g at) d (now_on g at) bd) taken.agent taken.delay
 
 pub returns-in_err-refuse-in-Denied : goal.returns-in_err-refuse-in-Denied
@@ -61,7 +65,7 @@ returns-in_err-refuse-in-Denied g c =
     let at = (goal.at.returns-in_err-refuse-in-Denied g c).After-take in
     let out = err_from_is_err_and c.from_residual-in_err-refuse-in-Denied.result c.from_residual-in_err-refuse-in-Denied.ensures.1 in
     next_drops c.from_residual-in_err-refuse-in-Denied.result out.0 _ _ c.args.suffixes.now (first g at) (looked g at) (stood g at) (left g at) (way g c.args.offers.now) c.in-Denied.work
-    (leave.Denied c.in-Denied.line) out.1 out.2 (now_on g at)
+    (leave.Denied c.in-Denied.line) out.1 out.2 (now_on g at) (now_makes g at)
     (taken_denied (stood g at) (left g at) c.now-now.result c.in-Denied.work c.in-Denied.line c.in-Denied.ensures.step)
 
 pub returns-in_err-refuse-in-ShutOut : goal.returns-in_err-refuse-in-ShutOut
@@ -69,7 +73,7 @@ returns-in_err-refuse-in-ShutOut g c =
     let at = (goal.at.returns-in_err-refuse-in-ShutOut g c).After-take in
     let out = err_from_is_err_and c.from_residual-in_err-refuse-in-ShutOut.result c.from_residual-in_err-refuse-in-ShutOut.ensures.1 in
     next_drops c.from_residual-in_err-refuse-in-ShutOut.result out.0 _ _ c.args.suffixes.now (first g at) (looked g at) (stood g at) (left g at) (way g c.args.offers.now) c.in-ShutOut.work leave.Shut
-    out.1 out.2 (now_on g at)
+    out.1 out.2 (now_on g at) (now_makes g at)
     (taken_shut (stood g at) (left g at) c.now-now.result c.in-ShutOut.work c.in-ShutOut.ensures.step)
 
 pub ask-requires-clause-awaited : goal.ask-requires-clause-awaited
@@ -85,6 +89,7 @@ returns-in_err-ask-in-Robots g c =
     let same : u ≡ left g at = IfErr-at_err _ c.in_err-ask-in-Robots.was c.ask.ensures.err in
     next_lacks c.from_residual-in_err-ask-in-Robots.result out.0 _ _ c.args.suffixes.now (first g at) d (stood g at) (left g at) u (way g c.args.offers.now) c.now-now.result c.in-Robots.host out.1
     out.2 (goes_then (first g at) (looked g at) d (now_on g at) c.ask.ensures.goes_on)
+    (omega (arith, now_makes g at, c.ask.ensures.asked))
     c.in-Robots.ensures.step.1 same
 
 pub returns-in_ok-fetch_page-in-Page : goal.returns-in_ok-fetch_page-in-Page
@@ -100,7 +105,7 @@ returns-in_ok-fetch_page-in-Page g c =
     let handled : Handled = record { work = work; treated = Fetched told.0 told.1 } in
     next_does true _ _ c.args.suffixes.now (first g at) d (stood g at) (left g at) (way g c.args.offers.now) p
     (does_one _ _ c.args.suffixes.now (first g at) (looked g at) d (stood g at) (left g at) (way g c.args.offers.now) p handled (g.met.F.Fetch.earlier c.fetch_page.new.fetch) (now_on g at) bd
-    c.requires.ready taken told.2 told.3 refl told.4 told.5)
+    c.requires.ready taken told.2 told.3 refl told.4 told.5 (omega (arith, now_makes g at, c.fetch_page.ensures.asked)))
     true_is_more calm (goes_then (first g at) (looked g at) d (now_on g at) bd) taken.agent taken.delay
 
 pub returns-in_ok-refuse-in-Denied : goal.returns-in_ok-refuse-in-Denied
@@ -108,16 +113,16 @@ returns-in_ok-refuse-in-Denied g c =
     let at = (goal.at.returns-in_ok-refuse-in-Denied g c).After-take in
     let handled : Handled = record { work = c.in-Denied.work; treated = Denied c.in-Denied.line } in
     let kept = IfOk-at_ok _ c.in_ok-refuse-in-Denied.was c.refuse.ensures in
-    next_refuses _ _ c.args.suffixes.now (first g at) (looked g at) (stood g at) (left g at) (way g c.args.offers.now) handled (g.met.F.Fetch.earlier c.now-now.new.self) (now_on g at) c.requires.ready
-    (taken_denied (stood g at) (left g at) c.now-now.result c.in-Denied.work c.in-Denied.line c.in-Denied.ensures.step) tt refl refl kept refl
+    next_refuses _ _ c.args.suffixes.now (first g at) (looked g at) (stood g at) (left g at) (way g c.args.offers.now) handled (g.met.F.Fetch.earlier c.now-now.new.self) (now_on g at) (now_makes g at)
+    c.requires.ready (taken_denied (stood g at) (left g at) c.now-now.result c.in-Denied.work c.in-Denied.line c.in-Denied.ensures.step) tt refl refl kept refl
 
 pub returns-in_ok-refuse-in-ShutOut : goal.returns-in_ok-refuse-in-ShutOut
 returns-in_ok-refuse-in-ShutOut g c =
     let at = (goal.at.returns-in_ok-refuse-in-ShutOut g c).After-take in
     let handled : Handled = record { work = c.in-ShutOut.work; treated = ShutOut } in
     let kept = IfOk-at_ok _ c.in_ok-refuse-in-ShutOut.was c.refuse-in-ShutOut.ensures in
-    next_refuses _ _ c.args.suffixes.now (first g at) (looked g at) (stood g at) (left g at) (way g c.args.offers.now) handled (g.met.F.Fetch.earlier c.now-now.new.self) (now_on g at) c.requires.ready
-    (taken_shut (stood g at) (left g at) c.now-now.result c.in-ShutOut.work c.in-ShutOut.ensures.step) tt refl refl
+    next_refuses _ _ c.args.suffixes.now (first g at) (looked g at) (stood g at) (left g at) (way g c.args.offers.now) handled (g.met.F.Fetch.earlier c.now-now.new.self) (now_on g at) (now_makes g at)
+    c.requires.ready (taken_shut (stood g at) (left g at) c.now-now.result c.in-ShutOut.work c.in-ShutOut.ensures.step) tt refl refl
     kept refl
 
 pub returns-in_ok-ask-in-Robots : goal.returns-in_ok-ask-in-Robots
@@ -128,7 +133,7 @@ returns-in_ok-ask-in-Robots g c =
     let told = IfOk-at_ok _ c.in_ok-ask-in-Robots.was c.ask.ensures.ok in
     next_notes _ _ c.args.suffixes.now (first g at) (looked g at) d (stood g at) (left g at) u (way g c.args.offers.now) c.now-now.result c.in-Robots.host told.0
     (g.met.F.Fetch.earlier c.ask.new.fetch) (now_on g at) c.ask.ensures.goes_on c.now-now.ensures.told c.requires.ready
-    c.in-Robots.ensures.step.1 told.1 told.3 refl told.2
+    c.in-Robots.ensures.step.1 told.1 told.3 refl told.2 (omega (arith, now_makes g at, told.1.asked))
 
 pub returns-in-WaitTill : goal.returns-in-WaitTill
 returns-in-WaitTill g c =
@@ -141,11 +146,13 @@ returns-in-WaitTill g c =
       last = c.wait_till.ensures.later;
       aim = c.wait_till.ensures.aim;
     } in
-    next_waits _ c.args.suffixes.now (first g at) d (stood g at) (left g at) c.now-now.result (way g c.args.offers.now) (goes_then (first g at) (looked g at) d (now_on g at) bd) c.requires.ready
+    next_waits _ c.args.suffixes.now (first g at) d (stood g at) (left g at) c.now-now.result (way g c.args.offers.now) (goes_then (first g at) (looked g at) d (now_on g at) bd)
+    (makes_then 0 0 (first g at) (looked g at) d (now_makes g at) (makes_none (looked g at) d c.wait_till.ensures.asked)) c.requires.ready
     c.in-WaitTill.ensures.step.2
 
 pub returns-in-Idle : goal.returns-in-Idle
 returns-in-Idle g c =
     let at = (goal.at.returns-in-Idle g c).After-take in
-    next_ends _ c.args.suffixes.now (first g at) (looked g at) (stood g at) (left g at) c.now-now.result (way g c.args.offers.now) (now_on g at) c.requires.ready c.in-Idle.ensures.step.0
+    next_ends _ c.args.suffixes.now (first g at) (looked g at) (stood g at) (left g at) c.now-now.result (way g c.args.offers.now) (now_on g at) (now_makes g at) c.requires.ready
+    c.in-Idle.ensures.step.0
     c.in-Idle.ensures.step.1

@@ -6,7 +6,7 @@ use Rattle.irl_top.specs.Message.{ending_of_store}
 use Rattle.irl_top.specs.declared.ending.Ending.TheVariants.{OtherSettings}
 use Rattle.irl_top.proofs.Batching.{begin_batch, none_begun}
 use Rattle.irl_top.proofs.Calls.{err_is}
-use Rattle.irl_top.proofs.CrawlParts.{begin_leads, begun_open, begun_then, goes_on_begun, keeps_one, keeps_then, kept_leads, may_begin, other_begun, other_refuses, store_refuses}
+use Rattle.irl_top.proofs.CrawlParts.{begin_found, begin_leads, begun_open, begun_then, goes_on_begun, keeps_one, keeps_then, kept_leads, may_begin, ok_found, other_begun, other_found, other_refuses, store_refuses}
 use Rattle.irl_top.proofs.crawling.begin.Goals as goal
 
 -- what is compared are the texts
@@ -125,3 +125,19 @@ pub returns-clause-batches : goal.returns-clause-batches
 returns-clause-batches g c =
     let was = c.args.yard.now in
     none_begun _ was.parts (g.S.Store.told was.store) (g.met.S.Store.is_consistent was.store) c.is_sound-is_sound.ensures.drum was.rest_is c.requires.kind
+
+pub returns-in_err-begin-clause-found : goal.returns-in_err-begin-clause-found
+returns-in_err-begin-clause-found g c =
+    let now = c.begin.new.self in
+    let fault = c.in_err-begin.field-0.0 in
+    let adds = c.in_err-begin.ensures.adds in
+    rw (err_is c.from_residual.result (ending_of_store fault) c.from_residual.ensures.1) (begin_found fault now.parts (g.S.Store.told now.store) adds.full adds.damaged)
+
+pub returns-in_default-clause-found : goal.returns-in_default-clause-found
+returns-in_default-clause-found g c = ok_found c.begin.new.self.parts (g.S.Store.told c.begin.new.self.store)
+
+pub returns-then-fits-clause-found : goal.returns-then-fits-clause-found
+returns-then-fits-clause-found g c = ok_found c.args.yard.now.parts (g.S.Store.told c.args.yard.now.store)
+
+pub returns-clause-found : goal.returns-clause-found
+returns-clause-found g c = other_found 12 c.key_of.result c.key_of-2.result c.args.yard.now.parts (g.S.Store.told c.args.yard.now.store)

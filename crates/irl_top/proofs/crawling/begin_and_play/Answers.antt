@@ -53,3 +53,9 @@ returns-in-Err-clause-batches g c =
     let was = c.args.yard in
     let now = c.begin.new.yard in
     none_added _ _ was.parts now.parts (tells was.store) (tells now.store) (λ is. is) c.in-Err.ensures.batches
+
+pub returns-in-Ok-clause-found : goal.returns-in-Ok-clause-found
+returns-in-Ok-clause-found g c = c.play.ensures.found
+
+pub returns-in-Err-clause-found : goal.returns-in-Err-clause-found
+returns-in-Err-clause-found g c = c.in-Err.ensures.found

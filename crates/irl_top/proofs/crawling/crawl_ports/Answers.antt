@@ -3,6 +3,7 @@ use Rattle.irl_top.specs.Crawled.{crawl_task, CrawlRun}
 use Rattle.irl_top.specs.Outside.{Lent, lent}
 use Rattle.irl_top.specs.Ports.{ports_of}
 use Rattle.irl_top.proofs.CrawlRuns.{kind_agrees, run_opened, run_refused}
+use Rattle.irl_top.proofs.PortsGoing.{ports_same}
 use Rattle.irl_top.proofs.crawling.crawl_ports.Given.{Over}
 use Rattle.irl_top.proofs.crawling.crawl_ports.Goals as goal
 
@@ -14,16 +15,19 @@ pub crawl_ports_over-ending-requires-clause-kind : goal.crawl_ports_over-ending-
 crawl_ports_over-ending-requires-clause-kind g c =
     search (rules, kind_agrees c.args.asked.now c.in-Ok.yard.parts.urls.settings c.in-Ok.ensures.opened.agrees c.requires.kind)
 
-pub returns-in-Err : goal.returns-in-Err
-returns-in-Err g c =
+pub returns-in-Err-clause-run : goal.returns-in-Err-clause-run
+returns-in-Err-clause-run g c =
     let ports = ports_of g.P.Link.connections g.P.Link.faults in
     let before = told g c.args.store c.args.input.now c.args.output.now in
     let after = told g c.in-Err.store c.args.input.now c.args.output.now in
     let task = crawl_task c.args.options.now c.args.number (ports c.args.ports.now) (ports c.args.ports.now) in
     rw c.into.ensures (run_refused task c.args.asked.now before after c.in-Err.fault (g.met.S.Store.is_consistent c.in-Err.store) c.in-Err.ensures.refused c.in-Err.ensures.entered_err refl refl)
 
-pub returns : goal.returns
-returns g c =
+pub returns-in-Err-clause-ports : goal.returns-in-Err-clause-ports
+returns-in-Err-clause-ports g c = ports_same (ports_of g.P.Link.connections g.P.Link.faults c.args.ports.now)
+
+pub returns-clause-run : goal.returns-clause-run
+returns-clause-run g c =
     let ports = ports_of g.P.Link.connections g.P.Link.faults in
     let yard = c.in-Ok.yard in
     let later = c.crawl_ports_over-ending.result.1 in
@@ -36,4 +40,4 @@ returns g c =
     subst (λ (s : g.row.S.Denot). CrawlRun task c.args.asked.now before (told g s c.crawl_ports_over-ending.new.input c.crawl_ports_over-ending.new.output) ending) (sym c.into_store.ensures)
     (run_opened task c.args.asked.now before mid after yard.parts later.parts ending (g.met.S.Store.is_consistent c.args.store)
     (g.met.S.Store.is_consistent yard.store) law c.in-Ok.ensures.opened.drum c.in-Ok.ensures.opened c.in-Ok.ensures.entered refl
-    refl c.crawl_ports_over-ending.ensures c.requires.kind)
+    refl c.crawl_ports_over-ending.ensures.over c.requires.kind later.long later.rest_is)

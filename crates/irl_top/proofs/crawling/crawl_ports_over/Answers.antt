@@ -8,10 +8,11 @@ use Rattle.irl_top.specs.Ports.{ports_of}
 use Rattle.irl_top.specs.Stream.{Stream}
 use Rattle.irl_top.proofs.CrawlInputs.{goes_crawled, goes_nowhere, goes_unread}
 use Rattle.irl_top.proofs.Giving.{more_by_first}
+use Rattle.irl_top.proofs.PortsGoing.{ports_first, ports_same}
 use Rattle.irl_top.proofs.crawling.crawl_ports_over.Goals as goal
 
-pub returns-in-Err : goal.returns-in-Err
-returns-in-Err g c =
+pub returns-in-Err-clause-over : goal.returns-in-Err-clause-over
+returns-in-Err-clause-over g c =
     let tells = g.S.Store.told in
     let told = ports_of g.P.Link.connections g.P.Link.faults in
     let yard = c.args.yard in
@@ -26,8 +27,11 @@ returns-in-Err g c =
     (λ n is. c.in-Err.ensures.refused n (ap Err is))
     (cause_for _ (fault ≡ TapeFailed) old.faults new.faults (λ is. ap Err is) c.in-Err.ensures.cause))
 
-pub returns-in_default : goal.returns-in_default
-returns-in_default g c =
+pub returns-in-Err-clause-ports : goal.returns-in-Err-clause-ports
+returns-in-Err-clause-ports g c = ports_same (ports_of g.P.Link.connections g.P.Link.faults c.args.ports.now)
+
+pub returns-in_default-clause-over : goal.returns-in_default-clause-over
+returns-in_default-clause-over g c =
     let tells = g.S.Store.told in
     let told = ports_of g.P.Link.connections g.P.Link.faults in
     let yard = c.args.yard in
@@ -39,8 +43,11 @@ returns-in_default g c =
     goes_nowhere task yard.parts (tells yard.store) old new sink law c.is_sound-is_sound.ensures.drum c.requires.sound yard.rest_is c.requires.kind
     c.in-Ok.ensures.cause.later
 
-pub returns : goal.returns
-returns g c =
+pub returns-in_default-clause-ports : goal.returns-in_default-clause-ports
+returns-in_default-clause-ports g c = ports_same (ports_of g.P.Link.connections g.P.Link.faults c.args.ports.now)
+
+pub returns-clause-over : goal.returns-clause-over
+returns-clause-over g c =
     let tells = g.S.Store.told in
     let was = c.args.yard in
     let now = c.crawl_tape.result.1 in
@@ -52,3 +59,9 @@ returns g c =
     c.requires.some aimed c.crawl_tape.ensures.fetchers in
     goes_crawled c.args.options.now (IsReadBy (tape_of false)) IsReadWhole _ _ c.in-Ok.tape wider c.crawl_tape.result.0 was.parts now.parts (tells was.store) (tells now.store) old new
     (sink c.args.output.now) (sink c.crawl_tape.new.output) c.in-Ok.ensures.value c.in-Ok.ensures.end c.in-Ok.ensures.cause.later c.crawl_tape.ensures.tape
+
+pub returns-clause-ports : goal.returns-clause-ports
+returns-clause-ports g c =
+    let aimed = c.aim.ensures ∙ ap (λ (a : List ℕ). record (get_or c.args.ports.now 0 c.index-ports-0.result) { number = c.args.number; agent = a }) c.in-Ok-copy.ensures in
+    ports_first g.P.Link.connections g.P.Link.faults c.args.number c.args.options.now.agent c.args.ports.now c.index-ports-0.result c.aim.new.self c.crawl_tape.new.fetchers
+    c.requires.some aimed c.crawl_tape.ensures.fetchers

@@ -34,4 +34,4 @@ returns g c = λ input.
     subst (λ (s : g.row.S.Denot). CrawlRun task c.args.asked.now before (told g input s c.crawl_site_over-ending.new.output) ending) (sym c.into_store.ensures)
     (run_opened task c.args.asked.now before mid after yard.parts later.parts ending (g.met.S.Store.is_consistent c.args.store)
     (g.met.S.Store.is_consistent yard.store) law c.in-Ok.ensures.opened.drum c.in-Ok.ensures.opened c.in-Ok.ensures.entered refl
-    refl (c.crawl_site_over-ending.ensures input) c.requires.kind)
+    refl (c.crawl_site_over-ending.ensures input) c.requires.kind later.long later.rest_is)

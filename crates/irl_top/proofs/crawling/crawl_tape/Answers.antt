@@ -3,7 +3,7 @@ use Rattle.std.specs.Prelude.{IfErr, IsErrOf, Result}
 use Rattle.irl_crawl.specs.Leading.{Leads}
 use Rattle.irl_crawl.specs.Workers.{given_by}
 use Rattle.irl_report.specs.Report.{report_of}
-use Rattle.irl_top.specs.Crawled.{part_task, Crawled, IsCrawlEnding, MayCrawlInput, RefusesSuffixes}
+use Rattle.irl_top.specs.Crawled.{part_task, Crawled, EndsAsFound, IsCrawlEnding, MayCrawlInput, RefusesSuffixes}
 use Rattle.irl_top.specs.Outside.{stream}
 use Rattle.irl_top.specs.declared.ending.Ending.{Ending}
 use Rattle.irl_top.specs.declared.ending.Ending.TheVariants.{DiskFault}
@@ -44,4 +44,5 @@ returns-in-Err-clause-tape g c =
     let batches = subst (λ (r : Result Unit Ending). CrawlBatches (IsErrOf r DiskFault) was.parts now.parts (tells was.store) (tells now.store)) c.in-Err.is c.begin_and_play-crawled.ensures.batches in
     let kind = subst (λ (r : Result Unit Ending). IfErr r IsCrawlEnding) c.in-Err.is c.begin_and_play-crawled.ensures.kinds in
     let refuses = subst (λ (r : Result Unit Ending). RefusesSuffixes r tape.suffixes) c.in-Err.is c.begin_and_play-crawled.ensures.suffixes in
-    tape_refused task tape ending was.parts now.parts (tells was.store) (tells now.store) (sink c.args.output.now) kind refuses leads batches
+    let found = subst (λ (r : Result Unit Ending). EndsAsFound (IsErrOf r) now.parts (tells now.store)) c.in-Err.is c.begin_and_play-crawled.ensures.found in
+    tape_refused task tape ending was.parts now.parts (tells was.store) (tells now.store) (sink c.args.output.now) kind refuses leads batches found

@@ -2,7 +2,7 @@ use Rattle.std.proofs.Common.{refl}
 use Rattle.irl_crawl.specs.Workers.{given_by}
 use Rattle.irl_top.specs.Crawled.{part_task}
 use Rattle.irl_top.proofs.Batching.{none_crawled, played_batch}
-use Rattle.irl_top.proofs.CrawlParts.{crawl_kinds, crawl_refuses, kind_begun, played_by, suffixes_begun, unplayed}
+use Rattle.irl_top.proofs.CrawlParts.{crawl_found, crawl_kinds, crawl_refuses, kind_begun, memory_found, played_by, suffixes_begun, unplayed}
 use Rattle.irl_top.proofs.Giving.{none_rose}
 use Rattle.irl_top.proofs.crawling.play.Goals as goal
 
@@ -44,3 +44,11 @@ returns-clause-batches g c =
     let yard = c.args.yard in
     let later = c.crawl-ended.result.1 in
     rw c.ending_of_crawl.ensures (played_batch c.crawl-ended.result.0 yard.parts later.parts (tells yard.store) (tells later.store) c.crawl-ended.ensures.batches)
+
+pub returns-in-Err-clause-found : goal.returns-in-Err-clause-found
+returns-in-Err-clause-found g c = memory_found c.args.yard.parts (g.S.Store.told c.args.yard.store)
+
+pub returns-clause-found : goal.returns-clause-found
+returns-clause-found g c =
+    let later = c.crawl-ended.result.1 in
+    rw c.ending_of_crawl.ensures (crawl_found c.crawl-ended.result.0 later.parts (g.S.Store.told later.store) c.crawl-ended.ensures.refused)

@@ -33,4 +33,4 @@ returns g c =
     (sym c.into_store.ensures)
     (run_opened (replay_task c.args.options.now) c.args.asked.now before mid after yard.parts later.parts ending (g.met.S.Store.is_consistent c.args.store)
     (g.met.S.Store.is_consistent yard.store) law c.in-Ok.ensures.opened.drum c.in-Ok.ensures.opened c.in-Ok.ensures.entered refl
-    refl c.replay_over-ending.ensures c.requires.kind)
+    refl c.replay_over-ending.ensures c.requires.kind later.long later.rest_is)

@@ -7,6 +7,7 @@ returns-clause-obeys g c = record {
   ending = c.carry_out-ending.result.0;
   status_is = c.status.ensures;
   does = c.carry_out-ending.ensures;
+  ports = tt;
   offline = inr refl;
   says = says_of c.tell.result _ _ _ c.tell.ensures.ok c.tell.ensures.err c.tell.ensures.cause;
 }

@@ -1,4 +1,4 @@
-use Rattle.std.proofs.Common.{◌≡◌, ◌∙◌, List, length, Vec, ◌++◌, sym, subst, rules}
+use Rattle.std.proofs.Common.{◌≡◌, ◌∙◌, Err, List, length, Vec, ◌++◌, ap, sym, subst, rules}
 use Rattle.std.specs.Prelude.{IsErrOf}
 use Rattle.std.specs.List.{All}
 use Rattle.std.specs.List.Sorted.{IsPermutation}
@@ -20,6 +20,7 @@ use Rattle.irl_crawl.proofs.Looking.{calm_memory, calm_ok, looks_calm, looks_err
 use Rattle.irl_crawl.proofs.Shares.{IsEmpty}
 use Rattle.irl_crawl.proofs.Taking.{taken_agents}
 use Rattle.irl_crawl.proofs.RecordsTurned.{load_batch}
+use Rattle.irl_crawl.proofs.Refusing.{refused_calm, refused_looks, refused_ok, refused_on}
 use Rattle.irl_crawl.proofs.crew.Crew.load.Goals as goal
 
 -- a vector that was lent as a slice has what the slice had at last
@@ -254,3 +255,38 @@ returns-clause-batches g c = λ begun.
     load_batch c.deal_all.result _ was.parts now.parts (tells was.store) (tells now.store)
     (looks_then c.front.result c.deal_all.result was.parts mid.parts now.parts (tells was.store) (tells mid.store) (tells now.store) (law mid.store) looks c.deal_all.ensures.deals.looks)
     was.rest_is now.rest_is (subst IsDrum c.front.ensures.states.same c.front.ensures.goes_on.drum) (law now.store) begun
+
+pub returns-in_err-works-clause-refused : goal.returns-in_err-works-clause-refused
+returns-in_err-works-clause-refused g c =
+    let tells = g.S.Store.told in
+    let was = c.args.yard.now in
+    let now = c.front.new.self in
+    let out = err_from_is_err_and c.from_residual.result c.from_residual.ensures.1 in
+    refused_on c.front.result c.from_residual.result c.in_err-works.field-0.0 now.parts (tells now.store) c.in_err-works.was (out.1 ∙ ap (λ e. Err e) out.2)
+    (refused_looks c.front.result was.parts now.parts (tells was.store) (tells now.store)
+    (looks_front c.front.result _ _ was.parts now.parts (tells was.store) (tells now.store) c.front.ensures.reads c.front.ensures.states c.front.ensures.rest c.front.ensures.goes_on))
+
+pub returns-in_err-shares-clause-refused : goal.returns-in_err-shares-clause-refused
+returns-in_err-shares-clause-refused g c =
+    let result = c.from_residual-in_err-shares.result in
+    let out = err_from_is_err_and result c.from_residual-in_err-shares.ensures.1 in
+    refused_calm result c.front.new.self.parts (g.S.Store.told c.front.new.self.store) (calm_memory result out.0 out.1 out.2)
+
+pub returns-in_err-deal_all-clause-refused : goal.returns-in_err-deal_all-clause-refused
+returns-in_err-deal_all-clause-refused g c =
+    let tells = g.S.Store.told in
+    let mid = c.front.new.self in
+    let now = c.deal_all.new.yard in
+    let result = c.from_residual-in_err-deal_all.result in
+    let out = err_from_is_err_and result c.from_residual-in_err-deal_all.ensures.1 in
+    refused_on c.deal_all.result result c.in_err-deal_all.field-0.0 now.parts (tells now.store) c.in_err-deal_all.was (out.1 ∙ ap (λ e. Err e) out.2)
+    (refused_looks c.deal_all.result mid.parts now.parts (tells mid.store) (tells now.store) c.deal_all.ensures.deals.looks)
+
+pub returns-in_err-hand_out-clause-refused : goal.returns-in_err-hand_out-clause-refused
+returns-in_err-hand_out-clause-refused g c =
+    let result = c.from_residual-in_err-hand_out.result in
+    let out = err_from_is_err_and result c.from_residual-in_err-hand_out.ensures.1 in
+    refused_calm result c.deal_all.new.yard.parts (g.S.Store.told c.deal_all.new.yard.store) (calm_memory result out.0 out.1 out.2)
+
+pub returns-clause-refused : goal.returns-clause-refused
+returns-clause-refused g c = refused_ok tt c.deal_all.new.yard.parts (g.S.Store.told c.deal_all.new.yard.store)
