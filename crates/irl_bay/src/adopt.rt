@@ -191,3 +191,6 @@ fn first_above<S: Store>(
         Err(fault) => fault_in(f, fault),
     }
 }
+
+#[cfg(test)]
+mod tests;

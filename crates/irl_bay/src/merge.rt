@@ -97,3 +97,6 @@ impl Bay {
         self.is_sound = true;
     }
 }
+
+#[cfg(test)]
+mod tests;

@@ -7,3 +7,6 @@ mod writer;
 
 pub use reader::CacheReader;
 pub use writer::CacheWriter;
+
+#[cfg(test)]
+mod tests;

@@ -5,6 +5,8 @@ mod desk;
 mod laws;
 mod offering;
 mod stepping;
+#[cfg(test)]
+mod tests;
 mod turn;
 
 pub use desk::Desk;

@@ -30,3 +30,40 @@ impl Visit for HeadVisitor {
         Ok(true)
     }
 }
+
+#[cfg(test)]
+mod tests {
+    use super::*;
+    use crate::head::encode;
+    use irl_offer::{Asked, Kind};
+    use std::test::Fail;
+
+    #[test]
+    fn one_record_is_read_and_a_second_refused(rt: HostRuntime) -> Result<(), Fail> {
+        let asked = Asked {
+            kind: Kind::Tuples,
+            rule: None,
+            buckets: Some(4),
+            array: None,
+            trigger: None,
+            block: None,
+            cap: None,
+            queues: None,
+            base: None,
+            most: None,
+            ranks: None,
+        };
+        let settings = Settings::of_new_store(&asked);
+        let bytes = encode(&settings);
+        let mut visitor = HeadVisitor { found: None };
+        assert!(rt; visitor.take(0, &bytes)?);
+        assert_eq!(rt; visitor.found, Some(Ok(settings)));
+        assert!(rt; visitor.take(105, &bytes)?);
+        assert_eq!(rt; visitor.found, Some(Err(105)));
+        let mut visitor = HeadVisitor { found: None };
+        assert!(rt; visitor.take(0, &bytes[..99])?);
+        assert!(rt; visitor.take(104, &bytes)?);
+        assert_eq!(rt; visitor.found, Some(Err(1)));
+        Ok(())
+    }
+}

@@ -104,3 +104,6 @@ pub fn write_head<S: Store>(
     head.append(store, frame)?;
     Ok(())
 }
+
+#[cfg(test)]
+mod tests;

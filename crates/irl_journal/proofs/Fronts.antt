@@ -1,5 +1,5 @@
 -- What a file begins with, and what an append behind it leaves.
-use Rattle.std.proofs.Common.{◌≡◌, ◌∙◌, ℕ, ◌+◌, ◌≤◌, List, [], ◌++◌, length, take, drop, Option, None, Some, refl, sym, ap, subst, arith, append_assoc, length-append, length-drop, length-take-le, take-append-drop}
+use Rattle.std.proofs.Common.{◌≡◌, ◌∙◌, ℕ, ◌+◌, ◌≤◌, List, [], ◌++◌, length, take, drop, Option, None, Some, Result, Ok, Err, OnOk, OnErr, refl, sym, ap, subst, arith, append_assoc, length-append, length-drop, length-take-le, take-append-drop}
 use Rattle.std.proofs.lemmas.List.{take_at, take-take, take-append-le, drop-append-le}
 use Rattle.std.specs.Option.{ForSome}
 use Rattle.irl_disk.specs.Disk.{Files, Changes, ChangesFile, Holds, Scribbled, PartlyCut}
@@ -112,6 +112,11 @@ pub stops_committed : (blob : Front) (held : List ℕ) (old new : Told) → Leav
 stops_committed blob held old new stops committed =
     widens old new _ (λ image. BeginsWith (image blob.file) held) stops (λ image from. from.2.changed held committed.size (committed.each from.0 from.1))
 
+-- the file has as many bytes, so that more can be appended
+pub committed_within : (blob : Front) (held : List ℕ) (now : Told) → IsConsistent now → IsCommitted now.images blob held → ForSome now.files (λ files. blob.length ≤ length (files blob.file))
+committed_within blob held now law committed = λ files told.
+    omega (arith, committed.size, begins_long (files blob.file) held (committed.each files (law.told files told)))
+
 -- opening commits whatever the file begins with, of that length
 pub opened_committed : (f n : ℕ) (held : List ℕ) (blob : Front) (old new : Told) → IsConsistent new → blob ≡ record { file = f; length = n } → new.files ≡ old.files
     → ForSome old.files (λ files. IsCommitted new.images blob (take n (files f))) → ForSome old.files (λ files. BeginsWith (files f) held) → length held ≡ n → IsCommitted new.images blob held
@@ -132,6 +137,25 @@ synced_committed f n file blob images is within durable = subst (λ (front : Fro
   each = λ image left. (drop n file, durable image left ∙ sym (take-append-drop n file));
 }
 
+-- so some bytes are committed after an append, whether it failed or not
+pub committed_after : {T E : Type 0} (result : Result T E) (blob after : Front) (held bytes : List ℕ) (old new : Told) → IsConsistent new → IsCommitted old.images blob held
+    → OnOk result ((held : List ℕ) → IsCommitted old.images blob held → IsCommitted new.images after (held ++ bytes)) → OnErr result (after ≡ blob)
+    → LeavesBy (ChangesFile blob.file (KeepsFront blob.length)) old new
+    → (held : List ℕ) × IsCommitted new.images after held
+committed_after (Ok value) blob after held bytes old new law committed ok err stops = (held ++ bytes, ok held committed)
+committed_after (Err error) blob after held bytes old new law committed ok err stops =
+    (held, subst (λ (front : Front). IsCommitted new.images front held) (sym err) (stays_committed blob held old new law stops committed))
+
 -- of a blob of length 0 no byte is
 pub none_committed : (images : Files → Type 0) (file : ℕ) → IsCommitted images (record { file = file; length = 0 }) []
 none_committed images file = record { size = refl; each = λ image left. (image file, refl) }
+
+-- a rewind commits fewer of the bytes
+pub rewinds : (images : Files → Type 0) (blob : Front) (held : List ℕ) (n : ℕ) → n ≤ blob.length → IsCommitted images blob held
+    → IsCommitted images (record { file = blob.file; length = n }) (take n held)
+rewinds images blob held n less committed = record {
+  size = length-take-le n held (omega (arith, committed.size));
+  each = λ image left.
+      begins_less (image blob.file) (take n held) (drop n held)
+      (subst (λ (bytes : List ℕ). BeginsWith (image blob.file) bytes) (sym (take-append-drop n held)) (committed.each image left));
+}

@@ -124,3 +124,6 @@ impl Blob {
         Ok(count == into.len())
     }
 }
+
+#[cfg(test)]
+mod tests;

@@ -179,3 +179,6 @@ impl FileWriter {
         Ok(())
     }
 }
+
+#[cfg(test)]
+mod tests;

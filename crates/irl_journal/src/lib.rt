@@ -25,3 +25,6 @@ pub use laws::one_list;
 pub use part::read_part;
 pub use several::Payloads;
 pub use visit::Visit;
+
+#[cfg(test)]
+mod tests;

@@ -149,3 +149,6 @@ fn copied(alloc: Global, note: &Note) -> Result<Note, AllocError>
         state,
     })
 }
+
+#[cfg(test)]
+mod tests;

@@ -51,3 +51,6 @@ pub(crate) fn pair_settings(settings: &Settings) -> Settings
         ..*settings
     }
 }
+
+#[cfg(test)]
+mod tests;

@@ -342,3 +342,6 @@ fn are_within(fronts: &[u64], urls: &Bay) -> bool
     }
     true
 }
+
+#[cfg(test)]
+mod tests;

@@ -3,7 +3,7 @@ ghost use Rattle.irl_crawl.specs.Crawling.{IsPlan};
 ghost use Rattle.irl_crawl.specs.Leading.{IsOpen};
 ghost use Rattle.irl_record.specs.Fetched.{by_tape};
 
-use crate::tapes::{TAPE_A, tape};
+use crate::tapes::tape;
 use irl_crawl::{Ended, Plan, crawl};
 use irl_disk::MemStore;
 use irl_fetch::NoGate;
@@ -191,22 +191,4 @@ fn run<R: Threads + Wait + Sync>(
     let plan = plan_of(alloc, tape)?;
     let yard = begun(alloc, tape)?;
     Ok(crawled(rt, alloc, yard, tape, &plan, is_alone))
-}
-
-// Tape A has three hosts, and the site of a hundred pages sixteen: a robots file of each is fetched too.
-#[test]
-fn tapes_are_crawled_by_one_worker_and_by_four(rt: HostRuntime) -> Result<(), Fail> {
-    let alloc = rt.alloc();
-    let tape_a = tape(alloc, TAPE_A)?;
-    let site = site(alloc, 100)?;
-    for (tape, numbers, starts) in [
-        (&tape_a, [10, 6, 6, 3, 1, 1, 1], (8, 0)),
-        (&site, [200, 100, 100, 100, 0, 0, 0], (116, 0)),
-    ] {
-        for is_alone in [true, false] {
-            let came = run(&rt, alloc, tape, is_alone)?;
-            assert!(rt; came == (Ended::Done, numbers, starts), "{starts:?}");
-        }
-    }
-    Ok(())
 }

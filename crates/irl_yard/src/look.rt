@@ -51,3 +51,6 @@ fn parts_of<S: Store>(alloc: Global, store: &mut S) -> Result<Option<Parts>, Ope
         }
     }
 }
+
+#[cfg(test)]
+mod tests;

@@ -209,3 +209,6 @@ fn plain_counts(urls: &Bay) -> Counts
         coded: 0,
     }
 }
+
+#[cfg(test)]
+mod tests;

@@ -1,6 +1,6 @@
 //! A crawl that comes a page at a time, one over a store that fails, and one that is stopped.
 
-use crate::runs::{Case, Failing, LIST, NONE, check, new_store, run_over, writes};
+use crate::runs::{LIST, NONE, new_store, run_over};
 use crate::tapes::TAPE_A;
 use irl_disk::{MemStore, Part};
 use std::alloc::{AllocError, Global};
@@ -72,19 +72,9 @@ fn tree(alloc: Global) -> Result<Vec<u8>, AllocError> {
     Ok(text)
 }
 
-// Behind the seed three links of each of twenty pages are offered, and where the four redirects lead to.
-const OFFERED: &str = "offers 65\njudged 65\n";
-
-// The seed is offered once more by each of 59 runs.
-const OFFERED_AGAIN: &str = "offers 124\njudged 124\n";
-
 // What a report has behind that: pairs of the forty links to other hosts, and of the redirects.
 const COUNTED: &str =
     "unique 60\npairs 44\nfresh 0\nqueued 0\nlast 0\nfront 0\ndone 60\npage 44\nmoved 4\nstatus 4\ndenied 4\nshut 0\nlost 4\nbad 0\nlarge 0\ncoded 0\n";
-
-fn report_of(alloc: Global, offered: &str) -> Result<String, AllocError> {
-    format!(in alloc; "{offered}{COUNTED}")
-}
 
 // So many runs of a page each.
 fn pages<R: Threads + Wait + Sync + Abort + AllocGlobal>(
@@ -101,18 +91,6 @@ fn pages<R: Threads + Wait + Sync + Abort + AllocGlobal>(
     Ok(store)
 }
 
-#[test]
-fn a_crawl_comes_a_page_at_a_time(rt: HostRuntime) -> Result<(), Fail> {
-    let alloc = rt.alloc();
-    let tape = tree(alloc)?;
-    for (words, runs_before, offered) in [(REPLAY, 0, OFFERED), (PAGE_BY_PAGE, 59, OFFERED_AGAIN)] {
-        let store = pages(&rt, &tape, runs_before)?;
-        let report = report_of(alloc, offered)?;
-        let _ = check(&rt, store, NONE, writes(words, &tape, report.as_bytes()))?;
-    }
-    Ok(())
-}
-
 // A store in which a crawl without seeds has begun.
 fn begun<R: Threads + Wait + Sync + Abort + AllocGlobal>(
     rt: &R,
@@ -127,33 +105,6 @@ fn begun<R: Threads + Wait + Sync + Abort + AllocGlobal>(
     )?;
     assert_eq!(rt; left.status, 0);
     Ok(left.store)
-}
-
-// Each call of a crawl fails, behind those that begin it.
-#[test]
-fn a_store_that_fails_ends_a_crawl(rt: HostRuntime) -> Result<(), Fail> {
-    let alloc = rt.alloc();
-    let Crawl { words, tape, .. } = CRAWL_A;
-    let first = begun(&rt, words)?.calls();
-    let last = run_over(&rt, words, tape, NONE, new_store(alloc, NONE)?)?
-        .store
-        .calls();
-    assert!(rt; first < last);
-    let case = Case {
-        words,
-        input: tape,
-        status: 4,
-        output: b"",
-        errors: b"disk fault\n",
-    };
-    for call in first..last {
-        let failing = Failing {
-            store: Some(call),
-            ..NONE
-        };
-        let _ = check(&rt, new_store(alloc, failing)?, failing, case)?;
-    }
-    Ok(())
 }
 
 // Crawls to the end over a store.
