@@ -1,10 +1,12 @@
-ghost use Rattle.std.specs.Prelude.{◌≡◌, IfErr, IfOk};
+ghost use Rattle.std.specs.Prelude.{◌≡◌, [], None, IfErr, IfOk};
+ghost use Rattle.irl_schedule.specs.Arrays.{AreArrays};
 ghost use Rattle.irl_yard.specs.Holding.{IsSound};
 ghost use Rattle.irl_desk.specs.Closing.{Closes};
 ghost use Rattle.irl_desk.specs.Serving.{serving_of, IsFresh};
 
 use crate::desk::Desk;
 use crate::stepping::flush_all;
+use irl_array::Array;
 use irl_disk::Store;
 use irl_intake::Intake;
 use irl_offer::Fault;
@@ -27,6 +29,25 @@ impl<S: Store> Desk<S> {
             entries: Vec::new(alloc),
             last: None,
         })
+    }
+
+    /// A desk before an open store where offers wait already, and where this fault was answered last, if one was.
+    pub fn resume(alloc: Global, yard: Yard<S>, arrays: Vec<Array>, last: Option<Fault>) -> Desk<S>
+        requires arrays { AreArrays yard.parts.urls.settings arrays.items }
+        requires sound { last ≡ None → IsSound yard.parts }
+        ensures { serving_of result ≡ record {
+          store = yard.store;
+          parts = yard.parts;
+          arrays = arrays.items;
+          entries = [];
+          last = last;
+        } }
+    {
+        Desk {
+            intake: Intake::resume(yard, arrays),
+            entries: Vec::new(alloc),
+            last,
+        }
     }
 
     /// The last fault but want of memory that was answered, if there was one.

@@ -40,6 +40,15 @@ impl<S: Store> Intake<S> {
         }
     }
 
+    /// Arrays in front of a store, in which offers wait already. It takes no memory.
+    pub fn resume(yard: Yard<S>, arrays: Vec<Array>) -> Intake<S>
+        requires arrays { AreArrays yard.parts.urls.settings arrays.items }
+        ensures yard { result.yard ≡ yard }
+        ensures arrays { result.arrays ≡ arrays }
+    {
+        Intake { yard, arrays }
+    }
+
     /// Whether no call failed.
     pub fn is_sound(&self) -> bool
         ensures value { (result ≡ true) ↔ IsSound self.now.yard.parts }
