@@ -98,7 +98,7 @@ impl Page {
         MAX_PAGE - self.body.len()
     }
 
-    /// Where the page is, and its reply. It takes no memory.
+    /// Where the page is, and its reply, whose body gives back the memory that it grew by and doesn't need. It takes none.
     pub fn close(self) -> (Web, Reply)
         ensures url { result.0 ≡ self.url }
         ensures reply { result.1 ≡ self.reply }
@@ -108,9 +108,10 @@ impl Page {
             status,
             html,
             location,
-            body,
+            mut body,
             is_new: _,
         } = self;
+        body.shrink_to_fit();
         let reply = Reply {
             status,
             location,
