@@ -1,0 +1,13 @@
+pub mod BookSteps
+pub mod ClaimSteps
+pub mod CountSteps
+pub mod Laying
+pub mod Leaving
+pub mod Listed
+pub mod NoteSteps
+pub mod Offering
+pub mod PartSteps
+pub mod Rooms
+pub mod SeatSteps
+pub mod Spreading
+pub mod TurnSteps

@@ -1,0 +1,9 @@
+pub mod Books
+pub mod Laying
+pub mod Plays
+pub mod Rule
+pub mod Seated
+pub mod Seats
+pub mod Sharing
+pub mod Spread
+pub mod Turns
