@@ -1,5 +1,5 @@
--- What was done with an open store by all passes, behind its turns: one history of what was handed in, of which each pass
--- did its part.
+-- What was done with an open store by all passes, behind its turns: one history of what was handed in, of which each
+-- pass did its part.
 use Rattle.std.specs.Prelude.{◌≡◌, ℕ, ◌+◌, ◌%◌, ◌^◌, ◌<◌, ◌⊎◌, List, [], ◌∷◌, map, Option, None, Some, slice_index, ⊤}
 use Rattle.std.specs.List.{AllByRecursion, flat_map}
 use Rattle.std.specs.List.Sorted.{IsPermutation}
@@ -56,8 +56,8 @@ no_share = record { entries = []; last = None }
 abbrev pub fresh_known : ℕ → Known
 fresh_known parts = record { parts = parts; mine = no_share; joined = [] }
 
--- The parts of all seats are all parts; each pass did its part of one history, in order, and together they did all of it.
--- The last fault of each is the one by which the store stopped.
+-- The parts of all seats are all parts; each pass did its part of one history, in order, and together they did all of
+-- it. The last fault of each is the one by which the store stopped.
 pub record AreParts (news : List Entered) (last : Option Fault) (knowns : List Known) : Type 0 where
   pub total : total_parts knowns ≡ all_parts
   pub whole : IsPermutation news (flat_map known_entries knowns)
@@ -90,8 +90,8 @@ module _ {S : Type 0} {tells : Ghosts S} where
   abbrev pub count_word : Yard S tells → ℕ → ℕ
   count_word yard b = buckets_of yard + 1 + b
 
-  -- What stands behind the turns is the store and its arrays, as what was handed in since the opening made them. A count
-  -- word has 64 bits.
+  -- What stands behind the turns is the store and its arrays, as what was handed in since the opening made them. A
+  -- count word has 64 bits.
   pub record HasBooks (opening : Yard S tells) (words : List ℕ) (knowns : List Known) (held : ℕ → Held S tells) : Type 0
     where
       pub stand : Stand S tells

@@ -50,10 +50,11 @@ module _ {S : Type 0} {tells : Ghosts S} where
       × (slots ≡ bins ++ Some (InYard stand) ∷ []) × (stand.yard ≡ yard)
 
   -- a bin for each bucket, with its array, and behind them the store
-  pub record AreSlots (yard : Yard S tells) (arrays : List Waiting) (slots : List (Option (Held S tells))) : Type 0 where
-    pub front : List (Option (Held S tells))
-    pub front_are : AreBins front
-    pub slots_are : slots ≡ front ++ Some (InYard (first_stand yard)) ∷ []
-    pub count : length front ≡ buckets_of yard
-    pub bins : (b : ℕ) → b < buckets_of yard
-        → get_elem? front b ≡ some (Some (InBin (bin_of (first_stand yard) arrays b)))
+  pub record AreSlots (yard : Yard S tells) (arrays : List Waiting) (slots : List (Option (Held S tells))) : Type 0
+    where
+      pub front : List (Option (Held S tells))
+      pub front_are : AreBins front
+      pub slots_are : slots ≡ front ++ Some (InYard (first_stand yard)) ∷ []
+      pub count : length front ≡ buckets_of yard
+      pub bins : (b : ℕ) → b < buckets_of yard
+          → get_elem? front b ≡ some (Some (InBin (bin_of (first_stand yard) arrays b)))

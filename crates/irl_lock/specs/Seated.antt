@@ -1,5 +1,5 @@
--- A pass beside the store that it is one of. That it is, and that it holds no turn, is one fact each and no data: what can
--- be read off a pass is a set, as passes are.
+-- A pass beside the store that it is one of. That it is, and that it holds no turn, is one fact each and no data:
+-- what can be read off a pass is a set, as passes are.
 use Rattle.std.specs.Prelude.{◌≡◌, ℕ, List, [], ◌++◌, Option}
 use Rattle.std.proofs.Common.{◌∙◌, refl, sym, ap, append-nil, append_assoc}
 use Rattle.std.specs.Coded.{Coded, Coded-set, le_prop}
@@ -56,7 +56,8 @@ module _ {S : Type 0} {tells : Ghosts S} (code : Coded (Pass S tells)) (pass : P
   opening_set = retract_set with_opening (λ (p : Pass S tells). p.token.me.0.opening) (λ o. refl) (Coded-set code)
 
   slots_set : IsSet (List (ℕ × Option (Held S tells)))
-  slots_set = retract_set (λ (slots : List (ℕ × Option (Held S tells))). with_me (view, slots)) (λ (p : Pass S tells). p.token.me.1) (λ o. refl) (Coded-set code)
+  slots_set = retract_set (λ (slots : List (ℕ × Option (Held S tells))). with_me (view, slots))
+      (λ (p : Pass S tells). p.token.me.1) (λ o. refl) (Coded-set code)
 
   turns_set : IsSet (List (ℕ × Held S tells))
   turns_set = retract_set with_turns_in (λ (p : Pass S tells). p.token.me.0.turns) (λ o. refl) (Coded-set code)
@@ -91,8 +92,8 @@ module _ {S : Type 0} {tells : Ghosts S} (code : Coded (Pass S tells)) (pass : P
   }
 
 module _ {S : Type 0} {tells : Ghosts S} where
-  -- After some offers: the store that is shared is the same, and the pass has its part yet. What was entered before stands
-  -- at the front.
+  -- After some offers: the store that is shared is the same, and the pass has its part yet. What was entered before
+  -- stands at the front.
   pub record GoesOn (before after : Shared S tells) (old new : Pass S tells) : Type 0 where
     pub shared : after ≡ before
     pub parts : parts_in new ≡ parts_in old

@@ -30,8 +30,8 @@ module _ {S : Type 0} {tells : Ghosts S} where
     pub part : 1 ≤ view.known.parts
 
   -- ---- room that is made, under a bucket's turn and the store's
-  -- What it asks: the store, which is sound unless it stopped, and an array of the bucket, which goes on behind what the
-  -- store has.
+  -- What it asks: the store, which is sound unless it stopped, and an array of the bucket, which goes on behind what
+  -- the store has.
   pub record MayRefill (b : ℕ) (bin : Bin) (stand : Stand S tells) : Type 0 where
     pub bucket : b < buckets_of stand.yard
     pub sound : stand.last ≡ None → IsSound stand.yard.parts
@@ -53,8 +53,8 @@ module _ {S : Type 0} {tells : Ghosts S} where
       pub array : IsArrayOf old.parts.urls.settings b now
       pub room : OnOk result (length now.items < old.parts.urls.settings.array)
 
-  -- What it does, whatever waits elsewhere meanwhile. After the fault by which the store stopped nothing is done, and it is
-  -- answered again.
+  -- What it does, whatever waits elsewhere meanwhile. After the fault by which the store stopped nothing is done, and
+  -- it is answered again.
   pub record Refills (result : Result (Unit {0}) Fault) (b : ℕ) (was now : Bin) (old new : Stand S tells) : Type 0 where
     pub again : (fault : Fault) → old.last ≡ Some fault → (result ≡ Err fault) × (new ≡ old) × (now ≡ was)
     pub steps : old.last ≡ None → (others : Waits) → FewWaitIn old.yard others

@@ -124,13 +124,14 @@ module _ {S : Type 0} {tells : Ghosts S} where
   mine_of pass = pass.token.me.0.known.mine
 
   -- What a table leaves whose one seat has all parts: the store and its arrays, as what was handed in made them.
-  pub record Leaves (opening : Yard S tells) (known : Known) (arrays : List Waiting) (stand : Stand S tells) : Type 0 where
-    pub news : List Entered
-    pub enters : Enters tells.told none_more news (fresh_of opening) (serving_now stand arrays news)
-    pub whole : IsPermutation news (known_entries known)
-    pub in_order : AllByRecursion (λ share. IsPartOf (entries_of share) news) (shares_of known)
-    pub stops : AllByRecursion (λ share. (fault : Fault) → share.last ≡ Some fault → stand.last ≡ Some fault)
-        (shares_of known)
+  pub record Leaves (opening : Yard S tells) (known : Known) (arrays : List Waiting) (stand : Stand S tells) : Type 0
+    where
+      pub news : List Entered
+      pub enters : Enters tells.told none_more news (fresh_of opening) (serving_now stand arrays news)
+      pub whole : IsPermutation news (known_entries known)
+      pub in_order : AllByRecursion (λ share. IsPartOf (entries_of share) news) (shares_of known)
+      pub stops : AllByRecursion (λ share. (fault : Fault) → share.last ≡ Some fault → stand.last ≡ Some fault)
+          (shares_of known)
 
   abbrev pub answer_of : Result (Yard S tells) (Fault × Yard S tells) → Result (Unit {0}) Fault
   answer_of (Ok yard) = Ok tt
@@ -140,9 +141,9 @@ module _ {S : Type 0} {tells : Ghosts S} where
   yard_of (Ok yard) = yard
   yard_of (Err refusal) = refusal.1
 
-  -- The offers of all passes were handed in, in an order in which each pass has its own, and made of the store as it was
-  -- opened what stands behind the turns then: as of one desk to which they were handed in so. The last fault of each pass is
-  -- the one by which the store stopped. Closing it is closing that desk.
+  -- The offers of all passes were handed in, in an order in which each pass has its own, and made of the store as it
+  -- was opened what stands behind the turns then: as of one desk to which they were handed in so. The last fault of
+  -- each pass is the one by which the store stopped. Closing it is closing that desk.
   pub record Closes (result : Result (Yard S tells) (Fault × Yard S tells)) (opening : Yard S tells)
       (passes : List (Pass S tells)) : Type 0 where
     pub news : List Entered

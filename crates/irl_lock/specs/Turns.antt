@@ -1,5 +1,5 @@
--- The turns of a table, each with a value behind it: who holds which, and what stands behind each. A value is plain data
--- here. A turn is a lock: its word is 0 where nobody holds it.
+-- The turns of a table, each with a value behind it: who holds which, and what stands behind each. A value is plain
+-- data here. A turn is a lock: its word is 0 where nobody holds it.
 use Rattle.std.specs.Prelude.{◌≡◌, ◌≢◌, ◌⊎◌, ℕ, ◌+◌, ◌≤◌, List, [], ◌∷◌, length, Option, Some, slice_index, ⊤}
 use mathlib.Core.Option.{Option as Home, some}
 use lib.ListN.{get_elem?}
@@ -20,8 +20,8 @@ module _ {H : Type 0} where
     pub each : (t : ℕ) (h : H) → Holds t h turns → (t ≤ last) × (holder t ≡ id) × (turn t ≢ 0) × (held t ≡ h)
     pub apart : AreApart turns
 
-  -- Of all: the turns are 0 to the last one, each with a word and a slot of its number. The value behind a turn that nobody
-  -- holds is at home; one that is held is held by one seat, which keeps what stands behind it.
+  -- Of all: the turns are 0 to the last one, each with a word and a slot of its number. The value behind a turn that
+  -- nobody holds is at home; one that is held is held by one seat, which keeps what stands behind it.
   pub record AreTurns (last : ℕ) (words : List ℕ) (homes : List (Home (Option H))) (seats : List (List (ℕ × H)))
       (held : ℕ → H) : Type 0 where
     pub turn : ℕ → ℕ

@@ -11,8 +11,8 @@ pub struct Bin {
     pub array: Array,
 }
 
-/// What stands behind the store's turn: the store, and the fault by which it stopped, if it did. After one nothing more is
-/// done with it.
+/// What stands behind the store's turn: the store, and the fault by which it stopped, if it did. After one nothing
+/// more is done with it.
 #[derive(Drop)]
 pub struct Stand<S: Store> {
     pub yard: Yard<S>,

@@ -35,7 +35,8 @@ pub fn rooms_for<S: Store>(alloc: Global, settings: &Settings) -> Result<Rooms<S
     requires { AreValid settings.now }
     ensures arrays { IfOk result (λ rooms. AreArrays settings.now rooms.arrays.items) }
     ensures empty { IfOk result (λ rooms. (b : ℕ) → waiting_at rooms.arrays.items b ≡ []) }
-    ensures spare { IfOk result (λ rooms. (rooms.spare.items ≡ []) × (settings.now.buckets ≤ vec_capacity rooms.spare)) }
+    ensures spare { IfOk result (λ rooms. (rooms.spare.items ≡ [])
+        × (settings.now.buckets ≤ vec_capacity rooms.spare)) }
     ensures words { IfOk result (λ rooms. (rooms.words.items ≡ [])
         × ((settings.now.buckets + 1) + settings.now.buckets ≤ vec_capacity rooms.words)) }
     ensures slots { IfOk result (λ rooms. (rooms.slots.items ≡ [])

@@ -41,8 +41,8 @@ impl<S: Store> Pass<S> {
         self.last
     }
 
-    /// What an offer does under its bucket's turn: it is counted and put behind those that wait. It is handed back exactly
-    /// where the bucket's array is full. It takes no memory.
+    /// What an offer does under its bucket's turn: it is counted and put behind those that wait. It is handed back
+    /// exactly where the bucket's array is full. It takes no memory.
     pub fn push(
         &mut self,
         shared: &Shared<S>,
@@ -68,12 +68,12 @@ impl<S: Store> Pass<S> {
         Ok(Receipt { bucket: b, number })
     }
 
-    /// Puts an offer into the store, and answers where it stands. A refusal hands it back, and nothing was put in. It may
-    /// wait for other passes.
+    /// Puts an offer into the store, and answers where it stands. A refusal hands it back, and nothing was put in. It
+    /// may wait for other passes.
     ///
-    /// With room in the bucket's array it is a push. A full array is flushed before, under the store's turn too: a merge
-    /// that is due runs before the flush, and one that is due then behind it, while other passes go on pushing. A fault but
-    /// want of memory stops the store: from then on whoever needs room is answered it.
+    /// With room in the bucket's array it is a push. A full array is flushed before, under the store's turn too: a
+    /// merge that is due runs before the flush, and one that is due then behind it, while other passes go on pushing.
+    /// A fault but want of memory stops the store: from then on whoever needs room is answered it.
     pub fn offer<R: Wait>(
         &mut self,
         rt: &R,

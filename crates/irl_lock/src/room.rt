@@ -16,8 +16,8 @@ use irl_disk::Store;
 use irl_offer::Fault;
 use irl_yard::Yard;
 
-/// Makes room for an offer of a bucket, where its array is full or no number is left. After the fault by which the store
-/// stopped nothing is done, and it is answered again; a fault but want of memory stops it.
+/// Makes room for an offer of a bucket, where its array is full or no number is left. After the fault by which the
+/// store stopped nothing is done, and it is answered again; a fault but want of memory stops it.
 pub fn refill<S: Store>(stand: &mut Stand<S>, b: u32, bin: &mut Bin) -> Result<(), Fault>
     requires may { MayRefill b bin.old stand.old }
     requires none_left { length bin.old.array.items < stand.old.yard.parts.urls.settings.array →

@@ -17,7 +17,8 @@ use irl_yard::Yard;
 use std::alloc::Global;
 
 impl<S: Store> Shared<S> {
-    /// Shares an open store among so many passes, 1 to 64. Each of them holds no turn. Want of memory hands the store back.
+    /// Shares an open store among so many passes, 1 to 64. Each of them holds no turn. Want of memory hands the store
+    /// back.
     pub fn new(
         alloc: Global,
         yard: Yard<S>,
@@ -63,8 +64,9 @@ impl<S: Store> Shared<S> {
 
     /// Flushes what waits, and hands the store back, whatever is answered. It waits for nobody.
     ///
-    /// It is handed all passes. Every array that isn't empty is flushed, bucket 0 first; a merge that is due runs before the
-    /// first of them alone. Where the store stopped, nothing is flushed, and the fault by which it did is answered.
+    /// It is handed all passes. Every array that isn't empty is flushed, bucket 0 first; a merge that is due runs
+    /// before the first of them alone. Where the store stopped, nothing is flushed, and the fault by which it did is
+    /// answered.
     pub fn close(self, passes: Vec<Pass<S>>) -> Result<Yard<S>, (Fault, Yard<S>)>
         requires own { AllByRecursion (IsOf self) passes.items }
         requires free { AllByRecursion IsFree passes.items }
