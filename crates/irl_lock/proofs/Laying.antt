@@ -1,6 +1,5 @@
 -- Lists that are laid out in a table, and taken apart again.
 use Rattle.std.proofs.Common.{◌≡◌, ◌∙◌, ℕ, zero, suc, ◌+◌, ◌<◌, List, [], ◌∷◌, ◌++◌, length, drop, get_or, Option, None, Some, refl, sym, ap, subst, ⊎_elim, inl, inr, ◌⊎◌, arith}
-use Rattle.std.specs.List.{AllByRecursion}
 use mathlib.Core.Logic.{dite}
 use mathlib.Core.Option.{some, some-injective, some-ne-none}
 use native.Mathlib.Decide.{ℕ_discrete}
@@ -46,11 +45,6 @@ module _ {A : Type 0} where
       let both = same_ends xs ys x y tail in
       (λ i. head i ∷ both.0 i, both.1)
 
-  -- a fact of all but the last
-  pub all_front : (F : A → Type 0) (xs : List A) (x : A) → AllByRecursion F (xs ++ x ∷ []) → AllByRecursion F xs × F x
-  all_front F [] x all = (tt, all.0)
-  all_front F (a ∷ xs) x all = let more = all_front F xs x all.1 in ((all.0, more.0), more.1)
-
   -- two lists of one length with the same elements are one
   pub same_list : (xs ys : List A) → length xs ≡ length ys → ((j : ℕ) (a : A) → get_elem? xs j ≡ some a → get_elem? ys j ≡ some a) → xs ≡ ys
   same_list [] [] long each = refl
@@ -94,7 +88,8 @@ module _ {S : Type 0} {tells : Ghosts S} where
   pub has_store : (yard : Yard S tells) (arrays : List Waiting) (slots same : List (Option (Held S tells))) → AreSlots yard arrays slots → same ≡ slots → HasStore same
   has_store yard arrays slots same are is = record { bins = are.front; stand = first_stand yard; slots_are = is ∙ are.slots_are; bins_are = are.front_are }
 
-  abbrev stand_or : Stand S tells → Option (Held S tells) → Stand S tells
+  -- what is in a slot, or this where something else is
+  abbrev pub stand_or : Stand S tells → Option (Held S tells) → Stand S tells
   stand_or other (Some (InYard stand)) = stand
   stand_or other (Some (InBin bin)) = other
   stand_or other None = other

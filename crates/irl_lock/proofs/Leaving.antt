@@ -35,7 +35,7 @@ use Rattle.irl_lock.specs.declared.pass.Pass.{Pass}
 use Rattle.irl_lock.specs.declared.view.Known.{Known}
 use Rattle.irl_lock.specs.declared.view.Share.{Share}
 use Rattle.irl_lock.specs.declared.view.View.{View}
-use Rattle.irl_lock.proofs.Laying.{at_within, same_list, snoc_at}
+use Rattle.irl_lock.proofs.Laying.{at_within, same_list, snoc_at, stand_or}
 use Rattle.irl_lock.proofs.Listed.{is_within, map_at, of_map_at}
 use Rattle.irl_lock.proofs.PartSteps.{parts_alone, parts_other}
 use Rattle.irl_lock.proofs.TurnSteps.{at_rest}
@@ -105,15 +105,11 @@ module _ {S : Type 0} {tells : Ghosts S} where
         last = home (buckets_of opening) (omega arith) ∙ ap (λ (h : Held S tells). some (Some h)) books.yard_is;
       }
 
+  -- the bin in a slot, or this one where there is none
   abbrev bin_or : Bin → Option (Held S tells) → Bin
   bin_or other (Some (InBin bin)) = bin
   bin_or other (Some (InYard stand)) = other
   bin_or other None = other
-
-  abbrev stand_or : Stand S tells → Option (Held S tells) → Stand S tells
-  stand_or other (Some (InYard stand)) = stand
-  stand_or other (Some (InBin bin)) = other
-  stand_or other None = other
 
   -- the arrays that were taken out, one after the other, of these slots
   abbrev pub AreTaken : List (Option (Held S tells)) → List Waiting → Type 0
@@ -179,7 +175,8 @@ module _ {S : Type 0} {tells : Ghosts S} where
   orders_all news [] all = tt
   orders_all news (pass ∷ more) all = (all.0, orders_all news more all.1)
 
-  stops_all : (last : Option Fault) (passes : List (Pass S tells)) → AllByRecursion IsFree passes → AllByRecursion (λ share. (fault : Fault) → share.last ≡ Some fault → last ≡ Some fault) (map mine_of passes)
+  stops_all : (last : Option Fault) (passes : List (Pass S tells)) → AllByRecursion IsFree passes
+      → AllByRecursion (λ share. (fault : Fault) → share.last ≡ Some fault → last ≡ Some fault) (map mine_of passes)
       → AllByRecursion (λ pass. (fault : Fault) → pass.last ≡ Some fault → last ≡ Some fault) passes
   stops_all last [] free all = tt
   stops_all last (pass ∷ more) free all = ((λ fault is. all.0 fault (sym free.0.last ∙ is)), stops_all last more free.1 all.1)

@@ -1,6 +1,7 @@
 -- A table that is made, a seat that is cut in two, and one that takes another in: each keeps the rule.
 use Rattle.std.proofs.Common.{◌≡◌, ◌∙◌, ℕ, zero, suc, ◌+◌, ◌-◌, ◌^◌, ◌<◌, ◌≤◌, List, [], ◌∷◌, ◌++◌, map, length, length-append, Option, None, Some, refl, sym, ap, subst, ⊎_elim, arith}
 use Rattle.std.proofs.lemmas.List.{length-map}
+use Rattle.std.specs.List.{AllByRecursion}
 use Rattle.std.specs.Prelude.{slice_set}
 use mathlib.Core.Logic.{dite}
 use mathlib.Core.Option.{some, some-injective, some-ne-none}
@@ -28,7 +29,7 @@ use Rattle.irl_lock.specs.declared.view.View.{View}
 use Rattle.irl_lock.specs.declared.pass.Pass.{Pass}
 use Rattle.irl_lock.specs.declared.shared.Shared.{Shared}
 use Rattle.irl_lock.proofs.BookSteps.{books_first}
-use Rattle.irl_lock.proofs.Listed.{changed, changed_else, changed_here, each_set, map_at, map_slice_set, map_snoc}
+use Rattle.irl_lock.proofs.Listed.{changed, changed_else, changed_here, each_set, every_snoc, map_at, map_slice_set, map_snoc}
 use Rattle.irl_lock.proofs.PartSteps.{parts_join, parts_split}
 use Rattle.irl_lock.proofs.TurnSteps.{joined, opened, split}
 
@@ -148,10 +149,20 @@ module _ {S : Type 0} {tells : Ghosts S} where
       }
 
   -- ---- passes that are dealt out
-  pub parts_snoc : (passes : List (Pass S tells)) (pass : Pass S tells) → parts_in_all (passes ++ pass ∷ []) ≡ parts_in_all passes + parts_in pass
+  parts_snoc : (passes : List (Pass S tells)) (pass : Pass S tells) → parts_in_all (passes ++ pass ∷ []) ≡ parts_in_all passes + parts_in pass
   parts_snoc [] pass = omega arith
   parts_snoc (x ∷ xs) pass = let r = parts_snoc xs pass in omega (arith, r)
 
+  -- one more that has done nothing
+  pub fresh_more : (shared : Shared S tells) (passes new : List (Pass S tells)) (pass : Pass S tells) → new ≡ passes ++ pass ∷ [] → AllByRecursion (IsFreshPass shared) passes → IsFreshPass shared pass
+      → AllByRecursion (IsFreshPass shared) new × (parts_in_all new ≡ parts_in_all passes + parts_in pass) × (length new ≡ length passes + 1)
+  fresh_more shared passes new pass is fresh one = (
+    subst (AllByRecursion (IsFreshPass shared)) (sym is) (every_snoc (IsFreshPass shared) passes pass fresh one),
+    ap parts_in_all is ∙ parts_snoc passes pass,
+    ap length is ∙ length-append passes (pass ∷ []),
+  )
+
+  -- a pass whose seat knows no more than the opening
   pub fresh_pass : (shared : Shared S tells) (pass : Pass S tells) (parts : ℕ) → pass.token.table_id ≡ shared.table.shared.table_id
       → pass.token.me ≡ (view_of (opening_of shared) [] (fresh_known parts), []) → 1 ≤ parts → pass.number + 1 < 2 ^ 64 → pass.last ≡ None
       → IsFreshPass shared pass × (parts_in pass ≡ parts)

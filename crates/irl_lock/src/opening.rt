@@ -88,7 +88,7 @@ pub fn lay<S: Store>(
     }
 }
 
-/// Gives one part of a seat's to each of so many passes but the first, which keeps the others.
+/// Gives one part of a seat's to each of so many passes but the last, which keeps the others.
 pub fn deal<S: Store>(shared: &Shared<S>, token: Token<S>, passes: &mut Vec<Pass<S>>, workers: u32)
     requires seat { (token.table_id ≡ shared.now.table.shared.table_id)
         × (token.me ≡ (first_view (opening_of shared.now), [])) }

@@ -14,7 +14,8 @@ pub bin_in-bin-requires : goal.bin_in-bin-requires
 bin_in-bin-requires g c =
     let shared = c.args.shared in
     let closed = c.close_with-closed.result in
-    let left = is_left (opening_of shared) c.args.token.id c.args.token.me.0 (slots_items closed.words) (slots_items closed.slots) c.requires.all c.requires.free c.close_with-closed.ensures.values.2 in
+    let left = is_left (opening_of shared) c.args.token.id c.args.token.me.0 (slots_items closed.words) (slots_items closed.slots) c.requires.all c.requires.free
+    c.close_with-closed.ensures.values.2 in
     let b = c.loop-b.b in
     let inside : b < buckets_of (opening_of shared) = omega (arith, c.loop-b-test.true, shared.buckets_are) in
     let bin = bin_of left.stand left.arrays b in
@@ -34,7 +35,8 @@ loop-b-preserved g c =
     record {
       items = t.others.0 ∙ i.items;
       long = t.others.2 ∙ i.long;
-      full = λ k le lt. ap (λ l. get_or l k false) t.others.1 ∙ (get_or-set_other (slots_filled row) b k false false (λ z. omega (arith, z, le)) ∙ i.full k (omega (arith, le)) (subst (λ (n : ℕ). k < n) t.others.2 lt));
+      full = λ k le lt. ap (λ l. get_or l k false) t.others.1
+          ∙ (get_or-set_other (slots_filled row) b k false false (λ z. omega (arith, z, le)) ∙ i.full k (omega (arith, le)) (subst (λ (n : ℕ). k < n) t.others.2 lt));
       empty = λ k lt. ap (λ l. get_or l k false) t.others.1 ∙ dite (ℕ_discrete k b)
           (λ same. ap (λ (z : ℕ). get_or (set (slots_filled row) b false) z false) same ∙ get_or-set_same (slots_filled row) b false false (omega (arith, wide, few)))
           (λ apart. get_or-set_other (slots_filled row) b k false false apart ∙ i.empty k (omega (arith, lt, apart)));
@@ -48,7 +50,8 @@ pub stand_in-stand-requires : goal.stand_in-stand-requires
 stand_in-stand-requires g c =
     let shared = c.args.shared in
     let closed = c.close_with-closed.result in
-    let left = is_left (opening_of shared) c.args.token.id c.args.token.me.0 (slots_items closed.words) (slots_items closed.slots) c.requires.all c.requires.free c.close_with-closed.ensures.values.2 in
+    let left = is_left (opening_of shared) c.args.token.id c.args.token.me.0 (slots_items closed.words) (slots_items closed.slots) c.requires.all c.requires.free
+    c.close_with-closed.ensures.values.2 in
     let here : some c.take-2.result ≡ some (Some (InYard left.stand)) =
     sym c.take-2.ensures.value ∙ ap (λ xs. get_elem? xs shared.buckets) c.loop-b.invariant.items ∙ ap (get_elem? (slots_items closed.slots)) shared.buckets_are ∙ left.last in
     (left.stand, some-injective c.take-2.result (Some (InYard left.stand)) here)

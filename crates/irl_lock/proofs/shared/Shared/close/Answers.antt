@@ -17,8 +17,8 @@ pub returns-in-Ok : goal.returns-in-Ok
 returns-in-Ok g c =
     let left = c.take_out-arrays in
     let join = c.join-token in
-    closes_by (opening_of c.args.self) join.result.me.0.known left.result.0.items left.result.1 c.args.passes.items (Ok c.close-closed.result.1) c.close-closed.result.0 (serving_of c.resume-desk.result)
-    left.ensures join.ensures.shares c.requires.free c.resume-desk.ensures c.in-Ok.is c.close-closed.ensures
+    closes_by (opening_of c.args.self) join.result.me.0.known left.result.0.items left.result.1 c.args.passes.items (Ok c.close-closed.result.1) c.close-closed.result.0
+    (serving_of c.resume-desk.result) left.ensures join.ensures.shares c.requires.free c.resume-desk.ensures c.in-Ok.is c.close-closed.ensures
 
 pub returns-in-Err : goal.returns-in-Err
 returns-in-Err g c =
