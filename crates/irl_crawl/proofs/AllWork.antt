@@ -1,5 +1,5 @@
 -- What the loop over the workers keeps.
-use Rattle.std.proofs.Common.{◌≡◌, ◌∙◌, ℕ, ◌+◌, ◌<◌, ◌≤◌, List, [], ◌∷◌, ◌++◌, length, map, drop, take, false, get_or, set, Some, inl, inr, refl, sym, ap, subst, arith}
+use Rattle.std.proofs.Common.{◌≡◌, ◌∙◌, ◌⊎◌, ℕ, ◌+◌, ◌<◌, ◌≤◌, List, [], ◌∷◌, ◌++◌, length, map, drop, take, false, get_or, set, Some, inl, inr, refl, sym, ap, subst, arith}
 use Rattle.std.specs.Prelude.{Result, Ok, Err, Vec, slice_get}
 use Rattle.std.specs.List.{All, flat_map}
 use Rattle.std.specs.declared.alloc.Global.{Global}
@@ -7,7 +7,7 @@ use Rattle.std.specs.List.Sorted.{IsPermutation}
 use Rattle.std.proofs.lemmas.Bool.{cases_eq}
 use Rattle.std.proofs.lemmas.List.{append-nil, append_assoc, drop_all, drop_more, length-map, map-append, take_all, take_more}
 use Rattle.std.proofs.lemmas.List.Concat.{flat_map-append}
-use Rattle.std.proofs.lemmas.List.Elements.{All-append, All-map, All-nil, All-same, All-weaker}
+use Rattle.std.proofs.lemmas.List.Elements.{All-append, All-cons, All-map, All-nil, All-same, All-weaker}
 use Rattle.std.proofs.lemmas.List.Sorted.{IsPermutation-append_left, IsPermutation-append_right, IsPermutation-map, IsPermutation-refl, IsPermutation-trans}
 use Rattle.std.proofs.lemmas.Option.{get_or_from_slice_get, slice_get-get_or, slice_get_within}
 use Rattle.irl_base.specs.declared.fault.Fault.{Fault}
@@ -23,13 +23,13 @@ use Rattle.irl_record.specs.Wired.{Made, how_many}
 use Rattle.irl_fetch.specs.declared.working.WorkLog.{WorkLog}
 use Rattle.irl_fetch.specs.Handling.{Handled, IsHandled, IsNoted, Noted, answered, done_of, entered_of}
 use Rattle.irl_fetch.specs.Telling.{Enters, Fetcher, GoesOn, Offering, fetcher, given_since}
-use Rattle.irl_fetch.specs.Working.{FinishesWork, HasWorked, IsBegun, StopsWork, IsStateOf}
+use Rattle.irl_fetch.specs.Working.{FinishesWork, HasWorked, IsBegun as HasBegun, StopsWork, IsStateOf}
 use Rattle.irl_fetch.proofs.Handling.{answered_both, handled_wider, noted_wider}
 use Rattle.irl_fetch.proofs.Jobs.{part_wider}
 use Rattle.irl_fetch.proofs.Results.{refused_err, refused_fault, refused_if}
 use Rattle.irl_fetch.proofs.Telling.{enters_as, enters_none, enters_then}
 use Rattle.irl_crawl.specs.Workers.{AllGoOn, AreFor, AreReady, Given, IsGivenBy, IsMomentBy, IsStateAmong, RoseBetween, given_by, loaded, made_by, schedules}
-use Rattle.irl_crawl.specs.Working.{AreByWorker, FinishAll, HasBegunOne, HaveWorked, KeepDelays, KnowAsNoted, KnowByMoment, StopAll, WorkAll}
+use Rattle.irl_crawl.specs.Working.{AreByWorker, Begun, FinishAll, HaveWorked, IsBegun, KeepDelays, KnowAsNoted, KnowByMoment, StopAll, WorkAll, begun_entries}
 use Rattle.irl_crawl.specs.declared.crew.Crew.{Crew}
 use Rattle.irl_crawl.proofs.Workers.{IsSetAt, among_more, among_one, delays_more, delays_stay, front_at, fronts_set, is_set, know_more, know_none, knows_more, knows_same, same_at}
 use Rattle.irl_crawl.proofs.Going.{all_go_none}
@@ -330,6 +330,8 @@ all_done {asked} {gives} {faults} {last} {aim} {log} {agent} {suffixes} {worker}
     notes = far.notes;
     worked = subst (λ (left : List Work). HaveWorked (given_by asked gives faults olds nows) agent suffixes far.handled far.noted left befores) (ap loaded (drop_all worker befores all)) far.worked;
     asked = omega (arith, far.asked_are);
+    news = flat_map entered_of far.handled;
+    are_news = IsPermutation-refl (flat_map entered_of far.handled);
     entered = far.entered;
     known = far.known;
     knows = far.knows;
@@ -346,19 +348,42 @@ entered_then : (h1 h2 : List Handled) (part : List Entered) → flat_map entered
 entered_then h1 h2 part =
     sym (append_assoc (flat_map entered_of h1) (flat_map entered_of h2) part) ∙ ap (λ xs. xs ++ part) (sym (flat_map-append entered_of h1 h2))
 
-begun_more : {F : Type 0} (asked : F → Made) (gives : F → ℕ → Answers) (faults last : F → ℕ) (aim : F → List ℕ) (agent suffixes : List ℕ) (worker : ℕ) (x y : F) (olds laters : List F) (s : Schedule)
+-- What a worker has begun of what all leave is one item or none, and this of it is entered.
+record BeginsOne (gives : Answers) (agent suffixes : List ℕ) (noted : List Noted) (left : List Work) (part : List Entered) (befores : List Schedule) : Type 0 where
+  begun : List Begun
+  others : List Work
+  is_left : IsPermutation left (map (λ (one : Begun). one.work) begun ++ others)
+  are_begun : All (IsBegun gives agent suffixes noted befores) begun
+  few : length begun ≤ 1
+  entries : begun_entries begun ≡ part
+
+begins_none : (gives : Answers) (agent suffixes : List ℕ) (noted : List Noted) (left : List Work) (part : List Entered) (befores : List Schedule) → part ≡ []
+    → BeginsOne gives agent suffixes noted left part befores
+begins_none gives agent suffixes noted left part befores none =
+    record { begun = []; others = left; is_left = IsPermutation-refl left; are_begun = All-nil _; few = omega arith; entries = sym none }
+
+begins_one : {F : Type 0} (asked : F → Made) (gives : F → ℕ → Answers) (faults last : F → ℕ) (aim : F → List ℕ) (agent suffixes : List ℕ) (worker : ℕ) (x y : F) (olds laters : List F) (s : Schedule)
     (befores : List Schedule) (one two : List Noted) (left rest : List Work) (part : List Entered) → slice_get olds worker ≡ Some x → slice_get laters worker ≡ Some y
-    → slice_get befores worker ≡ Some s → s.agent ≡ agent → IsBegun suffixes two left part (fetcher asked gives faults last aim x) (fetcher asked gives faults last aim y) s
-    → HasBegunOne (IsGivenBy asked gives olds laters) agent suffixes (one ++ two) (left ++ rest) part befores
-begun_more asked gives faults last aim agent suffixes worker x y olds laters s befores one two left rest part was is stands for begun = record {
-  work = begun.work;
-  others = begun.others ++ rest;
-  is_left = IsPermutation-append_left rest left (begun.work ∷ begun.others) begun.is_left;
-  state = begun.state;
-  known = among_one agent befores one two worker s stands for _ begun.state begun.known;
-  allowed = begun.allowed;
-  some = part_wider (given_since (fetcher asked gives faults last aim x) (fetcher asked gives faults last aim y)) (IsGivenBy asked gives olds laters)
-      (given_by_one asked gives faults last aim olds laters worker x y was is) suffixes begun.work.web part begun.some;
+    → slice_get befores worker ≡ Some s → s.agent ≡ agent
+    → (part ≡ []) ⊎ HasBegun suffixes two left part (fetcher asked gives faults last aim x) (fetcher asked gives faults last aim y) s
+    → BeginsOne (IsGivenBy asked gives olds laters) agent suffixes (one ++ two) (left ++ rest) part befores
+begins_one asked gives faults last aim agent suffixes worker x y olds laters s befores one two left rest part was is stands for (inl none) =
+    begins_none (IsGivenBy asked gives olds laters) agent suffixes (one ++ two) (left ++ rest) part befores none
+begins_one asked gives faults last aim agent suffixes worker x y olds laters s befores one two left rest part was is stands for (inr has) = record {
+  begun = record { work = has.work; part = part } ∷ [];
+  others = has.others ++ rest;
+  is_left = IsPermutation-append_left rest left (has.work ∷ has.others) has.is_left;
+  are_begun = All-cons (IsBegun (IsGivenBy asked gives olds laters) agent suffixes (one ++ two) befores) (record { work = has.work; part = part }) []
+      (record {
+        state = has.state;
+        known = among_one agent befores one two worker s stands for _ has.state has.known;
+        allowed = has.allowed;
+        some = part_wider (given_since (fetcher asked gives faults last aim x) (fetcher asked gives faults last aim y)) (IsGivenBy asked gives olds laters)
+            (given_by_one asked gives faults last aim olds laters worker x y was is) suffixes has.work.web part has.some;
+      })
+      (All-nil _);
+  few = omega arith;
+  entries = append-nil part;
 }
 
 stops_more : {F O : Type 0} (asked : F → Made) (gives : F → ℕ → Answers) (faults last : F → ℕ) (aim : F
@@ -366,26 +391,34 @@ stops_more : {F O : Type 0} (asked : F → Made) (gives : F → ℕ → Answers)
     (s t : Schedule) (befores fronts afters : List Schedule) (o p q : Offering O) → SoFar asked gives faults last aim log agent suffixes worker olds nows befores fronts o p
     → RunsOne asked gives faults last aim worker x y nows laters s t fronts afters
     → StopsWork suffixes (fetcher asked gives faults last aim x) (fetcher asked gives faults last aim y) s t p q → StopAll (given_by asked gives faults olds laters) agent suffixes befores o q
-stops_more asked gives faults last aim log agent suffixes worker x y olds nows laters s t befores fronts afters o p q far runs stops = record {
-  handled = far.handled ++ stops.handled;
-  noted = far.noted ++ stops.noted;
-  left = stops.left ++ loaded (drop (worker + 1) befores);
-  worked = worked_more asked gives faults last aim log agent suffixes worker x y olds nows laters s t befores fronts afters o p far runs stops.handled stops.noted stops.left stops.worked;
-  asked =
-      let both : answered (far.handled ++ stops.handled) (far.noted ++ stops.noted) + 6 ≡ answered far.handled far.noted + (answered stops.handled stops.noted + 6) =
-      let all = answered_both far.handled stops.handled far.noted stops.noted in omega (arith, all) in
-      let many = made_more asked (answered far.handled far.noted) (answered stops.handled stops.noted + 6) worker x y olds nows laters runs.fetcher_set runs.stood both far.asked_are stops.asked in
-      omega (arith, many);
-  part = stops.part;
-  begun = elim stops.begun [
-    | inl none ↦ inl none
-    | inr one ↦ inr (begun_more asked gives faults last aim agent suffixes worker x y olds laters s befores far.noted stops.noted stops.left (loaded (drop (worker + 1) befores)) stops.part
-        (sym (far.fetchers_same worker (omega arith)) ∙ runs.stood) runs.fetcher_set.here (stood_first befores fronts worker s far.fronts_same runs.stands)
-        (agent_at agent fronts worker s far.agents runs.stands) one)
-  ];
-  entered = enters_as (flat_map entered_of far.handled ++ (flat_map entered_of stops.handled ++ stops.part)) (flat_map entered_of (far.handled ++ stops.handled) ++ stops.part) o q
-      (entered_then far.handled stops.handled stops.part) (enters_then (flat_map entered_of far.handled) (flat_map entered_of stops.handled ++ stops.part) o p q far.entered stops.entered);
-}
+stops_more asked gives faults last aim log agent suffixes worker x y olds nows laters s t befores fronts afters o p q far runs stops =
+    let stands : slice_get befores worker ≡ Some s = stood_first befores fronts worker s far.fronts_same runs.stands in
+    let low : worker < length befores = slice_get_within befores worker s stands in
+    let left : List Work = stops.left ++ loaded (drop (worker + 1) befores) in
+    let begins : BeginsOne (IsGivenBy asked gives olds laters) agent suffixes (far.noted ++ stops.noted) left stops.part befores =
+    begins_one asked gives faults last aim agent suffixes worker x y olds laters s befores far.noted stops.noted stops.left (loaded (drop (worker + 1) befores)) stops.part
+    (sym (far.fetchers_same worker (omega arith)) ∙ runs.stood) runs.fetcher_set.here stands (agent_at agent fronts worker s far.agents runs.stands) stops.begun in
+    let news : List Entered = flat_map entered_of (far.handled ++ stops.handled) ++ stops.part in
+    record {
+      handled = far.handled ++ stops.handled;
+      noted = far.noted ++ stops.noted;
+      left = left;
+      worked = worked_more asked gives faults last aim log agent suffixes worker x y olds nows laters s t befores fronts afters o p far runs stops.handled stops.noted stops.left stops.worked;
+      asked =
+          let both : answered (far.handled ++ stops.handled) (far.noted ++ stops.noted) + 6 ≡ answered far.handled far.noted + (answered stops.handled stops.noted + 6) =
+          let all = answered_both far.handled stops.handled far.noted stops.noted in omega (arith, all) in
+          let many = made_more asked (answered far.handled far.noted) (answered stops.handled stops.noted + 6) worker x y olds nows laters runs.fetcher_set runs.stood both far.asked_are stops.asked in
+          omega (arith, many, low);
+      begun = begins.begun;
+      others = begins.others;
+      is_left = begins.is_left;
+      are_begun = begins.are_begun;
+      few = omega (arith, begins.few, low);
+      news = news;
+      are_news = subst (λ (part : List Entered). IsPermutation news (flat_map entered_of (far.handled ++ stops.handled) ++ part)) (sym begins.entries) (IsPermutation-refl news);
+      entered = enters_as (flat_map entered_of far.handled ++ (flat_map entered_of stops.handled ++ stops.part)) news o q
+          (entered_then far.handled stops.handled stops.part) (enters_then (flat_map entered_of far.handled) (flat_map entered_of stops.handled ++ stops.part) o p q far.entered stops.entered);
+    }
 
 -- a worker was refused
 pub all_stopped : {F O : Type 0} {asked : F → Made} {gives : F → ℕ → Answers} {faults last : F → ℕ} {aim : F

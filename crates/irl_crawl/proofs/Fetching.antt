@@ -1,9 +1,12 @@
 -- What the workers did at a desk, and what the desk hands back, together.
-use Rattle.std.proofs.Common.{◌≡◌, ◌∙◌, ◌⊎◌, ⊎_elim, inl, inr, ℕ, ◌≤◌, List, [], ◌∷◌, ◌++◌, map, Option, Some, Result, Ok, Err, IfOk, IsErrOf, refl, sym, ap, subst}
+use Rattle.std.proofs.Common.{◌≡◌, ◌∙◌, ◌⊎◌, ⊎_elim, inl, inr, ℕ, ◌≤◌, List, [], ◌∷◌, ◌++◌, length, map, Option, Some, Result, Ok, Err, IfOk, IsErrOf, refl, sym, ap, subst, arith}
 use Rattle.std.specs.Prelude.{IfErr, OnOk}
 use Rattle.std.specs.List.{All, AllByRecursion, flat_map}
 use Rattle.std.specs.Option.{option_map}
+use Rattle.std.specs.List.Sorted.{IsPermutation}
 use Rattle.std.proofs.lemmas.List.{append-nil}
+use Rattle.std.proofs.lemmas.List.Elements.{All-nil}
+use Rattle.std.proofs.lemmas.List.Sorted.{IsPermutation-refl}
 use Rattle.irl_base.proofs.Among.{among_none}
 use Rattle.irl_base.specs.Among.{IsAmong}
 use Rattle.irl_base.specs.declared.fault.Fault.{Fault}
@@ -26,27 +29,27 @@ use Rattle.irl_yard.specs.Sending.{HasBegun}
 use Rattle.irl_fetch.specs.Handling.{Handled, Noted, answered, done_of, entered_of, receipts_of}
 use Rattle.irl_fetch.specs.Telling.{Enters, Offering}
 use Rattle.irl_fetch.specs.declared.working.WorkLog.{WorkLog}
-use Rattle.irl_fetch.proofs.Telling.{enters_as}
 use Rattle.irl_desk.specs.Closing.{Closes, ended}
 use Rattle.irl_desk.specs.Serving.{IsFresh, Serves, Serving}
 use Rattle.irl_crawl.specs.Fetching.{Fetches, FetchesWhole, entries_of}
 use Rattle.irl_crawl.specs.Offering.{OffersSome, OnlyOffers}
 use Rattle.irl_crawl.specs.Workers.{AreFor, Given, loaded}
-use Rattle.irl_crawl.specs.Working.{HasBegunOne, HaveWorked, KnowAsNoted, WorkAll}
+use Rattle.irl_crawl.specs.Working.{Begun, HaveWorked, IsBegun, KnowAsNoted, WorkAll}
 use Rattle.irl_crawl.proofs.AllWork.{have_none}
 use Rattle.irl_crawl.proofs.Batches.{grown_same}
 use Rattle.irl_crawl.proofs.Leading.{leads_none}
 use Rattle.irl_crawl.proofs.Lifting.{IsBehind, closed_behind, closed_leads, hands, last_named, rest_kept, served_behind}
+use Rattle.irl_crawl.proofs.Moving.{all_moved, leads_moved}
 use Rattle.irl_crawl.proofs.Refusing.{refused_desk}
 use Rattle.irl_crawl.specs.Refusing.{RefusesAsFound}
 
 -- ---- what was done, whatever is answered
 -- all of it, but for what is flushed
-record IsWhole (log : WorkLog) (agent : List ℕ) (handled : List Handled) (noted : List Noted) (left : List Work) (part : List Entered) (befores afters : List Schedule) : Type 0 where
+record IsWhole (log : WorkLog) (agent : List ℕ) (handled : List Handled) (noted : List Noted) (left : List Work) (begun : List Begun) (befores afters : List Schedule) : Type 0 where
   done : log.done.items ≡ map done_of handled
   notes : log.notes.items ≡ map (λ one. one.note) noted
   none_left : left ≡ []
-  no_part : part ≡ []
+  none_begun : begun ≡ []
   known : KnowAsNoted agent noted befores afters
   items : All (λ s. s.items ≡ []) afters
 
@@ -54,11 +57,16 @@ record WasWorked {O : Type 0} (result : Result WorkLog Fault) (given : Given) (a
   handled : List Handled
   noted : List Noted
   left : List Work
-  part : List Entered
   worked : HaveWorked given agent suffixes handled noted left befores
-  begun : (part ≡ []) ⊎ HasBegunOne given.gives agent suffixes noted left part befores
-  entered : Enters (entries_of handled part) was now
-  whole : IfOk result (λ log. IsWhole log agent handled noted left part befores afters)
+  begun : List Begun
+  others : List Work
+  is_left : IsPermutation left (map (λ one. one.work) begun ++ others)
+  are_begun : All (IsBegun given.gives agent suffixes noted befores) begun
+  few : length begun ≤ length befores
+  news : List Entered
+  are_news : IsPermutation news (entries_of handled begun)
+  entered : Enters news was now
+  whole : IfOk result (λ log. IsWhole log agent handled noted left begun befores afters)
   asked : OnOk result (given.made ≤ answered handled noted)
 
 was_worked : {O : Type 0} (result : Result WorkLog Fault) (given : Given) (agent suffixes : List ℕ) (befores afters : List Schedule) (was now : Offering O)
@@ -69,16 +77,36 @@ was_worked (Ok log) given agent suffixes befores afters was now all =
       handled = f.handled;
       noted = f.noted;
       left = [];
-      part = [];
       worked = f.worked;
-      begun = inl refl;
-      entered = enters_as (flat_map entered_of f.handled) (flat_map entered_of f.handled ++ []) was now (sym (append-nil (flat_map entered_of f.handled))) f.entered;
-      whole = record { done = f.done; notes = f.notes; none_left = refl; no_part = refl; known = f.known; items = f.none_left };
+      begun = [];
+      others = [];
+      is_left = IsPermutation-refl [];
+      are_begun = All-nil _;
+      few = omega arith;
+      news = f.news;
+      are_news = subst (IsPermutation f.news) (sym (append-nil (flat_map entered_of f.handled))) f.are_news;
+      entered = f.entered;
+      whole = record { done = f.done; notes = f.notes; none_left = refl; none_begun = refl; known = f.known; items = f.none_left };
       asked = f.asked;
     }
 was_worked (Err fault) given agent suffixes befores afters was now all =
     let s = all.stop in
-    record { handled = s.handled; noted = s.noted; left = s.left; part = s.part; worked = s.worked; begun = s.begun; entered = s.entered; whole = tt; asked = tt }
+    record {
+      handled = s.handled;
+      noted = s.noted;
+      left = s.left;
+      worked = s.worked;
+      begun = s.begun;
+      others = s.others;
+      is_left = s.is_left;
+      are_begun = s.are_begun;
+      few = s.few;
+      news = s.news;
+      are_news = s.are_news;
+      entered = s.entered;
+      whole = tt;
+      asked = tt;
+    }
 
 -- ---- receipts
 flushed_first : (P : Receipt → Type 0) (entries others : List Entered) → AllByRecursion (λ one. P one.receipt) (entries ++ others)
@@ -103,22 +131,22 @@ fault_named (Err other) fault first last is answered =
     let same : other ≡ fault = cc in
     ⊎_elim (λ memory. inl memory) (λ named. inr (is ∙ ap (fault_or first) same ∙ named)) (last_named first fault)
 
-whole_flushed : (result : Result WorkLog Fault) (agent : List ℕ) (handled : List Handled) (noted : List Noted) (left : List Work) (part : List Entered) (befores afters : List Schedule) (now : Parts)
-    → IfOk result (λ log. IsWhole log agent handled noted left part befores afters) → AllByRecursion (λ one. IsFlushed now.urls one.receipt) (entries_of handled part)
-    → IfOk result (λ log. FetchesWhole log agent handled noted left part befores afters now)
-whole_flushed (Ok log) agent handled noted left part befores afters now whole flushed =
-    let entries : entries_of handled part ≡ flat_map entered_of handled = ap (λ (l : List Entered). flat_map entered_of handled ++ l) whole.no_part ∙ append-nil (flat_map entered_of handled) in
+whole_flushed : (result : Result WorkLog Fault) (agent : List ℕ) (handled : List Handled) (noted : List Noted) (left : List Work) (begun : List Begun) (befores afters : List Schedule) (now : Parts)
+    → IfOk result (λ log. IsWhole log agent handled noted left begun befores afters) → AllByRecursion (λ one. IsFlushed now.urls one.receipt) (entries_of handled begun)
+    → IfOk result (λ log. FetchesWhole log agent handled noted left begun befores afters now)
+whole_flushed (Ok log) agent handled noted left begun befores afters now whole flushed =
+    let entries : entries_of handled begun ≡ flat_map entered_of handled = ap (λ (l : List Begun). entries_of handled l) whole.none_begun ∙ append-nil (flat_map entered_of handled) in
     let all = subst (AllByRecursion (λ (one : Entered). IsFlushed now.urls one.receipt)) entries flushed in
     record {
       done = whole.done;
       notes = whole.notes;
       none_left = whole.none_left;
-      no_part = whole.no_part;
+      none_begun = whole.none_begun;
       flushed = subst (AllByRecursion (λ (d : _). AllByRecursion (IsFlushed now.urls) d.receipts)) (sym whole.done) (flushed_done (IsFlushed now.urls) handled all);
       known = whole.known;
       items = whole.items;
     }
-whole_flushed (Err fault) agent handled noted left part befores afters now whole flushed = tt
+whole_flushed (Err fault) agent handled noted left begun befores afters now whole flushed = tt
 
 -- ---- the whole
 module _ {S O : Type 0} (tells : S → Told) (law : (s : S) → IsConsistent (tells s)) (result : Result WorkLog Fault) (given : Given) (agent suffixes : List ℕ) (befores afters : List Schedule)
@@ -136,8 +164,9 @@ module _ {S O : Type 0} (tells : S → Told) (law : (s : S) → IsConsistent (te
   it : WasWorked result given agent suffixes befores afters was now
   it = was_worked result given agent suffixes befores afters was now all
 
+  -- in the order in which the desk took them
   abbrev entries : List Entered
-  entries = entries_of it.handled it.part
+  entries = it.news
 
   serves : Serves tells entries old mid
   serves =
@@ -147,7 +176,7 @@ module _ {S O : Type 0} (tells : S → Told) (law : (s : S) → IsConsistent (te
 
   -- by the answer, where it is as good as the desk's
   fetched : (answer : Result WorkLog Fault) → IsBehind answer closed (ended mid closed store parts closes.arrays).last
-      → IfOk answer (λ log. FetchesWhole log agent it.handled it.noted it.left it.part befores afters parts) → OnOk answer (given.made ≤ answered it.handled it.noted)
+      → IfOk answer (λ log. FetchesWhole log agent it.handled it.noted it.left it.begun befores afters parts) → OnOk answer (given.made ≤ answered it.handled it.noted)
       → Fetches answer given agent suffixes befores afters first parts (tells start) (tells store)
   fetched answer behind whole asked =
       subst (λ (p : Parts). Fetches answer given agent suffixes befores afters p parts (tells start) (tells store)) parts_are
@@ -155,12 +184,16 @@ module _ {S O : Type 0} (tells : S → Told) (law : (s : S) → IsConsistent (te
         handled = it.handled;
         noted = it.noted;
         left = it.left;
-        part = it.part;
         worked = it.worked;
         begun = it.begun;
+        others = it.others;
+        is_left = it.is_left;
+        are_begun = it.are_begun;
+        few = it.few;
         whole = whole;
         asked = asked;
-        leads = closed_leads tells entries old mid closed store parts law opened old_drum old_begun fresh serves closes answer behind;
+        leads = leads_moved entries (entries_of it.handled it.begun) it.are_news answer suffixes old.parts.urls.settings old.parts parts (tells old.store) (tells store)
+            (closed_leads tells entries old mid closed store parts law opened old_drum old_begun fresh serves closes answer behind);
         rest = rest_kept tells entries old mid closed store parts law opened old_drum old_begun fresh serves closes;
         count = all.count;
         agents = all.agents;
@@ -186,8 +219,9 @@ module _ {S O : Type 0} (tells : S → Told) (law : (s : S) → IsConsistent (te
       fetched result
       (served_behind tells entries old mid closed store parts law opened old_drum old_begun fresh serves closes result value is
       (λ fault. fault_named result fault was.last_fault mid.last (subst (λ (last : Option Fault). IfErr result (λ f. last ≡ fault_or was.last_fault f)) now_last all.fault.1)))
-      (whole_flushed result agent it.handled it.noted it.left it.part befores afters parts it.whole
-      (ok_gives closed value (hands tells entries old mid closed store parts law opened old_drum old_begun fresh serves closes).flushed is)) it.asked
+      (whole_flushed result agent it.handled it.noted it.left it.begun befores afters parts it.whole
+      (all_moved (λ (one : Entered). IsFlushed parts.urls one.receipt) entries (entries_of it.handled it.begun) it.are_news
+      (ok_gives closed value (hands tells entries old mid closed store parts law opened old_drum old_begun fresh serves closes).flushed is))) it.asked
 
   -- or its refusal
   pub fetched_refused : (fault : Fault) → closed ≡ Err fault → Fetches (Err fault) given agent suffixes befores afters first parts (tells start) (tells store)
@@ -211,9 +245,12 @@ not_opened given agent suffixes befores parts now law drum sound agents none = r
   handled = [];
   noted = [];
   left = loaded befores;
-  part = [];
   worked = have_none given agent suffixes befores none;
-  begun = inl refl;
+  begun = [];
+  others = loaded befores;
+  is_left = IsPermutation-refl (loaded befores);
+  are_begun = All-nil _;
+  few = omega arith;
   whole = tt;
   asked = tt;
   leads = leads_none (IsErrOf {T = WorkLog} {E = Fault} (Err Memory) Failed) (OnlyOffers parts.urls.settings []) (OffersSome {A = WorkLog} (Err Memory) suffixes parts.urls.settings []) parts now law

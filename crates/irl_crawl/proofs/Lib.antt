@@ -15,6 +15,7 @@ pub mod Lifting
 pub mod Loads
 pub mod Looking
 pub mod Looping
+pub mod Moving
 pub mod Numbering
 pub mod Numbers
 pub mod OneTurn

@@ -1,11 +1,11 @@
 -- Loading, fetching and settling, one behind the other, are one turn.
-use Rattle.std.proofs.Common.{◌≡◌, ◌∙◌, ◌⊎◌, inl, inr, ℕ, ◌≤◌, true, List, [], ◌∷◌, ◌++◌, length, map, Some, Result, Ok, Err, IfOk, OnOk, IsErrOf, refl, sym, ap, subst, arith}
+use Rattle.std.proofs.Common.{◌≡◌, ◌∙◌, inl, inr, ℕ, ◌≤◌, true, List, [], ◌∷◌, ◌++◌, length, map, Some, Result, Ok, Err, IfOk, OnOk, IsErrOf, refl, sym, ap, subst, arith}
 use Rattle.std.specs.List.{All, AllByRecursion, flat_map}
 use Rattle.std.specs.Prelude.{◌^◌, ◌<◌, min}
 use Rattle.std.proofs.lemmas.List.Elements.{recursion_from_All}
 use Rattle.std.specs.List.Sorted.{IsPermutation}
 use Rattle.std.proofs.lemmas.List.{append-nil, length-map}
-use Rattle.std.proofs.lemmas.List.Sorted.{IsPermutation-map, IsPermutation-sym, IsPermutation-trans}
+use Rattle.std.proofs.lemmas.List.Sorted.{IsPermutation-map, IsPermutation-refl, IsPermutation-sym, IsPermutation-trans}
 use Rattle.irl_base.specs.declared.fault.Fault.{Fault}
 use Rattle.irl_base.specs.declared.fault.Fault.TheVariants.{Damaged, Failed, Full}
 use Rattle.irl_bay.specs.Drum.{Drum}
@@ -56,7 +56,7 @@ use Rattle.irl_crawl.specs.Settling.{IsSettling, Settles, settled_state}
 use Rattle.irl_crawl.specs.Turning.{AsksOnce, MayTurn, OnlyTurns, Turns, TurnsWhole, events_since}
 use Rattle.irl_crawl.specs.Sending.{SendsAll}
 use Rattle.irl_crawl.specs.Workers.{AreIdle, AreNotedIn, Given, loaded}
-use Rattle.irl_crawl.specs.Working.{HasBegunOne, HaveWorked}
+use Rattle.irl_crawl.specs.Working.{Begun, HaveWorked, IsBegun}
 use Rattle.irl_crawl.proofs.Batches.{Covers, covers_among, covers_none, fills_among, ground_before}
 use Rattle.irl_crawl.proofs.Fronts.{AreTaken, taken_of_front}
 use Rattle.irl_crawl.proofs.Leading.{leads_more_failed, leads_then, leads_wide}
@@ -65,7 +65,7 @@ use Rattle.irl_crawl.proofs.Rising.{MayMissFewer, WidensGiven}
 use Rattle.irl_crawl.proofs.Turning.{judges_turn, offers_found, offers_turn, turns_none, turns_wider, whole_notes_turn, whole_offers_turn, whole_turn}
 use Rattle.irl_crawl.proofs.Sent.{OweAlike}
 use Rattle.irl_crawl.proofs.Unsent.{owes, unsent_offered}
-use Rattle.irl_crawl.proofs.Visits.{TurnOf, begun_answered, begun_some, notes_from}
+use Rattle.irl_crawl.proofs.Visits.{TurnOf, notes_from}
 
 -- ---- what may be settled
 numbers_done : (handled : List Handled) → map (λ (d : Done). d.number) (map done_of handled) ≡ map (λ (work : Work). work.number) (map (λ (one : Handled). one.work) handled)
@@ -166,20 +166,21 @@ module _ (agent suffixes : List ℕ) (most : ℕ) (olds befores afters : List Sc
     abbrev Loaded : State → State → Type 0
     Loaded = Loads (Ok value) settings agent olds befores
 
-    turn_of : (x y : State) → HoldsState start.images first x → Loaded x y → AreNotedIn agent x.events olds → (handled : List Handled) (noted : List Noted) (left : List Work) (part : List Entered)
-        → HaveWorked given agent suffixes handled noted left befores → (part ≡ []) ⊎ HasBegunOne given.gives agent suffixes noted left part befores
-        → TurnOf given agent suffixes settings most x befores handled noted left part
-    turn_of x y held loads known handled noted left part worked begun = record {
+    turn_of : (x y : State) → HoldsState start.images first x → Loaded x y → AreNotedIn agent x.events olds → (handled : List Handled) (noted : List Noted) (left : List Work) (begun : List Begun)
+        → HaveWorked given agent suffixes handled noted left befores → (others : List Work) → IsPermutation left (map (λ (one : Begun). one.work) begun ++ others)
+        → AllByRecursion (IsBegun given.gives agent suffixes noted befores) begun → TurnOf given agent suffixes settings most x befores handled noted left begun
+    turn_of x y held loads known handled noted left begun worked others is_left are = record {
       store = store x held;
-      begun = begun_of start.images settings first.rest x suffixes held.open_rest suffixes_are;
+      began = begun_of start.images settings first.rest x suffixes held.open_rest suffixes_are;
       known = loads.known known;
       works = loads.texts;
       numbers = next.numbers;
       first = subst (λ (front : List ℕ). AreFirst front most next.numbers) (front_is start.images first.urls first.rest x held.urls held.open_rest) next.first;
       each = next.each;
       worked = worked;
-      one_begun = begun_some part begun;
-      begun_came = begun_answered part begun;
+      others = others;
+      is_left = is_left;
+      are_begun = are;
       fewer = fewer;
     }
 
@@ -193,25 +194,26 @@ module _ (agent suffixes : List ℕ) (most : ℕ) (olds befores afters : List Sc
       not_fetched fault fetches =
           leads_more_failed _ _ _ _ first now start fetched_then (same_refusal fault Failed) (same_refusal fault Failed)
           (leads_then _ _ _ _ _ _ May (Did (Err fault)) first mid now start loaded_then fetched_then loading (ok_failed value)
-          (offers_by {A = WorkLog} suffixes (Err fault) (entries_of fetches.handled fetches.part) mid now loaded_then fetched_then mid.urls.settings settings same_settings fetches.leads)
+          (offers_by {A = WorkLog} suffixes (Err fault) (entries_of fetches.handled fetches.begun) mid now loaded_then fetched_then mid.urls.settings settings same_settings fetches.leads)
           (λ x y z held later front further loads offers known.
           let turn = turned x y z held front further loads loads.same offers.only known in
           record {
             only = turn.0;
             whole = tt;
             asks = tt;
-            ground = ground_before (Err fault) (Err fault) suffixes settings (offers_in (entries_of fetches.handled fetches.part)) (found x z turn.0) x y z (λ other. same_refusal fault other)
+            ground = ground_before (Err fault) (Err fault) suffixes settings (offers_in (entries_of fetches.handled fetches.begun)) (found x z turn.0) x y z (λ other. same_refusal fault other)
                 (subst (λ (s : State). OweAlike suffixes settings x s z.urls) (sym loads.same) (λ b within. refl))
-                (covers_among settings (offers_in (entries_of fetches.handled fetches.part)) (found x z turn.0) x y (ap (λ (s : State). s.urls.lists) loads.same) turn.1) offers.ground;
+                (covers_among settings (offers_in (entries_of fetches.handled fetches.begun)) (found x z turn.0) x y (ap (λ (s : State). s.urls.lists) loads.same) turn.1) offers.ground;
           })
           (λ x y z held later front further loads only known. (turned x y z held front further loads loads.same only known).0))
         where
-          turned : (x y z : State) → HoldsState start.images first x → IsFrontState x y → IsFrontState y z → Loaded x y → y ≡ x → OnlyOffers settings (entries_of fetches.handled fetches.part) y z
-              → AreNotedIn agent x.events olds → (turn : OnlyTurns wide agent suffixes settings most x z) × IsAmong (offers_in (entries_of fetches.handled fetches.part)) (found x z turn)
+          turned : (x y z : State) → HoldsState start.images first x → IsFrontState x y → IsFrontState y z → Loaded x y → y ≡ x → OnlyOffers settings (entries_of fetches.handled fetches.begun) y z
+              → AreNotedIn agent x.events olds → (turn : OnlyTurns wide agent suffixes settings most x z) × IsAmong (offers_in (entries_of fetches.handled fetches.begun)) (found x z turn)
           turned x y z held front further loads same only known =
-              let it = turn_of x y held loads known fetches.handled fetches.noted fetches.left fetches.part fetches.worked fetches.begun in
+              let are = recursion_from_All (IsBegun given.gives agent suffixes fetches.noted befores) fetches.begun fetches.are_begun in
+              let it = turn_of x y held loads known fetches.handled fetches.noted fetches.left fetches.begun fetches.worked fetches.others fetches.is_left are in
               let both = state_both x y z front further in
-              let offered = subst (λ (s : State). OnlyOffers settings (entries_of fetches.handled fetches.part) s z) same only in
+              let offered = subst (λ (s : State). OnlyOffers settings (entries_of fetches.handled fetches.begun) s z) same only in
               (turns_wider given wide wider agent suffixes settings most x z (offers_turn it z both offered), offers_found it z both offered)
 
       -- or all is fetched, and settled or not
@@ -229,8 +231,8 @@ module _ (agent suffixes : List ℕ) (most : ℕ) (olds befores afters : List Sc
         worked : HaveWorked given agent suffixes handled noted [] befores
         worked = subst (λ (left : List Work). HaveWorked given agent suffixes handled noted left befores) fetches.whole.none_left fetches.worked
 
-        all_entries : entries_of handled fetches.part ≡ entries
-        all_entries = ap (λ (part : List Entered). entries ++ part) fetches.whole.no_part ∙ append-nil entries
+        all_entries : entries_of handled fetches.begun ≡ entries
+        all_entries = ap (entries_of handled) fetches.whole.none_begun ∙ append-nil entries
 
         -- something was loaded
         some : 1 ≤ length handled
@@ -250,7 +252,7 @@ module _ (agent suffixes : List ℕ) (most : ℕ) (olds befores afters : List Sc
         all_fetched : Leads (IsErrOf {T = WorkLog} {E = Fault} (Ok log) Failed) May HasAll first now start fetched_then
         all_fetched =
             leads_then _ _ _ _ _ _ May HasAll first mid now start loaded_then fetched_then loading (ok_failed value)
-            (offers_by {A = WorkLog} suffixes (Ok log) (entries_of handled fetches.part) mid now loaded_then fetched_then mid.urls.settings settings same_settings fetches.leads)
+            (offers_by {A = WorkLog} suffixes (Ok log) (entries_of handled fetches.begun) mid now loaded_then fetched_then mid.urls.settings settings same_settings fetches.leads)
             (λ x y b held later front further loads offers. record {
               known = loads.known;
               works = subst (Loaded x) loads.same loads;
@@ -259,11 +261,11 @@ module _ (agent suffixes : List ℕ) (most : ℕ) (olds befores afters : List Sc
             })
             (λ x y b held later front further loads only known.
             turns_wider given wide wider agent suffixes settings most x b
-            (whole_offers_turn (turn_of x y held loads known handled noted [] [] worked (inl refl)) b (state_both x y b front further)
+            (whole_offers_turn (turn_of x y held loads known handled noted [] [] worked [] (IsPermutation-refl []) tt) b (state_both x y b front further)
             (subst (λ (s : State). OnlyOffers settings entries s b) loads.same (subst (λ (es : List Entered). OnlyOffers settings es y b) all_entries only))))
 
         it : (x b : State) → HoldsState start.images first x → HasAll x b → AreNotedIn agent x.events olds → TurnOf given agent suffixes settings most x befores handled noted [] []
-        it x b held all known = turn_of x x held all.works known handled noted [] [] worked (inl refl)
+        it x b held all known = turn_of x x held all.works known handled noted [] [] worked [] (IsPermutation-refl []) tt
 
         abbrev kept : List Note
         kept = notes_from noted

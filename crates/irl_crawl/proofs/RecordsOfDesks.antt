@@ -1,7 +1,7 @@
 -- What a desk that was closed, and a merge of what is left, add to the cuts and to the records, where a crawl has begun.
 use Rattle.std.proofs.Common.{◌≡◌, ◌∙◌, ◌⊎◌, inl, inr, ⊎_elim, ℕ, ◌≤◌, List, [], ◌++◌, Option, None, Some, Result, Ok, Err, IsErrOf, refl, sym, ap, subst, arith}
 use Rattle.std.specs.Option.{ForSome, option_map}
-use Rattle.std.specs.List.{AllByRecursion, flat_map}
+use Rattle.std.specs.List.{AllByRecursion}
 use Rattle.irl_base.specs.declared.fault.Fault.{Fault}
 use Rattle.irl_base.specs.declared.fault.Fault.TheVariants.{Damaged, Failed, Full, Memory}
 use Rattle.irl_offer.specs.Offering.{Entered, IsTakenBy}
@@ -24,7 +24,6 @@ use Rattle.irl_yard.specs.Sending.{HasBegun}
 use Rattle.irl_desk.specs.Closing.{Closes, HandsBack, ended}
 use Rattle.irl_desk.specs.Serving.{IsFresh, Serves, Serving, moment_at, offers_in}
 use Rattle.irl_desk.proofs.Spreading.{hands_back}
-use Rattle.irl_fetch.specs.Handling.{entered_of}
 use Rattle.irl_fetch.specs.Telling.{Offering}
 use Rattle.irl_fetch.specs.declared.working.WorkLog.{WorkLog}
 use Rattle.irl_polite.specs.Schedule.{Schedule}
@@ -56,8 +55,8 @@ last_failed (Some fault) = ⊎_elim (λ is. inl (ap (λ (f : Fault). Some f) is)
 -- what the workers entered at one
 entered_by : {O : Type 0} (result : Result WorkLog Fault) (given : Given) (agent suffixes : List ℕ) (befores afters : List Schedule) (was now : Offering O)
     → WorkAll result given agent suffixes befores afters was now → (news : List Entered) × (now.entries ≡ option_map (λ (list : List Entered). list ++ news) was.entries)
-entered_by (Ok log) given agent suffixes befores afters was now all = (flat_map entered_of all.finish.handled, all.finish.entered.entries)
-entered_by (Err fault) given agent suffixes befores afters was now all = (flat_map entered_of all.stop.handled ++ all.stop.part, all.stop.entered.entries)
+entered_by (Ok log) given agent suffixes befores afters was now all = (all.finish.news, all.finish.entered.entries)
+entered_by (Err fault) given agent suffixes befores afters was now all = (all.stop.news, all.stop.entered.entries)
 
 -- is what it served
 pub served_all : {S O : Type 0} {told : S → Told} {result : Result WorkLog Fault} {given : Given} {agent suffixes : List ℕ} {befores afters : List Schedule} {was now : Offering O}

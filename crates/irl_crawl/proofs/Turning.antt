@@ -1,6 +1,6 @@
 -- What one turn makes of a state is a crawl: the offers that are entered, the notes that are kept, the outcomes that are settled,
 -- and what is judged then.
-use Rattle.std.proofs.Common.{◌≡◌, ◌∙◌, ℕ, ◌+◌, ◌-◌, ◌≤◌, List, [], ◌∷◌, ◌++◌, map, length, take, drop, refl, sym, ap, subst, arith, append_assoc, ◌⊎◌, inl, inr}
+use Rattle.std.proofs.Common.{◌≡◌, ◌∙◌, ℕ, ◌+◌, ◌-◌, ◌≤◌, List, [], ◌∷◌, ◌++◌, map, length, take, drop, refl, sym, ap, subst, arith, append_assoc, inl, inr}
 use Rattle.std.specs.Prelude.{flat_map, ⊤}
 use Rattle.std.specs.List.{AllByRecursion, Contains}
 use Rattle.std.specs.List.Sorted.{IsPermutation}
@@ -37,13 +37,14 @@ use Rattle.irl_record.specs.Widening.{Answers}
 use Rattle.irl_robots.specs.Leave.{leave, leave_of}
 use Rattle.irl_yard.specs.Adding.{notes_happened, with_event, with_notes}
 use Rattle.irl_yard.specs.Passing.{come}
+use Rattle.irl_crawl.specs.Fetching.{entries_of}
 use Rattle.irl_crawl.specs.Judging.{IsJudged, IsOfPairs, OnlyJudges}
 use Rattle.irl_crawl.specs.Leading.{GrowsInBatches}
 use Rattle.irl_crawl.specs.Offering.{HasOffers, OnlyOffers, offers_in}
 use Rattle.irl_crawl.specs.Sending.{SendsAll, SendsLinks}
 use Rattle.irl_crawl.specs.Turning.{AreBatches, AreSettled, AsksOnce, IsBatch, LeavesFew, OnlyTurns, RestsOn, TurnsWhole, events_since, input_of, turns_in}
 use Rattle.irl_crawl.specs.Workers.{Given, loaded}
-use Rattle.irl_crawl.specs.Working.{HasBegunOne, KnowAsNoted}
+use Rattle.irl_crawl.specs.Working.{Begun, KnowAsNoted}
 use Rattle.irl_crawl.proofs.Batches.{grown_both, grown_more, grown_same, grown_to, turn_there}
 use Rattle.irl_crawl.proofs.Few.{came_of, few_behind, few_none, few_settled}
 use Rattle.irl_crawl.proofs.Numbers.{loaded_most}
@@ -51,7 +52,7 @@ use Rattle.irl_crawl.proofs.Resting.{rests_none, rests_wider, since_are}
 use Rattle.irl_crawl.proofs.Rising.{WidensGiven}
 use Rattle.irl_crawl.proofs.Sent.{after_both, sends_all_by, sends_by, sends_same}
 use Rattle.irl_crawl.proofs.Unsent.{SendsNone, owes, unsent_both, unsent_offered, unsent_settled}
-use Rattle.irl_crawl.proofs.Visits.{TurnOf, are_visits, asks_noted, begun_visits, found_among, found_handled, handled_loaded, is_handled, leave_read, noted_among, noted_by, notes_from, rests_noted, rests_unnoted, visits_few, visits_fewer, visits_for, visits_front, visits_in, visits_of, visits_once, work_text}
+use Rattle.irl_crawl.proofs.Visits.{TurnOf, are_visits, asks_noted, found_among, found_handled, handled_loaded, is_handled, leave_read, noted_among, noted_by, notes_from, rests_noted, rests_unnoted, visits_few, visits_fewer, visits_for, visits_front, visits_in, visits_of, visits_once, work_text}
 
 -- ---- events of a turn
 -- a note that answers give, or sent pairs
@@ -253,9 +254,9 @@ turns_wider part whole wider agent suffixes settings most x y only = record {
 
 -- ---- a turn
 module _ {given : Given} {agent suffixes : List ℕ} {settings : Settings} {most : ℕ} {x : State} {befores : List Schedule} {handled : List Handled} {noted : List Noted}
-    {left : List Work} {part : List Entered} (it : TurnOf given agent suffixes settings most x befores handled noted left part) where
+    {left : List Work} {begun : List Begun} (it : TurnOf given agent suffixes settings most x befores handled noted left begun) where
   -- by what it added, its events, and what they settle
-  turns_by : (y : State) (more : List Happened) → IsFrontState x y → IsAmong (added_to x.urls.lists y.urls.lists) (offers_in (flat_map entered_of handled ++ part)) → y.events ≡ x.events ++ more
+  turns_by : (y : State) (more : List Happened) → IsFrontState x y → IsAmong (added_to x.urls.lists y.urls.lists) (offers_in (entries_of handled begun)) → y.events ≡ x.events ++ more
       → AllByRecursion (λ (h : Happened). IsOfTurn given.gives h.0) more → ((earlier later : List Happened) (h : Happened) (fronts : List ℕ) (outcomes : List (ℕ × Outcome))
       → more ≡ earlier ++ h ∷ later
       → h.0 ≡ Settle fronts outcomes → AllByRecursion (λ d. IsSettled suffixes agent (visits_in it) y.urls (x.events ++ earlier) fronts d.0 d.1) outcomes)
@@ -290,7 +291,7 @@ module _ {given : Given} {agent suffixes : List ℕ} {settings : Settings} {most
       }
 
   -- where nothing is settled
-  turns_plain : (y : State) (more : List Happened) → IsFrontState x y → IsAmong (added_to x.urls.lists y.urls.lists) (offers_in (flat_map entered_of handled ++ part)) → y.events ≡ x.events ++ more
+  turns_plain : (y : State) (more : List Happened) → IsFrontState x y → IsAmong (added_to x.urls.lists y.urls.lists) (offers_in (entries_of handled begun)) → y.events ≡ x.events ++ more
       → AllByRecursion (λ (h : Happened). IsPlain given.gives h.0) more → GrowsInBatches settings 0 x y → RestsOn given (visits_in it) more → y.pairs ≡ x.pairs
       → OnlyTurns given agent suffixes settings most x y
   turns_plain y more front among events plain grows rests none =
@@ -308,26 +309,26 @@ module _ {given : Given} {agent suffixes : List ℕ} {settings : Settings} {most
       (sends_same suffixes settings x y none)
 
   -- what the workers entered is offered, or some of it
-  pub offers_turn : (b : State) → IsFrontState x b → OnlyOffers settings (flat_map entered_of handled ++ part) x b → OnlyTurns given agent suffixes settings most x b
+  pub offers_turn : (b : State) → IsFrontState x b → OnlyOffers settings (entries_of handled begun) x b → OnlyTurns given agent suffixes settings most x b
   offers_turn b front only =
       let events : b.events ≡ x.events ++ [] = ap (λ (s : State). s.events) only.others ∙ sym (append-nil x.events) in
       turns_plain b [] front only.among events tt only.grows (rests_unnoted it [] refl) (ap (λ (s : State). s.pairs) only.others)
 
   -- all of it is found by the visits
-  pub offers_found : (b : State) (front : IsFrontState x b) (only : OnlyOffers settings (flat_map entered_of handled ++ part) x b)
-      → IsAmong (offers_in (flat_map entered_of handled ++ part)) (flat_map (found_by suffixes b.urls) (offers_turn b front only).visits)
+  pub offers_found : (b : State) (front : IsFrontState x b) (only : OnlyOffers settings (entries_of handled begun) x b)
+      → IsAmong (offers_in (entries_of handled begun)) (flat_map (found_by suffixes b.urls) (offers_turn b front only).visits)
   unfolding offers_turn turns_plain turns_by
   offers_found b front only = found_among it b front
 
   -- and the notes are kept
-  pub notes_turn : (b n : State) → IsFrontState x n → OnlyOffers settings (flat_map entered_of handled ++ part) x b → n ≡ with_notes (notes_from noted) b
+  pub notes_turn : (b n : State) → IsFrontState x n → OnlyOffers settings (entries_of handled begun) x b → n ≡ with_notes (notes_from noted) b
       → OnlyTurns given agent suffixes settings most x n
   notes_turn b n front only is =
       let events : n.events ≡ x.events ++ notes_happened (notes_from noted) =
       ap (λ (s : State). s.events) is ∙ ap (λ (s : State). s.events ++ notes_happened (notes_from noted)) only.others in
       let lists : n.urls.lists ≡ b.urls.lists = ap (λ (s : State). s.urls.lists) is in
       turns_plain n (notes_happened (notes_from noted)) front
-      (subst (λ ls. IsAmong (added_to x.urls.lists ls) (offers_in (flat_map entered_of handled ++ part))) (sym lists) only.among) events
+      (subst (λ ls. IsAmong (added_to x.urls.lists ls) (offers_in (entries_of handled begun))) (sym lists) only.among) events
       (notes_plain given.gives noted (λ one there. All-contains (IsNoted given.gives) noted one it.worked.notes there))
       (grown_to settings 0 x b n (ap (λ (s : State). s.urls) is) (ap (λ (s : State). s.pairs) is) only.grows) (rests_noted it (notes_happened (notes_from noted)) (notes_back (notes_from noted)))
       (ap (λ (s : State). s.pairs) is ∙ ap (λ (s : State). s.pairs) only.others)
@@ -473,14 +474,8 @@ module _ {given : Given} {agent suffixes : List ℕ} {settings : Settings} {most
           ∙ ap (λ ns. notes_from noted ++ ns) (pairs_unnoted pairs of_pairs) ∙ append-nil (notes_from noted)
 
       -- ---- nothing is left over
-      begun_none : (begun : ([] ≡ []) ⊎ HasBegunOne given.gives agent suffixes noted [] [] befores) → flat_map visits_of handled ++ begun_visits begun ≡ flat_map visits_of handled
-      begun_none (inl none) = append-nil (flat_map visits_of handled)
-      begun_none (inr one) =
-          let long : length (one.work ∷ one.others) ≡ 0 = length_permutation [] (one.work ∷ one.others) one.is_left in
-          absurd (omega (arith, long))
-
       visits_are : visits_in it ≡ flat_map visits_of handled
-      visits_are = begun_none it.one_begun
+      visits_are = append-nil (flat_map visits_of handled)
 
       visit_settled : (visit : Visit) → Contains (flat_map visits_of handled) visit → Contains settles (visit.number, outcome_of (url_text y.urls visit.number) visit.answer)
       visit_settled visit there =
@@ -518,7 +513,7 @@ module _ {given : Given} {agent suffixes : List ℕ} {settings : Settings} {most
 
       settled_turn : 1 ≤ length handled → GrowsInBatches settings 1 x y → y.events ≡ x.events ++ more → SendsLinks suffixes settings x y → OnlyTurns given agent suffixes settings most x y
       settled_turn some grows events sends =
-          let among : IsAmong (added_to x.urls.lists y.urls.lists) (offers_in (flat_map entered_of handled ++ [])) =
+          let among : IsAmong (added_to x.urls.lists y.urls.lists) (offers_in (entries_of handled [])) =
           subst (λ es. IsAmong (added_to x.urls.lists y.urls.lists) (offers_in es)) (sym (append-nil (flat_map entered_of handled)))
           (subst (λ ls. IsAmong (added_to x.urls.lists ls) (offers_in entries)) (sym lists) only.among) in
           turns_by it y more front among events of_turn settled_at (subst (λ ds. length ds ≤ most) (sym settled_are) settled_few) (more_batches some)

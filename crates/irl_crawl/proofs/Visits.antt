@@ -1,5 +1,5 @@
 -- What a turn visits: URLs of the front, each to its text, by what was known of its host or noted since.
-use Rattle.std.proofs.Common.{◌≡◌, ◌≢◌, ◌∙◌, ℕ, ◌+◌, ◌≤◌, List, [], ◌∷◌, ◌++◌, length, map, Some, refl, sym, ap, subst, arith, ◌⊎◌, inl, inr}
+use Rattle.std.proofs.Common.{◌≡◌, ◌≢◌, ◌∙◌, ℕ, ◌+◌, ◌≤◌, List, [], ◌∷◌, ◌++◌, length, map, Some, refl, sym, ap, subst, arith, inl, inr}
 use Rattle.std.specs.Prelude.{AllPairs, flat_map}
 use Rattle.std.specs.List.{AllByRecursion, Contains}
 use Rattle.std.specs.List.Sorted.{IsPermutation}
@@ -42,10 +42,11 @@ use Rattle.irl_robots.specs.declared.host.HostState.{HostState}
 use Rattle.irl_robots.specs.declared.host.Leave.TheVariants.{Allowed}
 use Rattle.irl_yard.specs.Adding.{notes_happened}
 use Rattle.irl_yard.specs.Passing.{AreWorks, come}
+use Rattle.irl_crawl.specs.Fetching.{entries_of}
 use Rattle.irl_crawl.specs.Offering.{offers_in}
 use Rattle.irl_crawl.specs.Turning.{AsksOnce, RestsOn}
 use Rattle.irl_crawl.specs.Workers.{AreNotedIn, Given, IsNotedIn, IsStateAmong, loaded}
-use Rattle.irl_crawl.specs.Working.{HasBegunOne, HaveWorked}
+use Rattle.irl_crawl.specs.Working.{Begun, HaveWorked, IsBegun, begun_entries}
 use Rattle.irl_crawl.proofs.Rising.{MayMissFewer}
 use Rattle.irl_crawl.proofs.Numbers.{count_both, count_permuted, front_unique, loaded_front, loaded_most, loaded_once, once_differ}
 
@@ -62,23 +63,20 @@ visits_of one = visits_for one.work.number one.treated
 abbrev pub answers_in : List Visit → List Answer
 answers_in visits = map (λ visit. visit.answer) visits
 
--- that of an item of which a part of what it names is entered
+-- that of a begun item, where something of what it names is entered
 abbrev pub part_visits : (gives : Answers) (suffixes url : List ℕ) (part : List Entered) (number : ℕ) → IsPart gives suffixes url part → List Visit
-part_visits gives suffixes url part number (inl none) = []
-part_visits gives suffixes url part number (inr some) = record { number = number; answer = some.0 } ∷ []
+part_visits gives suffixes url [] number some = []
+part_visits gives suffixes url (one ∷ part) number (inl none) = []
+part_visits gives suffixes url (one ∷ part) number (inr some) = record { number = number; answer = some.0 } ∷ []
 
-abbrev pub begun_visits : {gives : Answers} {agent suffixes : List ℕ} {noted : List Noted} {left : List Work} {part : List Entered} {befores : List Schedule}
-    → (part ≡ []) ⊎ HasBegunOne gives agent suffixes noted left part befores → List Visit
-begun_visits (inl none) = []
-begun_visits {gives = gives} {suffixes = suffixes} {part = part} (inr one) = part_visits gives suffixes one.work.web part one.work.number one.some
+-- those of all that were begun
+abbrev pub begun_visits : (gives : Answers) (agent suffixes : List ℕ) (noted : List Noted) (befores : List Schedule) (begun : List Begun)
+    → AllByRecursion (IsBegun gives agent suffixes noted befores) begun → List Visit
+begun_visits gives agent suffixes noted befores [] are = []
+begun_visits gives agent suffixes noted befores (one ∷ begun) are =
+    part_visits gives suffixes one.work.web one.part one.work.number are.0.some ++ begun_visits gives agent suffixes noted befores begun are.1
 
--- an item is taken as begun only where something of it is entered
-pub begun_some : {gives : Answers} {agent suffixes : List ℕ} {noted : List Noted} {left : List Work} (part : List Entered) {befores : List Schedule}
-    → (part ≡ []) ⊎ HasBegunOne gives agent suffixes noted left part befores → (part ≡ []) ⊎ HasBegunOne gives agent suffixes noted left part befores
-begun_some [] begun = inl refl
-begun_some (one ∷ part) begun = begun
-
--- and then its answer came
+-- an answer of which something is entered came
 some_came : (suffixes url : List ℕ) (answer : Answer) (one : Tuple) (more : List Tuple) → one ∷ more ≡ offers_of suffixes url answer → missing (answer ∷ []) ≡ 0
 some_came suffixes url (Reply reply) one more is = refl
 some_came suffixes url NoReply one more is = let long : length (one ∷ more) ≡ 0 = ap length is in absurd (omega (arith, long))
@@ -87,16 +85,35 @@ some_came suffixes url (BadReply n) one more is = refl
 some_came suffixes url (TooLarge n) one more is = refl
 some_came suffixes url Coded one more is = refl
 
-pub begun_answered : {gives : Answers} {agent suffixes : List ℕ} {noted : List Noted} {left : List Work} (part : List Entered) {befores : List Schedule}
-    (begun : (part ≡ []) ⊎ HasBegunOne gives agent suffixes noted left part befores) → missing (answers_in (begun_visits (begun_some part begun))) ≡ 0
-unfolding begun_some
-begun_answered [] begun = refl
-begun_answered (one ∷ part) (inl none) = refl
-begun_answered {gives = gives} {suffixes = suffixes} (one ∷ part) (inr begun) = by begun.some
-  where
-    by : (some : IsPart gives suffixes begun.work.web (one ∷ part)) → missing (answers_in (part_visits gives suffixes begun.work.web (one ∷ part) begun.work.number some)) ≡ 0
-    by (inl none) = refl
-    by (inr some) = some_came suffixes begun.work.web some.0 one.offer (map (λ (e : Entered). e.offer) part ++ some.2) some.3
+part_came : (gives : Answers) (suffixes url : List ℕ) (part : List Entered) (number : ℕ) (some : IsPart gives suffixes url part)
+    → missing (answers_in (part_visits gives suffixes url part number some)) ≡ 0
+part_came gives suffixes url [] number some = refl
+part_came gives suffixes url (one ∷ part) number (inl none) = refl
+part_came gives suffixes url (one ∷ part) number (inr some) = some_came suffixes url some.0 one.offer (map (λ (e : Entered). e.offer) part ++ some.2) some.3
+
+part_few : (gives : Answers) (suffixes url : List ℕ) (part : List Entered) (number : ℕ) (some : IsPart gives suffixes url part) → length (part_visits gives suffixes url part number some) ≤ 1
+part_few gives suffixes url [] number some = omega arith
+part_few gives suffixes url (one ∷ part) number (inl none) = omega arith
+part_few gives suffixes url (one ∷ part) number (inr some) = omega arith
+
+-- it is of that number
+part_fewer : (gives : Answers) (suffixes url : List ℕ) (part : List Entered) (number : ℕ) (some : IsPart gives suffixes url part) (n : ℕ) (others : List ℕ)
+    → count n (map (λ (v : Visit). v.number) (part_visits gives suffixes url part number some) ++ others) ≤ count n (number ∷ others)
+part_fewer gives suffixes url [] number some n others = omega arith
+part_fewer gives suffixes url (one ∷ part) number (inl none) n others = omega arith
+part_fewer gives suffixes url (one ∷ part) number (inr some) n others = omega arith
+
+-- what is entered is among what the answer names
+part_among : (gives : Answers) (suffixes url : List ℕ) (part : List Entered) (number : ℕ) (some : IsPart gives suffixes url part) (found : Visit → List Tuple)
+    → ((answer : Answer) → found (record { number = number; answer = answer }) ≡ offers_of suffixes url answer)
+    → IsAmong (offers_in part) (flat_map found (part_visits gives suffixes url part number some))
+part_among gives suffixes url [] number some found is = among_none []
+part_among gives suffixes url (one ∷ part) number (inl none) found is = let long : length (one ∷ part) ≡ 0 = ap length none in absurd (omega (arith, long))
+part_among gives suffixes url (one ∷ part) number (inr some) found is =
+    let offers : List Tuple = offers_in (one ∷ part) in
+    let visit : Visit = record { number = number; answer = some.0 } in
+    let whole : offers ++ some.2 ≡ found visit ++ [] = some.3 ∙ sym (is some.0) ∙ sym (append-nil (found visit)) in
+    record { rest = some.2; is = subst (λ os. IsPermutation (offers ++ some.2) os) whole (IsPermutation-refl (offers ++ some.2)) }
 
 -- the answers to what was handled are those of its visits
 answers_handled : (handled : List Handled) → answers_in (flat_map visits_of handled) ≡ flat_map answers_of handled
@@ -111,20 +128,20 @@ answers_handled (one ∷ handled) = by one.treated (answers_handled handled)
 
 -- ---- what is known when a turn has fetched
 -- The workers had the first of the front of a state, each at its text, and knew nothing of hosts that none of its events tells.
--- Some items were handled, robots files noted, and the others are left, one of which may be begun.
+-- Some items were handled, robots files noted, and the others are left, some of which are begun.
 pub record TurnOf (given : Given) (agent suffixes : List ℕ) (settings : Settings) (most : ℕ) (x : State) (befores : List Schedule) (handled : List Handled) (noted : List Noted)
-    (left : List Work) (part : List Entered) : Type 0 where
+    (left : List Work) (begun : List Begun) : Type 0 where
   pub store : IsCrawlStore settings x
-  pub begun : begun_with x.events ≡ Some suffixes
+  pub began : begun_with x.events ≡ Some suffixes
   pub known : AreNotedIn agent x.events befores
   pub works : AreWorks (loaded befores) x.urls
   pub numbers : List ℕ
   pub first : AreFirst (come settings x).front most numbers
   pub each : IsPermutation (map (λ (work : Work). work.number) (loaded befores)) numbers
   pub worked : HaveWorked given agent suffixes handled noted left befores
-  pub one_begun : (part ≡ []) ⊎ HasBegunOne given.gives agent suffixes noted left part befores
-  -- an answer of which something is entered came
-  pub begun_came : missing (answers_in (begun_visits one_begun)) ≡ 0
+  pub others : List Work
+  pub is_left : IsPermutation left (map (λ one. one.work) begun ++ others)
+  pub are_begun : AllByRecursion (IsBegun given.gives agent suffixes noted befores) begun
   pub fewer : MayMissFewer given
 
 -- what the notes of a turn are
@@ -199,22 +216,45 @@ visits_fewer (one ∷ handled) = by one.treated (visits_fewer handled)
     by (Denied line) rest = omega (arith, rest)
     by ShutOut rest = omega (arith, rest)
 
-begun_within : {gives : Answers} {agent suffixes : List ℕ} {noted : List Noted} {left : List Work} {part : List Entered} {befores : List Schedule}
-    (begun : (part ≡ []) ⊎ HasBegunOne gives agent suffixes noted left part befores) → length (begun_visits begun) ≤ length left
-begun_within (inl none) = omega arith
-begun_within {gives = gives} {suffixes = suffixes} {left = left} {part = part} (inr one) =
-    let long : length (one.work ∷ one.others) ≡ length left = length_permutation left (one.work ∷ one.others) one.is_left in
-    by one.some long
-  where
-    by : (some : IsPart gives suffixes one.work.web part) → length (one.work ∷ one.others) ≡ length left → length (part_visits gives suffixes one.work.web part one.work.number some) ≤ length left
-    by (inl none) long = omega arith
-    by (inr some) long = omega (arith, long)
+-- ---- what was begun
+module _ (gives : Answers) (agent suffixes : List ℕ) (noted : List Noted) (befores : List Schedule) where
+  abbrev AreBegun : List Begun → Type 0
+  AreBegun begun = AllByRecursion (IsBegun gives agent suffixes noted befores) begun
+
+  begun_came : (begun : List Begun) (are : AreBegun begun) → missing (answers_in (begun_visits gives agent suffixes noted befores begun are)) ≡ 0
+  begun_came [] are = refl
+  begun_came (one ∷ begun) are =
+      let first : List Visit = part_visits gives suffixes one.work.web one.part one.work.number are.0.some in
+      let rest : List Visit = begun_visits gives agent suffixes noted befores begun are.1 in
+      let both : missing (answers_in (first ++ rest)) ≡ missing (answers_in first) + missing (answers_in rest) =
+      ap missing (map-append (λ (visit : Visit). visit.answer) first rest) ∙ missing_both (answers_in first) (answers_in rest) in
+      omega (arith, both, part_came gives suffixes one.work.web one.part one.work.number are.0.some, begun_came begun are.1)
+
+  begun_within : (begun : List Begun) (are : AreBegun begun) → length (begun_visits gives agent suffixes noted befores begun are) ≤ length begun
+  begun_within [] are = omega arith
+  begun_within (one ∷ begun) are =
+      let both = length-append (part_visits gives suffixes one.work.web one.part one.work.number are.0.some) (begun_visits gives agent suffixes noted befores begun are.1) in
+      omega (arith, both, part_few gives suffixes one.work.web one.part one.work.number are.0.some, begun_within begun are.1)
+
+  begun_fewer : (n : ℕ) (begun : List Begun) (are : AreBegun begun)
+      → count n (map (λ (v : Visit). v.number) (begun_visits gives agent suffixes noted befores begun are)) ≤ count n (map (λ (w : Work). w.number) (map (λ (one : Begun). one.work) begun))
+  begun_fewer n [] are = omega arith
+  begun_fewer n (one ∷ begun) are =
+      let first : List Visit = part_visits gives suffixes one.work.web one.part one.work.number are.0.some in
+      let rest : List Visit = begun_visits gives agent suffixes noted befores begun are.1 in
+      let both : count n (map (λ (v : Visit). v.number) (first ++ rest)) ≡ count n (map (λ (v : Visit). v.number) first ++ map (λ (v : Visit). v.number) rest) =
+      ap (count n) (map-append (λ (v : Visit). v.number) first rest) in
+      let here = part_fewer gives suffixes one.work.web one.part one.work.number are.0.some n (map (λ (v : Visit). v.number) rest) in
+      omega (arith, both, here, begun_fewer n begun are.1)
 
 -- ---- a turn
 module _ {given : Given} {agent suffixes : List ℕ} {settings : Settings} {most : ℕ} {x : State} {befores : List Schedule} {handled : List Handled} {noted : List Noted}
-    {left : List Work} {part : List Entered} (it : TurnOf given agent suffixes settings most x befores handled noted left part) where
+    {left : List Work} {begun : List Begun} (it : TurnOf given agent suffixes settings most x befores handled noted left begun) where
+  abbrev pub visits_begun : List Visit
+  visits_begun = begun_visits given.gives agent suffixes noted befores begun it.are_begun
+
   abbrev pub visits_in : List Visit
-  visits_in = flat_map visits_of handled ++ begun_visits it.one_begun
+  visits_in = flat_map visits_of handled ++ visits_begun
 
   abbrev works_handled : List Work
   works_handled = map (λ (one : Handled). one.work) handled
@@ -229,6 +269,12 @@ module _ {given : Given} {agent suffixes : List ℕ} {settings : Settings} {most
   left_loaded work there =
       Contains-permutation (works_handled ++ left) (loaded befores) work (IsPermutation-sym (loaded befores) (works_handled ++ left) it.worked.items)
       (Contains-append_right works_handled left work there)
+
+  begun_loaded : (one : Begun) → Contains begun one → Contains (loaded befores) one.work
+  begun_loaded one there =
+      let works = map (λ (b : Begun). b.work) begun in
+      left_loaded one.work (Contains-permutation (works ++ it.others) left one.work (IsPermutation-sym left (works ++ it.others) it.is_left)
+      (Contains-append_left works it.others one.work (map_member (λ (b : Begun). b.work) begun one there)))
 
   pub handled_loaded : (one : Handled) → Contains handled one → Contains (loaded befores) one.work
   handled_loaded one there = done_loaded one.work (map_member (λ (o : Handled). o.work) handled one there)
@@ -247,30 +293,34 @@ module _ {given : Given} {agent suffixes : List ℕ} {settings : Settings} {most
   handled_fetches work (Denied line) there is visit v = absurd (no_member visit v)
   handled_fetches work ShutOut there is visit v = absurd (no_member visit v)
 
-  begun_fetches : (begun : (part ≡ []) ⊎ HasBegunOne given.gives agent suffixes noted left part befores) (visit : Visit) → Contains (begun_visits begun) visit
+  part_fetches : (one : Begun) (part : List Entered) (is : IsBegun given.gives agent suffixes noted befores one) (some : IsPart given.gives suffixes one.work.web part)
+      → Contains (loaded befores) one.work → (visit : Visit) → Contains (part_visits given.gives suffixes one.work.web part one.work.number some) visit
       → Fetches given.gives agent noted befores visit
-  begun_fetches (inl none) visit v = absurd (no_member visit v)
-  begun_fetches (inr one) visit v =
-      let there : Contains (loaded befores) one.work =
-      left_loaded one.work (Contains-permutation (one.work ∷ one.others) left one.work (IsPermutation-sym left (one.work ∷ one.others) one.is_left) (first_member one.work one.others)) in
-      by one.some there v
-    where
-      by : (some : IsPart given.gives suffixes one.work.web part) → Contains (loaded befores) one.work → Contains (part_visits given.gives suffixes one.work.web part one.work.number some) visit
-          → Fetches given.gives agent noted befores visit
-      by (inl none) there v = absurd (no_member visit v)
-      by (inr some) there v = elim (member_cases (record { number = one.work.number; answer = some.0 }) [] visit v) [
-        | inl same ↦
-            subst (λ w. Fetches given.gives agent noted befores w) same
-            (record { work = one.work; there = there; number = refl; state = one.state; known = one.known; allowed = one.allowed; given = some.1 })
-        | inr none ↦ absurd (no_member visit none)
+  part_fetches one [] is some there visit v = absurd (no_member visit v)
+  part_fetches one (first ∷ part) is (inl none) there visit v = absurd (no_member visit v)
+  part_fetches one (first ∷ part) is (inr some) there visit v = elim (member_cases (record { number = one.work.number; answer = some.0 }) [] visit v) [
+    | inl same ↦
+        subst (λ w. Fetches given.gives agent noted befores w) same
+        (record { work = one.work; there = there; number = refl; state = is.state; known = is.known; allowed = is.allowed; given = some.1 })
+    | inr none ↦ absurd (no_member visit none)
+  ]
+
+  begun_fetches : (ones : List Begun) (are : AllByRecursion (IsBegun given.gives agent suffixes noted befores) ones) → ((one : Begun) → Contains ones one → Contains (loaded befores) one.work)
+      → (visit : Visit) → Contains (begun_visits given.gives agent suffixes noted befores ones are) visit → Fetches given.gives agent noted befores visit
+  begun_fetches [] are within visit v = absurd (no_member visit v)
+  begun_fetches (one ∷ ones) are within visit v =
+      let first : List Visit = part_visits given.gives suffixes one.work.web one.part one.work.number are.0.some in
+      elim (Contains-append_cases first (begun_visits given.gives agent suffixes noted befores ones are.1) visit v) [
+        | inl here ↦ part_fetches one one.part are.0 are.0.some (within one (first_member one ones)) visit here
+        | inr there ↦ begun_fetches ones are.1 (λ other c. within other (later_member one ones other c)) visit there
       ]
 
   pub each_fetches : (visit : Visit) → Contains visits_in visit → Fetches given.gives agent noted befores visit
-  each_fetches visit v = elim (Contains-append_cases (flat_map visits_of handled) (begun_visits it.one_begun) visit v) [
+  each_fetches visit v = elim (Contains-append_cases (flat_map visits_of handled) visits_begun visit v) [
     | inl done ↦
         let from = flat_cases visits_of handled visit done in
         handled_fetches from.0.work from.0.treated (handled_loaded from.0 from.1) (is_handled from.0 from.1) visit from.2
-    | inr one ↦ begun_fetches it.one_begun visit one
+    | inr some ↦ begun_fetches begun it.are_begun begun_loaded visit some
   ]
 
   -- ---- no URL is visited twice, and each stands in the front
@@ -281,19 +331,16 @@ module _ {given : Given} {agent suffixes : List ℕ} {settings : Settings} {most
   work_front work there =
       loaded_front settings x it.store most it.numbers numbers_loaded it.first it.each work.number (map_member (λ (w : Work). w.number) (loaded befores) work there)
 
-  begun_fewer : (n : ℕ) (begun : (part ≡ []) ⊎ HasBegunOne given.gives agent suffixes noted left part befores)
-      → count n (map (λ (v : Visit). v.number) (begun_visits begun)) ≤ count n (map (λ (w : Work). w.number) left)
-  begun_fewer n (inl none) = omega arith
-  begun_fewer n (inr one) =
-      let same : count n (map (λ (w : Work). w.number) (one.work ∷ one.others)) ≡ count n (map (λ (w : Work). w.number) left) =
-      count_permuted n (map (λ (w : Work). w.number) left) (map (λ (w : Work). w.number) (one.work ∷ one.others))
-      (IsPermutation-map (λ (w : Work). w.number) left (one.work ∷ one.others) one.is_left) in
-      by one.some same
-    where
-      by : (some : IsPart given.gives suffixes one.work.web part) → count n (map (λ (w : Work). w.number) (one.work ∷ one.others)) ≡ count n (map (λ (w : Work). w.number) left)
-          → count n (map (λ (v : Visit). v.number) (part_visits given.gives suffixes one.work.web part one.work.number some)) ≤ count n (map (λ (w : Work). w.number) left)
-      by (inl none) same = omega (arith, same)
-      by (inr some) same = omega (arith, same)
+  -- what was begun is left
+  left_fewer : (n : ℕ) → count n (map (λ (v : Visit). v.number) visits_begun) ≤ count n (map (λ (w : Work). w.number) left)
+  left_fewer n =
+      let number : Work → ℕ = λ (w : Work). w.number in
+      let works = map (λ (one : Begun). one.work) begun in
+      let same : count n (map number (works ++ it.others)) ≡ count n (map number left) =
+      count_permuted n (map number left) (map number (works ++ it.others)) (IsPermutation-map number left (works ++ it.others) it.is_left) in
+      let parts : count n (map number (works ++ it.others)) ≡ count n (map number works) + count n (map number it.others) =
+      ap (count n) (map-append number works it.others) ∙ count_both n (map number works) (map number it.others) in
+      omega (arith, same, parts, begun_fewer given.gives agent suffixes noted befores n begun it.are_begun)
 
   visited_once : (n : ℕ) → count n (map (λ (v : Visit). v.number) visits_in) ≤ 1
   visited_once n =
@@ -304,12 +351,12 @@ module _ {given : Given} {agent suffixes : List ℕ} {settings : Settings} {most
       let parts : count n (map number (works_handled ++ left)) ≡ count n (map number works_handled) + count n (map number left) =
       ap (λ ns. count n ns) (map-append number works_handled left) ∙ count_both n (map number works_handled) (map number left) in
       let both : count n (map (λ (v : Visit). v.number) visits_in)
-      ≡ count n (map (λ (v : Visit). v.number) (flat_map visits_of handled)) + count n (map (λ (v : Visit). v.number) (begun_visits it.one_begun)) =
-      ap (λ ns. count n ns) (map-append (λ (v : Visit). v.number) (flat_map visits_of handled) (begun_visits it.one_begun))
-      ∙ count_both n (map (λ (v : Visit). v.number) (flat_map visits_of handled)) (map (λ (v : Visit). v.number) (begun_visits it.one_begun)) in
+      ≡ count n (map (λ (v : Visit). v.number) (flat_map visits_of handled)) + count n (map (λ (v : Visit). v.number) visits_begun) =
+      ap (λ ns. count n ns) (map-append (λ (v : Visit). v.number) (flat_map visits_of handled) visits_begun)
+      ∙ count_both n (map (λ (v : Visit). v.number) (flat_map visits_of handled)) (map (λ (v : Visit). v.number) visits_begun) in
       let names : map number works_handled ≡ map (λ (one : Handled). one.work.number) handled = map_twice handled in
       let few : count n (map number works_handled) ≡ count n (map (λ (one : Handled). one.work.number) handled) = ap (λ ns. count n ns) names in
-      omega (arith, once, same, parts, both, few, numbers_fewer n handled, begun_fewer n it.one_begun)
+      omega (arith, once, same, parts, both, few, numbers_fewer n handled, left_fewer n)
     where
       map_twice : (ones : List Handled) → map (λ (w : Work). w.number) (map (λ (one : Handled). one.work) ones) ≡ map (λ (one : Handled). one.work.number) ones
       map_twice [] = refl
@@ -326,8 +373,11 @@ module _ {given : Given} {agent suffixes : List ℕ} {settings : Settings} {most
       let handled_are = length-map handled (λ (one : Handled). one.work) in
       let names = length-map (loaded befores) (λ (work : Work). work.number) in
       let within = loaded_most settings x it.store most it.numbers numbers_loaded it.first it.each in
-      let both = length-append (flat_map visits_of handled) (begun_visits it.one_begun) in
-      omega (arith, works, all, handled_are, names, within, both, visits_fewer handled, begun_within it.one_begun)
+      let both = length-append (flat_map visits_of handled) visits_begun in
+      let are_left = length_permutation left (map (λ (one : Begun). one.work) begun ++ it.others) it.is_left in
+      let begun_are = length-append (map (λ (one : Begun). one.work) begun) it.others in
+      let some = length-map begun (λ (one : Begun). one.work) in
+      omega (arith, works, all, handled_are, names, within, both, are_left, begun_are, some, visits_fewer handled, begun_within given.gives agent suffixes noted befores begun it.are_begun)
 
   pub visits_front : AllByRecursion (λ (visit : Visit). Contains (come settings x).front visit.number) visits_in
   visits_front = all_from (λ (visit : Visit). Contains (come settings x).front visit.number) visits_in (λ visit v.
@@ -337,11 +387,11 @@ module _ {given : Given} {agent suffixes : List ℕ} {settings : Settings} {most
   -- ---- what they rest on
   visits_missing : missing (answers_in visits_in) ≡ missing (flat_map answers_of handled)
   visits_missing =
-      let both : missing (answers_in visits_in) ≡ missing (answers_in (flat_map visits_of handled)) + missing (answers_in (begun_visits it.one_begun)) =
-      ap missing (map-append (λ (visit : Visit). visit.answer) (flat_map visits_of handled) (begun_visits it.one_begun))
-      ∙ missing_both (answers_in (flat_map visits_of handled)) (answers_in (begun_visits it.one_begun)) in
+      let both : missing (answers_in visits_in) ≡ missing (answers_in (flat_map visits_of handled)) + missing (answers_in visits_begun) =
+      ap missing (map-append (λ (visit : Visit). visit.answer) (flat_map visits_of handled) visits_begun)
+      ∙ missing_both (answers_in (flat_map visits_of handled)) (answers_in visits_begun) in
       let first : missing (answers_in (flat_map visits_of handled)) ≡ missing (flat_map answers_of handled) = ap missing (answers_handled handled) in
-      omega (arith, both, first, it.begun_came)
+      omega (arith, both, first, begun_came given.gives agent suffixes noted befores begun it.are_begun)
 
   -- no event has a note, or they have those of the turn
   pub rests_unnoted : (events : List Happened) → notes_in events ≡ [] → RestsOn given visits_in events
@@ -367,7 +417,7 @@ module _ {given : Given} {agent suffixes : List ℕ} {settings : Settings} {most
   unfolding rests_noted
   asks_noted few events are =
       let done = flat_map visits_of handled in
-      let both = length-append done (begun_visits it.one_begun) in
+      let both = length-append done visits_begun in
       let same = sym (length-map done (λ (visit : Visit). visit.answer)) ∙ ap length (answers_handled handled) in
       record { rests = rests_noted events are; made = omega (arith, few, both, same) }
 
@@ -411,7 +461,7 @@ module _ {given : Given} {agent suffixes : List ℕ} {settings : Settings} {most
         let allowed : leave told.0 agent (target_of is.work.web) ≡ Allowed =
         leave_read told.0 agent (target_of is.work.web) ∙ ap (λ state. leave_of state (target_of is.work.web)) told.2 ∙ is.allowed in
         record {
-          begun = ap begun_with grown.events.1 ∙ begun_still x.events grown.events.0 it.begun;
+          begun = ap begun_with grown.events.1 ∙ begun_still x.events grown.events.0 it.began;
           unique = grown.numbers visit.number unique;
           offered = subst (λ os. Contains (map (λ (o : Tuple). o.aux) os) (url_text y.urls visit.number)) (sym (append-nil (offers_listed x.urls))) old;
           state = told.0;
@@ -448,24 +498,26 @@ module _ {given : Given} {agent suffixes : List ℕ} {settings : Settings} {most
     pub found_handled : offers_in (flat_map entered_of handled) ≡ flat_map (found_by suffixes y.urls) (flat_map visits_of handled)
     found_handled = found_each handled (λ one c. c)
 
-    found_begun : (begun : (part ≡ []) ⊎ HasBegunOne given.gives agent suffixes noted left part befores) → IsAmong (offers_in part) (flat_map (found_by suffixes y.urls) (begun_visits begun))
-    found_begun (inl none) = subst (λ es. IsAmong (offers_in es) []) (sym none) (among_none [])
-    found_begun (inr one) =
-        by one.some (left_loaded one.work (Contains-permutation (one.work ∷ one.others) left one.work (IsPermutation-sym left (one.work ∷ one.others) one.is_left) (first_member one.work one.others)))
-      where
-        by : (some : IsPart given.gives suffixes one.work.web part) → Contains (loaded befores) one.work
-            → IsAmong (offers_in part) (flat_map (found_by suffixes y.urls) (part_visits given.gives suffixes one.work.web part one.work.number some))
-        by (inl none) there = subst (λ es. IsAmong (offers_in es) []) (sym none) (among_none [])
-        by (inr some) there =
-            let whole : offers_in part ++ some.2 ≡ flat_map (found_by suffixes y.urls) (part_visits given.gives suffixes one.work.web part one.work.number (inr some)) =
-            some.3 ∙ ap (λ t. offers_of suffixes t some.0) (work_text one.work there) ∙ sym (append-nil (offers_of suffixes (url_text y.urls one.work.number) some.0)) in
-            record { rest = some.2; is = subst (λ os. IsPermutation (offers_in part ++ some.2) os) whole (IsPermutation-refl (offers_in part ++ some.2)) }
+    found_begun : (ones : List Begun) (are : AllByRecursion (IsBegun given.gives agent suffixes noted befores) ones) → ((one : Begun) → Contains ones one → Contains (loaded befores) one.work)
+        → IsAmong (offers_in (begun_entries ones)) (flat_map (found_by suffixes y.urls) (begun_visits given.gives agent suffixes noted befores ones are))
+    found_begun [] are within = among_none []
+    found_begun (one ∷ ones) are within =
+        let f = found_by suffixes y.urls in
+        let text = work_text one.work (within one (first_member one ones)) in
+        let first : List Visit = part_visits given.gives suffixes one.work.web one.part one.work.number are.0.some in
+        let rest : List Visit = begun_visits given.gives agent suffixes noted befores ones are.1 in
+        let both : IsAmong (offers_in one.part ++ offers_in (begun_entries ones)) (flat_map f first ++ flat_map f rest) =
+        among_append (part_among given.gives suffixes one.work.web one.part one.work.number are.0.some f (λ answer. ap (λ t. offers_of suffixes t answer) (sym text)))
+        (found_begun ones are.1 (λ other c. within other (later_member one ones other c))) in
+        subst (λ os. IsAmong os (flat_map f (first ++ rest))) (sym (map-append (λ (e : Entered). e.offer) one.part (begun_entries ones)))
+        (subst (λ os. IsAmong (offers_in one.part ++ offers_in (begun_entries ones)) os) (sym (flat_map-append f first rest)) both)
 
     -- what is entered is among what they find
-    pub found_among : IsAmong (offers_in (flat_map entered_of handled ++ part)) (flat_map (found_by suffixes y.urls) visits_in)
+    pub found_among : IsAmong (offers_in (entries_of handled begun)) (flat_map (found_by suffixes y.urls) visits_in)
     found_among =
         let f = found_by suffixes y.urls in
-        let both : IsAmong (offers_in (flat_map entered_of handled) ++ offers_in part) (flat_map f (flat_map visits_of handled) ++ flat_map f (begun_visits it.one_begun)) =
-        among_append (subst (λ os. IsAmong (offers_in (flat_map entered_of handled)) os) found_handled (among_same (offers_in (flat_map entered_of handled)))) (found_begun it.one_begun) in
-        subst (λ os. IsAmong os (flat_map f visits_in)) (sym (map-append (λ (e : Entered). e.offer) (flat_map entered_of handled) part))
-        (subst (λ os. IsAmong (offers_in (flat_map entered_of handled) ++ offers_in part) os) (sym (flat_map-append f (flat_map visits_of handled) (begun_visits it.one_begun))) both)
+        let both : IsAmong (offers_in (flat_map entered_of handled) ++ offers_in (begun_entries begun)) (flat_map f (flat_map visits_of handled) ++ flat_map f visits_begun) =
+        among_append (subst (λ os. IsAmong (offers_in (flat_map entered_of handled)) os) found_handled (among_same (offers_in (flat_map entered_of handled))))
+        (found_begun begun it.are_begun begun_loaded) in
+        subst (λ os. IsAmong os (flat_map f visits_in)) (sym (map-append (λ (e : Entered). e.offer) (flat_map entered_of handled) (begun_entries begun)))
+        (subst (λ os. IsAmong (offers_in (flat_map entered_of handled) ++ offers_in (begun_entries begun)) os) (sym (flat_map-append f (flat_map visits_of handled) visits_begun)) both)

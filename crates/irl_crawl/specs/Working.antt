@@ -1,5 +1,5 @@
 -- What all workers do of what their fronts say.
-use Rattle.std.specs.Prelude.{◌≡◌, ◌⊎◌, ◌+◌, ◌≤◌, ℕ, List, [], ◌∷◌, ◌++◌, map, length, Some, Result, IfOk, OnErr, slice_get}
+use Rattle.std.specs.Prelude.{◌≡◌, ◌+◌, ◌*◌, ◌≤◌, ℕ, List, [], ◌∷◌, ◌++◌, map, length, Some, Result, IfOk, OnErr, slice_get}
 use Rattle.std.specs.List.{All, flat_map}
 use Rattle.std.specs.List.Sorted.{IsPermutation}
 use Rattle.irl_base.specs.declared.fault.Fault.{Fault}
@@ -64,36 +64,54 @@ pub record FinishAll {O : Type 0} (log : WorkLog) (given : Given) (agent suffixe
   pub notes : log.notes.items ≡ map (λ one. one.note) noted
   pub worked : HaveWorked given agent suffixes handled noted [] befores
   pub asked : given.made ≤ answered handled noted
-  pub entered : Enters (flat_map entered_of handled) was now
+  -- the workers' entries stand in any order
+  pub news : List Entered
+  pub are_news : IsPermutation news (flat_map entered_of handled)
+  pub entered : Enters news was now
   pub known : KnowAsNoted agent noted befores afters
   pub knows : KnowByMoment noted befores afters
   pub none_left : All (λ s. s.items ≡ []) afters
 
--- One of the items that are left was fetched, as a note of its host allows it, and these are some of what it names.
-pub record HasBegunOne (gives : Answers) (agent suffixes : List ℕ) (noted : List Noted) (left : List Work)
-    (part : List Entered) (befores : List Schedule) : Type 0 where
+-- ---- where they were refused
+-- an item that was begun, and what of it is entered
+pub record Begun : Type 0 where
   pub work : Work
-  pub others : List Work
-  pub is_left : IsPermutation left (work ∷ others)
-  pub state : HostState
-  pub known : IsStateAmong agent befores noted (host work) state
-  pub allowed : leave_of state (target_of work.web) ≡ Allowed
-  pub some : IsPart gives suffixes work.web part
+  pub part : List Entered
 
--- Some of it was done, and of one item more a part of what it names may be entered.
+-- what is entered of some
+abbrev pub begun_entries : List Begun → List Entered
+begun_entries begun = flat_map (λ one. one.part) begun
+
+-- A note of its host allows it, and what is entered is some of what an answer to it names, or nothing.
+pub record IsBegun (gives : Answers) (agent suffixes : List ℕ) (noted : List Noted) (befores : List Schedule)
+    (begun : Begun) : Type 0 where
+  pub state : HostState
+  pub known : IsStateAmong agent befores noted (host begun.work) state
+  pub allowed : leave_of state (target_of begun.work.web) ≡ Allowed
+  pub some : IsPart gives suffixes begun.work.web begun.part
+
+-- Some of it was done, and of the items that are left some are begun.
 pub record StopAll {O : Type 0} (given : Given) (agent suffixes : List ℕ) (befores : List Schedule)
     (was now : Offering O) : Type 0 where
   pub handled : List Handled
   pub noted : List Noted
   pub left : List Work
   pub worked : HaveWorked given agent suffixes handled noted left befores
-  -- for that, or for a robots file, up to six connections may be made
-  pub asked : given.made ≤ answered handled noted + 6
-  pub part : List Entered
-  pub begun : (part ≡ []) ⊎ HasBegunOne given.gives agent suffixes noted left part befores
-  pub entered : Enters (flat_map entered_of handled ++ part) was now
+  -- each worker may have made up to six connections more, for a begun item or a robots file
+  pub asked : given.made ≤ answered handled noted + 6 * length befores
+  pub begun : List Begun
+  pub others : List Work
+  pub is_left : IsPermutation left (map (λ one. one.work) begun ++ others)
+  pub are_begun : All (IsBegun given.gives agent suffixes noted befores) begun
+  -- one a worker at most
+  pub few : length begun ≤ length befores
+  -- what came of both is entered, in any order
+  pub news : List Entered
+  pub are_news : IsPermutation news (flat_map entered_of handled ++ begun_entries begun)
+  pub entered : Enters news was now
 
--- What the workers leave, by the answer.
+-- ---- by the answer
+-- What the workers leave.
 pub record WorkAll {O : Type 0} (result : Result WorkLog Fault) (given : Given) (agent suffixes : List ℕ)
     (befores afters : List Schedule) (was now : Offering O) : Type 0 where
   pub finish : IfOk result (λ log. FinishAll log given agent suffixes befores afters was now)
