@@ -1,0 +1,9 @@
+//! Workers side by side, each with a fetcher, a front and a way into the store of its own.
+
+#![tactic(auto)]
+
+mod halves;
+#[cfg(test)]
+mod tests;
+
+pub use halves::{Worker, work_side_by_side};
