@@ -25,7 +25,8 @@ pub record IsDone {F O : Type 0} (told : F → Fetcher) (offered : O → Offerin
       (offered before.offers) (offered after.offers)
 
 -- ---- all of them
--- This holds of each worker: of its fetcher before and after, and of itself before and after. There are as many of each.
+-- This holds of each worker: of its fetcher before and after, and of itself before and after. There are as many of
+-- each.
 abbrev pub EachWorker : {F W : Type 0} → (F → F → W → W → Type 0) → List F → List F → List W → List W → Type 0
 EachWorker Holds [] [] [] [] = ⊤
 EachWorker Holds (old ∷ olds) (new ∷ news) (before ∷ befores) (after ∷ afters) =

@@ -23,8 +23,8 @@ pub struct Worker<O> {
     pub done: Option<Result<WorkLog, Fault>>,
 }
 
-/// Each worker does what its front says, all of them side by side: each in a thread of its own, one of them in that of the
-/// caller. Where no thread can be made, some work one after another.
+/// Each worker does what its front says, all of them side by side: each in a thread of its own, one of them in that of
+/// the caller. Where no thread can be made, some work one after another.
 ///
 /// The first worker has the first fetcher and the first gate, and so on. What came of its turn is kept in `done`.
 // The lists are the last parameters, since a closure has to read all else before it lends them.
@@ -111,7 +111,8 @@ fn work_both<R: Threads + Wait + Sync, F: Fetch + Send, O: Offers + Send, G: Gat
     join_mut(
         rt,
         &mut ||
-            requires { IsSync R.row × (length fetchers.now ≡ length workers.now) × (length gates.now ≡ length workers.now)
+            requires { IsSync R.row × (length fetchers.now ≡ length workers.now)
+                × (length gates.now ≡ length workers.now)
                 × All (IsReady O.last_fault O.takes) workers.now }
             ensures { EachWorker (IsDone (fetcher F.asked F.gives F.faults F.last F.aim)
                 (offering O.entries O.last_fault O.takes O.follows) suffixes.entry.now)

@@ -126,8 +126,8 @@ impl<'a> Gate for Holding<'a> {
     }
 }
 
-// Whether the page with this number, of one worker, gave up its wait for that of another worker.
-fn gives_up<R: Threads + Wait + Sync>(
+// Whether the page with this number, of one worker, was fetched once that of another worker was.
+fn waits_for_other<R: Threads + Wait + Sync>(
     rt: &R,
     alloc: Global,
     tape: &Tape,
@@ -160,7 +160,7 @@ fn gives_up<R: Threads + Wait + Sync>(
         &mut gates,
         &mut workers,
     );
-    Ok(gates[0].gave_up || gates[1].gave_up)
+    Ok(fetched.load(SeqCst) && !gates[0].gave_up && !gates[1].gave_up)
 }
 
 #[test]
@@ -168,7 +168,10 @@ fn one_page_may_wait_for_that_of_another_worker(rt: HostRuntime) -> Result<(), F
     let alloc = rt.alloc();
     let tape = tape(alloc, SEEDS)?;
     for waits in 0..2 {
-        assert!(rt; !gives_up(&rt, alloc, &tape, waits)?, "number {waits}");
+        assert!(rt;
+            waits_for_other(&rt, alloc, &tape, waits)?,
+            "number {waits}"
+        );
     }
     Ok(())
 }
