@@ -1,0 +1,9 @@
+//! Tests of passes that share a store. They stand here since a crate that has tests itself is proved twice.
+#![tactic(auto)]
+
+#[cfg(test)]
+mod crew;
+#[cfg(test)]
+mod holding;
+#[cfg(test)]
+mod passes;
