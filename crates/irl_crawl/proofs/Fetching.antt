@@ -1,12 +1,11 @@
--- What the workers did at a desk, and what the desk hands back, together.
+-- What the workers did over a store that they share, and what is handed back as it is closed, together.
 use Rattle.std.proofs.Common.{◌≡◌, ◌∙◌, ◌⊎◌, ⊎_elim, inl, inr, ℕ, ◌≤◌, List, [], ◌∷◌, ◌++◌, length, map, Option, Some, Result, Ok, Err, IfOk, IsErrOf, refl, sym, ap, subst, arith}
-use Rattle.std.specs.Prelude.{IfErr, OnOk}
-use Rattle.std.specs.List.{All, AllByRecursion, flat_map}
-use Rattle.std.specs.Option.{option_map}
+use Rattle.std.specs.Prelude.{OnOk}
+use Rattle.std.specs.List.{All, AllByRecursion, Any, flat_map}
 use Rattle.std.specs.List.Sorted.{IsPermutation}
 use Rattle.std.proofs.lemmas.List.{append-nil}
 use Rattle.std.proofs.lemmas.List.Elements.{All-nil}
-use Rattle.std.proofs.lemmas.List.Sorted.{IsPermutation-refl}
+use Rattle.std.proofs.lemmas.List.Sorted.{IsPermutation-refl, IsPermutation-trans}
 use Rattle.irl_base.proofs.Among.{among_none}
 use Rattle.irl_base.specs.Among.{IsAmong}
 use Rattle.irl_base.specs.declared.fault.Fault.{Fault}
@@ -16,7 +15,7 @@ use Rattle.irl_disk.specs.Images.{IsConsistent, Told}
 use Rattle.irl_events.specs.State.{State}
 use Rattle.irl_key.specs.declared.web.Work.{Work}
 use Rattle.irl_ledger.specs.Settling.{IsFlushed}
-use Rattle.irl_offer.specs.Offering.{Entered, fault_or}
+use Rattle.irl_offer.specs.Offering.{Entered}
 use Rattle.irl_offer.specs.Tuple.{Tuple}
 use Rattle.irl_offer.specs.declared.receipt.Receipt.{Receipt}
 use Rattle.irl_offer.specs.declared.settings.Settings.{Settings}
@@ -27,7 +26,6 @@ use Rattle.irl_yard.specs.declared.parts.Parts.{Parts}
 use Rattle.irl_yard.specs.Holding.{IsOpenRest, IsSound}
 use Rattle.irl_yard.specs.Sending.{HasBegun}
 use Rattle.irl_fetch.specs.Handling.{Handled, Noted, answered, done_of, entered_of, receipts_of}
-use Rattle.irl_fetch.specs.Telling.{Enters, Offering}
 use Rattle.irl_fetch.specs.declared.working.WorkLog.{WorkLog}
 use Rattle.irl_desk.specs.Closing.{Closes, ended}
 use Rattle.irl_desk.specs.Serving.{IsFresh, Serves, Serving}
@@ -38,7 +36,7 @@ use Rattle.irl_crawl.specs.Working.{Begun, HaveWorked, IsBegun, KnowAsNoted, Wor
 use Rattle.irl_crawl.proofs.AllWork.{have_none}
 use Rattle.irl_crawl.proofs.Batches.{grown_same}
 use Rattle.irl_crawl.proofs.Leading.{leads_none}
-use Rattle.irl_crawl.proofs.Lifting.{IsBehind, closed_behind, closed_leads, hands, last_named, rest_kept, served_behind}
+use Rattle.irl_crawl.proofs.Lifting.{IsBehind, closed_behind, closed_leads, hands, rest_kept, served_behind}
 use Rattle.irl_crawl.proofs.Moving.{all_moved, leads_moved}
 use Rattle.irl_crawl.proofs.Refusing.{refused_desk}
 use Rattle.irl_crawl.specs.Refusing.{RefusesAsFound}
@@ -53,7 +51,7 @@ record IsWhole (log : WorkLog) (agent : List ℕ) (handled : List Handled) (note
   known : KnowAsNoted agent noted befores afters
   items : All (λ s. s.items ≡ []) afters
 
-record WasWorked {O : Type 0} (result : Result WorkLog Fault) (given : Given) (agent suffixes : List ℕ) (befores afters : List Schedule) (was now : Offering O) : Type 0 where
+record WasWorked (result : Result WorkLog Fault) (given : Given) (agent suffixes : List ℕ) (befores afters : List Schedule) (handed : List Entered) : Type 0 where
   handled : List Handled
   noted : List Noted
   left : List Work
@@ -63,15 +61,13 @@ record WasWorked {O : Type 0} (result : Result WorkLog Fault) (given : Given) (a
   is_left : IsPermutation left (map (λ one. one.work) begun ++ others)
   are_begun : All (IsBegun given.gives agent suffixes noted befores) begun
   few : length begun ≤ length befores
-  news : List Entered
-  are_news : IsPermutation news (entries_of handled begun)
-  entered : Enters news was now
+  are_entries : IsPermutation handed (entries_of handled begun)
   whole : IfOk result (λ log. IsWhole log agent handled noted left begun befores afters)
   asked : OnOk result (given.made ≤ answered handled noted)
 
-was_worked : {O : Type 0} (result : Result WorkLog Fault) (given : Given) (agent suffixes : List ℕ) (befores afters : List Schedule) (was now : Offering O)
-    → WorkAll result given agent suffixes befores afters was now → WasWorked result given agent suffixes befores afters was now
-was_worked (Ok log) given agent suffixes befores afters was now all =
+was_worked : (result : Result WorkLog Fault) (given : Given) (agent suffixes : List ℕ) (befores afters : List Schedule) (handed : List Entered) (lasts : List (Option Fault))
+    → WorkAll result given agent suffixes befores afters handed lasts → WasWorked result given agent suffixes befores afters handed
+was_worked (Ok log) given agent suffixes befores afters handed lasts all =
     let f = all.finish in
     record {
       handled = f.handled;
@@ -83,13 +79,11 @@ was_worked (Ok log) given agent suffixes befores afters was now all =
       is_left = IsPermutation-refl [];
       are_begun = All-nil _;
       few = omega arith;
-      news = f.news;
-      are_news = subst (IsPermutation f.news) (sym (append-nil (flat_map entered_of f.handled))) f.are_news;
-      entered = f.entered;
+      are_entries = subst (IsPermutation handed) (sym (append-nil (flat_map entered_of f.handled))) f.are_entries;
       whole = record { done = f.done; notes = f.notes; none_left = refl; none_begun = refl; known = f.known; items = f.none_left };
       asked = f.asked;
     }
-was_worked (Err fault) given agent suffixes befores afters was now all =
+was_worked (Err fault) given agent suffixes befores afters handed lasts all =
     let s = all.stop in
     record {
       handled = s.handled;
@@ -101,9 +95,7 @@ was_worked (Err fault) given agent suffixes befores afters was now all =
       is_left = s.is_left;
       are_begun = s.are_begun;
       few = s.few;
-      news = s.news;
-      are_news = s.are_news;
-      entered = s.entered;
+      are_entries = s.are_entries;
       whole = tt;
       asked = tt;
     }
@@ -123,14 +115,6 @@ flushed_done P (one ∷ handled) all =
     (parts.0, flushed_done P handled parts.1)
 
 -- ---- answers
--- a fault of the work is want of memory, or the last one of the offers
-fault_named : {A : Type 0} (result : Result A Fault) (fault : Fault) (first last : Option Fault) → IfErr result (λ f. last ≡ fault_or first f) → IsErrOf result fault
-    → (fault ≡ Memory) ⊎ (last ≡ Some fault)
-fault_named (Ok value) fault first last is answered = let no : ⊥ = cc in absurd no
-fault_named (Err other) fault first last is answered =
-    let same : other ≡ fault = cc in
-    ⊎_elim (λ memory. inl memory) (λ named. inr (is ∙ ap (fault_or first) same ∙ named)) (last_named first fault)
-
 whole_flushed : (result : Result WorkLog Fault) (agent : List ℕ) (handled : List Handled) (noted : List Noted) (left : List Work) (begun : List Begun) (befores afters : List Schedule) (now : Parts)
     → IfOk result (λ log. IsWhole log agent handled noted left begun befores afters) → AllByRecursion (λ one. IsFlushed now.urls one.receipt) (entries_of handled begun)
     → IfOk result (λ log. FetchesWhole log agent handled noted left begun befores afters now)
@@ -149,10 +133,10 @@ whole_flushed (Ok log) agent handled noted left begun befores afters now whole f
 whole_flushed (Err fault) agent handled noted left begun befores afters now whole flushed = tt
 
 -- ---- the whole
-module _ {S O : Type 0} (tells : S → Told) (law : (s : S) → IsConsistent (tells s)) (result : Result WorkLog Fault) (given : Given) (agent suffixes : List ℕ) (befores afters : List Schedule)
-    (was now : Offering O) (old mid : Serving S) (store : S) (parts : Parts) (all : WorkAll result given agent suffixes befores afters was now) (fresh : IsFresh old)
-    (served : (news : List Entered) → mid.entries ≡ old.entries ++ news → Serves tells news old mid)
-    (was_entries : was.entries ≡ Some old.entries) (now_entries : now.entries ≡ Some mid.entries) (now_last : now.last_fault ≡ mid.last) (start : S) (first : Parts)
+module _ {S : Type 0} (tells : S → Told) (law : (s : S) → IsConsistent (tells s)) (result : Result WorkLog Fault) (given : Given) (agent suffixes : List ℕ) (befores afters : List Schedule)
+    (handed : List Entered) (lasts : List (Option Fault)) (old mid : Serving S) (store : S) (parts : Parts) (all : WorkAll result given agent suffixes befores afters handed lasts)
+    (fresh : IsFresh old) (entries : List Entered) (moved : IsPermutation entries handed) (serves : Serves tells entries old mid)
+    (stops : (fault : Fault) → Any (λ last. last ≡ Some fault) lasts → mid.last ≡ Some fault) (start : S) (first : Parts)
     (store_is : old.store ≡ start) (parts_are : old.parts ≡ first) (opened : IsOpenRest old.parts.urls old.parts.rest (tells old.store).files) (drum : IsDrum first.urls) (begun : HasBegun first.rest)
     (closed : Result (Unit {0}) Fault) (closes : Closes tells closed mid store parts) where
   old_drum : IsDrum old.parts.urls
@@ -161,18 +145,16 @@ module _ {S O : Type 0} (tells : S → Told) (law : (s : S) → IsConsistent (te
   old_begun : HasBegun old.parts.rest
   old_begun = subst (λ (p : Parts). HasBegun p.rest) (sym parts_are) begun
 
-  it : WasWorked result given agent suffixes befores afters was now
-  it = was_worked result given agent suffixes befores afters was now all
+  it : WasWorked result given agent suffixes befores afters handed
+  it = was_worked result given agent suffixes befores afters handed lasts all
 
-  -- in the order in which the desk took them
-  abbrev entries : List Entered
-  entries = it.news
+  -- in the order in which the store took them
+  are_entries : IsPermutation entries (entries_of it.handled it.begun)
+  are_entries = IsPermutation-trans entries handed (entries_of it.handled it.begun) moved it.are_entries
 
-  serves : Serves tells entries old mid
-  serves =
-      let told : Some mid.entries ≡ Some (old.entries ++ entries) =
-      sym now_entries ∙ it.entered.entries ∙ ap (option_map (λ (list : List Entered). list ++ entries)) was_entries in
-      served entries (cc)
+  -- a fault of the workers is want of memory, or the one by which the store stopped
+  why : (fault : Fault) → IsErrOf result fault → (fault ≡ Memory) ⊎ (mid.last ≡ Some fault)
+  why fault is = ⊎_elim (λ memory. inl memory) (λ some. inr (stops fault some)) (all.fault fault is)
 
   -- by the answer, where it is as good as the desk's
   fetched : (answer : Result WorkLog Fault) → IsBehind answer closed (ended mid closed store parts closes.arrays).last
@@ -192,7 +174,7 @@ module _ {S O : Type 0} (tells : S → Told) (law : (s : S) → IsConsistent (te
         few = it.few;
         whole = whole;
         asked = asked;
-        leads = leads_moved entries (entries_of it.handled it.begun) it.are_news answer suffixes old.parts.urls.settings old.parts parts (tells old.store) (tells store)
+        leads = leads_moved entries (entries_of it.handled it.begun) are_entries answer suffixes old.parts.urls.settings old.parts parts (tells old.store) (tells store)
             (closed_leads tells entries old mid closed store parts law opened old_drum old_begun fresh serves closes answer behind);
         rest = rest_kept tells entries old mid closed store parts law opened old_drum old_begun fresh serves closes;
         count = all.count;
@@ -207,8 +189,7 @@ module _ {S O : Type 0} (tells : S → Told) (law : (s : S) → IsConsistent (te
   pub reason_closed : (value : Unit {0}) → closed ≡ Ok value → RefusesAsFound result parts (tells store)
   reason_closed value is =
       reason result
-      (served_behind tells entries old mid closed store parts law opened old_drum old_begun fresh serves closes result value is
-      (λ fault. fault_named result fault was.last_fault mid.last (subst (λ (last : Option Fault). IfErr result (λ f. last ≡ fault_or was.last_fault f)) now_last all.fault.1)))
+      (served_behind tells entries old mid closed store parts law opened old_drum old_begun fresh serves closes result value is why)
 
   pub reason_refused : (fault : Fault) → closed ≡ Err fault → RefusesAsFound {A = WorkLog} (Err fault) parts (tells store)
   reason_refused fault is = reason (Err fault) (closed_behind tells entries old mid closed store parts law opened old_drum old_begun fresh serves closes (Err fault) fault is refl)
@@ -217,10 +198,9 @@ module _ {S O : Type 0} (tells : S → Told) (law : (s : S) → IsConsistent (te
   pub fetched_closed : (value : Unit {0}) → closed ≡ Ok value → Fetches result given agent suffixes befores afters first parts (tells start) (tells store)
   fetched_closed value is =
       fetched result
-      (served_behind tells entries old mid closed store parts law opened old_drum old_begun fresh serves closes result value is
-      (λ fault. fault_named result fault was.last_fault mid.last (subst (λ (last : Option Fault). IfErr result (λ f. last ≡ fault_or was.last_fault f)) now_last all.fault.1)))
+      (served_behind tells entries old mid closed store parts law opened old_drum old_begun fresh serves closes result value is why)
       (whole_flushed result agent it.handled it.noted it.left it.begun befores afters parts it.whole
-      (all_moved (λ (one : Entered). IsFlushed parts.urls one.receipt) entries (entries_of it.handled it.begun) it.are_news
+      (all_moved (λ (one : Entered). IsFlushed parts.urls one.receipt) entries (entries_of it.handled it.begun) are_entries
       (ok_gives closed value (hands tells entries old mid closed store parts law opened old_drum old_begun fresh serves closes).flushed is))) it.asked
 
   -- or its refusal

@@ -20,6 +20,7 @@ pub mod Numbering
 pub mod Numbers
 pub mod OneTurn
 pub mod OtherFiles
+pub mod OverShared
 pub mod PassLeads
 pub mod Passing
 pub mod Records
@@ -35,11 +36,13 @@ pub mod Resting
 pub mod Rising
 pub mod Room
 pub mod Running
+pub mod Seating
 pub mod Seeding
 pub mod SeedsRun
 pub mod Sent
 pub mod Settling
 pub mod Shares
+pub mod SideBySide
 pub mod Spread
 pub mod Stepping
 pub mod Stores
@@ -47,4 +50,3 @@ pub mod Taking
 pub mod Turning
 pub mod Unsent
 pub mod Visits
-pub mod Workers

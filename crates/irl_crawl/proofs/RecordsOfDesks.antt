@@ -1,6 +1,6 @@
 -- What a desk that was closed, and a merge of what is left, add to the cuts and to the records, where a crawl has begun.
 use Rattle.std.proofs.Common.{◌≡◌, ◌∙◌, ◌⊎◌, inl, inr, ⊎_elim, ℕ, ◌≤◌, List, [], ◌++◌, Option, None, Some, Result, Ok, Err, IsErrOf, refl, sym, ap, subst, arith}
-use Rattle.std.specs.Option.{ForSome, option_map}
+use Rattle.std.specs.Option.{ForSome}
 use Rattle.std.specs.List.{AllByRecursion}
 use Rattle.irl_base.specs.declared.fault.Fault.{Fault}
 use Rattle.irl_base.specs.declared.fault.Fault.TheVariants.{Damaged, Failed, Full, Memory}
@@ -24,16 +24,11 @@ use Rattle.irl_yard.specs.Sending.{HasBegun}
 use Rattle.irl_desk.specs.Closing.{Closes, HandsBack, ended}
 use Rattle.irl_desk.specs.Serving.{IsFresh, Serves, Serving, moment_at, offers_in}
 use Rattle.irl_desk.proofs.Spreading.{hands_back}
-use Rattle.irl_fetch.specs.Telling.{Offering}
-use Rattle.irl_fetch.specs.declared.working.WorkLog.{WorkLog}
-use Rattle.irl_polite.specs.Schedule.{Schedule}
 use Rattle.irl_crawl.proofs.Spread.{IsPage}
 use Rattle.irl_crawl.proofs.Records.{kind_open}
 use Rattle.irl_crawl.proofs.RecordsOfBooks.{books_batch, books_on}
 use Rattle.irl_crawl.proofs.RecordsThen.{HoldsOn, a_merge}
 use Rattle.irl_crawl.specs.Batches.{Batches, just}
-use Rattle.irl_crawl.specs.Workers.{Given}
-use Rattle.irl_crawl.specs.Working.{WorkAll}
 
 -- ---- failures
 -- whether a store failed
@@ -52,22 +47,6 @@ last_failed None = inr (λ is. cc)
 last_failed (Some fault) = ⊎_elim (λ is. inl (ap (λ (f : Fault). Some f) is)) (λ not. inr (λ is. not (cc))) (fault_failed fault)
 
 -- ---- a desk
--- what the workers entered at one
-entered_by : {O : Type 0} (result : Result WorkLog Fault) (given : Given) (agent suffixes : List ℕ) (befores afters : List Schedule) (was now : Offering O)
-    → WorkAll result given agent suffixes befores afters was now → (news : List Entered) × (now.entries ≡ option_map (λ (list : List Entered). list ++ news) was.entries)
-entered_by (Ok log) given agent suffixes befores afters was now all = (all.finish.news, all.finish.entered.entries)
-entered_by (Err fault) given agent suffixes befores afters was now all = (all.stop.news, all.stop.entered.entries)
-
--- is what it served
-pub served_all : {S O : Type 0} {told : S → Told} {result : Result WorkLog Fault} {given : Given} {agent suffixes : List ℕ} {befores afters : List Schedule} {was now : Offering O}
-    (old mid : Serving S)
-    → WorkAll result given agent suffixes befores afters was now → was.entries ≡ Some old.entries → now.entries ≡ Some mid.entries
-    → ((news : List Entered) → mid.entries ≡ old.entries ++ news → Serves told news old mid) → (news : List Entered) × Serves told news old mid
-served_all {S} {O} {told} {result} {given} {agent} {suffixes} {befores} {afters} {was} {now} old mid all was_entries now_entries served =
-    let it = entered_by result given agent suffixes befores afters was now all in
-    let told_entries : Some mid.entries ≡ Some (old.entries ++ it.0) = sym now_entries ∙ it.1 ∙ ap (option_map (λ (list : List Entered). list ++ it.0)) was_entries in
-    (it.0, served it.0 (cc))
-
 module _ {S : Type 0} (told : S → Told) (lawful : (s : S) → IsConsistent (told s)) (entries : List Entered) (old mid : Serving S) (closed : Result Unit Fault) (store : S) (parts : Parts)
     (opened : IsOpenRest old.parts.urls old.parts.rest (told old.store).files) (law : IsDrum old.parts.urls) (begun : HasBegun old.parts.rest) (fresh : IsFresh old)
     (serves : Serves told entries old mid) (closes : Closes told closed mid store parts) where

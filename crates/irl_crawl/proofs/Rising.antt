@@ -12,7 +12,6 @@ use Rattle.irl_fetch.proofs.Handling.{missing_both}
 use Rattle.irl_fetch.proofs.Telling.{rose_none, rose_then}
 use Rattle.irl_crawl.specs.Workers.{AllGoOn, Given, RoseBetween, given_by, made_by}
 use Rattle.irl_crawl.proofs.Giving.{AreEarlier, given_second}
-use Rattle.irl_crawl.proofs.Workers.{IsSetAt}
 
 -- ---- answers that never came
 abbrev pub unanswered : List Handled → List Noted → ℕ
@@ -64,32 +63,6 @@ module _ {F : Type 0} (faults : F → ℕ) where
     rose_between_then xs ys zs others others' (omega (arith, one)) (omega (arith, two)) rest rest',
   )
 
-  -- one of them by all
-  pub rose_between_one : (nows laters : List F) (at : ℕ) (x y : F) (n : ℕ) → IsSetAt at y nows laters → slice_get nows at ≡ Some x → RoseBy n (faults x) (faults y) → RoseBetween faults nows laters n
-  rose_between_one [] laters at x y n changed stood rose = absurd (cc)
-  rose_between_one (w ∷ ws) [] at x y n changed stood rose = let no = changed.here in absurd (cc)
-  rose_between_one (w ∷ ws) (l ∷ ls) zero x y n changed stood rose =
-      let was : x ≡ w = same_Some x w (sym stood) in
-      let is : y ≡ l = same_Some y l (sym changed.here) in (
-        n,
-        0,
-        omega arith,
-        subst (λ (f : F). RoseBy n (faults f) (faults l)) was (subst (λ (f : F). RoseBy n (faults x) (faults f)) is rose),
-        rose_between_none ws ls (λ k old new stands later.
-            let one : old ≡ new = same_Some old new (sym stands ∙ sym (changed.elsewhere (suc k) (λ same. absurd (omega (arith, same)))) ∙ later) in
-            omega (arith, ap faults one)),
-      )
-  rose_between_one (w ∷ ws) (l ∷ ls) (suc at) x y n changed stood rose =
-      let first : w ≡ l = same_Some w l (sym (changed.elsewhere 0 (λ same. absurd (omega (arith, same))))) in (
-        0,
-        n,
-        omega arith,
-        rose_none (faults w) (faults l) (omega (arith, ap faults first)),
-        rose_between_one ws ls at x y n
-            (record { count = omega (arith, changed.count); here = changed.here; elsewhere = λ k other. changed.elsewhere (suc k) (λ same. other (omega (arith, same))) })
-            stood rose,
-      )
-
 -- of all that go on
 pub none_fell : {F : Type 0} (asked : F → Made) (gives : F → ℕ → Answers) (faults last : F → ℕ) (aim : F → List ℕ) (olds news : List F) → AllGoOn asked gives faults last aim olds news
     → NoneFell faults olds news
@@ -101,32 +74,6 @@ rose_between_all asked gives faults last aim olds news on = rose_between_none fa
 
 -- ---- connections
 module _ {F : Type 0} (asked : F → Made) where
-  -- the same fetchers
-  pub made_same : (xs ys : List F) → length ys ≡ length xs → ((k : ℕ) → slice_get ys k ≡ slice_get xs k) → made_by asked ys ≡ made_by asked xs
-  made_same [] [] count same = refl
-  made_same [] (y ∷ ys) count same = absurd (omega (arith, count))
-  made_same (x ∷ xs) [] count same = absurd (omega (arith, count))
-  made_same (x ∷ xs) (y ∷ ys) count same =
-      let first : y ≡ x = same_Some y x (same 0) in
-      let rest = made_same xs ys (omega (arith, count)) (λ k. same (suc k)) in
-      omega (arith, rest, ap (λ (f : F). how_many (asked f)) first)
-
-  -- one of them made some
-  pub made_one : (nows laters : List F) (at : ℕ) (x y : F) → IsSetAt at y nows laters → slice_get nows at ≡ Some x
-      → made_by asked laters + how_many (asked x) ≡ made_by asked nows + how_many (asked y)
-  made_one [] laters at x y changed stood = absurd (cc)
-  made_one (w ∷ ws) [] at x y changed stood = let no = changed.count in absurd (omega (arith, no))
-  made_one (w ∷ ws) (l ∷ ls) zero x y changed stood =
-      let was : x ≡ w = same_Some x w (sym stood) in
-      let is : y ≡ l = same_Some y l (sym changed.here) in
-      let rest : made_by asked ls ≡ made_by asked ws = made_same ws ls (omega (arith, changed.count)) (λ k. changed.elsewhere (suc k) (λ same. absurd (omega (arith, same)))) in
-      omega (arith, rest, ap (λ (f : F). how_many (asked f)) was, ap (λ (f : F). how_many (asked f)) is)
-  made_one (w ∷ ws) (l ∷ ls) (suc at) x y changed stood =
-      let first : w ≡ l = same_Some w l (sym (changed.elsewhere 0 (λ same. absurd (omega (arith, same))))) in
-      let rest = made_one ws ls at x y
-      (record { count = omega (arith, changed.count); here = changed.here; elsewhere = λ k other. changed.elsewhere (suc k) (λ same. other (omega (arith, same))) }) stood in
-      omega (arith, rest, ap (λ (f : F). how_many (asked f)) first)
-
   -- one that made none is put in its place
   pub made_at : (xs : List F) (at : ℕ) (d new : F) → at < length xs → asked new ≡ asked (get_or xs at d) → made_by asked (set xs at new) ≡ made_by asked xs
   made_at [] at d new within same = absurd (omega (arith, within))

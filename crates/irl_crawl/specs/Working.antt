@@ -1,8 +1,9 @@
 -- What all workers do of what their fronts say.
-use Rattle.std.specs.Prelude.{◌≡◌, ◌+◌, ◌*◌, ◌≤◌, ℕ, List, [], ◌∷◌, ◌++◌, map, length, Some, Result, IfOk, OnErr, slice_get}
-use Rattle.std.specs.List.{All, flat_map}
+use Rattle.std.specs.Prelude.{◌≡◌, ◌⊎◌, ◌+◌, ◌*◌, ◌≤◌, ℕ, List, [], ◌∷◌, ◌++◌, map, length, Option, Some, Result, Ok, Err, IfOk, IsErrOf, OnErr, slice_get}
+use Rattle.std.specs.List.{All, Any, flat_map}
 use Rattle.std.specs.List.Sorted.{IsPermutation}
 use Rattle.irl_base.specs.declared.fault.Fault.{Fault}
+use Rattle.irl_base.specs.declared.fault.Fault.TheVariants.{Memory}
 use Rattle.irl_key.specs.Web.{target_of}
 use Rattle.irl_key.specs.declared.web.Work.{Work}
 use Rattle.irl_offer.specs.Offering.{Entered}
@@ -14,11 +15,21 @@ use Rattle.irl_robots.specs.Leave.{leave_of}
 use Rattle.irl_robots.specs.declared.host.HostState.{HostState}
 use Rattle.irl_robots.specs.declared.host.Leave.TheVariants.{Allowed}
 use Rattle.irl_fetch.specs.Handling.{Handled, Noted, IsHandled, IsNoted, answered, answers_of, done_of, entered_of, missing}
-use Rattle.irl_fetch.specs.Pages.{FaultIs, IsPart}
-use Rattle.irl_fetch.specs.Telling.{Enters, Offering}
+use Rattle.irl_fetch.specs.Pages.{IsPart}
 use Rattle.irl_fetch.specs.Working.{IsKnownOf}
 use Rattle.irl_fetch.specs.declared.working.WorkLog.{WorkLog}
 use Rattle.irl_crawl.specs.Workers.{AreFor, Given, IsStateAmong, loaded}
+
+-- ---- what was answered
+-- It is what all of these did, the first of it first.
+pub record IsWholeOf (log : WorkLog) (logs : List WorkLog) : Type 0 where
+  pub done : log.done.items ≡ flat_map (λ one. one.done.items) logs
+  pub notes : log.notes.items ≡ flat_map (λ one. one.notes.items) logs
+
+-- What came of all is what they did, or the fault of one, or want of memory.
+pub record Joins (result : Result WorkLog Fault) (parts : List (Result WorkLog Fault)) : Type 0 where
+  pub whole : IfOk result (λ log. (logs : List WorkLog) × (parts ≡ map (λ one. Ok one) logs) × IsWholeOf log logs)
+  pub fault : (fault : Fault) → IsErrOf result fault → (fault ≡ Memory) ⊎ Any (λ part. part ≡ Err fault) parts
 
 -- ---- what was done
 -- The first of it is what came of the items of the first front, then of those of the second, and so on.
@@ -56,8 +67,8 @@ KeepDelays befores afters = (at : ℕ) (old new : Schedule) → slice_get before
     → slice_get afters at ≡ Some new → new.delay ≡ old.delay
 
 -- All was done that the fronts say, and what came of it is entered and told.
-pub record FinishAll {O : Type 0} (log : WorkLog) (given : Given) (agent suffixes : List ℕ)
-    (befores afters : List Schedule) (was now : Offering O) : Type 0 where
+pub record FinishAll (log : WorkLog) (given : Given) (agent suffixes : List ℕ) (befores afters : List Schedule)
+    (entries : List Entered) : Type 0 where
   pub handled : List Handled
   pub noted : List Noted
   pub done : log.done.items ≡ map done_of handled
@@ -65,9 +76,7 @@ pub record FinishAll {O : Type 0} (log : WorkLog) (given : Given) (agent suffixe
   pub worked : HaveWorked given agent suffixes handled noted [] befores
   pub asked : given.made ≤ answered handled noted
   -- the workers' entries stand in any order
-  pub news : List Entered
-  pub are_news : IsPermutation news (flat_map entered_of handled)
-  pub entered : Enters news was now
+  pub are_entries : IsPermutation entries (flat_map entered_of handled)
   pub known : KnowAsNoted agent noted befores afters
   pub knows : KnowByMoment noted befores afters
   pub none_left : All (λ s. s.items ≡ []) afters
@@ -91,8 +100,8 @@ pub record IsBegun (gives : Answers) (agent suffixes : List ℕ) (noted : List N
   pub some : IsPart gives suffixes begun.work.web begun.part
 
 -- Some of it was done, and of the items that are left some are begun.
-pub record StopAll {O : Type 0} (given : Given) (agent suffixes : List ℕ) (befores : List Schedule)
-    (was now : Offering O) : Type 0 where
+pub record StopAll (given : Given) (agent suffixes : List ℕ) (befores : List Schedule) (entries : List Entered)
+    : Type 0 where
   pub handled : List Handled
   pub noted : List Noted
   pub left : List Work
@@ -106,18 +115,16 @@ pub record StopAll {O : Type 0} (given : Given) (agent suffixes : List ℕ) (bef
   -- one a worker at most
   pub few : length begun ≤ length befores
   -- what came of both is entered, in any order
-  pub news : List Entered
-  pub are_news : IsPermutation news (flat_map entered_of handled ++ begun_entries begun)
-  pub entered : Enters news was now
+  pub are_entries : IsPermutation entries (flat_map entered_of handled ++ begun_entries begun)
 
 -- ---- by the answer
--- What the workers leave.
-pub record WorkAll {O : Type 0} (result : Result WorkLog Fault) (given : Given) (agent suffixes : List ℕ)
-    (befores afters : List Schedule) (was now : Offering O) : Type 0 where
-  pub finish : IfOk result (λ log. FinishAll log given agent suffixes befores afters was now)
-  pub stop : OnErr result (StopAll given agent suffixes befores was now)
-  -- a fault is want of memory, or then the last one of the offers
-  pub fault : FaultIs result was now
+-- What the workers leave: what they entered, and the last fault of the offers of each.
+pub record WorkAll (result : Result WorkLog Fault) (given : Given) (agent suffixes : List ℕ)
+    (befores afters : List Schedule) (entries : List Entered) (lasts : List (Option Fault)) : Type 0 where
+  pub finish : IfOk result (λ log. FinishAll log given agent suffixes befores afters entries)
+  pub stop : OnErr result (StopAll given agent suffixes befores entries)
+  -- a fault is want of memory, or the last one of the offers of a worker
+  pub fault : (fault : Fault) → IsErrOf result fault → (fault ≡ Memory) ⊎ Any (λ last. last ≡ Some fault) lasts
   pub count : length afters ≡ length befores
   pub agents : AreFor agent afters
   pub delays : KeepDelays befores afters

@@ -46,8 +46,8 @@ pub fn crawl<R, S, F, G>(
 ) -> (Ended, Yard<S>)
 where
     R: Threads + Wait + Sync,
-    S: Store,
-    F: Fetch,
+    S: Store + Send,
+    F: Fetch + Send,
     G: Gate + Send,
     requires open { IsOpen yard.parts }
     requires some { (1 ≤ length fetchers.old) × (length fetchers.old ≤ 64) × (length gates.old ≡ length fetchers.old) }
@@ -96,7 +96,7 @@ fn crew_of<S: Store>(
 }
 
 // Turn after turn, with a pass where the front is empty.
-fn go_on<R: Wait, S: Store, F: Fetch, G: Gate>(
+fn go_on<R, S, F, G>(
     rt: &R,
     alloc: Global,
     yard: Yard<S>,
@@ -105,10 +105,15 @@ fn go_on<R: Wait, S: Store, F: Fetch, G: Gate>(
     plan: &Plan,
     crew: Crew,
 ) -> (Ended, Yard<S>)
+where
+    R: Threads + Wait + Sync,
+    S: Store + Send,
+    F: Fetch + Send,
+    G: Gate + Send,
     requires open { IsOpen yard.parts }
     requires sent { IsSent yard.parts }
     requires suffixes { suffixes_in yard.parts.rest ≡ Some crew.suffixes }
-    requires some { (1 ≤ length fetchers.old) × (length gates.old ≡ length fetchers.old) }
+    requires some { (1 ≤ length fetchers.old) × (length fetchers.old ≤ 64) × (length gates.old ≡ length fetchers.old) }
     requires plan { IsPlan plan.now }
     requires idle { AreIdle (length fetchers.old) crew.agent (schedules crew.fronts.items) }
     requires unknown { (events : List Happened) → AreNotedIn crew.agent events (schedules crew.fronts.items) }
@@ -146,7 +151,7 @@ fn go_on<R: Wait, S: Store, F: Fetch, G: Gate>(
 }
 
 // A pass where the front is empty, and else a turn. Answers how many URLs are settled.
-fn step<R: Wait, S: Store, F: Fetch, G: Gate>(
+fn step<R, S, F, G>(
     rt: &R,
     alloc: Global,
     yard: Yard<S>,
@@ -155,10 +160,15 @@ fn step<R: Wait, S: Store, F: Fetch, G: Gate>(
     crew: &mut Crew,
     most: u32,
 ) -> (Result<u32, Fault>, Yard<S>)
+where
+    R: Threads + Wait + Sync,
+    S: Store + Send,
+    F: Fetch + Send,
+    G: Gate + Send,
     requires open { IsOpen yard.parts }
     requires sent { IsSent yard.parts }
     requires suffixes { suffixes_in yard.parts.rest ≡ Some crew.old.suffixes }
-    requires some { (1 ≤ length fetchers.old) × (length gates.old ≡ length fetchers.old) }
+    requires some { (1 ≤ length fetchers.old) × (length fetchers.old ≤ 64) × (length gates.old ≡ length fetchers.old) }
     requires idle { AreIdle (length fetchers.old) crew.old.agent (schedules crew.old.fronts.items) }
     requires most { (1 ≤ most) × (most ≤ max_settled) }
     ensures leads { Leads (IsErrOf result.0 Fault.Failed)

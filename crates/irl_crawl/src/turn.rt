@@ -17,17 +17,18 @@ ghost use Rattle.irl_crawl.specs.Workers.{AllGoOn, AreFor, AreIdle, AreReady, gi
 use crate::crew::Crew;
 use crate::seeds::judge;
 use crate::work::work_all;
-use irl_desk::{Desk, serves_entered};
 use irl_disk::Store;
 use irl_fetch::{Gate, WorkLog};
+use irl_lock::Shared;
 use irl_offer::{Done, Fault, Note};
 use irl_record::Fetch;
 use irl_yard::Yard;
 use std::alloc::Global;
 use std::sync::Wait;
+use std::thread::Threads;
 
 /// One turn: the first so many pages of the front are fetched, and what came of them is settled. Answers how many were.
-pub fn turn<R: Wait, S: Store, F: Fetch, G: Gate>(
+pub fn turn<R, S, F, G>(
     rt: &R,
     alloc: Global,
     yard: Yard<S>,
@@ -36,9 +37,14 @@ pub fn turn<R: Wait, S: Store, F: Fetch, G: Gate>(
     crew: &mut Crew,
     most: u32,
 ) -> (Result<u32, Fault>, Yard<S>)
+where
+    R: Threads + Wait + Sync,
+    S: Store + Send,
+    F: Fetch + Send,
+    G: Gate + Send,
     requires open { IsOpen yard.parts }
     requires suffixes { suffixes_in yard.parts.rest ≡ Some crew.old.suffixes }
-    requires some { (1 ≤ length fetchers.old) × (length gates.old ≡ length fetchers.old) }
+    requires some { (1 ≤ length fetchers.old) × (length fetchers.old ≤ 64) × (length gates.old ≡ length fetchers.old) }
     requires idle { AreIdle (length fetchers.old) crew.old.agent (schedules crew.old.fronts.items) }
     requires front { (1 ≤ length (front_in yard.parts.rest)) × (1 ≤ most) × (most ≤ max_settled) }
     ensures leads { Leads (IsErrOf result.0 Fault.Failed)
@@ -76,8 +82,8 @@ pub fn turn<R: Wait, S: Store, F: Fetch, G: Gate>(
     }
 }
 
-// What the workers do, one after another, at one desk.
-fn fetch_all<R: Wait, S: Store, F: Fetch, G: Gate>(
+// What the workers do, side by side, over the store that they share.
+fn fetch_all<R, S, F, G>(
     rt: &R,
     alloc: Global,
     yard: Yard<S>,
@@ -85,7 +91,13 @@ fn fetch_all<R: Wait, S: Store, F: Fetch, G: Gate>(
     gates: &mut [G],
     crew: &mut Crew,
 ) -> (Result<WorkLog, Fault>, Yard<S>)
+where
+    R: Threads + Wait + Sync,
+    S: Store + Send,
+    F: Fetch + Send,
+    G: Gate + Send,
     requires open { IsOpen yard.parts }
+    requires some { (1 ≤ length fetchers.old) × (length fetchers.old ≤ 64) }
     requires fronts { length crew.old.fronts.items ≡ length fetchers.old }
     requires gates { length gates.old ≡ length fetchers.old }
     requires agents { AreFor crew.old.agent (schedules crew.old.fronts.items) }
@@ -100,16 +112,14 @@ fn fetch_all<R: Wait, S: Store, F: Fetch, G: Gate>(
     ensures crew { crew.new ≡ record crew.old { fronts = crew.new.fronts } }
 {
     let _is_sound = yard.is_sound();
-    let mut desk = match Desk::open(alloc, yard) {
-        Ok(desk) => desk,
-        Err(yard) => return (Err(Fault::Memory), yard),
+    let (shared, passes) = match Shared::new(alloc, yard, fetchers.len() as u32) {
+        Ok(made) => made,
+        Err((fault, yard)) => return (Err(fault), yard),
     };
-    serves_entered(&desk);
-    let worked = work_all(rt, alloc, &mut desk, fetchers, gates, crew);
-    let (closed, yard) = desk.close();
-    match closed {
-        Ok(()) => (worked, yard),
-        Err(fault) => (Err(fault), yard),
+    let (worked, passes) = work_all(rt, alloc, &shared, passes, fetchers, gates, crew);
+    match shared.close(passes) {
+        Ok(yard) => (worked, yard),
+        Err((fault, yard)) => (Err(fault), yard),
     }
 }
 

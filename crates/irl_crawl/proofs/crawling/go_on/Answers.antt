@@ -6,19 +6,30 @@ use Rattle.irl_crawl.specs.Workers.{AreIdle, schedules}
 use Rattle.irl_crawl.proofs.RecordsThen.{leads_on}
 use Rattle.irl_crawl.proofs.RecordsTurned.{ended_batch, first_batch, step_batch, stopped_batch}
 use Rattle.irl_crawl.proofs.Refusing.{refused_ok, refused_on}
+use Rattle.irl_crawl.proofs.crawling.go_on.Given.{Over}
+use Rattle.irl_disk.specs.Images.{IsConsistent}
+use Rattle.irl_record.specs.Widening.{Widens}
 use Rattle.irl_crawl.proofs.crawling.go_on.Goals as goal
+
+-- what a store that may be sent keeps in every thread, it keeps in this one
+abbrev consistent : (g : Over) (store : g.row.S.Denot) → IsConsistent (g.S.Store.told store)
+consistent g = (g.met.S.Store g.world.𝓛 g.world.𝓜 g.world.𝓡 ((λ s x. x), (λ x. x), (λ x. x), λ x. x)).is_consistent
+
+-- so does a fetcher
+abbrev earlier : (g : Over) (x : g.row.F.Denot) (since later : ℕ) → since ≤ later → Widens (g.F.Fetch.gives x later) (g.F.Fetch.gives x since)
+earlier g = (g.met.F.Fetch g.world.𝓛 g.world.𝓜 g.world.𝓡 ((λ s x. x), (λ x. x), (λ x. x), λ x. x)).earlier
 
 pub loop-init : goal.loop-init
 loop-init g c = (
   tt,
   tt,
   record {
-    runs = runs_first (g.met.S.Store.is_consistent c.args.yard.store) c.is_sound-is_sound.ensures.drum c.requires.open c.requires.sent c.requires.suffixes c.requires.idle
+    runs = runs_first (consistent g c.args.yard.store) c.is_sound-is_sound.ensures.drum c.requires.open c.requires.sent c.requires.suffixes c.requires.idle
         (λ x. c.requires.unknown x.events);
     agent = refl;
     suffixes = refl;
     gates = refl;
-    batches = first_batch c.args.yard.parts (g.S.Store.told c.args.yard.store) c.args.yard.rest_is c.is_sound-is_sound.ensures.drum (g.met.S.Store.is_consistent c.args.yard.store)
+    batches = first_batch c.args.yard.parts (g.S.Store.told c.args.yard.store) c.args.yard.rest_is c.is_sound-is_sound.ensures.drum (consistent g c.args.yard.store)
         c.requires.open.begun;
   },
 )
@@ -45,7 +56,7 @@ loop-preserved g c =
       tt,
       tt,
       record {
-        runs = runs_next far.runs g.met.F.Fetch.earlier most c.step-settled.result.0 fronts c.step-settled.new.fetchers c.step-settled.result.1.parts (g.S.Store.told c.step-settled.result.1.store)
+        runs = runs_next far.runs (earlier g) most c.step-settled.result.0 fronts c.step-settled.new.fetchers c.step-settled.result.1.parts (g.S.Store.told c.step-settled.result.1.store)
             c.loop.crew.agent c.loop.crew.suffixes far.agent far.suffixes step.leads step.fetchers within small c.in-Ok.count c.in-Ok.is keeps idle;
         agent = agent;
         suffixes = step.crew.1 ∙ far.suffixes;
@@ -63,7 +74,7 @@ returns-in-Err-clause-leads g c =
     let most = c.min-most.result in
     let within : most ≤ c.loop.left = omega arith in
     let small : most ≤ c.args.plan.now.batch = omega arith in
-    runs_stop far.runs g.met.F.Fetch.earlier most c.step-settled.result.0 (schedules c.step-settled.new.crew.fronts.items) c.step-settled.new.fetchers c.step-settled.result.1.parts
+    runs_stop far.runs (earlier g) most c.step-settled.result.0 (schedules c.step-settled.new.crew.fronts.items) c.step-settled.new.fetchers c.step-settled.result.1.parts
     (g.S.Store.told c.step-settled.result.1.store) c.loop.crew.agent c.loop.crew.suffixes far.agent far.suffixes step.leads step.fetchers within small c.in-Err.fault c.in-Err.is
 
 pub returns-in-Err-clause-fetchers : goal.returns-in-Err-clause-fetchers

@@ -24,7 +24,13 @@ use Rattle.irl_crawl.proofs.RecordsThen.{batches_more, leads_on}
 use Rattle.irl_crawl.proofs.RecordsTurned.{besides_rising, just_rising, loaded_batch, turn_batch, unless_rising}
 use Rattle.irl_crawl.specs.Batches.{a_desk_unless, besides, just}
 use Rattle.irl_crawl.proofs.Refusing.{refused_on}
+use Rattle.irl_crawl.proofs.turn.turn.Given.{Over}
+use Rattle.irl_record.specs.Widening.{Widens}
 use Rattle.irl_crawl.proofs.turn.turn.Goals as goal
+
+-- what a fetcher that may be sent keeps in every thread, it keeps in this one
+abbrev earlier : (g : Over) (x : g.row.F.Denot) (since later : ℕ) → since ≤ later → Widens (g.F.Fetch.gives x later) (g.F.Fetch.gives x since)
+earlier g = (g.met.F.Fetch g.world.𝓛 g.world.𝓜 g.world.𝓡 ((λ s x. x), (λ x. x), (λ x. x), λ x. x)).earlier
 
 pub returns-in-Err-clause-leads : goal.returns-in-Err-clause-leads
 returns-in-Err-clause-leads g c =
@@ -87,7 +93,7 @@ returns-in-Ok-clause-leads g c =
     c.fetch_all-worked.ensures.fetches) in
     settled_after old.agent old.suffixes c.args.most (schedules old.fronts.items) befores afters given wide
     (widens_second g.F.Fetch.asked g.F.Fetch.gives g.F.Fetch.faults g.F.Fetch.last g.F.Fetch.aim c.args.fetchers.now c.load.new.fetchers c.fetch_all-worked.new.fetchers c.load.ensures.fetchers
-    c.fetch_all-worked.ensures.fetchers g.met.F.Fetch.earlier c.load.ensures.made)
+    c.fetch_all-worked.ensures.fetchers (earlier g) c.load.ensures.made)
     (rose_between_fewer g.F.Fetch.faults c.load.new.fetchers c.fetch_all-worked.new.fetchers) was.parts mid.parts (tells was.store) (tells mid.store)
     (rose_between_all g.F.Fetch.asked g.F.Fetch.gives g.F.Fetch.faults g.F.Fetch.last g.F.Fetch.aim c.args.fetchers.now c.fetch_all-worked.new.fetchers
     (all_go_then g.F.Fetch.asked g.F.Fetch.gives g.F.Fetch.faults g.F.Fetch.last g.F.Fetch.aim c.args.fetchers.now c.load.new.fetchers c.fetch_all-worked.new.fetchers c.load.ensures.fetchers
@@ -173,7 +179,7 @@ returns-in-Err-worked-clause-leads g c =
     c.fetch_all-worked.ensures.fetches) in
     not_fetched old.agent old.suffixes c.args.most (schedules old.fronts.items) befores afters given wide
     (widens_second g.F.Fetch.asked g.F.Fetch.gives g.F.Fetch.faults g.F.Fetch.last g.F.Fetch.aim c.args.fetchers.now c.load.new.fetchers c.fetch_all-worked.new.fetchers c.load.ensures.fetchers
-    c.fetch_all-worked.ensures.fetchers g.met.F.Fetch.earlier c.load.ensures.made)
+    c.fetch_all-worked.ensures.fetchers (earlier g) c.load.ensures.made)
     (rose_between_fewer g.F.Fetch.faults c.load.new.fetchers c.fetch_all-worked.new.fetchers) was.parts mid.parts (tells was.store) (tells mid.store)
     (rose_between_all g.F.Fetch.asked g.F.Fetch.gives g.F.Fetch.faults g.F.Fetch.last g.F.Fetch.aim c.args.fetchers.now c.fetch_all-worked.new.fetchers
     (all_go_then g.F.Fetch.asked g.F.Fetch.gives g.F.Fetch.faults g.F.Fetch.last g.F.Fetch.aim c.args.fetchers.now c.load.new.fetchers c.fetch_all-worked.new.fetchers c.load.ensures.fetchers

@@ -1,114 +1,212 @@
-use Rattle.std.proofs.Common.{◌≡◌, ◌∙◌, ◌<◌, List, length, get_or, refl, sym, ap, subst, arith}
-use Rattle.std.proofs.lemmas.List.{length-map}
-use Rattle.std.proofs.lemmas.Result.{err_from_is_err_and, IfErr-at_err, IfOk-at_ok}
-use Rattle.irl_offer.specs.Offering.{fault_or}
-use Rattle.irl_polite.specs.Inside.{schedule}
-use Rattle.irl_fetch.specs.Telling.{fetcher, offering}
-use Rattle.irl_fetch.specs.Working.{FinishesWork, StopsWork}
-use Rattle.irl_crawl.specs.Workers.{schedules}
-use Rattle.irl_crawl.specs.declared.crew.Crew.{Crew}
-use Rattle.irl_crawl.proofs.AllWork.{all_done, all_lacked, all_stopped, far_first, far_next, fetchers_more, fronts_changed, next_ready, order_all, runs_at}
+use Rattle.std.proofs.Common.{◌≡◌, ◌∙◌, ◌-◌, ◌≤◌, ℕ, List, [], Option, Result, Some, length, map, refl, sym, ap, subst, arith}
+use Rattle.std.specs.Prelude.{IsSome, Vec}
+use Rattle.std.specs.List.{AllByRecursion, flat_map}
+use Rattle.irl_base.specs.declared.fault.Fault.{Fault}
+use Rattle.irl_fetch.specs.declared.working.WorkLog.{WorkLog}
+use Rattle.irl_lock.specs.Sharing.{entries_in}
+use Rattle.irl_lock.specs.declared.pass.Pass.{Pass}
+use Rattle.irl_lock.specs.declared.seated.Seated.{Seated}
+use Rattle.irl_workers.specs.declared.halves.Worker.{Worker}
+use Rattle.irl_crawl.specs.Workers.{given_by, schedules}
+use Rattle.irl_crawl.proofs.AllWork.{works_none}
+use Rattle.irl_crawl.proofs.OverShared.{all_ready, count, free, fresh_entries, fresh_free, fresh_own, goes_on, moments, order, over, own, parts, works}
+use Rattle.irl_crawl.proofs.Rising.{rose_between_same}
+use Rattle.irl_crawl.proofs.Seating.{lent}
 use Rattle.irl_crawl.proofs.work.work_all.Goals as goal
 
-pub loop-worker-init : goal.loop-worker-init
-loop-worker-init g c = record {
-  far = far_first g.F.Fetch.asked g.F.Fetch.gives g.F.Fetch.faults g.F.Fetch.last g.F.Fetch.aim (record { done = c.new.result; notes = c.new-2.result }) c.args.crew.now.agent c.args.crew.now.suffixes
-      c.args.fetchers.now (schedules c.args.crew.now.fronts.items) (offering g.O.Offers.entries g.O.Offers.last_fault g.O.Offers.takes g.O.Offers.follows c.args.offers.now)
-      c.new.ensures.items c.new-2.ensures.items c.requires.agents;
-  crew = refl;
-}
+pub returns-in-Err-clause-works : goal.returns-in-Err-clause-works
+returns-in-Err-clause-works g c =
+    let crew = c.args.crew.now in
+    let fetchers = c.args.fetchers.now in
+    works_none (given_by g.F.Fetch.asked g.F.Fetch.gives g.F.Fetch.faults fetchers fetchers) crew.agent crew.suffixes (schedules crew.fronts.items) (flat_map entries_in c.args.passes.items)
+    (map (λ pass. pass.last) c.args.passes.items) (rose_between_same g.F.Fetch.faults fetchers) (omega arith) (fresh_entries c.args.shared.now c.args.passes.items c.requires.fresh) c.requires.agents
 
-pub work-requires-clause-ready : goal.work-requires-clause-ready
-work-requires-clause-ready g c =
-    next_ready c.loop-worker.worker c.index_mut-front.result.now c.args.crew.now.fronts.items c.loop-worker.crew.fronts.items c.loop-worker.invariant.far (omega (arith, c.loop-worker-test.true))
-    c.requires.fronts c.index_mut-front.ensures.value c.requires.ready
+pub returns-in-Err-clause-own : goal.returns-in-Err-clause-own
+returns-in-Err-clause-own g c = fresh_own c.args.shared.now c.args.passes.items c.requires.fresh
 
-pub returns-in_err-part-clause-works : goal.returns-in_err-part-clause-works
-returns-in_err-part-clause-works g c =
-    let far = c.loop-worker.invariant.far in
-    let low : c.loop-worker.worker < length c.args.fetchers.now = omega (arith, c.loop-worker-test.true) in
-    let runs = runs_at g.F.Fetch.asked g.F.Fetch.gives g.F.Fetch.faults g.F.Fetch.last g.F.Fetch.aim c.loop-worker.worker c.index-fetchers-worker.result c.work.new.fetch c.args.fetchers.now
-    c.loop-worker.fetchers c.index_mut-front.result.now c.work.new.front c.args.crew.now.fronts.items c.loop-worker.crew.fronts.items far low c.requires.fronts c.index_mut-front.ensures.value
-    c.work.ensures.goes_on c.work.ensures.agent c.work.ensures.delay in
-    let a = fetcher g.F.Fetch.asked g.F.Fetch.gives g.F.Fetch.faults g.F.Fetch.last g.F.Fetch.aim (get_or c.loop-worker.fetchers c.loop-worker.worker c.index-fetchers-worker.result) in
-    let b = fetcher g.F.Fetch.asked g.F.Fetch.gives g.F.Fetch.faults g.F.Fetch.last g.F.Fetch.aim c.work.new.fetch in
-    let p = offering g.O.Offers.entries g.O.Offers.last_fault g.O.Offers.takes g.O.Offers.follows c.loop-worker.offers in
-    let q = offering g.O.Offers.entries g.O.Offers.last_fault g.O.Offers.takes g.O.Offers.follows c.work.new.offers in
-    let same : c.loop-worker.crew.suffixes ≡ c.args.crew.now.suffixes = ap (λ (crew : Crew). crew.suffixes) c.loop-worker.invariant.crew in
-    let stops = subst (λ (suffixes : List _). StopsWork suffixes a b (schedule c.index_mut-front.result.now) (schedule c.work.new.front) p q) same
-    (IfErr-at_err _ c.in_err-part.was c.work.ensures.stops) in
-    let fault = IfErr-at_err _ c.in_err-part.was c.work.ensures.fault.1 in
-    let out = err_from_is_err_and c.from_residual.result c.from_residual.ensures.1 in
-    all_stopped out.1 far runs stops (fault ∙ ap (fault_or p.last_fault) (sym out.2))
+pub returns-in-Err-clause-free : goal.returns-in-Err-clause-free
+returns-in-Err-clause-free g c = fresh_free c.args.shared.now c.args.passes.items c.requires.fresh
 
-pub returns-in_err-part-clause-fetchers : goal.returns-in_err-part-clause-fetchers
-returns-in_err-part-clause-fetchers g c =
-    let far = c.loop-worker.invariant.far in
-    let low : c.loop-worker.worker < length c.args.fetchers.now = omega (arith, c.loop-worker-test.true) in
-    let runs = runs_at g.F.Fetch.asked g.F.Fetch.gives g.F.Fetch.faults g.F.Fetch.last g.F.Fetch.aim c.loop-worker.worker c.index-fetchers-worker.result c.work.new.fetch c.args.fetchers.now
-    c.loop-worker.fetchers c.index_mut-front.result.now c.work.new.front c.args.crew.now.fronts.items c.loop-worker.crew.fronts.items far low c.requires.fronts c.index_mut-front.ensures.value
-    c.work.ensures.goes_on c.work.ensures.agent c.work.ensures.delay in
-    fetchers_more far runs
+pub work_side_by_side-requires-clause-ready : goal.work_side_by_side-requires-clause-ready
+work_side_by_side-requires-clause-ready g c κs within =
+    let Seat = Worker (Seated g.row.S.Denot g.S.Store) in
+    let shared = c.args.shared.now in
+    let crew = c.args.crew.now in
+    let seats = c.deref_mut.result.now in
+    let same = sym c.deref_mut.ensures.value in
+    let are_passes = subst (λ (l : List Seat). map (λ w. w.offers.pass) l ≡ c.args.passes.items) same c.seat_all.ensures.passes in
+    let are_fronts = subst (λ (l : List Seat). map (λ w. w.front) l ≡ crew.fronts.items) same (c.seat_all.ensures.fronts ∙ ap (λ (v : Vec _ _). v.items) c.replace.ensures.value) in
+    let are_shared = subst (AllByRecursion (λ (w : Seat). w.offers.shared.now ≡ shared)) same c.seat_all.ensures.shared in
+    all_ready shared seats c.args.passes.items crew.fronts.items c.requires.takes are_passes are_fronts c.requires.fresh are_shared c.requires.ready
 
-pub returns-in_err-join-clause-works : goal.returns-in_err-join-clause-works
-returns-in_err-join-clause-works g c =
-    let far = c.loop-worker.invariant.far in
-    let low : c.loop-worker.worker < length c.args.fetchers.now = omega (arith, c.loop-worker-test.true) in
-    let runs = runs_at g.F.Fetch.asked g.F.Fetch.gives g.F.Fetch.faults g.F.Fetch.last g.F.Fetch.aim c.loop-worker.worker c.index-fetchers-worker.result c.work.new.fetch c.args.fetchers.now
-    c.loop-worker.fetchers c.index_mut-front.result.now c.work.new.front c.args.crew.now.fronts.items c.loop-worker.crew.fronts.items far low c.requires.fronts c.index_mut-front.ensures.value
-    c.work.ensures.goes_on c.work.ensures.agent c.work.ensures.delay in
-    let a = fetcher g.F.Fetch.asked g.F.Fetch.gives g.F.Fetch.faults g.F.Fetch.last g.F.Fetch.aim (get_or c.loop-worker.fetchers c.loop-worker.worker c.index-fetchers-worker.result) in
-    let b = fetcher g.F.Fetch.asked g.F.Fetch.gives g.F.Fetch.faults g.F.Fetch.last g.F.Fetch.aim c.work.new.fetch in
-    let p = offering g.O.Offers.entries g.O.Offers.last_fault g.O.Offers.takes g.O.Offers.follows c.loop-worker.offers in
-    let q = offering g.O.Offers.entries g.O.Offers.last_fault g.O.Offers.takes g.O.Offers.follows c.work.new.offers in
-    let same : c.loop-worker.crew.suffixes ≡ c.args.crew.now.suffixes = ap (λ (crew : Crew). crew.suffixes) c.loop-worker.invariant.crew in
-    let does = subst (λ (suffixes : List _). FinishesWork c.in_ok-part.part suffixes a b (schedule c.index_mut-front.result.now) (schedule c.work.new.front) p q) same
-    (IfOk-at_ok _ c.in_ok-part.was c.work.ensures.finishes) in
-    let calm = IfOk-at_ok _ c.in_ok-part.was c.work.ensures.fault.0 in
-    let out = err_from_is_err_and c.from_residual-in_err-join.result c.from_residual-in_err-join.ensures.1 in
-    all_lacked out.1 out.2 far runs does calm
-
-pub returns-in_err-join-clause-follows : goal.returns-in_err-join-clause-follows
-returns-in_err-join-clause-follows g c =
-    let old = c.args.offers.now in
-    let does = IfOk-at_ok _ c.in_ok-part.was c.work.ensures.finishes in
-    does.entered.follows old (c.loop-worker.invariant.far.entered.follows old (g.met.O.Offers.follows_none old))
-
-pub returns-in_err-join-clause-fetchers : goal.returns-in_err-join-clause-fetchers
-returns-in_err-join-clause-fetchers g c =
-    let far = c.loop-worker.invariant.far in
-    let low : c.loop-worker.worker < length c.args.fetchers.now = omega (arith, c.loop-worker-test.true) in
-    let runs = runs_at g.F.Fetch.asked g.F.Fetch.gives g.F.Fetch.faults g.F.Fetch.last g.F.Fetch.aim c.loop-worker.worker c.index-fetchers-worker.result c.work.new.fetch c.args.fetchers.now
-    c.loop-worker.fetchers c.index_mut-front.result.now c.work.new.front c.args.crew.now.fronts.items c.loop-worker.crew.fronts.items far low c.requires.fronts c.index_mut-front.ensures.value
-    c.work.ensures.goes_on c.work.ensures.agent c.work.ensures.delay in
-    fetchers_more far runs
-
-pub loop-worker-preserved : goal.loop-worker-preserved
-loop-worker-preserved g c =
-    let far = c.loop-worker.invariant.far in
-    let low : c.loop-worker.worker < length c.args.fetchers.now = omega (arith, c.loop-worker-test.true) in
-    let runs = runs_at g.F.Fetch.asked g.F.Fetch.gives g.F.Fetch.faults g.F.Fetch.last g.F.Fetch.aim c.loop-worker.worker c.index-fetchers-worker.result c.work.new.fetch c.args.fetchers.now
-    c.loop-worker.fetchers c.index_mut-front.result.now c.work.new.front c.args.crew.now.fronts.items c.loop-worker.crew.fronts.items far low c.requires.fronts c.index_mut-front.ensures.value
-    c.work.ensures.goes_on c.work.ensures.agent c.work.ensures.delay in
-    let a = fetcher g.F.Fetch.asked g.F.Fetch.gives g.F.Fetch.faults g.F.Fetch.last g.F.Fetch.aim (get_or c.loop-worker.fetchers c.loop-worker.worker c.index-fetchers-worker.result) in
-    let b = fetcher g.F.Fetch.asked g.F.Fetch.gives g.F.Fetch.faults g.F.Fetch.last g.F.Fetch.aim c.work.new.fetch in
-    let p = offering g.O.Offers.entries g.O.Offers.last_fault g.O.Offers.takes g.O.Offers.follows c.loop-worker.offers in
-    let q = offering g.O.Offers.entries g.O.Offers.last_fault g.O.Offers.takes g.O.Offers.follows c.work.new.offers in
-    let same : c.loop-worker.crew.suffixes ≡ c.args.crew.now.suffixes = ap (λ (crew : Crew). crew.suffixes) c.loop-worker.invariant.crew in
-    let does = subst (λ (suffixes : List _). FinishesWork c.in_ok-part.part suffixes a b (schedule c.index_mut-front.result.now) (schedule c.work.new.front) p q) same
-    (IfOk-at_ok _ c.in_ok-part.was c.work.ensures.finishes) in
-    let calm = IfOk-at_ok _ c.in_ok-part.was c.work.ensures.fault.0 in
-    let joined = IfOk-at_ok _ c.in_ok-join.was c.join.ensures in
-    record {
-      far = far_next far runs does calm joined.0 joined.1;
-      crew = fronts_changed c.args.crew.now c.loop-worker.crew _ c.loop-worker.invariant.crew;
-    }
+pub take_back-requires-clause-done : goal.take_back-requires-clause-done
+take_back-requires-clause-done g c =
+    let Seat = Worker (Seated g.row.S.Denot g.S.Store) in
+    let shared = c.args.shared.now in
+    let crew = c.args.crew.now in
+    let seats = c.deref_mut.result.now in
+    let same = sym c.deref_mut.ensures.value in
+    let are_passes = subst (λ (l : List Seat). map (λ w. w.offers.pass) l ≡ c.args.passes.items) same c.seat_all.ensures.passes in
+    let are_fronts = subst (λ (l : List Seat). map (λ w. w.front) l ≡ crew.fronts.items) same (c.seat_all.ensures.fronts ∙ ap (λ (v : Vec _ _). v.items) c.replace.ensures.value) in
+    let are_shared = subst (AllByRecursion (λ (w : Seat). w.offers.shared.now ≡ shared)) same c.seat_all.ensures.shared in
+    let after = c.work_side_by_side.new.workers in
+    let whole = lent c.seat_all.new.workers after (count g.F.Fetch.asked g.F.Fetch.gives g.F.Fetch.faults g.F.Fetch.last g.F.Fetch.aim
+    crew.agent crew.suffixes shared c.args.fetchers.now c.work_side_by_side.new.fetchers seats after
+    c.args.passes.items crew.fronts.items are_passes are_fronts are_shared c.requires.fresh c.requires.agents c.work_side_by_side.ensures ∙ ap length c.deref_mut.ensures.value) in
+    subst (AllByRecursion (λ (w : Seat). IsSome w.done)) (sym whole) (over g.F.Fetch.asked g.F.Fetch.gives g.F.Fetch.faults g.F.Fetch.last g.F.Fetch.aim
+    crew.agent crew.suffixes shared c.args.fetchers.now c.work_side_by_side.new.fetchers seats after
+    c.args.passes.items crew.fronts.items are_passes are_fronts are_shared c.requires.fresh c.requires.agents c.work_side_by_side.ensures)
 
 pub returns-clause-works : goal.returns-clause-works
 returns-clause-works g c =
-    all_done c.loop-worker.invariant.far (omega (arith, c.loop-worker-test.false, c.requires.fronts, length-map c.args.crew.now.fronts.items schedule))
+    let Seat = Worker (Seated g.row.S.Denot g.S.Store) in
+    let shared = c.args.shared.now in
+    let crew = c.args.crew.now in
+    let seats = c.deref_mut.result.now in
+    let same = sym c.deref_mut.ensures.value in
+    let are_passes = subst (λ (l : List Seat). map (λ w. w.offers.pass) l ≡ c.args.passes.items) same c.seat_all.ensures.passes in
+    let are_fronts = subst (λ (l : List Seat). map (λ w. w.front) l ≡ crew.fronts.items) same (c.seat_all.ensures.fronts ∙ ap (λ (v : Vec _ _). v.items) c.replace.ensures.value) in
+    let are_shared = subst (AllByRecursion (λ (w : Seat). w.offers.shared.now ≡ shared)) same c.seat_all.ensures.shared in
+    let after = c.work_side_by_side.new.workers in
+    let whole = lent c.seat_all.new.workers after (count g.F.Fetch.asked g.F.Fetch.gives g.F.Fetch.faults g.F.Fetch.last g.F.Fetch.aim
+    crew.agent crew.suffixes shared c.args.fetchers.now c.work_side_by_side.new.fetchers seats after
+    c.args.passes.items crew.fronts.items are_passes are_fronts are_shared c.requires.fresh c.requires.agents c.work_side_by_side.ensures ∙ ap length c.deref_mut.ensures.value) in
+    let are = c.take_back.ensures.results ∙ ap (map (λ (w : Seat). w.done)) whole in
+    let are_backs = c.take_back.ensures.passes ∙ ap (map (λ (w : Seat). w.offers.pass)) whole in
+    let are_afters = c.take_back.ensures.fronts ∙ ap (map (λ (w : Seat). w.front)) whole in
+    works g.F.Fetch.asked g.F.Fetch.gives g.F.Fetch.faults g.F.Fetch.last g.F.Fetch.aim crew.agent crew.suffixes
+    shared c.args.fetchers.now c.work_side_by_side.new.fetchers seats after
+    c.args.passes.items crew.fronts.items are_passes are_fronts are_shared c.requires.fresh c.requires.agents c.work_side_by_side.ensures
+    c.take_back.new.results.items c.take_back.new.passes.items c.take_back.new.fronts.items are are_backs are_afters c.join_all.result c.join_all.ensures
 
 pub returns-clause-order : goal.returns-clause-order
 returns-clause-order g c =
-    order_all (schedules c.args.crew.now.fronts.items) c.loop-worker.worker c.loop-worker.whole.done.items c.loop-worker.invariant.far.order
-    (omega (arith, c.loop-worker-test.false, c.requires.fronts, length-map c.args.crew.now.fronts.items schedule))
+    let Seat = Worker (Seated g.row.S.Denot g.S.Store) in
+    let shared = c.args.shared.now in
+    let crew = c.args.crew.now in
+    let seats = c.deref_mut.result.now in
+    let same = sym c.deref_mut.ensures.value in
+    let are_passes = subst (λ (l : List Seat). map (λ w. w.offers.pass) l ≡ c.args.passes.items) same c.seat_all.ensures.passes in
+    let are_fronts = subst (λ (l : List Seat). map (λ w. w.front) l ≡ crew.fronts.items) same (c.seat_all.ensures.fronts ∙ ap (λ (v : Vec _ _). v.items) c.replace.ensures.value) in
+    let are_shared = subst (AllByRecursion (λ (w : Seat). w.offers.shared.now ≡ shared)) same c.seat_all.ensures.shared in
+    let after = c.work_side_by_side.new.workers in
+    let whole = lent c.seat_all.new.workers after (count g.F.Fetch.asked g.F.Fetch.gives g.F.Fetch.faults g.F.Fetch.last g.F.Fetch.aim
+    crew.agent crew.suffixes shared c.args.fetchers.now c.work_side_by_side.new.fetchers seats after
+    c.args.passes.items crew.fronts.items are_passes are_fronts are_shared c.requires.fresh c.requires.agents c.work_side_by_side.ensures ∙ ap length c.deref_mut.ensures.value) in
+    let are = c.take_back.ensures.results ∙ ap (map (λ (w : Seat). w.done)) whole in
+    let are_backs = c.take_back.ensures.passes ∙ ap (map (λ (w : Seat). w.offers.pass)) whole in
+    let are_afters = c.take_back.ensures.fronts ∙ ap (map (λ (w : Seat). w.front)) whole in
+    order g.F.Fetch.asked g.F.Fetch.gives g.F.Fetch.faults g.F.Fetch.last g.F.Fetch.aim crew.agent crew.suffixes
+    shared c.args.fetchers.now c.work_side_by_side.new.fetchers seats after
+    c.args.passes.items crew.fronts.items are_passes are_fronts are_shared c.requires.fresh c.requires.agents c.work_side_by_side.ensures
+    c.take_back.new.results.items c.take_back.new.passes.items c.take_back.new.fronts.items are are_backs are_afters c.join_all.result c.join_all.ensures
+
+pub returns-clause-moments : goal.returns-clause-moments
+returns-clause-moments g c =
+    let Seat = Worker (Seated g.row.S.Denot g.S.Store) in
+    let shared = c.args.shared.now in
+    let crew = c.args.crew.now in
+    let seats = c.deref_mut.result.now in
+    let same = sym c.deref_mut.ensures.value in
+    let are_passes = subst (λ (l : List Seat). map (λ w. w.offers.pass) l ≡ c.args.passes.items) same c.seat_all.ensures.passes in
+    let are_fronts = subst (λ (l : List Seat). map (λ w. w.front) l ≡ crew.fronts.items) same (c.seat_all.ensures.fronts ∙ ap (λ (v : Vec _ _). v.items) c.replace.ensures.value) in
+    let are_shared = subst (AllByRecursion (λ (w : Seat). w.offers.shared.now ≡ shared)) same c.seat_all.ensures.shared in
+    let after = c.work_side_by_side.new.workers in
+    let whole = lent c.seat_all.new.workers after (count g.F.Fetch.asked g.F.Fetch.gives g.F.Fetch.faults g.F.Fetch.last g.F.Fetch.aim
+    crew.agent crew.suffixes shared c.args.fetchers.now c.work_side_by_side.new.fetchers seats after
+    c.args.passes.items crew.fronts.items are_passes are_fronts are_shared c.requires.fresh c.requires.agents c.work_side_by_side.ensures ∙ ap length c.deref_mut.ensures.value) in
+    let are = c.take_back.ensures.results ∙ ap (map (λ (w : Seat). w.done)) whole in
+    let are_backs = c.take_back.ensures.passes ∙ ap (map (λ (w : Seat). w.offers.pass)) whole in
+    let are_afters = c.take_back.ensures.fronts ∙ ap (map (λ (w : Seat). w.front)) whole in
+    moments g.F.Fetch.asked g.F.Fetch.gives g.F.Fetch.faults g.F.Fetch.last g.F.Fetch.aim crew.agent crew.suffixes
+    shared c.args.fetchers.now c.work_side_by_side.new.fetchers seats after
+    c.args.passes.items crew.fronts.items are_passes are_fronts are_shared c.requires.fresh c.requires.agents c.work_side_by_side.ensures
+    c.take_back.new.results.items c.take_back.new.passes.items c.take_back.new.fronts.items are are_backs are_afters c.join_all.result c.join_all.ensures
+
+pub returns-clause-own : goal.returns-clause-own
+returns-clause-own g c =
+    let Seat = Worker (Seated g.row.S.Denot g.S.Store) in
+    let shared = c.args.shared.now in
+    let crew = c.args.crew.now in
+    let seats = c.deref_mut.result.now in
+    let same = sym c.deref_mut.ensures.value in
+    let are_passes = subst (λ (l : List Seat). map (λ w. w.offers.pass) l ≡ c.args.passes.items) same c.seat_all.ensures.passes in
+    let are_fronts = subst (λ (l : List Seat). map (λ w. w.front) l ≡ crew.fronts.items) same (c.seat_all.ensures.fronts ∙ ap (λ (v : Vec _ _). v.items) c.replace.ensures.value) in
+    let are_shared = subst (AllByRecursion (λ (w : Seat). w.offers.shared.now ≡ shared)) same c.seat_all.ensures.shared in
+    let after = c.work_side_by_side.new.workers in
+    let whole = lent c.seat_all.new.workers after (count g.F.Fetch.asked g.F.Fetch.gives g.F.Fetch.faults g.F.Fetch.last g.F.Fetch.aim
+    crew.agent crew.suffixes shared c.args.fetchers.now c.work_side_by_side.new.fetchers seats after
+    c.args.passes.items crew.fronts.items are_passes are_fronts are_shared c.requires.fresh c.requires.agents c.work_side_by_side.ensures ∙ ap length c.deref_mut.ensures.value) in
+    let are = c.take_back.ensures.results ∙ ap (map (λ (w : Seat). w.done)) whole in
+    let are_backs = c.take_back.ensures.passes ∙ ap (map (λ (w : Seat). w.offers.pass)) whole in
+    let are_afters = c.take_back.ensures.fronts ∙ ap (map (λ (w : Seat). w.front)) whole in
+    own g.F.Fetch.asked g.F.Fetch.gives g.F.Fetch.faults g.F.Fetch.last g.F.Fetch.aim crew.agent crew.suffixes
+    shared c.args.fetchers.now c.work_side_by_side.new.fetchers seats after
+    c.args.passes.items crew.fronts.items are_passes are_fronts are_shared c.requires.fresh c.requires.agents c.work_side_by_side.ensures
+    c.take_back.new.results.items c.take_back.new.passes.items c.take_back.new.fronts.items are are_backs are_afters
+
+pub returns-clause-free : goal.returns-clause-free
+returns-clause-free g c =
+    let Seat = Worker (Seated g.row.S.Denot g.S.Store) in
+    let shared = c.args.shared.now in
+    let crew = c.args.crew.now in
+    let seats = c.deref_mut.result.now in
+    let same = sym c.deref_mut.ensures.value in
+    let are_passes = subst (λ (l : List Seat). map (λ w. w.offers.pass) l ≡ c.args.passes.items) same c.seat_all.ensures.passes in
+    let are_fronts = subst (λ (l : List Seat). map (λ w. w.front) l ≡ crew.fronts.items) same (c.seat_all.ensures.fronts ∙ ap (λ (v : Vec _ _). v.items) c.replace.ensures.value) in
+    let are_shared = subst (AllByRecursion (λ (w : Seat). w.offers.shared.now ≡ shared)) same c.seat_all.ensures.shared in
+    let after = c.work_side_by_side.new.workers in
+    let whole = lent c.seat_all.new.workers after (count g.F.Fetch.asked g.F.Fetch.gives g.F.Fetch.faults g.F.Fetch.last g.F.Fetch.aim
+    crew.agent crew.suffixes shared c.args.fetchers.now c.work_side_by_side.new.fetchers seats after
+    c.args.passes.items crew.fronts.items are_passes are_fronts are_shared c.requires.fresh c.requires.agents c.work_side_by_side.ensures ∙ ap length c.deref_mut.ensures.value) in
+    let are = c.take_back.ensures.results ∙ ap (map (λ (w : Seat). w.done)) whole in
+    let are_backs = c.take_back.ensures.passes ∙ ap (map (λ (w : Seat). w.offers.pass)) whole in
+    let are_afters = c.take_back.ensures.fronts ∙ ap (map (λ (w : Seat). w.front)) whole in
+    free g.F.Fetch.asked g.F.Fetch.gives g.F.Fetch.faults g.F.Fetch.last g.F.Fetch.aim crew.agent crew.suffixes
+    shared c.args.fetchers.now c.work_side_by_side.new.fetchers seats after
+    c.args.passes.items crew.fronts.items are_passes are_fronts are_shared c.requires.fresh c.requires.agents c.work_side_by_side.ensures
+    c.take_back.new.results.items c.take_back.new.passes.items c.take_back.new.fronts.items are are_backs are_afters
+
+pub returns-clause-parts : goal.returns-clause-parts
+returns-clause-parts g c =
+    let Seat = Worker (Seated g.row.S.Denot g.S.Store) in
+    let shared = c.args.shared.now in
+    let crew = c.args.crew.now in
+    let seats = c.deref_mut.result.now in
+    let same = sym c.deref_mut.ensures.value in
+    let are_passes = subst (λ (l : List Seat). map (λ w. w.offers.pass) l ≡ c.args.passes.items) same c.seat_all.ensures.passes in
+    let are_fronts = subst (λ (l : List Seat). map (λ w. w.front) l ≡ crew.fronts.items) same (c.seat_all.ensures.fronts ∙ ap (λ (v : Vec _ _). v.items) c.replace.ensures.value) in
+    let are_shared = subst (AllByRecursion (λ (w : Seat). w.offers.shared.now ≡ shared)) same c.seat_all.ensures.shared in
+    let after = c.work_side_by_side.new.workers in
+    let whole = lent c.seat_all.new.workers after (count g.F.Fetch.asked g.F.Fetch.gives g.F.Fetch.faults g.F.Fetch.last g.F.Fetch.aim
+    crew.agent crew.suffixes shared c.args.fetchers.now c.work_side_by_side.new.fetchers seats after
+    c.args.passes.items crew.fronts.items are_passes are_fronts are_shared c.requires.fresh c.requires.agents c.work_side_by_side.ensures ∙ ap length c.deref_mut.ensures.value) in
+    let are = c.take_back.ensures.results ∙ ap (map (λ (w : Seat). w.done)) whole in
+    let are_backs = c.take_back.ensures.passes ∙ ap (map (λ (w : Seat). w.offers.pass)) whole in
+    let are_afters = c.take_back.ensures.fronts ∙ ap (map (λ (w : Seat). w.front)) whole in
+    parts g.F.Fetch.asked g.F.Fetch.gives g.F.Fetch.faults g.F.Fetch.last g.F.Fetch.aim crew.agent crew.suffixes
+    shared c.args.fetchers.now c.work_side_by_side.new.fetchers seats after
+    c.args.passes.items crew.fronts.items are_passes are_fronts are_shared c.requires.fresh c.requires.agents c.work_side_by_side.ensures
+    c.take_back.new.results.items c.take_back.new.passes.items c.take_back.new.fronts.items are are_backs are_afters
+
+pub returns-clause-fetchers : goal.returns-clause-fetchers
+returns-clause-fetchers g c =
+    let Seat = Worker (Seated g.row.S.Denot g.S.Store) in
+    let shared = c.args.shared.now in
+    let crew = c.args.crew.now in
+    let seats = c.deref_mut.result.now in
+    let same = sym c.deref_mut.ensures.value in
+    let are_passes = subst (λ (l : List Seat). map (λ w. w.offers.pass) l ≡ c.args.passes.items) same c.seat_all.ensures.passes in
+    let are_fronts = subst (λ (l : List Seat). map (λ w. w.front) l ≡ crew.fronts.items) same (c.seat_all.ensures.fronts ∙ ap (λ (v : Vec _ _). v.items) c.replace.ensures.value) in
+    let are_shared = subst (AllByRecursion (λ (w : Seat). w.offers.shared.now ≡ shared)) same c.seat_all.ensures.shared in
+    let after = c.work_side_by_side.new.workers in
+    let whole = lent c.seat_all.new.workers after (count g.F.Fetch.asked g.F.Fetch.gives g.F.Fetch.faults g.F.Fetch.last g.F.Fetch.aim
+    crew.agent crew.suffixes shared c.args.fetchers.now c.work_side_by_side.new.fetchers seats after
+    c.args.passes.items crew.fronts.items are_passes are_fronts are_shared c.requires.fresh c.requires.agents c.work_side_by_side.ensures ∙ ap length c.deref_mut.ensures.value) in
+    let are = c.take_back.ensures.results ∙ ap (map (λ (w : Seat). w.done)) whole in
+    let are_backs = c.take_back.ensures.passes ∙ ap (map (λ (w : Seat). w.offers.pass)) whole in
+    let are_afters = c.take_back.ensures.fronts ∙ ap (map (λ (w : Seat). w.front)) whole in
+    goes_on g.F.Fetch.asked g.F.Fetch.gives g.F.Fetch.faults g.F.Fetch.last g.F.Fetch.aim crew.agent crew.suffixes
+    shared c.args.fetchers.now c.work_side_by_side.new.fetchers seats after
+    c.args.passes.items crew.fronts.items are_passes are_fronts are_shared c.requires.fresh c.requires.agents c.work_side_by_side.ensures
+    c.take_back.new.results.items c.take_back.new.passes.items c.take_back.new.fronts.items are are_backs are_afters
