@@ -1,11 +1,11 @@
 -- What ports tell goes on, each in its place.
-use Rattle.std.proofs.Common.{◌≡◌, ℕ, List, [], ◌∷◌, ◌++◌, ◌≤◌, length, take, drop, set, get_or, Option, refl, ap, subst, arith}
-use Rattle.irl_crawl.specs.Workers.{AllGoOn}
+use Rattle.std.proofs.Common.{◌≡◌, ℕ, suc, List, [], ◌∷◌, ◌++◌, ◌≤◌, length, take, drop, Option, ◌∙◌, refl, sym, ap, subst, arith}
+use Rattle.std.proofs.lemmas.List.{length-map, map-append, take-append-drop}
 use Rattle.irl_fetch.proofs.Telling.{keeps_same}
 use Rattle.irl_http.specs.declared.link.Connection.{Connection}
-use Rattle.irl_record.specs.Wired.{KeepsMade, Wired}
-use Rattle.irl_top.specs.Ports.{Port, PortGoesOn, PortsGoOn, ports_of}
-use Rattle.irl_top.proofs.Giving.{told}
+use Rattle.irl_record.specs.Wired.{Wired}
+use Rattle.irl_top.specs.Ports.{Port, PortGoesOn, PortsGoOn, aimed, aimed_all, port_of, ports_of}
+use Rattle.irl_top.proofs.Giving.{WiresGoOn, aimed_go, aimed_rest}
 
 pub port_same : (port : Port) → PortGoesOn port port
 port_same port = record { made = keeps_same port.connections; faults = omega arith }
@@ -15,20 +15,37 @@ ports_same [] = tt
 ports_same (port ∷ ports) = (port_same port, ports_same ports)
 
 module _ {P : Type 0} (connections : P → Option (List Connection)) (faults : P → ℕ) where
-  -- the first of some is aimed, which leaves its port, and it alone crawls
-  pub ports_first : (number : ℕ) (agent : List ℕ) (ports : List (Wired P)) (d aimed : Wired P) (news : List (Wired P)) → 1 ≤ length ports
-      → aimed ≡ record (get_or ports 0 d) { number = number; agent = agent }
-      → AllGoOn (λ f. connections f.port) (told connections faults) (λ f. faults f.port) (λ f. f.last) (λ f. f.number ∷ f.agent) (take 1 (set ports 0 aimed)) news
-      → PortsGoOn (ports_of connections faults ports) (ports_of connections faults (news ++ drop 1 (set ports 0 aimed)))
-  ports_first number agent [] d aimed news some is all = absurd (omega (arith, some))
-  ports_first number agent (p ∷ ports) d aimed [] some is all = absurd (omega (arith, all.count))
-  ports_first number agent (p ∷ ports) d aimed (new ∷ next ∷ news) some is all = absurd (omega (arith, all.count))
-  ports_first number agent (p ∷ ports) d aimed (new ∷ []) some is all =
-      let goes = all.each 0 aimed new refl refl in
-      let same : aimed.port ≡ p.port = ap (λ (f : Wired P). f.port) is in (
-        record {
-          made = subst (λ (q : P). KeepsMade (connections q) (connections new.port)) same goes.asked;
-          faults = omega (arith, goes.faults, ap faults same);
-        },
-        ports_same (ports_of connections faults ports),
+  -- the first are aimed, which leaves their ports, and they alone crawl
+  front_goes : (number : ℕ) (agent : List ℕ) (front news rest : List (Wired P)) → length news ≡ length front → WiresGoOn connections faults (aimed_all number agent front) news
+      → PortsGoOn (ports_of connections faults (front ++ rest)) (ports_of connections faults (news ++ rest))
+  front_goes number agent [] [] rest count all = ports_same (ports_of connections faults rest)
+  front_goes number agent [] (new ∷ news) rest count all = absurd (omega (arith, count))
+  front_goes number agent (old ∷ front) [] rest count all = absurd (omega (arith, count))
+  front_goes number agent (old ∷ front) (new ∷ news) rest count all =
+      let goes = all.each 0 (record old { number = number; agent = agent }) new refl refl in (
+        record { made = goes.asked; faults = goes.faults },
+        front_goes number agent front news rest (omega (arith, count))
+            (record { count = omega (arith, all.count); each = λ at f g was is. all.each (suc at) f g was is }),
       )
+
+  -- so many of some ports are aimed, and then so many crawl
+  pub ports_aimed : (number : ℕ) (agent : List ℕ) (n : ℕ) (ports front news : List (Wired P)) → n ≤ length ports → front ≡ aimed_all number agent (take n ports)
+      → WiresGoOn connections faults (take n (front ++ drop n ports)) news
+      → PortsGoOn (ports_of connections faults ports) (ports_of connections faults (news ++ drop n (front ++ drop n ports)))
+  ports_aimed number agent n ports front news few is all =
+      let goes = aimed_go connections faults number agent n ports front news few is all in
+      let count : length news ≡ length (take n ports) = goes.count ∙ length-map (take n ports) (aimed number agent) in
+      subst (λ (l : List (Wired P)). PortsGoOn (ports_of connections faults ports) (ports_of connections faults (news ++ l)))
+      (sym (aimed_rest connections faults number agent n ports front few is))
+      (subst (λ (l : List (Wired P)). PortsGoOn (ports_of connections faults l) (ports_of connections faults (news ++ drop n ports))) (take-append-drop n ports)
+      (front_goes number agent (take n ports) news (drop n ports) count goes))
+
+  -- so many are aimed, and none is called
+  pub ports_uncalled : (n : ℕ) (ports front : List (Wired P)) → ports_of connections faults front ≡ ports_of connections faults (take n ports)
+      → PortsGoOn (ports_of connections faults ports) (ports_of connections faults (front ++ drop n ports))
+  ports_uncalled n ports front is =
+      subst (PortsGoOn (ports_of connections faults ports))
+      (ap (λ (l : List (Wired P)). ports_of connections faults l) (sym (take-append-drop n ports)) ∙ map-append (port_of connections faults) (take n ports) (drop n ports)
+      ∙ ap (λ (l : List Port). l ++ ports_of connections faults (drop n ports)) (sym is)
+      ∙ sym (map-append (port_of connections faults) front (drop n ports)))
+      (ports_same (ports_of connections faults ports))

@@ -40,7 +40,7 @@ use Rattle.irl_reach.specs.Along.{IsAlong, settled_in}
 use Rattle.irl_offer.specs.Tuple.{Tuple}
 use Rattle.irl_reach.specs.Crawls.{Visit, found_by, numbers_in, seed_offers}
 use Rattle.irl_reach.specs.Reached.{Reached}
-use Rattle.irl_record.specs.Fetched.{by_tape}
+use Rattle.irl_record.specs.Fetched.{Playing, by_tape}
 use Rattle.irl_record.specs.Reading.{tape_of}
 use Rattle.irl_record.specs.Site.{site_text}
 use Rattle.irl_record.specs.Taped.{Taped}
@@ -100,6 +100,10 @@ tape_task pages options given = record {
 -- the answers of a tape, of which any number may be that none comes, and for which no connection is made
 abbrev pub given_by_tape : Taped → Given
 given_by_tape tape = record { gives = by_tape tape; may_miss = λ _. ⊤; made = 0 }
+
+-- a fetcher of a tape that hasn't answered yet
+abbrev pub playing_at_first : Taped → Playing
+playing_at_first tape = record { tape = tape; faults = 0; moment = 0 }
 
 -- Those that ports gave on connections to this number of a port, and how many of these they made. Each that didn't come
 -- is a fault of its port.

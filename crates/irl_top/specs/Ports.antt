@@ -20,6 +20,13 @@ port_of connections faults fetcher =
 abbrev pub ports_of : {P : Type 0} → (P → Option (List Connection)) → (P → ℕ) → List (Wired P) → List Port
 ports_of connections faults fetchers = map (port_of connections faults) fetchers
 
+-- a fetcher that is aimed at this number of a port, by this agent, and stays otherwise
+abbrev pub aimed : {P : Type 0} → ℕ → List ℕ → Wired P → Wired P
+aimed number agent fetcher = record fetcher { number = number; agent = agent }
+
+abbrev pub aimed_all : {P : Type 0} → ℕ → List ℕ → List (Wired P) → List (Wired P)
+aimed_all number agent fetchers = map (aimed number agent) fetchers
+
 -- From one moment to a later one: the connections that a port made before stay, with what was written on them, and
 -- others come behind them; its faults are no fewer.
 pub record PortGoesOn (old new : Port) : Type 0 where

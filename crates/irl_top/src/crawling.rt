@@ -1,6 +1,7 @@
 //! The commands that crawl: they lead a store on by what answers their fetches, and print its report.
 
 ghost use Rattle.std.specs.Prelude.{◌≡◌, ◌≢◌, ◌≤◌, ◌⊎◌, [], false, true, None, length, IfErr, IfOk, IsErrOf, OnOk};
+ghost use Rattle.std.specs.List.{All};
 ghost use Rattle.irl_log.specs.Form.{max_suffixes};
 ghost use Rattle.irl_pld.specs.Names.{bad_line};
 ghost use Rattle.irl_offer.specs.declared.settings.Kind.TheVariants.{Crawl as CrawlKind};
@@ -11,9 +12,9 @@ ghost use Rattle.irl_crawl.specs.Leading.{IsOpen, Leads};
 ghost use Rattle.irl_crawl.specs.Workers.{AllGoOn, given_by};
 ghost use Rattle.irl_top.specs.Crawled.{crawl_task, part_task, replay_task, site_task, Begins, BeginsAt, Crawled, CrawlsTape, CrawlRun, GoesOver};
 ghost use Rattle.irl_top.specs.Crawled.{EndsAsFound, IsCrawlEnding, IsPlanOf, KeepsSuffixes, MayCrawlInput, RefusesSuffixes};
-ghost use Rattle.irl_top.specs.Crawled.{ending_of_crawl, ending_of_tape};
+ghost use Rattle.irl_top.specs.Crawled.{ending_of_crawl, ending_of_tape, playing_at_first};
 ghost use Rattle.irl_top.specs.Outside.{lent, lent_beside, stream};
-ghost use Rattle.irl_top.specs.Ports.{PortsGoOn, ports_of};
+ghost use Rattle.irl_top.specs.Ports.{PortsGoOn, aimed_all, ports_of};
 ghost use Rattle.irl_top.specs.Stream.{Stream};
 ghost use Rattle.irl_top.specs.declared.ending.Ending.TheVariants.{DiskFault as DiskEnding};
 
@@ -92,7 +93,9 @@ where
         Ok(tape) => tape,
         Err(fault) => return (ending_of_tape(fault), yard),
     };
-    let mut fetchers = [TapeFetch::new(&tape)];
+    let Ok(mut fetchers) = players(alloc, &tape, options.workers) else {
+        return (Ending::NoMemory, yard);
+    };
     crawl_tape(rt, alloc, yard, &tape, options, &mut fetchers, output)
 }
 
@@ -148,12 +151,14 @@ where
         Ok(tape) => tape,
         Err(_) => return (Ending::NoMemory, yard),
     };
-    let mut fetchers = [TapeFetch::new(&tape)];
+    let Ok(mut fetchers) = players(alloc, &tape, options.workers) else {
+        return (Ending::NoMemory, yard);
+    };
     crawl_tape(rt, alloc, yard, &tape, options, &mut fetchers, output)
 }
 
-/// Crawls the sites that a tape's seeds lead to, over ports that connect to this number, and prints the report. The tape has
-/// no pages.
+/// Crawls the sites that a tape's seeds lead to, and prints the report. The first ports, one for each worker, connect to
+/// this number. The tape has no pages.
 pub fn crawl_ports<R, I, O, S, P>(
     rt: &R,
     alloc: Global,
@@ -173,7 +178,7 @@ where
     P: Link,
     requires kind { asked.now.kind ≡ CrawlKind }
     requires options { AreRunOptions options.now }
-    requires some { 1 ≤ length ports.old }
+    requires some { options.now.workers ≤ length ports.old }
     ensures run { let tells = lent S.told I.left I.faults O.written O.faults in
         let told = ports_of P.connections P.faults in
         CrawlRun (crawl_task options.now number (told ports.old) (told ports.new)) asked.now
@@ -208,7 +213,7 @@ where
     requires sound { IsSound yard.parts }
     requires kind { yard.parts.urls.settings.kind ≡ CrawlKind }
     requires options { AreRunOptions options.now }
-    requires some { 1 ≤ length ports.old }
+    requires some { options.now.workers ≤ length ports.old }
     ensures over { let tells = lent S.told I.left I.faults O.written O.faults in
         let told = ports_of P.connections P.faults in
         GoesOver (crawl_task options.now number (told ports.old) (told ports.new)) yard.parts result.1.parts
@@ -220,14 +225,57 @@ where
         Ok(tape) => tape,
         Err(fault) => return (ending_of_tape(fault), yard),
     };
-    let Ok(agent) = options.agent.copy(alloc) else {
+    let count = options.workers as usize;
+    let Ok(()) = aim_all(alloc, number, &options.agent, &mut ports[..count]) else {
         return (Ending::NoMemory, yard);
     };
-    ports[0].aim(number, agent);
-    crawl_tape(rt, alloc, yard, &tape, options, &mut ports[..1], output)
+    crawl_tape(rt, alloc, yard, &tape, options, &mut ports[..count], output)
 }
 
-// Crawls a tape over an open store by one fetcher, and prints the report.
+// Aims each of some fetchers at a number of a port, by a copy of an agent's name. No port is called.
+fn aim_all<P: Link>(
+    alloc: Global,
+    number: u16,
+    agent: &Text,
+    fetchers: &mut [WireFetch<P>],
+) -> Result<(), AllocError>
+    ensures aimed { OnOk result (fetchers.new ≡ aimed_all number agent.now fetchers.old) }
+    ensures ports { let told = ports_of P.connections P.faults in told fetchers.new ≡ told fetchers.old }
+{
+    for fetcher in fetchers.iter_mut() {
+        fetcher.aim(number, agent.copy(alloc)?);
+    }
+    Ok(())
+}
+
+// So many fetchers that answer by a tape.
+fn players<'a>(
+    alloc: Global,
+    tape: &'a Tape,
+    workers: u32,
+) -> Result<Vec<TapeFetch<'a>>, AllocError>
+    ensures count { IfOk result (λ fetchers. length fetchers.items ≡ workers) }
+    ensures each { IfOk result (λ fetchers. All (λ f. f ≡ playing_at_first tape.now) fetchers.items) }
+{
+    let mut fetchers = Vec::new(alloc);
+    for _ in 0..workers {
+        fetchers.push(TapeFetch::new(tape))?;
+    }
+    Ok(fetchers)
+}
+
+// So many gates that do nothing.
+fn open_gates(alloc: Global, workers: usize) -> Result<Vec<NoGate>, AllocError>
+    ensures { IfOk result (λ gates. length gates.items ≡ workers) }
+{
+    let mut gates = Vec::new(alloc);
+    for _ in 0..workers {
+        gates.push(NoGate)?;
+    }
+    Ok(gates)
+}
+
+// Crawls a tape over an open store, each worker by a fetcher of its own, and prints the report.
 fn crawl_tape<R, S, F, O>(
     rt: &R,
     alloc: Global,
@@ -245,7 +293,7 @@ where
     requires sound { IsSound yard.parts }
     requires kind { yard.parts.urls.settings.kind ≡ CrawlKind }
     requires options { AreRunOptions options.now }
-    requires one { length fetchers.old ≡ 1 }
+    requires some { (1 ≤ length fetchers.old) × (length fetchers.old ≤ 64) }
     ensures tape { CrawlsTape (part_task options.now (given_by F.asked F.gives F.faults fetchers.old fetchers.new))
         tape.now
         yard.parts result.1.parts (S.told yard.store) (S.told result.1.store)
@@ -279,7 +327,7 @@ where
     requires sound { IsSound yard.parts }
     requires kind { yard.parts.urls.settings.kind ≡ CrawlKind }
     requires options { AreRunOptions options.now }
-    requires one { length fetchers.old ≡ 1 }
+    requires some { (1 ≤ length fetchers.old) × (length fetchers.old ≤ 64) }
     ensures leads { let task = part_task options.now (given_by F.asked F.gives F.faults fetchers.old fetchers.new) in
         Leads (IsErrOf result.0 DiskEnding) (MayCrawlInput task yard.parts.urls.settings tape.now)
         (Crawled result.0 task yard.parts.urls.settings tape.now) yard.parts result.1.parts
@@ -349,7 +397,7 @@ where
     F: Fetch,
     requires open { IsOpen yard.parts }
     requires options { AreRunOptions options.now }
-    requires one { length fetchers.old ≡ 1 }
+    requires some { (1 ≤ length fetchers.old) × (length fetchers.old ≤ 64) }
     ensures leads { let task = part_task options.now (given_by F.asked F.gives F.faults fetchers.old fetchers.new) in
         KeepsSuffixes yard.parts tape.now.suffixes →
         Leads (IsErrOf result.0 DiskEnding) (MayCrawlInput task yard.parts.urls.settings tape.now)
@@ -367,7 +415,10 @@ where
         Ok(plan) => plan,
         Err(_) => return (Err(Ending::NoMemory), yard),
     };
-    let (ended, yard) = crawl(rt, alloc, yard, fetchers, &mut [NoGate], &plan);
+    let Ok(mut gates) = open_gates(alloc, fetchers.len()) else {
+        return (Err(Ending::NoMemory), yard);
+    };
+    let (ended, yard) = crawl(rt, alloc, yard, fetchers, &mut gates, &plan);
     (ending_of_crawl(ended), yard)
 }
 

@@ -1,4 +1,4 @@
-use Rattle.std.proofs.Common.{◌≡◌, ◌∙◌, List, get_or, Err, false, ℕ, ap, refl, subst, sym}
+use Rattle.std.proofs.Common.{◌≡◌, ◌++◌, Err, drop, false, ap}
 use Rattle.irl_disk.proofs.Effects.{cause_for}
 use Rattle.irl_record.specs.Reading.{tape_of}
 use Rattle.irl_record.specs.declared.reading.TapeFault.TheVariants.{Failed as TapeFailed}
@@ -7,8 +7,8 @@ use Rattle.irl_top.specs.Outside.{stream}
 use Rattle.irl_top.specs.Ports.{ports_of}
 use Rattle.irl_top.specs.Stream.{Stream}
 use Rattle.irl_top.proofs.CrawlInputs.{goes_crawled, goes_nowhere, goes_unread}
-use Rattle.irl_top.proofs.Giving.{more_by_first}
-use Rattle.irl_top.proofs.PortsGoing.{ports_first, ports_same}
+use Rattle.irl_top.proofs.Giving.{more_by_aimed}
+use Rattle.irl_top.proofs.PortsGoing.{ports_aimed, ports_same, ports_uncalled}
 use Rattle.irl_top.proofs.crawling.crawl_ports_over.Goals as goal
 
 pub returns-in-Err-clause-over : goal.returns-in-Err-clause-over
@@ -39,12 +39,13 @@ returns-in_default-clause-over g c =
     let new : Stream = record { bytes = g.I.Source.left c.read.new.source; faults = g.I.Source.faults c.read.new.source } in
     let sink = stream g.O.Sink.written g.O.Sink.faults c.args.output.now in
     let law = g.met.S.Store.is_consistent yard.store in
-    let task = crawl_task c.args.options.now c.args.number (told c.args.ports.now) (told c.args.ports.now) in
+    let task = crawl_task c.args.options.now c.args.number (told c.args.ports.now) (told (c.aim_all.new.fetchers ++ drop c.args.options.now.workers c.args.ports.now)) in
     goes_nowhere task yard.parts (tells yard.store) old new sink law c.is_sound-is_sound.ensures.drum c.requires.sound yard.rest_is c.requires.kind
     c.in-Ok.ensures.cause.later
 
 pub returns-in_default-clause-ports : goal.returns-in_default-clause-ports
-returns-in_default-clause-ports g c = ports_same (ports_of g.P.Link.connections g.P.Link.faults c.args.ports.now)
+returns-in_default-clause-ports g c =
+    ports_uncalled g.P.Link.connections g.P.Link.faults c.args.options.now.workers c.args.ports.now c.aim_all.new.fetchers c.aim_all.ensures.ports
 
 pub returns-clause-over : goal.returns-clause-over
 returns-clause-over g c =
@@ -54,14 +55,12 @@ returns-clause-over g c =
     let old : Stream = record { bytes = g.I.Source.left c.args.input.now; faults = g.I.Source.faults c.args.input.now } in
     let new : Stream = record { bytes = g.I.Source.left c.read.new.source; faults = g.I.Source.faults c.read.new.source } in
     let sink = stream g.O.Sink.written g.O.Sink.faults in
-    let aimed = c.aim.ensures ∙ ap (λ (a : List ℕ). record (get_or c.args.ports.now 0 c.index-ports-0.result) { number = c.args.number; agent = a }) c.in-Ok-copy.ensures in
-    let wider = more_by_first g.P.Link.connections g.P.Link.faults c.args.number c.args.options.now.agent c.args.ports.now c.index-ports-0.result c.aim.new.self c.crawl_tape.new.fetchers
-    c.requires.some aimed c.crawl_tape.ensures.fetchers in
-    goes_crawled c.args.options.now (IsReadBy (tape_of false)) IsReadWhole _ _ c.in-Ok.tape wider c.crawl_tape.result.0 was.parts now.parts (tells was.store) (tells now.store) old new
+    let more = more_by_aimed g.P.Link.connections g.P.Link.faults c.args.number c.args.options.now.agent c.args.options.now.workers c.args.ports.now
+    c.aim_all.new.fetchers c.crawl_tape.new.fetchers c.requires.some c.in-Ok-aim_all.ensures.aimed c.crawl_tape.ensures.fetchers in
+    goes_crawled c.args.options.now (IsReadBy (tape_of false)) IsReadWhole _ _ c.in-Ok.tape more c.crawl_tape.result.0 was.parts now.parts (tells was.store) (tells now.store) old new
     (sink c.args.output.now) (sink c.crawl_tape.new.output) c.in-Ok.ensures.value c.in-Ok.ensures.end c.in-Ok.ensures.cause.later c.crawl_tape.ensures.tape
 
 pub returns-clause-ports : goal.returns-clause-ports
 returns-clause-ports g c =
-    let aimed = c.aim.ensures ∙ ap (λ (a : List ℕ). record (get_or c.args.ports.now 0 c.index-ports-0.result) { number = c.args.number; agent = a }) c.in-Ok-copy.ensures in
-    ports_first g.P.Link.connections g.P.Link.faults c.args.number c.args.options.now.agent c.args.ports.now c.index-ports-0.result c.aim.new.self c.crawl_tape.new.fetchers
-    c.requires.some aimed c.crawl_tape.ensures.fetchers
+    ports_aimed g.P.Link.connections g.P.Link.faults c.args.number c.args.options.now.agent c.args.options.now.workers c.args.ports.now c.aim_all.new.fetchers
+    c.crawl_tape.new.fetchers c.requires.some c.in-Ok-aim_all.ensures.aimed c.crawl_tape.ensures.fetchers

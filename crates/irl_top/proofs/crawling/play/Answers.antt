@@ -1,4 +1,3 @@
-use Rattle.std.proofs.Common.{refl}
 use Rattle.irl_crawl.specs.Workers.{given_by}
 use Rattle.irl_top.specs.Crawled.{part_task}
 use Rattle.irl_top.proofs.Batching.{none_crawled, played_batch}
@@ -8,6 +7,14 @@ use Rattle.irl_top.proofs.crawling.play.Goals as goal
 
 pub returns-in-Err-clause-leads : goal.returns-in-Err-clause-leads
 returns-in-Err-clause-leads g c = λ keeps.
+    let yard = c.args.yard in
+    let law = g.met.S.Store.is_consistent yard.store in
+    let task = part_task c.args.options.now (given_by g.F.Fetch.asked g.F.Fetch.gives g.F.Fetch.faults c.args.fetchers.now c.args.fetchers.now) in
+    unplayed task c.args.tape.now yard.parts (g.S.Store.told yard.store) law c.is_sound-is_sound.ensures.drum c.requires.open.sound
+    (none_rose g.F.Fetch.faults c.args.fetchers.now)
+
+pub returns-in_default-clause-leads : goal.returns-in_default-clause-leads
+returns-in_default-clause-leads g c = λ keeps.
     let yard = c.args.yard in
     let law = g.met.S.Store.is_consistent yard.store in
     let task = part_task c.args.options.now (given_by g.F.Fetch.asked g.F.Fetch.gives g.F.Fetch.faults c.args.fetchers.now c.args.fetchers.now) in
@@ -38,6 +45,13 @@ returns-in-Err-clause-batches g c =
     let kind = kind_begun yard.parts.urls yard.parts.rest told.files yard.rest_is c.requires.open.begun in
     none_crawled _ yard.parts told (g.met.S.Store.is_consistent yard.store) c.is_sound-is_sound.ensures.drum yard.rest_is kind
 
+pub returns-in_default-clause-batches : goal.returns-in_default-clause-batches
+returns-in_default-clause-batches g c =
+    let yard = c.args.yard in
+    let told = g.S.Store.told yard.store in
+    let kind = kind_begun yard.parts.urls yard.parts.rest told.files yard.rest_is c.requires.open.begun in
+    none_crawled _ yard.parts told (g.met.S.Store.is_consistent yard.store) c.is_sound-is_sound.ensures.drum yard.rest_is kind
+
 pub returns-clause-batches : goal.returns-clause-batches
 returns-clause-batches g c =
     let tells = g.S.Store.told in
@@ -47,6 +61,9 @@ returns-clause-batches g c =
 
 pub returns-in-Err-clause-found : goal.returns-in-Err-clause-found
 returns-in-Err-clause-found g c = memory_found c.args.yard.parts (g.S.Store.told c.args.yard.store)
+
+pub returns-in_default-clause-found : goal.returns-in_default-clause-found
+returns-in_default-clause-found g c = memory_found c.args.yard.parts (g.S.Store.told c.args.yard.store)
 
 pub returns-clause-found : goal.returns-clause-found
 returns-clause-found g c =
