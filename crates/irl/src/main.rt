@@ -222,7 +222,10 @@ fn run_files<'a, R, I, O, E>(
 ) -> Result<(u8, Option<Failure>), AllocError>
 where
     R: Files + Net + Clock + Eprint + Drop + AllocGlobal + Threads + Wait + Sync,
-    R::File: Lockable,
+    R::File: Lockable + Send,
+    R::Dir: Send,
+    R::Stream: Send,
+    R::Listener: Send,
     I: Source,
     O: Sink,
     E: Sink,
@@ -261,7 +264,10 @@ fn run_in_folder<'a, R, I, O, E>(
 ) -> Result<u8, AllocError>
 where
     R: Files + Net + Clock + Eprint + Drop + AllocGlobal + Threads + Wait + Sync,
-    R::File: Lockable,
+    R::File: Lockable + Send,
+    R::Dir: Send,
+    R::Stream: Send,
+    R::Listener: Send,
     I: Source,
     O: Sink,
     E: Sink,
@@ -287,7 +293,10 @@ fn command<'a, R, I, O, E>(
 ) -> Result<u8, AllocError>
 where
     R: Files + Net + Clock + Eprint + Drop + AllocGlobal + Threads + Wait + Sync,
-    R::File: Lockable,
+    R::File: Lockable + Send,
+    R::Dir: Send,
+    R::Stream: Send,
+    R::Listener: Send,
     I: Source,
     O: Sink,
     E: Sink,
@@ -315,7 +324,10 @@ fn obey<'a, R, I, O, E>(
 ) -> Result<u8, AllocError>
 where
     R: Files + Net + Clock + Eprint + Drop + AllocGlobal + Threads + Wait + Sync,
-    R::File: Lockable,
+    R::File: Lockable + Send,
+    R::Dir: Send,
+    R::Stream: Send,
+    R::Listener: Send,
     I: Source,
     O: Sink,
     E: Sink,
@@ -343,7 +355,10 @@ fn answer<'a, R, I, O, E>(
 ) -> Result<u8, AllocError>
 where
     R: Env + Files + Net + Clock + Eprint + Drop + AllocGlobal + Threads + Wait + Sync,
-    R::File: Lockable,
+    R::File: Lockable + Send,
+    R::Dir: Send,
+    R::Stream: Send,
+    R::Listener: Send,
     I: Source,
     O: Sink,
     E: Sink,

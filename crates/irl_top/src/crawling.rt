@@ -52,7 +52,7 @@ where
     R: Threads + Wait + Sync,
     I: Source,
     O: Sink,
-    S: Store,
+    S: Store + Send,
     requires kind { asked.now.kind ≡ CrawlKind }
     requires options { AreRunOptions options.now }
     ensures { let tells = lent S.told I.left I.faults O.written O.faults in
@@ -80,7 +80,7 @@ where
     R: Threads + Wait + Sync,
     I: Source,
     O: Sink,
-    S: Store,
+    S: Store + Send,
     requires sound { IsSound yard.parts }
     requires kind { yard.parts.urls.settings.kind ≡ CrawlKind }
     requires options { AreRunOptions options.now }
@@ -112,7 +112,7 @@ pub fn crawl_site<R, O, S>(
 where
     R: Threads + Wait + Sync,
     O: Sink,
-    S: Store,
+    S: Store + Send,
     requires kind { asked.now.kind ≡ CrawlKind }
     requires options { AreRunOptions options.now }
     ensures { (input : Stream) → let tells = lent_beside input S.told O.written O.faults in
@@ -138,7 +138,7 @@ fn crawl_site_over<R, O, S>(
 where
     R: Threads + Wait + Sync,
     O: Sink,
-    S: Store,
+    S: Store + Send,
     requires sound { IsSound yard.parts }
     requires kind { yard.parts.urls.settings.kind ≡ CrawlKind }
     requires options { AreRunOptions options.now }
@@ -174,8 +174,8 @@ where
     R: Threads + Wait + Sync,
     I: Source,
     O: Sink,
-    S: Store,
-    P: Link,
+    S: Store + Send,
+    P: Link + Send,
     requires kind { asked.now.kind ≡ CrawlKind }
     requires options { AreRunOptions options.now }
     requires some { options.now.workers ≤ length ports.old }
@@ -208,8 +208,8 @@ where
     R: Threads + Wait + Sync,
     I: Source,
     O: Sink,
-    S: Store,
-    P: Link,
+    S: Store + Send,
+    P: Link + Send,
     requires sound { IsSound yard.parts }
     requires kind { yard.parts.urls.settings.kind ≡ CrawlKind }
     requires options { AreRunOptions options.now }
@@ -287,8 +287,8 @@ fn crawl_tape<R, S, F, O>(
 ) -> (Ending, Yard<S>)
 where
     R: Threads + Wait + Sync,
-    S: Store,
-    F: Fetch,
+    S: Store + Send,
+    F: Fetch + Send,
     O: Sink,
     requires sound { IsSound yard.parts }
     requires kind { yard.parts.urls.settings.kind ≡ CrawlKind }
@@ -322,8 +322,8 @@ fn begin_and_play<R, S, F>(
 ) -> (Result<(), Ending>, Yard<S>)
 where
     R: Threads + Wait + Sync,
-    S: Store,
-    F: Fetch,
+    S: Store + Send,
+    F: Fetch + Send,
     requires sound { IsSound yard.parts }
     requires kind { yard.parts.urls.settings.kind ≡ CrawlKind }
     requires options { AreRunOptions options.now }
@@ -393,8 +393,8 @@ fn play<R, S, F>(
 ) -> (Result<(), Ending>, Yard<S>)
 where
     R: Threads + Wait + Sync,
-    S: Store,
-    F: Fetch,
+    S: Store + Send,
+    F: Fetch + Send,
     requires open { IsOpen yard.parts }
     requires options { AreRunOptions options.now }
     requires some { (1 ≤ length fetchers.old) × (length fetchers.old ≤ 64) }

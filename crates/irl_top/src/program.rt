@@ -40,8 +40,8 @@ where
     I: Source,
     O: Sink,
     E: Sink,
-    S: Store,
-    P: Link,
+    S: Store + Send,
+    P: Link + Send,
     requires ports { length ports.old ≡ 64 }
     ensures { let tells = outside S.told I.left I.faults O.written O.faults E.written E.faults in
         let told = ports_of P.connections P.faults in
@@ -78,8 +78,8 @@ where
     I: Source,
     O: Sink,
     E: Sink,
-    S: Store,
-    P: Link,
+    S: Store + Send,
+    P: Link + Send,
     requires range { IsInRange command.now }
     requires ports { length ports.old ≡ 64 }
     ensures { let tells = outside S.told I.left I.faults O.written O.faults E.written E.faults in

@@ -117,7 +117,7 @@ pub struct Left<S> {
 }
 
 /// Runs the program over a store and these ports.
-pub fn run_with<R: Threads + Wait + Sync + AllocGlobal, S: Store + Drop>(
+pub fn run_with<R: Threads + Wait + Sync + AllocGlobal, S: Store + Drop + Send>(
     rt: &R,
     words: &[&str],
     input: &[u8],
@@ -150,7 +150,7 @@ pub fn run_with<R: Threads + Wait + Sync + AllocGlobal, S: Store + Drop>(
 }
 
 /// Runs it over a store, and ports without connections.
-pub fn run_over<R: Threads + Wait + Sync + AllocGlobal, S: Store + Drop>(
+pub fn run_over<R: Threads + Wait + Sync + AllocGlobal, S: Store + Drop + Send>(
     rt: &R,
     words: &[&str],
     input: &[u8],
