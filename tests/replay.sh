@@ -173,10 +173,10 @@ gives 8 '' 'bucket 0 full|'
 gives 8 '' 'bucket 0 full|'
 right
 
-try 'several workers' ''
+try 'options of a run that are refused' ''
 tape
-"$program" workers replay --workers 2 <in >out 2>err
-gives 1 '' 'words refused: --workers|'
+"$program" workers replay --workers 65 <in >out 2>err
+gives 1 '' 'words refused: replay|'
 "$program" workers replay --workers 0 <in >out 2>err
 gives 1 '' 'words refused: replay|'
 "$program" workers replay --agent 'a b' <in >out 2>err

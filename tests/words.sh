@@ -59,8 +59,6 @@ for command in 'crawl --port 80' 'gen 5'; do
     gives 1 '' 'words refused: --most|'
     "$program" unmade $command --workers 2 --agent 1 <in >out 2>err
     gives 1 '' 'words refused: --agent|'
-    "$program" unmade $command --workers 2 <in >out 2>err
-    gives 1 '' 'words refused: --workers|'
 done
 is_absent unmade
 right

@@ -145,8 +145,8 @@ const REFUSED: [(&str, &[&str]); 76] = [
     ("--agent", &["replay", "--agent", "irl bot"]),
     ("--agent", &["replay", "--agent", "irlböt"]),
     ("--agent", &["replay", "--agent", LONG_AGENT]),
-    ("--workers", &["replay", "--workers", "2"]),
-    ("--workers", &["replay", "--workers=64"]),
+    ("replay", &["replay", "--workers", "0"]),
+    ("replay", &["replay", "--workers=65"]),
     (
         "replay",
         &[
@@ -218,13 +218,13 @@ const REFUSED_CRAWLS: [(&str, &[&str]); 15] = [
         "--agent",
         &["crawl", "--agent", "1", "--workers", "2", "--port", "80"],
     ),
-    ("--workers", &["crawl", "--port", "80", "--workers", "2"]),
+    ("crawl", &["crawl", "--port", "80", "--workers", "0"]),
     ("Gen", &["Gen", "5"]),
     ("gen", &["gen", "5", "--help"]),
     ("gen", &["gen", "100001", "--workers", "2"]),
     ("gen", &["gen", "--workers", "2"]),
     ("--agent", &["gen", "--agent=", "5"]),
-    ("--workers", &["gen", "5", "--workers", "64"]),
+    ("gen", &["gen", "5", "--workers", "65"]),
 ];
 
 // A name of 65 letters, which is no agent's, and one of 64.
@@ -365,16 +365,16 @@ fn words_are_read(rt: HostRuntime) -> Result<(), Fail> {
     Ok(())
 }
 
-// The words of `replay`, what it asks of a store, and how it runs: its delay, its pages, its batch and its agent.
-const REPLAYS: [(&[&str], Asked, (u64, u32, u32, &str)); 6] = [
-    (&["replay"], CRAWL, (1_000, 1_000_000, 4_096, "irlbot")),
+// The words of `replay`, what it asks of a store, and how it runs: its workers, delay, pages, batch and agent.
+const REPLAYS: [(&[&str], Asked, (u32, u64, u32, u32, &str)); 6] = [
+    (&["replay"], CRAWL, (1, 1_000, 1_000_000, 4_096, "irlbot")),
     (
         &["replay", "--base", "10001", "--workers", "1"],
         Asked {
             base: Some(10_001),
             ..CRAWL
         },
-        (1_000, 1_000_000, 4_096, "irlbot"),
+        (1, 1_000, 1_000_000, 4_096, "irlbot"),
     ),
     (
         &["replay", "--most=9", "--delay=0", "--agent=_"],
@@ -382,7 +382,7 @@ const REPLAYS: [(&[&str], Asked, (u64, u32, u32, &str)); 6] = [
             most: Some(9),
             ..CRAWL
         },
-        (0, 1_000_000, 4_096, "_"),
+        (1, 0, 1_000_000, 4_096, "_"),
     ),
     (
         &["replay", "--most", "7", "--base", "7", "--agent", "-"],
@@ -391,7 +391,7 @@ const REPLAYS: [(&[&str], Asked, (u64, u32, u32, &str)); 6] = [
             most: Some(7),
             ..CRAWL
         },
-        (1_000, 1_000_000, 4_096, "-"),
+        (1, 1_000, 1_000_000, 4_096, "-"),
     ),
     (
         &[
@@ -401,10 +401,10 @@ const REPLAYS: [(&[&str], Asked, (u64, u32, u32, &str)); 6] = [
             "--batch=16384",
             "--pages=4294967295",
             "--delay=86399999",
-            "--workers=+1",
+            "--workers=+64",
         ],
         CRAWL,
-        (86_399_999, 4_294_967_295, 16_384, LONGEST_AGENT),
+        (64, 86_399_999, 4_294_967_295, 16_384, LONGEST_AGENT),
     ),
     (
         &[
@@ -418,7 +418,7 @@ const REPLAYS: [(&[&str], Asked, (u64, u32, u32, &str)); 6] = [
             "--base=7",
             "--most=8",
             "--ranks=9",
-            "--workers=1",
+            "--workers=2",
             "--delay=10",
             "--pages=11",
             "--batch=12",
@@ -436,7 +436,7 @@ const REPLAYS: [(&[&str], Asked, (u64, u32, u32, &str)); 6] = [
             ranks: Some(9),
             ..CRAWL
         },
-        (10, 11, 12, "Foo-bot"),
+        (2, 10, 11, 12, "Foo-bot"),
     ),
 ];
 
@@ -450,8 +450,8 @@ fn a_run_has_its_options(rt: HostRuntime) -> Result<(), Fail> {
     Ok(())
 }
 
-// The delay, the pages, the batch and the agent of a run.
-type Run = (u64, u32, u32, &'static str);
+// The workers, the delay, the pages, the batch and the agent of a run.
+type Run = (u32, u64, u32, u32, &'static str);
 
 // Whether the words are a `replay` that asks this of a store and runs so.
 fn is_replay(alloc: Global, words: &[&str], asked: Asked, run: Run) -> Result<bool, AllocError> {
@@ -483,9 +483,10 @@ fn is_gen(alloc: Global, words: &[&str], asked: Asked, run: Run) -> Result<bool,
 }
 
 // The options of such a run.
-fn options_of(alloc: Global, (delay, pages, batch, agent): Run) -> Result<RunOptions, AllocError> {
+fn options_of(alloc: Global, run: Run) -> Result<RunOptions, AllocError> {
+    let (workers, delay, pages, batch, agent) = run;
     Ok(RunOptions {
-        workers: 1,
+        workers,
         delay,
         pages,
         batch,

@@ -1,5 +1,5 @@
 -- What a command's values are decided as, by the cases of what they ask.
-use Rattle.std.proofs.Common.{◌≡◌, ◌∙◌, List, ℕ, nat_eq, true, false, Option, Some, None, Result, Ok, Err, option_map, unwrap_or, refl, ap, sym, codes}
+use Rattle.std.proofs.Common.{◌≡◌, ◌∙◌, List, ℕ, true, false, Option, Some, None, Result, Ok, Err, option_map, unwrap_or, refl, ap, sym, codes}
 use Rattle.std.specs.Borrow.{Bor}
 use Rattle.std.specs.Option.{option_map_or}
 use Rattle.clap.specs.Words.{Row, first_of}
@@ -48,12 +48,9 @@ pub agent_is : (option : Option (Bor (List ℕ))) (default : Bor (List ℕ)) (va
 agent_is None default value is = ap (λ (o : Option (List ℕ)). unwrap_or o default.now) is
 agent_is (Some agent) default value is = ap (λ (o : Option (List ℕ)). unwrap_or o default.now) is
 
--- options are refused with `--agent`, or with `--workers`, or they are not
+-- options are refused with `--agent`, or they are not
 pub agent_refused : (options : RunOptions) → is_agent options.agent ≡ false → checked_run options ≡ Err (codes "--agent")
 agent_refused options bad = rw bad refl
 
-pub workers_refused : (options : RunOptions) → is_agent options.agent ≡ true → nat_eq options.workers 1 ≡ false → checked_run options ≡ Err (codes "--workers")
-workers_refused options agent more = rw (agent, more) refl
-
-pub run_as_asked : (options : RunOptions) → is_agent options.agent ≡ true → nat_eq options.workers 1 ≡ true → checked_run options ≡ Ok options
-run_as_asked options agent one = rw (agent, one) refl
+pub run_as_asked : (options : RunOptions) → is_agent options.agent ≡ true → checked_run options ≡ Ok options
+run_as_asked options agent = rw agent refl

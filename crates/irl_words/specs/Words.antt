@@ -1,5 +1,5 @@
 -- The command that the words of a command line are, and why words are refused.
-use Rattle.std.specs.Prelude.{◌≡◌, ◌≤◌, ℕ, nat_lt, nat_eq, ◌==◌, Bool, true, false, not, ◌&&◌, ◌||◌, List, [], ◌∷◌, length, Option, Some, None, Result, Ok, Err, ⊤, codes, if◌then◌else◌, option_map, unwrap_or, IfSome}
+use Rattle.std.specs.Prelude.{◌≡◌, ◌≤◌, ℕ, nat_lt, ◌==◌, Bool, true, false, not, ◌&&◌, ◌||◌, List, [], ◌∷◌, length, Option, Some, None, Result, Ok, Err, ⊤, codes, if◌then◌else◌, option_map, unwrap_or, IfSome}
 use Rattle.std.specs.Char.{is_ascii_alphabetic}
 use Rattle.std.specs.List.{list_all}
 use Rattle.std.specs.Str.{bytes_eq}
@@ -121,11 +121,9 @@ is_token name = not (is_empty name) && list_all is_token_byte name
 abbrev pub is_agent : List ℕ → Bool
 is_agent name = is_token name && nat_lt (length name) 65
 
--- the options of a run, or the one with which they are refused, the first of these; there is only one worker as yet
+-- the options of a run, or the one with which they are refused
 abbrev pub checked_run : RunOptions → Result RunOptions (List ℕ)
-checked_run options =
-    if not (is_agent options.agent) then Err (codes "--agent")
-    else (if not (nat_eq options.workers 1) then Err (codes "--workers") else Ok options)
+checked_run options = if not (is_agent options.agent) then Err (codes "--agent") else Ok options
 
 -- what a crawl asks of a store and how it is run, or the option with which they are refused: the first of these
 abbrev pub paired : Result Asked (List ℕ) → Result RunOptions (List ℕ) → Result (Asked × RunOptions) (List ℕ)

@@ -101,7 +101,7 @@ pub(crate) const RUN: [Argument; 5] = [
         name: "workers",
         form: Form::Optional,
         value: Value::Number(1, 64),
-        help: "Workers that fetch, of which there may only be 1 as yet (1)",
+        help: "Workers that fetch, 1 to 64 (1)",
     },
     Argument {
         name: "delay",

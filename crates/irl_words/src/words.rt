@@ -28,9 +28,8 @@ use std::alloc::{AllocError, Global};
 /// Words that are no command are refused with one of them: `-` where there is none; the first where it names no
 /// command, or where an option is unknown, given twice, without a value or with a value out of its range, where one
 /// that has to be there isn't, and where a further word stands. Where all the words are taken it is `--buckets` where
-/// that number is no power of two, `--most` where it is below that of `--base`, `--agent` where that is no name of an
-/// agent, or `--workers` where that is another number than 1, the first of these. Want of memory may come at any
-/// time.
+/// that number is no power of two, `--most` where it is below that of `--base`, or `--agent` where that is no name of an
+/// agent, the first of these. Want of memory may come at any time.
 pub fn read_words(alloc: Global, words: &[&str]) -> Result<Command, WordFault>
     ensures command { IfOk result (λ command. command_of (map (λ word. word.now) words.now) ≡ Ok command) }
     ensures range { IfOk result IsInRange }
@@ -230,7 +229,7 @@ fn rule(word: Option<&str>) -> Option<Option<Rule>>
     }
 }
 
-// The options of a run, or the one with which they are refused: the first of these.
+// The options of a run, or the one with which they are refused.
 fn run(alloc: Global, matches: &ArgMatches) -> Result<RunOptions, WordFault>
     requires { AreInRange run_options (rows_of (found_of matches.now)) }
     ensures options { IfOk result (λ options. checked_run (run_in (rows_of (found_of matches.now))) ≡ Ok options) }
@@ -241,12 +240,8 @@ fn run(alloc: Global, matches: &ArgMatches) -> Result<RunOptions, WordFault>
     if !is_agent(agent) {
         return Err(refusal(alloc, "--agent"));
     }
-    let workers = number(matches, "workers").unwrap_or(1);
-    if workers != 1 {
-        return Err(refusal(alloc, "--workers"));
-    }
     Ok(RunOptions {
-        workers,
+        workers: number(matches, "workers").unwrap_or(1),
         delay: large_number(matches, "delay").unwrap_or(1_000),
         pages: number(matches, "pages").unwrap_or(1_000_000),
         batch: number(matches, "batch").unwrap_or(4_096),
