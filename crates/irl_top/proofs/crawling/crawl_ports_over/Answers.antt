@@ -9,7 +9,13 @@ use Rattle.irl_top.specs.Stream.{Stream}
 use Rattle.irl_top.proofs.CrawlInputs.{goes_crawled, goes_nowhere, goes_unread}
 use Rattle.irl_top.proofs.Giving.{more_by_aimed}
 use Rattle.irl_top.proofs.PortsGoing.{ports_aimed, ports_same, ports_uncalled}
+use Rattle.irl_top.proofs.crawling.crawl_ports_over.Given.{Over}
+use Rattle.irl_disk.specs.Images.{IsConsistent}
 use Rattle.irl_top.proofs.crawling.crawl_ports_over.Goals as goal
+
+-- what a store that may be sent keeps in every thread, it keeps in this one
+abbrev consistent : (g : Over) (store : g.row.S.Denot) → IsConsistent (g.S.Store.told store)
+consistent g = (g.met.S.Store g.world.𝓛 g.world.𝓜 g.world.𝓡 ((λ s x. x), (λ x. x), (λ x. x), λ x. x)).is_consistent
 
 pub returns-in-Err-clause-over : goal.returns-in-Err-clause-over
 returns-in-Err-clause-over g c =
@@ -20,7 +26,7 @@ returns-in-Err-clause-over g c =
     let new : Stream = record { bytes = g.I.Source.left c.read.new.source; faults = g.I.Source.faults c.read.new.source } in
     let sink = stream g.O.Sink.written g.O.Sink.faults c.args.output.now in
     let fault = c.in-Err.fault in
-    let law = g.met.S.Store.is_consistent yard.store in
+    let law = consistent g yard.store in
     let task = crawl_task c.args.options.now c.args.number (told c.args.ports.now) (told c.args.ports.now) in
     rw c.ending_of_tape.ensures
     (goes_unread task fault yard.parts (tells yard.store) old new sink law c.is_sound-is_sound.ensures.drum c.requires.sound yard.rest_is c.requires.kind
@@ -38,7 +44,7 @@ returns-in_default-clause-over g c =
     let old : Stream = record { bytes = g.I.Source.left c.args.input.now; faults = g.I.Source.faults c.args.input.now } in
     let new : Stream = record { bytes = g.I.Source.left c.read.new.source; faults = g.I.Source.faults c.read.new.source } in
     let sink = stream g.O.Sink.written g.O.Sink.faults c.args.output.now in
-    let law = g.met.S.Store.is_consistent yard.store in
+    let law = consistent g yard.store in
     let task = crawl_task c.args.options.now c.args.number (told c.args.ports.now) (told (c.aim_all.new.fetchers ++ drop c.args.options.now.workers c.args.ports.now)) in
     goes_nowhere task yard.parts (tells yard.store) old new sink law c.is_sound-is_sound.ensures.drum c.requires.sound yard.rest_is c.requires.kind
     c.in-Ok.ensures.cause.later

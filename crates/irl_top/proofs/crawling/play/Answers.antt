@@ -3,12 +3,18 @@ use Rattle.irl_top.specs.Crawled.{part_task}
 use Rattle.irl_top.proofs.Batching.{none_crawled, played_batch}
 use Rattle.irl_top.proofs.CrawlParts.{crawl_found, crawl_kinds, crawl_refuses, kind_begun, memory_found, played_by, suffixes_begun, unplayed}
 use Rattle.irl_top.proofs.Giving.{none_rose}
+use Rattle.irl_top.proofs.crawling.play.Given.{Over}
+use Rattle.irl_disk.specs.Images.{IsConsistent}
 use Rattle.irl_top.proofs.crawling.play.Goals as goal
+
+-- what a store that may be sent keeps in every thread, it keeps in this one
+abbrev consistent : (g : Over) (store : g.row.S.Denot) → IsConsistent (g.S.Store.told store)
+consistent g = (g.met.S.Store g.world.𝓛 g.world.𝓜 g.world.𝓡 ((λ s x. x), (λ x. x), (λ x. x), λ x. x)).is_consistent
 
 pub returns-in-Err-clause-leads : goal.returns-in-Err-clause-leads
 returns-in-Err-clause-leads g c = λ keeps.
     let yard = c.args.yard in
-    let law = g.met.S.Store.is_consistent yard.store in
+    let law = consistent g yard.store in
     let task = part_task c.args.options.now (given_by g.F.Fetch.asked g.F.Fetch.gives g.F.Fetch.faults c.args.fetchers.now c.args.fetchers.now) in
     unplayed task c.args.tape.now yard.parts (g.S.Store.told yard.store) law c.is_sound-is_sound.ensures.drum c.requires.open.sound
     (none_rose g.F.Fetch.faults c.args.fetchers.now)
@@ -43,7 +49,7 @@ returns-in-Err-clause-batches g c =
     let yard = c.args.yard in
     let told = g.S.Store.told yard.store in
     let kind = kind_begun yard.parts.urls yard.parts.rest told.files yard.rest_is c.requires.open.begun in
-    none_crawled _ yard.parts told (g.met.S.Store.is_consistent yard.store) c.is_sound-is_sound.ensures.drum yard.rest_is kind
+    none_crawled _ yard.parts told (consistent g yard.store) c.is_sound-is_sound.ensures.drum yard.rest_is kind
 
 pub returns-in_default-clause-batches : goal.returns-in_default-clause-batches
 returns-in_default-clause-batches g c =

@@ -8,7 +8,13 @@ use Rattle.irl_top.specs.Outside.{stream}
 use Rattle.irl_top.specs.Stream.{Stream}
 use Rattle.irl_top.proofs.CrawlInputs.{goes_crawled, goes_nowhere, goes_unread}
 use Rattle.irl_top.proofs.Giving.{more_by_tape}
+use Rattle.irl_top.proofs.crawling.replay_over.Given.{Over}
+use Rattle.irl_disk.specs.Images.{IsConsistent}
 use Rattle.irl_top.proofs.crawling.replay_over.Goals as goal
+
+-- what a store that may be sent keeps in every thread, it keeps in this one
+abbrev consistent : (g : Over) (store : g.row.S.Denot) → IsConsistent (g.S.Store.told store)
+consistent g = (g.met.S.Store g.world.𝓛 g.world.𝓜 g.world.𝓡 ((λ s x. x), (λ x. x), (λ x. x), λ x. x)).is_consistent
 
 pub returns-in-Err : goal.returns-in-Err
 returns-in-Err g c =
@@ -18,7 +24,7 @@ returns-in-Err g c =
     let new : Stream = record { bytes = g.I.Source.left c.read.new.source; faults = g.I.Source.faults c.read.new.source } in
     let sink = stream g.O.Sink.written g.O.Sink.faults c.args.output.now in
     let fault = c.in-Err.fault in
-    let law = g.met.S.Store.is_consistent yard.store in
+    let law = consistent g yard.store in
     rw c.ending_of_tape.ensures
     (goes_unread (replay_task c.args.options.now) fault yard.parts (tells yard.store) old new sink law c.is_sound-is_sound.ensures.drum c.requires.sound yard.rest_is
     c.requires.kind (λ n is. c.in-Err.ensures.refused n (ap Err is))
