@@ -25,19 +25,87 @@ fn reply(rt: &impl Abort, status: u16, location: Option<Text>, html: bool, body:
     })
 }
 
-/// A page with some links and this location, where there is one.
+fn text_of(alloc: Global, text: Option<&str>) -> Result<Option<Text>, AllocError> {
+    match text {
+        Some(text) => Ok(Some(Text::from_bytes(alloc, text.as_bytes())?)),
+        None => Ok(None),
+    }
+}
+
+/// A reply with a link and this location, where there is one.
 fn moved(
     rt: &impl Abort,
     alloc: Global,
     status: u16,
+    html: bool,
     location: Option<&str>,
 ) -> Result<Answer, AllocError> {
-    let location = match location {
-        Some(text) => Some(Text::from_bytes(alloc, text.as_bytes())?),
-        None => None,
-    };
+    let location = text_of(alloc, location)?;
     let body = Text::from_bytes(alloc, b"<a href=/in>")?;
-    Ok(reply(rt, status, location, true, body))
+    Ok(reply(rt, status, location, html, body))
+}
+
+// Statuses of RFC 9110 and others, locations, and what comes of `http://a.test/d/p?q`.
+const REPLIES: [(u16, Option<&str>, Outcome); 39] = [
+    (200, None, Outcome::Page),
+    (200, Some("/x"), Outcome::Page),
+    (204, None, Outcome::Page),
+    (299, None, Outcome::Page),
+    (199, None, Outcome::Status(199)),
+    (300, Some("/x"), Outcome::Status(300)),
+    (301, Some("/x"), Outcome::Moved),
+    (302, Some("http://b.test"), Outcome::Moved),
+    (303, Some(""), Outcome::Moved),
+    (304, Some("/x"), Outcome::Status(304)),
+    (305, Some("/x"), Outcome::Status(305)),
+    (306, Some("/x"), Outcome::Status(306)),
+    (307, Some("//c.test/y"), Outcome::Moved),
+    (308, Some("?r#s"), Outcome::Moved),
+    (309, Some("/x"), Outcome::Status(309)),
+    (399, Some("/x"), Outcome::Status(399)),
+    (301, None, Outcome::Status(301)),
+    (302, None, Outcome::Status(302)),
+    (303, None, Outcome::Status(303)),
+    (307, None, Outcome::Status(307)),
+    (308, None, Outcome::Status(308)),
+    (301, Some("https://a.test/"), Outcome::Status(301)),
+    (302, Some("mailto:a@a.test"), Outcome::Status(302)),
+    (303, Some("http://u@a.test/"), Outcome::Status(303)),
+    (307, Some("http://a.test:65536/"), Outcome::Status(307)),
+    (308, Some("ftp://a.test/"), Outcome::Status(308)),
+    (301, Some("http://"), Outcome::Status(301)),
+    (400, Some("/x"), Outcome::Status(400)),
+    (401, None, Outcome::Status(401)),
+    (404, None, Outcome::Status(404)),
+    (410, None, Outcome::Status(410)),
+    (499, None, Outcome::Status(499)),
+    (500, None, Outcome::Status(500)),
+    (503, Some("/x"), Outcome::Status(503)),
+    (599, None, Outcome::Status(599)),
+    (600, None, Outcome::Status(600)),
+    (0, None, Outcome::Status(0)),
+    (1000, None, Outcome::Status(1000)),
+    (65535, None, Outcome::Status(65535)),
+];
+
+/// What comes of a page that is answered so.
+fn came_of(
+    rt: &impl Abort,
+    alloc: Global,
+    status: u16,
+    location: Option<&str>,
+) -> Result<Outcome, AllocError> {
+    let answer = moved(rt, alloc, status, true, location)?;
+    outcome(alloc, &web(alloc, b"http://a.test/d/p?q")?, &answer)
+}
+
+#[test]
+fn a_status_and_a_location_decide_the_outcome(rt: HostRuntime) -> Result<(), Fail> {
+    for (status, location, expected) in REPLIES {
+        let given = came_of(&rt, rt.alloc(), status, location)?;
+        assert_eq!(rt; given, expected, "{status} {location:?}");
+    }
+    Ok(())
 }
 
 // Answers that are no whole reply.
@@ -105,6 +173,117 @@ fn told(
     Ok(told)
 }
 
+// Pages at `http://a.test/d/p`, and the texts that they offer, each with `;` behind it, worked out by the rules of links
+// and the URL Standard.
+const PAGES: [(&str, &str); 19] = [
+    (
+        "<base href=\"/e/\"><a href=\"q\">1</a><a href=\"/d/p#x\">2</a><a href=\"?a=1&amp;b=2\">3</a>\
+        <a href=\"https://a.test/\">4</a><!-- <a href=\"no\"> --><script>\"<a href='no2'>\"</script><frame src=f>",
+        "http://a.test/e/q;http://a.test/d/p;http://a.test/e/?a=1&b=2;http://a.test/e/f;",
+    ),
+    ("", ""),
+    ("no links", ""),
+    ("<a href=q>", "http://a.test/d/q;"),
+    ("<a href=../q>", "http://a.test/q;"),
+    (
+        "<a href=#top><a href>",
+        "http://a.test/d/p;http://a.test/d/p;",
+    ),
+    (
+        "<a href=q><a href=q#x>",
+        "http://a.test/d/q;http://a.test/d/q;",
+    ),
+    (
+        "<a href=https://a.test/><a href=mailto:a@a.test><a href=javascript:x()><a href=http://u@a.test/><a href=q>",
+        "http://a.test/d/q;",
+    ),
+    ("<a href=//b.test:8080?x#y>", "http://b.test:8080/?x;"),
+    ("<a href=q><base href=/e/>", "http://a.test/e/q;"),
+    ("<base href=e/><a href=q>", "http://a.test/d/e/q;"),
+    (
+        "<base href=http://b.test/e/f><a href=q>",
+        "http://b.test/e/q;",
+    ),
+    ("<base href=/e/#f><a href=#g>", "http://a.test/e/;"),
+    (
+        "<base href=https://b.test/><a href=q>",
+        "http://a.test/d/q;",
+    ),
+    (
+        "<base href=mailto:b@b.test><a href=q>",
+        "http://a.test/d/q;",
+    ),
+    (
+        "<base href=http://u:p@b.test/><a href=q>",
+        "http://a.test/d/q;",
+    ),
+    (
+        "<base href=ftp://b.test/><base href=/e/><a href=q>",
+        "http://a.test/d/q;",
+    ),
+    ("<base><base href=/e/><a href=q>", "http://a.test/e/q;"),
+    (
+        "<base href=\"/e&#47;\"><a href=\"&#x71;\">",
+        "http://a.test/e/q;",
+    ),
+];
+
+/// The texts that are offered by an answer to `http://a.test/d/p`.
+fn offered(rt: &impl Abort, alloc: Global, answer: &Answer) -> Result<Vec<u8>, AllocError> {
+    let url = web(alloc, b"http://a.test/d/p")?;
+    told(rt, alloc, &suffixes(alloc, "test")?, &url, answer)
+}
+
+/// Those by a page with this body.
+fn linked(rt: &impl Abort, alloc: Global, body: &str) -> Result<Vec<u8>, AllocError> {
+    let body = Text::from_bytes(alloc, body.as_bytes())?;
+    offered(rt, alloc, &reply(rt, 200, None, true, body))
+}
+
+#[test]
+fn a_page_offers_its_links(rt: HostRuntime) -> Result<(), Fail> {
+    for (body, expected) in PAGES {
+        let given = linked(&rt, rt.alloc(), body)?;
+        assert_eq!(rt; given.as_slice(), expected.as_bytes());
+    }
+    Ok(())
+}
+
+// A status, whether the body with a link is HTML, the location, and the texts that are offered.
+const KINDS: [(u16, bool, Option<&str>, &str); 10] = [
+    (200, true, None, "http://a.test/in;"),
+    (200, true, Some("/x"), "http://a.test/in;"),
+    (200, false, None, ""),
+    (204, true, None, "http://a.test/in;"),
+    (301, true, Some("x#y"), "http://a.test/d/x;"),
+    (308, false, Some("//b.test"), "http://b.test/;"),
+    (302, true, Some("https://b.test/"), ""),
+    (304, true, Some("x"), ""),
+    (404, true, None, ""),
+    (500, true, Some("x"), ""),
+];
+
+/// Those by a reply with a link.
+fn replied(
+    rt: &impl Abort,
+    alloc: Global,
+    status: u16,
+    html: bool,
+    location: Option<&str>,
+) -> Result<Vec<u8>, AllocError> {
+    let answer = moved(rt, alloc, status, html, location)?;
+    offered(rt, alloc, &answer)
+}
+
+#[test]
+fn only_a_page_and_a_redirect_offer(rt: HostRuntime) -> Result<(), Fail> {
+    for (status, html, location, expected) in KINDS {
+        let given = replied(&rt, rt.alloc(), status, html, location)?;
+        assert_eq!(rt; given.as_slice(), expected.as_bytes(), "{status}");
+    }
+    Ok(())
+}
+
 // Keys are fronts of SHA-1 digests, by another program.
 #[test]
 fn an_offer_has_the_keys_of_text_and_domain(rt: HostRuntime) -> Result<(), Fail> {
@@ -137,7 +316,7 @@ fn an_offer_has_the_keys_of_text_and_domain(rt: HostRuntime) -> Result<(), Fail>
         ),
     ] {
         let url = web(alloc, url.as_bytes())?;
-        let answer = moved(&rt, alloc, 301, Some(link))?;
+        let answer = moved(&rt, alloc, 301, true, Some(link))?;
         let offer = one_offer(alloc, &suffixes, &url, &answer)?;
         assert_eq!(rt;
             (offer.key, offer.value, offer.from),
@@ -213,7 +392,7 @@ fn a_location_is_followed_from_where_it_came(rt: HostRuntime) -> Result<(), Fail
         ("http://b.test/y/z", 4, "//c.test:81", "http://c.test:81/"),
     ] {
         let asked = web(alloc, asked.as_bytes())?;
-        let answer = moved(&rt, alloc, 307, Some(location))?;
+        let answer = moved(&rt, alloc, 307, true, Some(location))?;
         let web = followed_to(alloc, &asked, followed, &answer)?;
         assert_eq!(rt; web.text(), expected.as_bytes());
     }
@@ -299,7 +478,7 @@ fn said(
 ) -> Result<&'static str, AllocError> {
     let mut answers = Vec::new(alloc);
     for (status, location) in chain {
-        answers.push(moved(rt, alloc, *status, *location)?)?;
+        answers.push(moved(rt, alloc, *status, true, *location)?)?;
     }
     let page = web(alloc, b"http://a.test:8080/p")?;
     match note(alloc, page.host(), &answers)? {

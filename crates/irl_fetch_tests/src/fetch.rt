@@ -6,7 +6,7 @@ ghost use Rattle.irl_offer.specs.Offering.{Entered};
 ghost use Rattle.irl_record.specs.Fetched.{by_tape};
 ghost use Rattle.irl_record.specs.Widening.{WidensSince};
 
-use crate::helpers::{items, suffixes};
+use crate::helpers::{item, items, suffixes};
 use crate::tapes::{TAPE_A, tape};
 use irl_fetch::{Gate, NoGate, WorkLog, work};
 use irl_key::{Web, Work};
@@ -336,5 +336,114 @@ fn the_first_links_are_offered(rt: HostRuntime) -> Result<(), Fail> {
     assert_eq!(rt; shelf.taken.len(), 10_000);
     let last = shelf.taken.last().map(|(_, offer)| offer.aux.bytes());
     assert_eq!(rt; last, Some(b"http://a.test/9999".as_slice()));
+    Ok(())
+}
+
+// A fetcher by a tape that keeps the host and the moment of each fetch.
+#[derive(Drop)]
+struct Watched<'a> {
+    fetch: TapeFetch<'a>,
+    starts: Vec<(Text, u64)>,
+}
+
+impl Fetch for Watched<'_> {
+    ghost asked = { λ _. None };
+
+    ghost gives = { λ w _. by_tape w.fetch.tape };
+
+    ghost faults = { λ w. w.fetch.faults };
+
+    ghost last = { λ w. w.fetch.moment };
+
+    ghost earlier = { λ _ _ _ _ _ _ _ given. given };
+
+    ghost nothing_new = { λ _ _ _ _ _ given. given };
+
+    fn fetch(&mut self, alloc: Global, web: &Web, want: Want) -> Result<Answer, AllocError> {
+        let start = (Text::from_bytes(alloc, web.host())?, self.fetch.now());
+        self.starts.push(start)?;
+        self.fetch.fetch(alloc, web, want)
+    }
+
+    fn now(&mut self) -> u64 {
+        self.fetch.now()
+    }
+
+    fn wait_till(&mut self, moment: u64) {
+        self.fetch.wait_till(moment);
+    }
+}
+
+// Counts the pages that were fetched, each between its two calls.
+#[derive(Drop)]
+struct Counting {
+    inside: Option<u64>,
+    count: u64,
+}
+
+impl Gate for Counting {
+    fn before(&mut self, number: u64) {
+        self.inside = Some(number);
+    }
+
+    fn after(&mut self, number: u64) {
+        if self.inside.take() == Some(number) {
+            self.count = self.count.wrapping_add(1);
+        }
+    }
+}
+
+// How many pairs of fetches of one host start less than a second apart. Each is one with itself.
+fn close_pairs(starts: &[(Text, u64)]) -> u64 {
+    let mut count: u64 = 0;
+    for (host, moment) in starts {
+        for (other, second) in starts {
+            if host.bytes() == other.bytes() && second.abs_diff(*moment) < 1_000 {
+                count = count.wrapping_add(1);
+            }
+        }
+    }
+    count
+}
+
+// So many pages, on 40 hosts by turns.
+fn pages_of_hosts(alloc: Global, count: u64) -> Result<Vec<Work>, AllocError> {
+    let mut items = Vec::new(alloc);
+    for number in 0..count {
+        let url = format!(in alloc; "http://h{}.test/{number}", number % 40)?;
+        items.push(item(alloc, number, url.as_bytes())?)?;
+    }
+    Ok(items)
+}
+
+// Works on 300 pages: how many are done, and how many hosts noted; how many pages were fetched between two calls of the gate, how
+// many fetches started, and how many pairs of them too early.
+fn starts_of<R: Wait>(
+    rt: &R,
+    alloc: Global,
+    tape: &Tape,
+) -> Result<(usize, usize, u64, usize, u64), Fail> {
+    let items = pages_of_hosts(alloc, 300)?;
+    let mut fetch = Watched {
+        fetch: TapeFetch::new(tape),
+        starts: Vec::new(alloc),
+    };
+    let mut gate = Counting {
+        inside: None,
+        count: 0,
+    };
+    let mut shelf = wide_shelf(alloc);
+    let worked = work_on(rt, alloc, &mut fetch, &mut shelf, &mut gate, items)?;
+    let (done, notes) = worked.map_or((0, 0), |log| (log.done.len(), log.notes.len()));
+    let close = close_pairs(&fetch.starts);
+    Ok((done, notes, gate.count, fetch.starts.len(), close))
+}
+
+// With a robots file for each host. Each fetch makes a pair with itself.
+#[test]
+fn fetches_of_a_host_are_a_delay_apart(rt: HostRuntime) -> Result<(), Fail> {
+    let tape = tape(rt.alloc(), b"suffix test\n")?;
+    let counts = starts_of(&rt, rt.alloc(), &tape)?;
+    assert_eq!(rt; counts, (300, 40, 300, 340, 340));
     Ok(())
 }

@@ -85,6 +85,77 @@ fn a_tape_answers_in_place_of_the_network(rt: HostRuntime) -> Result<(), Fail> {
     Ok(())
 }
 
+// Texts, and the line at which each is refused: where pages may be recorded, and where not. 0 where it is taken.
+const TEXTS: [(&[u8], u64, u64); 41] = [
+    (b"", 0, 0),
+    (TAPE_A, 0, 3),
+    (b"\n# a\n\n#\n", 0, 0),
+    (b" # a", 1, 1),
+    (b"suffix a.b-1\nsuffix com\nsuffix a.b-1", 0, 0),
+    (b"suffix A", 1, 1),
+    (b"suffix ", 1, 1),
+    (b"suffix", 1, 1),
+    (b"suffix a\nsuffix b..c", 2, 2),
+    (b"suffix a b", 1, 1),
+    (b"seed http://a.test/\nseed http://a.test/", 0, 0),
+    (b"seed https://a.test/", 1, 1),
+    (b"seed /a", 1, 1),
+    (b"seed", 1, 1),
+    (b"seeds http://a.test/", 1, 1),
+    (b"lost http://a.test/", 0, 1),
+    (b"lost ftp://a.test/", 1, 1),
+    (b"lost http://a.test/\nlost http://A.test:80", 2, 1),
+    (
+        b"lost http://a.test/\npage 200 html http://a.test/\nend",
+        2,
+        1,
+    ),
+    (
+        b"page 200 html http://a.test/\nend\nlost http://a.test/",
+        3,
+        1,
+    ),
+    (b"page 200 html http://a.test/\nend", 0, 1),
+    (b"page 200 html http://a.test/", 2, 1),
+    (b"page 200 html http://a.test/\n", 2, 1),
+    (b"page 999 other http://a.test/\n+\n|\nend\n", 0, 1),
+    (b"page 100 other http://a.test/\nto \nend\n", 0, 1),
+    (b"page 099 html http://a.test/\nend", 1, 1),
+    (b"page 1000 html http://a.test/\nend", 1, 1),
+    (b"page 20 html http://a.test/\nend", 1, 1),
+    (b"page 2x0 html http://a.test/\nend", 1, 1),
+    (b"page 200 text http://a.test/\nend", 1, 1),
+    (b"page 200 html  http://a.test/\nend", 0, 1),
+    (b"page 200 html mailto:a\nend", 1, 1),
+    (b"page 200 html http://a.test/\nto", 2, 1),
+    (b"page 200 html http://a.test/\nto /a\nto /b", 3, 1),
+    (b"page 200 html http://a.test/\n+\nto /b", 3, 1),
+    (b"page 200 html http://a.test/\n#", 2, 1),
+    (b"page 200 html http://a.test/\n\nend", 2, 1),
+    (b"page 200 html http://a.test/\nend ", 2, 1),
+    (b"page 200 html http://a.test/\nseed http://a.test/", 2, 1),
+    (b"end", 1, 1),
+    (b"|a", 1, 1),
+];
+
+#[test]
+fn a_text_is_refused_at_its_first_bad_line(rt: HostRuntime) -> Result<(), Fail> {
+    let alloc = rt.alloc();
+    for (text, with_pages, without) in TEXTS {
+        for (pages, line) in [(true, with_pages), (false, without)] {
+            let refused = read(alloc, text, pages, &[])?.err();
+            assert_eq!(rt; refused.unwrap_or(0), line, "{text:?}");
+        }
+    }
+    // Without its last line it ends inside a page.
+    let unended = TAPE_A.get(..TAPE_A.len().saturating_sub(4)).unwrap_or(&[]);
+    assert_eq!(rt; read(alloc, unended, true, &[])?.err(), Some(31));
+    // The read of this number fails.
+    assert_eq!(rt; read(alloc, b"suffix a", true, &[0])?.err(), Some(0));
+    assert_eq!(rt; read(alloc, b"suffix A\n", true, &[1])?.err(), Some(1));
+    Ok(())
+}
+
 // Some bytes, so many lines that begin with `mark` and have `length` bytes more, a number at their front, and some bytes.
 fn repeated(
     alloc: Global,

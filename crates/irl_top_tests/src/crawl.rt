@@ -3,7 +3,7 @@ ghost use Rattle.irl_crawl.specs.Crawling.{IsPlan};
 ghost use Rattle.irl_crawl.specs.Leading.{IsOpen};
 ghost use Rattle.irl_record.specs.Fetched.{by_tape};
 
-use crate::tapes::tape;
+use crate::tapes::{TAPE_A, tape};
 use irl_crawl::{Ended, Plan, crawl};
 use irl_disk::MemStore;
 use irl_fetch::NoGate;
@@ -12,6 +12,7 @@ use irl_offer::{Answer, Asked, Fault, Kind, Rule, Text, Want};
 use irl_record::{Fetch, Tape, TapeFetch, site};
 use irl_yard::Yard;
 use std::alloc::{AllocError, Global};
+use std::process::Abort;
 use std::sync::Wait;
 use std::test::Fail;
 use std::thread::Threads;
@@ -191,4 +192,29 @@ fn run<R: Threads + Wait + Sync>(
     let plan = plan_of(alloc, tape)?;
     let yard = begun(alloc, tape)?;
     Ok(crawled(rt, alloc, yard, tape, &plan, is_alone))
+}
+
+// A crawl of a tape comes to this, by one worker and by four.
+fn check_tape<R: Threads + Wait + Sync + Abort>(
+    rt: &R,
+    alloc: Global,
+    tape: &Tape,
+    numbers: [u64; 7],
+    starts: (u64, u64),
+) -> Result<(), Fail> {
+    for is_alone in [true, false] {
+        let came = run(rt, alloc, tape, is_alone)?;
+        assert!(rt; came == (Ended::Done, numbers, starts), "{starts:?}");
+    }
+    Ok(())
+}
+
+// Tape A has three hosts, and the site of a hundred pages sixteen: a robots file of each is fetched too.
+#[test]
+fn tapes_are_crawled_by_one_worker_and_by_four(rt: HostRuntime) -> Result<(), Fail> {
+    let tape_a = tape(rt.alloc(), TAPE_A)?;
+    check_tape(&rt, rt.alloc(), &tape_a, [10, 6, 6, 3, 1, 1, 1], (8, 0))?;
+    let site = site(rt.alloc(), 100)?;
+    let numbers = [200, 100, 100, 100, 0, 0, 0];
+    check_tape(&rt, rt.alloc(), &site, numbers, (116, 0))
 }

@@ -1,6 +1,6 @@
 //! A crawl that comes a page at a time, one over a store that fails, and one that is stopped.
 
-use crate::runs::{LIST, NONE, new_store, run_over};
+use crate::runs::{Failing, LIST, NONE, check, ending, new_store, run_over, writes};
 use crate::tapes::TAPE_A;
 use irl_disk::{MemStore, Part};
 use std::alloc::{AllocError, Global};
@@ -72,7 +72,7 @@ fn tree(alloc: Global) -> Result<Vec<u8>, AllocError> {
     Ok(text)
 }
 
-// What a report has behind that: pairs of the forty links to other hosts, and of the redirects.
+// What a report has behind the offers: pairs of the forty links to other hosts, and of the redirects.
 const COUNTED: &str =
     "unique 60\npairs 44\nfresh 0\nqueued 0\nlast 0\nfront 0\ndone 60\npage 44\nmoved 4\nstatus 4\ndenied 4\nshut 0\nlost 4\nbad 0\nlarge 0\ncoded 0\n";
 
@@ -91,6 +91,31 @@ fn pages<R: Threads + Wait + Sync + Abort + AllocGlobal>(
     Ok(store)
 }
 
+// So many runs of a page each, the last of which ends with this report.
+fn check_pages<R: Threads + Wait + Sync + Abort + AllocGlobal>(
+    rt: &R,
+    tape: &[u8],
+    runs: u32,
+    offers: u32,
+    counted: &str,
+) -> Result<(), AllocError> {
+    let report = format!(in rt.alloc(); "offers {offers}\njudged {offers}\n{counted}")?;
+    let store = pages(rt, tape, runs.saturating_sub(1))?;
+    let case = writes(PAGE_BY_PAGE, tape, report.as_bytes());
+    let _ = check(rt, store, NONE, case)?;
+    Ok(())
+}
+
+// Each run offers the seed once more, and the last one finds nothing to do. Behind the seed of the tree three links of each of
+// twenty pages are offered, and where the four redirects lead to.
+#[test]
+fn a_crawl_comes_a_page_at_a_time(rt: HostRuntime) -> Result<(), Fail> {
+    let tape = tree(rt.alloc())?;
+    check_pages(&rt, &tape, 61, 64 + 61, COUNTED)?;
+    check_pages(&rt, TAPE_A, 7, 9 + 7, CRAWL_A.counted)?;
+    Ok(())
+}
+
 // A store in which a crawl without seeds has begun.
 fn begun<R: Threads + Wait + Sync + Abort + AllocGlobal>(
     rt: &R,
@@ -105,6 +130,32 @@ fn begun<R: Threads + Wait + Sync + Abort + AllocGlobal>(
     )?;
     assert_eq!(rt; left.status, 0);
     Ok(left.store)
+}
+
+// How many calls the first run of a crawl makes, and how many one that only begins it.
+fn calls_of<R: Threads + Wait + Sync + Abort + AllocGlobal>(
+    rt: &R,
+    crawl: Crawl<'_>,
+) -> Result<(u64, u64), AllocError> {
+    let first = begun(rt, crawl.words)?.calls();
+    let store = new_store(rt.alloc(), NONE)?;
+    Ok((first, finish(rt, store, crawl, 0)?.calls()))
+}
+
+// Each call of a crawl fails, behind those that begin it.
+#[test]
+fn a_store_that_fails_ends_a_crawl(rt: HostRuntime) -> Result<(), Fail> {
+    let (first, last) = calls_of(&rt, CRAWL_A)?;
+    assert!(rt; first < last);
+    let case = ending(CRAWL_A.words, TAPE_A, 4, b"disk fault\n");
+    for call in first..last {
+        let failing = Failing {
+            store: Some(call),
+            ..NONE
+        };
+        let _ = check(&rt, new_store(rt.alloc(), failing)?, failing, case)?;
+    }
+    Ok(())
 }
 
 // Crawls to the end over a store.

@@ -1,6 +1,10 @@
 //! Runs in rows, each over what the one before it left.
 
-use crate::runs::{LIST, NEW_OF_ROW, ONE_BUCKET, ROW, SEEN, SHOW};
+use crate::runs::{
+    Case, LIST, NEW_OF_ROW, NONE, ONE_BUCKET, ROW, SEEN, SHOW, check, ending, new_store,
+};
+use crate::tapes::TAPE_A;
+use irl_disk::MemStore;
 use std::alloc::AllocError;
 use std::process::Abort;
 use std::sync::Wait;
@@ -21,6 +25,25 @@ pub const LIST_OF_ROW: &[u8] = b"0 fresh http://a.test/\n1 fresh http://b.test/\
 
 pub const REPLAY: &[&str] = &["replay", "--buckets", "1"];
 
+pub const REPORT: &[u8] =
+    b"offers 10\njudged 10\nunique 6\npairs 5\nfresh 0\nqueued 0\nlast 0\nfront 0\ndone 6\npage 3\nmoved 1\nstatus 1\ndenied 1\nshut 0\nlost 0\nbad 0\nlarge 0\ncoded 0\n";
+
+pub const LISTING: &[u8] =
+    b"0 page http://www.a.test/\n1 moved http://www.a.test/one\n2 denied:2 http://www.a.test/private/x\n3 page http://b.test/\n5 page http://c.test/new\n8 status:404 http://b.test/gone\n";
+
+// Of one page, and behind that of all, where the seed was offered again.
+const FIRST: &[u8] =
+    b"offers 5\njudged 5\nunique 4\npairs 1\nfresh 3\nqueued 0\nlast 0\nfront 0\ndone 1\npage 1\nmoved 0\nstatus 0\ndenied 0\nshut 0\nlost 0\nbad 0\nlarge 0\ncoded 0\n";
+
+const BEHIND: &[u8] =
+    b"offers 11\njudged 11\nunique 6\npairs 5\nfresh 0\nqueued 0\nlast 0\nfront 0\ndone 6\npage 3\nmoved 1\nstatus 1\ndenied 1\nshut 0\nlost 0\nbad 0\nlarge 0\ncoded 0\n";
+
+const SITE: &[u8] =
+    b"offers 4000\njudged 4000\nunique 2000\npairs 44\nfresh 0\nqueued 0\nlast 0\nfront 0\ndone 2000\npage 2000\nmoved 0\nstatus 0\ndenied 0\nshut 0\nlost 0\nbad 0\nlarge 0\ncoded 0\n";
+
+const ONE: &[u8] =
+    b"offers 2\njudged 2\nunique 1\npairs 0\nfresh 0\nqueued 0\nlast 0\nfront 0\ndone 1\npage 1\nmoved 0\nstatus 0\ndenied 0\nshut 0\nlost 0\nbad 0\nlarge 0\ncoded 0\n";
+
 // The words and the input of a run, its status, what it prints, and its error line.
 type Row = (
     &'static [&'static str],
@@ -34,6 +57,21 @@ type Row = (
 const FULL: Row = (
     &["seen", "--buckets", "1", "--array", "1", "--cap", "2"],
     b"a\nb\nc\n",
+    8,
+    b"",
+    b"bucket 0 full\n",
+);
+
+// One with room for four offers.
+const FULL_CRAWL: Row = (
+    &[
+        "replay",
+        "--buckets=1",
+        "--array=2",
+        "--trigger=4",
+        "--cap=4",
+    ],
+    TAPE_A,
     8,
     b"",
     b"bucket 0 full\n",
@@ -236,3 +274,110 @@ const TUPLES: [&[Row]; 9] = [
     &[(&["drum"], b"b 01 07\n", 2, b"", b"line 1 refused\n")],
     &[(&["drum"], b"c 01\n\nc 02\n", 2, b"", b"line 2 refused\n")],
 ];
+
+// A crawl prints its report at its end, and it is the report of its store. Where there is no room, and where the tape is
+// refused, nothing is printed.
+const CRAWLS: [&[Row]; 6] = [
+    &[
+        (REPLAY, TAPE_A, 0, REPORT, b""),
+        (SHOW, b"", 0, REPORT, b""),
+        (LIST, b"", 0, LISTING, b""),
+    ],
+    &[
+        (&["replay", "--pages", "1"], TAPE_A, 0, FIRST, b""),
+        (SHOW, b"", 0, FIRST, b""),
+        (&["replay"], TAPE_A, 0, BEHIND, b""),
+    ],
+    &[
+        (&["gen", "2000"], b"", 0, SITE, b""),
+        (SHOW, b"", 0, SITE, b""),
+    ],
+    &[
+        (&["gen", "1"], b"", 0, ONE, b""),
+        (LIST, b"", 0, b"0 page http://s0.test/p0\n", b""),
+    ],
+    &[
+        (
+            &["crawl", "--port", "8080"],
+            TAPE_A,
+            2,
+            b"",
+            b"line 3 refused\n",
+        ),
+        (
+            &["replay"],
+            b"seed http://a.test/\nlost http://a.test/\nend\n",
+            2,
+            b"",
+            b"line 3 refused\n",
+        ),
+        (LIST, b"", 0, b"", b""),
+    ],
+    &[
+        FULL_CRAWL,
+        FULL_CRAWL,
+        (SEEN, ROW, 3, b"", b"other setting 1: kept 3, asked 1\n"),
+    ],
+];
+
+// A run over a store, which ends as its row says.
+fn check_row<R: Threads + Wait + Sync + Abort + AllocGlobal>(
+    rt: &R,
+    store: MemStore,
+    row: &Row,
+) -> Result<MemStore, AllocError> {
+    let (words, input, status, output, errors) = *row;
+    let case = Case {
+        words,
+        input,
+        status,
+        output,
+        errors,
+    };
+    check(rt, store, NONE, case)
+}
+
+// Runs of which each is over what the one before it left, and the first over an empty store.
+fn check_rows<R: Threads + Wait + Sync + Abort + AllocGlobal>(
+    rt: &R,
+    rows: &[Row],
+) -> Result<(), AllocError> {
+    let mut store = new_store(rt.alloc(), NONE)?;
+    for row in rows {
+        store = check_row(rt, store, row)?;
+    }
+    Ok(())
+}
+
+#[test]
+fn runs_on_lines_go_on_from_the_one_before(rt: HostRuntime) -> Result<(), Fail> {
+    for rows in &LINES {
+        check_rows(&rt, rows)?;
+    }
+    Ok(())
+}
+
+#[test]
+fn runs_on_tuples_go_on_from_the_one_before(rt: HostRuntime) -> Result<(), Fail> {
+    for rows in &TUPLES {
+        check_rows(&rt, rows)?;
+    }
+    Ok(())
+}
+
+#[test]
+fn crawls_go_on_from_the_one_before(rt: HostRuntime) -> Result<(), Fail> {
+    for rows in &CRAWLS {
+        check_rows(&rt, rows)?;
+    }
+    Ok(())
+}
+
+// The tape without its last line, which ends a page.
+#[test]
+fn a_tape_ends_with_a_whole_page(rt: HostRuntime) -> Result<(), Fail> {
+    let unended = TAPE_A.get(..TAPE_A.len().saturating_sub(4)).unwrap_or(b"");
+    let case = ending(&["replay"], unended, 2, b"line 31 refused\n");
+    let _ = check(&rt, new_store(rt.alloc(), NONE)?, NONE, case)?;
+    Ok(())
+}
