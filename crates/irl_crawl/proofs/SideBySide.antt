@@ -79,8 +79,14 @@ one_did (Ok log) suffixes a b s t p q own works none calm is =
       entries_are = entered_are own (flat_map entered_of f.handled) p q none is f.entered ∙ sym (append-nil (flat_map entered_of f.handled));
       whole = λ other same.
           let one : log ≡ other = cc in
-          record { done = ap (λ (l : WorkLog). l.done.items) (sym one) ∙ f.done; notes = ap (λ (l : WorkLog). l.notes.items) (sym one) ∙ f.notes; none_left = refl; none_begun = refl;
-            asked = f.asked; items = f.none_left };
+          record {
+            done = ap (λ (l : WorkLog). l.done.items) (sym one) ∙ f.done;
+            notes = ap (λ (l : WorkLog). l.notes.items) (sym one) ∙ f.notes;
+            none_left = refl;
+            none_begun = refl;
+            asked = f.asked;
+            items = f.none_left;
+          };
       named = λ fault no. absurd (cc);
       goes_on = works.goes_on;
       agent = works.agent;

@@ -71,14 +71,7 @@ where
         mem::replace(&mut crew.fronts, Vec::new(alloc)),
         &mut workers,
     );
-    work_side_by_side(
-        rt,
-        alloc,
-        &crew.suffixes,
-        fetchers,
-        gates,
-        &mut workers,
-    );
+    work_side_by_side(rt, alloc, &crew.suffixes, fetchers, gates, &mut workers);
     take_back(workers, &mut results, &mut back, &mut fronts);
     crew.fronts = fronts;
     (join_all(alloc, results), back)
@@ -157,9 +150,7 @@ fn take_back<S: Store>(
             front,
             done,
         } = worker;
-        let Some(result) = done else {
-            unreachable!()
-        };
+        let Some(result) = done else { unreachable!() };
         results.push_reserved(result);
         passes.push_reserved(offers.into_pass());
         fronts.push_reserved(front);

@@ -24,7 +24,7 @@ pub returns-in_default : goal.returns-in_default
 returns-in_default g c = λ input.
     let yard = c.args.yard in
     let sink = stream g.O.Sink.written g.O.Sink.faults c.args.output.now in
-    goes_nowhere (site_task c.args.options.now c.args.pages) yard.parts (g.S.Store.told yard.store) input input sink (g.met.S.Store.is_consistent yard.store) c.is_sound-is_sound.ensures.drum
+    goes_nowhere (site_task c.args.options.now c.args.pages) yard.parts (g.S.Store.told yard.store) input input sink (consistent g yard.store) c.is_sound-is_sound.ensures.drum
     c.requires.sound yard.rest_is c.requires.kind
     (omega arith)
 

@@ -22,7 +22,7 @@ returns-in-Err-clause-leads g c = λ keeps.
 pub returns-in_default-clause-leads : goal.returns-in_default-clause-leads
 returns-in_default-clause-leads g c = λ keeps.
     let yard = c.args.yard in
-    let law = g.met.S.Store.is_consistent yard.store in
+    let law = consistent g yard.store in
     let task = part_task c.args.options.now (given_by g.F.Fetch.asked g.F.Fetch.gives g.F.Fetch.faults c.args.fetchers.now c.args.fetchers.now) in
     unplayed task c.args.tape.now yard.parts (g.S.Store.told yard.store) law c.is_sound-is_sound.ensures.drum c.requires.open.sound
     (none_rose g.F.Fetch.faults c.args.fetchers.now)
@@ -56,7 +56,7 @@ returns-in_default-clause-batches g c =
     let yard = c.args.yard in
     let told = g.S.Store.told yard.store in
     let kind = kind_begun yard.parts.urls yard.parts.rest told.files yard.rest_is c.requires.open.begun in
-    none_crawled _ yard.parts told (g.met.S.Store.is_consistent yard.store) c.is_sound-is_sound.ensures.drum yard.rest_is kind
+    none_crawled _ yard.parts told (consistent g yard.store) c.is_sound-is_sound.ensures.drum yard.rest_is kind
 
 pub returns-clause-batches : goal.returns-clause-batches
 returns-clause-batches g c =

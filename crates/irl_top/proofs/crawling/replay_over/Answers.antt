@@ -36,7 +36,7 @@ returns-in_default g c =
     let old : Stream = record { bytes = g.I.Source.left c.args.input.now; faults = g.I.Source.faults c.args.input.now } in
     let new : Stream = record { bytes = g.I.Source.left c.read.new.source; faults = g.I.Source.faults c.read.new.source } in
     let sink = stream g.O.Sink.written g.O.Sink.faults c.args.output.now in
-    goes_nowhere (replay_task c.args.options.now) yard.parts (g.S.Store.told yard.store) old new sink (g.met.S.Store.is_consistent yard.store) c.is_sound-is_sound.ensures.drum c.requires.sound
+    goes_nowhere (replay_task c.args.options.now) yard.parts (g.S.Store.told yard.store) old new sink (consistent g yard.store) c.is_sound-is_sound.ensures.drum c.requires.sound
     yard.rest_is c.requires.kind c.in-Ok.ensures.cause.later
 
 pub returns : goal.returns
