@@ -1,7 +1,7 @@
 -- What workers do side by side, each by itself, put together.
-use Rattle.std.proofs.Common.{◌≡◌, ◌∙◌, ◌⊎◌, ⊎_elim, ℕ, ◌+◌, ◌*◌, ◌≤◌, zero, suc, List, [], ◌∷◌, ◌++◌, length, map, Option, None, Some, Result, Ok, Err, IfOk, IsErrOf, inl, inr, refl, sym, ap, subst, arith}
-use Rattle.std.specs.Prelude.{OnErr, slice_get}
-use Rattle.std.specs.List.{All, AllByRecursion, Any, flat_map}
+use Rattle.std.proofs.Common.{◌≡◌, ◌∙◌, ◌⊎◌, ⊎_elim, ℕ, ◌+◌, ◌*◌, ◌≤◌, zero, suc, List, [], ◌∷◌, ◌++◌, length, map, Option, Some, Result, Ok, Err, IfOk, inl, inr, refl, sym, ap, subst, arith}
+use Rattle.std.specs.Prelude.{slice_get}
+use Rattle.std.specs.List.{All, Any, flat_map}
 use Rattle.std.specs.List.Sorted.{IsPermutation}
 use Rattle.std.proofs.lemmas.List.{append-nil, map-append}
 use Rattle.std.proofs.lemmas.List.Concat.{flat_map-append}
@@ -10,22 +10,22 @@ use Rattle.std.proofs.lemmas.List.Sorted.{IsPermutation-append, IsPermutation-ap
 use Rattle.std.proofs.lemmas.List.{append_assoc, length-append}
 use Rattle.std.proofs.lemmas.Option.{none-some, same_Some}
 use Rattle.irl_base.specs.declared.fault.Fault.{Fault}
-use Rattle.irl_base.specs.declared.fault.Fault.TheVariants.{Damaged, Failed, Full, Memory}
+use Rattle.irl_base.specs.declared.fault.Fault.TheVariants.{Memory}
 use Rattle.irl_key.specs.Web.{target_of}
 use Rattle.irl_key.specs.declared.web.Work.{Work}
-use Rattle.irl_offer.specs.Offering.{Entered, fault_or}
+use Rattle.irl_offer.specs.Offering.{Entered}
 use Rattle.irl_offer.specs.declared.done.Done.{Done}
 use Rattle.irl_offer.specs.declared.note.Note.{Note}
 use Rattle.irl_polite.specs.Schedule.{Schedule, host}
 use Rattle.irl_polite.specs.declared.known.Known.{Known}
 use Rattle.irl_record.specs.Widening.{Answers, Widens}
-use Rattle.irl_record.specs.Wired.{Made, how_many}
+use Rattle.irl_record.specs.Wired.{Made}
 use Rattle.irl_robots.specs.Leave.{host_state, leave_of}
 use Rattle.irl_robots.specs.declared.host.HostState.{HostState}
 use Rattle.irl_robots.specs.declared.host.Leave.TheVariants.{Allowed}
 use Rattle.irl_fetch.specs.declared.working.WorkLog.{WorkLog}
 use Rattle.irl_fetch.specs.Handling.{Handled, IsHandled, IsNoted, Noted, answered, done_of, entered_of}
-use Rattle.irl_fetch.specs.Pages.{FaultIs, IsPart}
+use Rattle.irl_fetch.specs.Pages.{IsPart}
 use Rattle.irl_fetch.specs.Telling.{Fetcher, GoesOn, MakesAtMost, fetcher, given_since}
 use Rattle.irl_fetch.specs.Working.{HasWorked, IsKnownOf, IsStateOf}
 use Rattle.irl_fetch.proofs.Handling.{answered_both, any_alone, any_left, any_right, any_weaker, handled_wider, noted_wider}

@@ -1,8 +1,9 @@
 -- Workers over a store that they share: what each is before its turn, and what all of them leave.
-use Rattle.std.proofs.Common.{◌≡◌, ◌∙◌, ◌⊎◌, ⊎_elim, ℕ, ◌+◌, ◌-◌, zero, suc, List, [], ◌∷◌, ◌++◌, length, map, Option, None, Some, Result, Ok, Err, IfOk, false, inl, inr, refl, sym, ap, subst, arith}
-use Rattle.std.specs.Prelude.{IsSome, slice_get}
+use Rattle.std.proofs.Common.{◌≡◌, ◌∙◌, ℕ, zero, suc, List, [], ◌∷◌, ◌++◌, length, map, Option, Some, Result, IfOk, refl, sym, ap, subst, arith}
+use Rattle.std.specs.Prelude.{IsSome, Vec}
+use Rattle.std.specs.Vec.{with_items}
+use Rattle.std.specs.declared.alloc.Global.{Global}
 use Rattle.std.specs.List.{All, AllByRecursion, AllZip, Any, flat_map}
-use Rattle.std.specs.List.Sorted.{IsPermutation}
 use Rattle.std.proofs.lemmas.List.Elements.{All-from_recursion, recursion_from_All}
 use Rattle.irl_base.specs.declared.fault.Fault.{Fault}
 use Rattle.irl_disk.specs.declared.store.Store.{Ghosts}
@@ -28,7 +29,7 @@ use Rattle.irl_workers.specs.declared.halves.Worker.{Worker}
 use Rattle.irl_crawl.specs.Workers.{AllGoOn, AreFor, AreReady, IsMomentBy, given_by, schedules}
 use Rattle.irl_crawl.specs.Working.{AreByWorker, Joins, WorkAll}
 use Rattle.irl_crawl.proofs.AllWork.{AllDid, all_moments, all_order, all_works}
-use Rattle.irl_crawl.proofs.Seating.{each_told, flat_maps, maps, zip_count}
+use Rattle.irl_crawl.proofs.Seating.{each_told, flat_maps, lent, maps, zip_count}
 use Rattle.irl_crawl.proofs.SideBySide.{IsFirst, all_did, all_follow, all_over}
 
 module _ {S : Type 0} {tells : Ghosts S} where
@@ -67,7 +68,8 @@ module _ {S : Type 0} {tells : Ghosts S} where
   -- ---- before a turn
   module _ (shared : Shared S tells) where
     ready_each : (seats : List (Worker (Seated S tells))) → TakesPages (IsTakenBy IsCanonicalText (opening_of shared).parts.urls.settings.kind)
-        → AllByRecursion (λ seat. IsFreshPass shared seat.offers.pass) seats → AllByRecursion (λ seat. seat.offers.shared.now ≡ shared) seats → AreReady (map (λ seat. schedule seat.front) seats) → AllByRecursion (IsReady last_fault takes) seats
+        → AllByRecursion (λ seat. IsFreshPass shared seat.offers.pass) seats → AllByRecursion (λ seat. seat.offers.shared.now ≡ shared) seats
+        → AreReady (map (λ seat. schedule seat.front) seats) → AllByRecursion (IsReady last_fault takes) seats
     ready_each [] pages fresh same ready = tt
     ready_each (seat ∷ seats) pages fresh same ready = (
       record {
@@ -78,13 +80,15 @@ module _ {S : Type 0} {tells : Ghosts S} where
       ready_each seats pages fresh.1 same.1 (λ at. ready (suc at)),
     )
 
-    pub all_ready : (seats : List (Worker (Seated S tells))) (passes : List (Pass S tells)) (fronts : List Held) → TakesPages (IsTakenBy IsCanonicalText (opening_of shared).parts.urls.settings.kind)
-        → map (λ w. w.offers.pass) seats ≡ passes → map (λ w. w.front) seats ≡ fronts → AllByRecursion (IsFreshPass shared) passes
-        → AllByRecursion (λ seat. seat.offers.shared.now ≡ shared) seats → AreReady (schedules fronts) → All (IsReady last_fault takes) seats
-    all_ready seats passes fronts pages are_passes are_fronts fresh same ready =
-        All-from_recursion (IsReady last_fault takes) seats
-        (ready_each seats pages (each_told pass_of (IsFreshPass shared) seats passes are_passes fresh) same
-        (subst AreReady (sym (maps front_of schedule seats ∙ ap schedules are_fronts)) ready))
+    pub all_ready : (made seats : List (Worker (Seated S tells))) (passes : List (Pass S tells)) (taken fronts : Vec Held Global) → seats ≡ made → taken ≡ fronts
+        → map (λ w. w.offers.pass) made ≡ passes → map (λ w. w.front) made ≡ taken.items → AllByRecursion (λ seat. seat.offers.shared.now ≡ shared) made
+        → TakesPages (IsTakenBy IsCanonicalText (opening_of shared).parts.urls.settings.kind) → AllByRecursion (IsFreshPass shared) passes → AreReady (schedules fronts.items)
+        → All (IsReady last_fault takes) seats
+    all_ready made seats passes taken fronts seats_are taken_are are_passes are_fronts same pages fresh ready =
+        subst (All (IsReady last_fault takes)) (sym seats_are)
+        (All-from_recursion (IsReady last_fault takes) made
+        (ready_each made pages (each_told pass_of (IsFreshPass shared) made passes are_passes fresh) same
+        (subst AreReady (sym (maps front_of schedule made ∙ ap schedules (are_fronts ∙ ap (λ (v : Vec Held Global). v.items) taken_are))) ready)))
 
     -- ---- behind it
     own_each : (seats after : List (Worker (Seated S tells))) → AllZip (λ a b. follows a.offers b.offers) seats after → AllByRecursion (λ seat. seat.offers.shared.now ≡ shared) seats
@@ -106,48 +110,71 @@ module _ {S : Type 0} {tells : Ghosts S} where
   parts_each (seat ∷ seats) [] on = absurd on
 
   -- ---- the whole
+  -- Workers were made of passes and fronts, and lent; each has done its turn.
   module _ {F : Type 0} (asked : F → Made) (gives : F → ℕ → Answers) (faults last : F → ℕ) (aim : F → List ℕ) (agent suffixes : List ℕ) (shared : Shared S tells) (olds news : List F)
-      (seats after : List (Worker (Seated S tells))) (passes : List (Pass S tells)) (fronts : List Held) (are_passes : map (λ w. w.offers.pass) seats ≡ passes)
-      (are_fronts : map (λ w. w.front) seats ≡ fronts) (are_shared : AllByRecursion (λ w. w.offers.shared.now ≡ shared) seats) (fresh : AllByRecursion (IsFreshPass shared) passes) (for : AreFor agent (schedules fronts))
-      (done : EachWorker (IsDone (fetcher asked gives faults last aim) (offering entries last_fault takes follows) suffixes) olds news seats after) where
+      (passes : List (Pass S tells)) (taken fronts : Vec Held Global) (made : Vec (Worker (Seated S tells)) Global) (seats after : List (Worker (Seated S tells))) (taken_are : taken ≡ fronts)
+      (their_passes : map (λ w. w.offers.pass) made.items ≡ passes) (their_fronts : map (λ w. w.front) made.items ≡ taken.items)
+      (their_shared : AllByRecursion (λ w. w.offers.shared.now ≡ shared) made.items) (fresh : AllByRecursion (IsFreshPass shared) passes) (for : AreFor agent (schedules fronts.items))
+      (seats_are : seats ≡ made.items) (done : EachWorker (IsDone (fetcher asked gives faults last aim) (offering entries last_fault takes follows) suffixes) olds news seats after) where
+    are_passes : map pass_of seats ≡ passes
+    are_passes = ap (map pass_of) seats_are ∙ their_passes
+
+    are_fronts : map front_of seats ≡ fronts.items
+    are_fronts = ap (map front_of) seats_are ∙ their_fronts ∙ ap (λ (v : Vec Held Global). v.items) taken_are
+
+    are_shared : AllByRecursion (λ w. w.offers.shared.now ≡ shared) seats
+    are_shared = subst (AllByRecursion (λ (w : Worker (Seated S tells)). w.offers.shared.now ≡ shared)) (sym seats_are) their_shared
+
     first_each : (seats : List (Worker (Seated S tells))) → AllByRecursion (λ seat. IsFreshPass shared seat.offers.pass) seats → AllByRecursion (λ seat. (schedule seat.front).agent ≡ agent) seats
         → AllByRecursion (IsFirst asked gives faults last aim entries last_fault takes follows (λ seated. entries_in seated.pass) (λ o. refl) agent suffixes) seats
     first_each [] fresh for = tt
     first_each (seat ∷ seats) fresh for = (record { none = fresh.0.entries; calm = fresh.0.last; for = for.0 }, first_each seats fresh.1 for.1)
 
-    befores_are : map (λ seat. schedule seat.front) seats ≡ schedules fronts
+    befores_are : map (λ seat. schedule seat.front) seats ≡ schedules fronts.items
     befores_are = maps front_of schedule seats ∙ ap schedules are_fronts
 
     follow : AllZip (λ a b. follows a.offers b.offers) seats after
     follow = all_follow asked gives faults last aim entries last_fault takes follows (λ seated. entries_in seated.pass) (λ o. refl) agent suffixes olds news seats after
         (λ x. goes_on_none x.shared.now x.pass) done
 
-    pub count : length after ≡ length seats
-    count = zip_count (λ (a : Worker (Seated S tells)) (b : Worker (Seated S tells)). follows a.offers b.offers) seats after follow
+    abbrev back : List (Worker (Seated S tells))
+    back = (with_items made after).items
 
-    pub over : AllByRecursion (λ w. IsSome w.done) after
-    over = all_over asked gives faults last aim entries last_fault takes follows (λ seated. entries_in seated.pass) (λ o. refl) agent suffixes olds news seats after done
+    whole : back ≡ after
+    whole = lent made after (zip_count (λ (a : Worker (Seated S tells)) (b : Worker (Seated S tells)). follows a.offers b.offers) seats after follow ∙ ap length seats_are)
 
-    module _ (results : List (Result WorkLog Fault)) (backs : List (Pass S tells)) (afters : List Held) (are : map (λ r. Some r) results ≡ map (λ w. w.done) after)
-        (are_backs : backs ≡ map (λ w. w.offers.pass) after) (are_afters : afters ≡ map (λ w. w.front) after) where
-      did : AllDid asked gives faults last aim agent suffixes olds news (schedules fronts) (schedules afters) results (flat_map entries_in backs) (map (λ pass. pass.last) backs)
+    pub over : AllByRecursion (λ w. IsSome w.done) back
+    over = subst (AllByRecursion (λ (w : Worker (Seated S tells)). IsSome w.done)) (sym whole)
+        (all_over asked gives faults last aim entries last_fault takes follows (λ seated. entries_in seated.pass) (λ o. refl) agent suffixes olds news seats after done)
+
+    -- What came of them was taken back.
+    module _ (results : List (Result WorkLog Fault)) (backs : List (Pass S tells)) (afters : List Held) (are_results : map (λ r. Some r) results ≡ map (λ w. w.done) back)
+        (are_backs : backs ≡ map (λ w. w.offers.pass) back) (are_afters : afters ≡ map (λ w. w.front) back) where
+      backs_are : backs ≡ map pass_of after
+      backs_are = are_backs ∙ ap (map pass_of) whole
+
+      afters_are : afters ≡ map front_of after
+      afters_are = are_afters ∙ ap (map front_of) whole
+
+      did : AllDid asked gives faults last aim agent suffixes olds news (schedules fronts.items) (schedules afters) results (flat_map entries_in backs) (map (λ pass. pass.last) backs)
       did =
           subst (λ (x : List Schedule × List Schedule × List Entered × List (Option Fault)). AllDid asked gives faults last aim agent suffixes olds news x.0 x.1 results x.2 x.3)
           (λ i. (
             befores_are i,
-            (maps front_of schedule after ∙ ap schedules (sym are_afters)) i,
-            (flat_maps pass_of entries_in after ∙ ap (flat_map entries_in) (sym are_backs)) i,
-            (maps pass_of (λ (pass : Pass S tells). pass.last) after ∙ ap (map (λ (pass : Pass S tells). pass.last)) (sym are_backs)) i,
+            (maps front_of schedule after ∙ ap schedules (sym afters_are)) i,
+            (flat_maps pass_of entries_in after ∙ ap (flat_map entries_in) (sym backs_are)) i,
+            (maps pass_of (λ (pass : Pass S tells). pass.last) after ∙ ap (map (λ (pass : Pass S tells). pass.last)) (sym backs_are)) i,
           ))
           (all_did asked gives faults last aim entries last_fault takes follows (λ seated. entries_in seated.pass) (λ o. refl) agent suffixes olds news seats after results done
           (first_each seats (each_told pass_of (IsFreshPass shared) seats passes are_passes fresh)
-          (each_told (λ seat. schedule seat.front) (λ s. s.agent ≡ agent) seats (schedules fronts) befores_are (recursion_from_All (λ s. s.agent ≡ agent) (schedules fronts) for))) are)
+          (each_told (λ seat. schedule seat.front) (λ s. s.agent ≡ agent) seats (schedules fronts.items) befores_are (recursion_from_All (λ s. s.agent ≡ agent) (schedules fronts.items) for)))
+          (are_results ∙ ap (map (λ (w : Worker (Seated S tells)). w.done)) whole))
 
       pub works : (result : Result WorkLog Fault) → Joins result results
-          → WorkAll result (given_by asked gives faults olds news) agent suffixes (schedules fronts) (schedules afters) (flat_map entries_in backs) (map (λ pass. pass.last) backs)
+          → WorkAll result (given_by asked gives faults olds news) agent suffixes (schedules fronts.items) (schedules afters) (flat_map entries_in backs) (map (λ pass. pass.last) backs)
       works result joins = all_works result joins did
 
-      pub order : (result : Result WorkLog Fault) → Joins result results → IfOk result (λ log. AreByWorker (schedules fronts) log.done.items)
+      pub order : (result : Result WorkLog Fault) → Joins result results → IfOk result (λ log. AreByWorker (schedules fronts.items) log.done.items)
       order result joins = all_order result joins did
 
       pub moments : (result : Result WorkLog Fault) → Joins result results → IfOk result (λ log. All (λ note. IsMomentBy last olds news note.when) log.notes.items)
@@ -157,13 +184,13 @@ module _ {S : Type 0} {tells : Ghosts S} where
       goes_on = did.goes_on
 
       pub own : AllByRecursion (IsOf shared) backs
-      own = subst (AllByRecursion (IsOf shared)) (sym are_backs) (own_each shared seats after follow are_shared)
+      own = subst (AllByRecursion (IsOf shared)) (sym backs_are) (own_each shared seats after follow are_shared)
 
       pub free : AllByRecursion IsFree backs
-      free = subst (AllByRecursion IsFree) (sym are_backs) (free_each after)
+      free = subst (AllByRecursion IsFree) (sym backs_are) (free_each after)
 
       pub parts : parts_in_all backs ≡ parts_in_all passes
-      parts = ap parts_in_all are_backs ∙ parts_each seats after follow ∙ ap parts_in_all are_passes
+      parts = ap parts_in_all backs_are ∙ parts_each seats after follow ∙ ap parts_in_all are_passes
 
   -- ---- as the store is closed
   stops_any : (passes : List (Pass S tells)) (last : Option Fault) → AllByRecursion (λ pass. (fault : Fault) → pass.last ≡ Some fault → last ≡ Some fault) passes → (fault : Fault)

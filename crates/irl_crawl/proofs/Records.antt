@@ -1,5 +1,5 @@
 -- The records of the live bucket journals of both bays, where calls change other files; and states that are told apart.
-use Rattle.std.proofs.Common.{◌≡◌, ◌∙◌, inl, inr, ℕ, ◌+◌, ◌<◌, ◌≤◌, List, [], ◌++◌, length, map, drop, Some, Option, refl, sym, ap, subst, append_assoc, arith}
+use Rattle.std.proofs.Common.{◌≡◌, ◌∙◌, inl, inr, ℕ, ◌+◌, ◌<◌, ◌≤◌, List, ◌++◌, length, map, drop, Some, Option, refl, sym, ap, subst, append_assoc, arith}
 use Rattle.std.specs.List.{AllByRecursion}
 use Rattle.irl_offer.specs.Buckets.{IsBucketCount}
 use Rattle.irl_offer.specs.declared.settings.Kind.TheVariants.{Crawl as CrawlKind}
@@ -10,12 +10,12 @@ use Rattle.irl_events.specs.State.{State, AreFronts, IsFrontState}
 use Rattle.irl_disk.specs.Disk.{Files, ChangesOnly}
 use Rattle.irl_disk.specs.Images.{Told, IsConsistent, Follows, Leaves, LeavesBy}
 use Rattle.irl_disk.proofs.Stretches.{left_now, widens}
-use Rattle.irl_journal.specs.Format.{HasRecords, StandsFor}
+use Rattle.irl_journal.specs.Format.{HasRecords}
 use Rattle.irl_journal.proofs.Lists.{one_list}
 use Rattle.irl_layout.specs.BayFiles.{IsFileOf, file_of}
 use Rattle.irl_layout.specs.Commits.{Commit, HasLiveRecords, IsCommit, commit_bytes, first_commit, last_commit, live_side}
 use Rattle.irl_layout.specs.declared.files.BayFile.TheVariants.{Manifest, Journal}
-use Rattle.irl_bay.specs.Drum.{Drum, IsDrum, bucket_at}
+use Rattle.irl_bay.specs.Drum.{Drum, IsDrum}
 use Rattle.irl_bay.specs.Holding.{Holds}
 use Rattle.irl_bay.proofs.Apart.{files_of_both, files_within}
 use Rattle.irl_bay.proofs.DrumFiles.{live_low}
@@ -34,7 +34,7 @@ use Rattle.irl_yard.proofs.Holding.{held_has}
 use Rattle.irl_yard.proofs.States.{one_state}
 use Rattle.irl_reach.proofs.Growing.{drop_front}
 use Rattle.irl_crawl.proofs.Batches.{turns_both}
-use Rattle.irl_crawl.specs.Batches.{HasBoth, HaveBoth, Records, turns_since}
+use Rattle.irl_crawl.specs.Batches.{turns_since}
 use Rattle.irl_crawl.specs.Turning.{turns_in}
 
 -- ---- facts of what stops leave

@@ -1,9 +1,7 @@
 -- What calls over the bay of URLs add to the cuts and to the records, where a crawl has begun.
-use Rattle.std.proofs.Common.{◌≡◌, ◌∙◌, ◌⊎◌, ⊎_elim, ℕ, ◌+◌, ◌<◌, ◌≤◌, List, [], ◌++◌, length, Some, Result, Ok, Err, IsErrOf, refl, sym, ap, subst, append-nil, arith}
+use Rattle.std.proofs.Common.{◌≡◌, ◌∙◌, ◌⊎◌, ⊎_elim, ℕ, ◌<◌, ◌≤◌, List, [], ◌++◌, length, Some, refl, sym, ap, subst, append-nil, arith}
 use Rattle.std.specs.Option.{ForSome}
 use Rattle.std.specs.List.{AllByRecursion}
-use Rattle.irl_base.specs.declared.fault.Fault.{Fault}
-use Rattle.irl_base.specs.declared.fault.Fault.TheVariants.{Failed}
 use Rattle.irl_offer.specs.Tuple.{Tuple}
 use Rattle.irl_offer.specs.declared.settings.Kind.{Kind}
 use Rattle.irl_offer.specs.declared.settings.Kind.TheVariants.{Crawl as CrawlKind}
@@ -15,18 +13,18 @@ use Rattle.irl_events.specs.State.{State}
 use Rattle.irl_head.specs.StoreFiles.{pairs_base, urls_base}
 use Rattle.irl_layout.specs.BayFiles.{IsFileOf}
 use Rattle.irl_layout.specs.Commits.{HasLiveRecords}
-use Rattle.irl_bay.specs.Drum.{Drum, IsDrum}
+use Rattle.irl_bay.specs.Drum.{IsDrum}
 use Rattle.irl_bay.specs.Holding.{Holds}
 use Rattle.irl_bay.specs.Standing.{IsBookOf}
 use Rattle.irl_schedule.proofs.Between.{grows_between}
 use Rattle.irl_schedule.proofs.Chains.{grows_same, tells_on}
-use Rattle.irl_schedule.specs.Feeding.{Fed, Grows, HasBetween, Keeps, Moment, Stays, Stranded, TakesWaiting, Waits, list_at, moment}
+use Rattle.irl_schedule.specs.Feeding.{Fed, Grows, HasBetween, Moment, Stays, Stranded, TakesWaiting, Waits, list_at, moment}
 use Rattle.irl_schedule.specs.Schedule.{AddsUneven, HaveRecords, LeavesUneven}
 use Rattle.irl_ledger.specs.Crawling.{AreTaken, MayFollow, pair_settings}
 use Rattle.irl_ledger.specs.declared.ledger.Ledger.{Ledger}
 use Rattle.irl_yard.specs.declared.parts.Parts.{Parts}
 use Rattle.irl_yard.specs.declared.parts.Rest.TheVariants.{Crawl}
-use Rattle.irl_yard.specs.Holding.{HoldsOpen, HoldsState, IsOpenRest}
+use Rattle.irl_yard.specs.Holding.{HoldsState, IsOpenRest}
 use Rattle.irl_yard.specs.Lifting.{HasStateBetween, LiftsBooks}
 use Rattle.irl_yard.specs.Sending.{HasBegun}
 use Rattle.irl_yard.specs.Standing.{with_urls}
@@ -37,7 +35,7 @@ use Rattle.irl_yard.proofs.Lifting.{fronts_lifted, lifts_books}
 use Rattle.irl_crawl.proofs.Spread.{IsPage, pages_in, taken_each}
 use Rattle.irl_crawl.proofs.Records.{HasBays, bays, held_one, kind_open, leaves_three, live_as, live_stay, one_ledger, open_stay, pairs_of, urls_no_pairs}
 use Rattle.irl_crawl.proofs.RecordsThen.{HoldsOn}
-use Rattle.irl_crawl.specs.Batches.{Batches, ComeInBatches, HasBatched, HasBoth, HaveBoth, Records, Spare, turns_since}
+use Rattle.irl_crawl.specs.Batches.{Batches, ComeInBatches, HasBatched, HaveBoth, Records, Spare, turns_since}
 
 -- Nothing waited at the first moment, and these offers of pages were handed in since: so many cuts are early, and of each
 -- bucket's records at most so many are uneven.

@@ -1,5 +1,5 @@
 -- What a desk that was closed, and a merge of what is left, add to the cuts and to the records, where a crawl has begun.
-use Rattle.std.proofs.Common.{◌≡◌, ◌∙◌, ◌⊎◌, inl, inr, ⊎_elim, ℕ, ◌≤◌, List, [], ◌++◌, Option, None, Some, Result, Ok, Err, IsErrOf, refl, sym, ap, subst, arith}
+use Rattle.std.proofs.Common.{◌≡◌, ◌⊎◌, inl, inr, ⊎_elim, List, [], Option, None, Some, Result, Ok, Err, IsErrOf, refl, ap, subst, arith}
 use Rattle.std.specs.Option.{ForSome}
 use Rattle.std.specs.List.{AllByRecursion}
 use Rattle.irl_base.specs.declared.fault.Fault.{Fault}
@@ -7,12 +7,10 @@ use Rattle.irl_base.specs.declared.fault.Fault.TheVariants.{Damaged, Failed, Ful
 use Rattle.irl_offer.specs.Offering.{Entered, IsTakenBy}
 use Rattle.irl_offer.specs.Tuple.{Tuple}
 use Rattle.irl_offer.specs.declared.settings.Kind.{Kind}
-use Rattle.irl_offer.specs.declared.settings.Kind.TheVariants.{Crawl as CrawlKind}
 use Rattle.irl_key.specs.Links.{IsCanonicalText}
 use Rattle.irl_model.specs.Book.{Book}
-use Rattle.irl_disk.specs.Disk.{Files}
 use Rattle.irl_disk.specs.Images.{IsConsistent, Told}
-use Rattle.irl_bay.specs.Drum.{Drum, IsDrum}
+use Rattle.irl_bay.specs.Drum.{IsDrum}
 use Rattle.irl_bay.specs.Holding.{Holds}
 use Rattle.irl_schedule.specs.Arrays.{waiting_at}
 use Rattle.irl_schedule.specs.Feeding.{Fed, Stranded, Waits, moment}

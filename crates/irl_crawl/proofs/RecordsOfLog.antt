@@ -1,5 +1,5 @@
 -- Calls that change no file of a bay add no record and no cut.
-use Rattle.std.proofs.Common.{◌≡◌, ◌∙◌, ◌⊎◌, inl, inr, ⊎_elim, ℕ, ◌+◌, ◌<◌, ◌≤◌, List, [], ◌∷◌, ◌++◌, Option, Some, Result, Ok, Err, OnOk, IsErrOf, refl, sym, ap, subst, arith}
+use Rattle.std.proofs.Common.{◌≡◌, ◌∙◌, ◌⊎◌, inl, inr, ⊎_elim, ℕ, List, [], Option, Some, Result, Ok, Err, OnOk, IsErrOf, refl, sym, ap, subst, arith}
 use Rattle.std.specs.Prelude.{⊤}
 use Rattle.std.specs.Option.{ForSome}
 use Rattle.irl_base.specs.declared.fault.Fault.{Fault}
@@ -10,7 +10,7 @@ use Rattle.irl_offer.specs.declared.settings.Settings.{Settings}
 use Rattle.irl_disk.specs.Disk.{ChangesFile, ChangesOnly, Files, TellsBy}
 use Rattle.irl_disk.specs.Images.{IsConsistent, Told, Follows, Leaves, LeavesBy, LeavesSame}
 use Rattle.irl_disk.proofs.Stretches.{same_by, widens, widens_by}
-use Rattle.irl_events.specs.Events.{Event, Happened}
+use Rattle.irl_events.specs.Events.{Event}
 use Rattle.irl_events.specs.State.{State, IsFrontState}
 use Rattle.irl_head.specs.StoreFiles.{crawl_file, pairs_base, urls_base}
 use Rattle.irl_model.proofs.FrontLaws.{front_same}
@@ -23,7 +23,6 @@ use Rattle.irl_schedule.specs.Schedule.{HaveRecords}
 use Rattle.irl_ledger.specs.Crawling.{pair_settings}
 use Rattle.irl_ledger.specs.declared.ledger.Ledger.{Ledger}
 use Rattle.irl_yard.specs.declared.parts.Parts.{Parts}
-use Rattle.irl_yard.specs.declared.parts.Rest.TheVariants.{Crawl}
 use Rattle.irl_yard.specs.Adding.{AddsEvent, AddsNotes, notes_happened, with_event, with_notes}
 use Rattle.irl_yard.specs.Holding.{HasLedger, HasOneOf, HoldsState, IsOpenRest}
 use Rattle.irl_yard.specs.Passing.{PassesState, with_pass}
@@ -32,7 +31,7 @@ use Rattle.irl_yard.proofs.Holding.{held_has}
 use Rattle.irl_yard.proofs.States.{event_front, state_same}
 use Rattle.irl_crawl.proofs.Records.{AreBeside, HasBays, bays_in, held_one, leaves_two, live_as, live_stay, log_beside, log_no_pairs, one_ledger, open_stay}
 use Rattle.irl_crawl.proofs.RecordsThen.{HoldsOn}
-use Rattle.irl_crawl.specs.Batches.{Batches, ComeInBatches, HasBatched, HaveBoth, Records, Spare, just, turns_since}
+use Rattle.irl_crawl.specs.Batches.{Batches, ComeInBatches, HasBatched, HaveBoth, Records, just}
 
 -- a later state with the same books
 pub record IsAlike (x y : State) : Type 0 where

@@ -1,6 +1,5 @@
 -- What sending pairs adds to the cuts and to the records, where a crawl has begun.
-use Rattle.std.proofs.Common.{◌≡◌, ◌∙◌, ◌⊎◌, inl, inr, ⊎_elim, ℕ, ◌+◌, ◌<◌, ◌≤◌, nat_eq, Bool, true, false, cond, List, [], Some, Result, Ok, Err, OnOk, OnErr, IsErrOf, refl, sym, ap, subst, arith}
-use Rattle.std.specs.Option.{ForSome}
+use Rattle.std.proofs.Common.{◌≡◌, ◌⊎◌, inl, inr, ⊎_elim, ℕ, nat_eq, Bool, true, false, cond, List, [], Some, Result, Ok, Err, IsErrOf, refl, sym, ap, subst, arith}
 use Rattle.irl_base.specs.declared.fault.Fault.{Fault}
 use Rattle.irl_base.specs.declared.fault.Fault.TheVariants.{Failed}
 use Rattle.irl_offer.specs.declared.settings.Settings.{Settings}
@@ -23,7 +22,6 @@ use Rattle.irl_yard.specs.Adding.{with_event}
 use Rattle.irl_yard.specs.Holding.{HoldsState, IsOpenRest}
 use Rattle.irl_yard.specs.Leading.{LeadsTo}
 use Rattle.irl_yard.specs.Sending.{HasBegun, HasSent, IsSentFile, MayHaveSent, SendsPairs, sent_of, sent_state, with_pairs}
-use Rattle.irl_yard.specs.Standing.{HasState}
 use Rattle.irl_yard.proofs.States.{event_front, pairs_front, state_both, state_same}
 use Rattle.irl_crawl.proofs.Records.{HasBays, bays, held_one, leaves_three, live_as, live_stay, one_ledger, open_stay, sent_no_urls}
 use Rattle.irl_crawl.proofs.RecordsThen.{HoldsOn, a_sending}

@@ -1,7 +1,5 @@
 -- Cuts and records that come in batches, in one part of a crawl behind another.
-use Rattle.std.proofs.Common.{◌≡◌, ℕ, ◌+◌, ◌<◌, ◌≤◌, List, Some, Result, Ok, Err, IsErrOf, sym, ap, subst, arith}
-use Rattle.irl_base.specs.declared.fault.Fault.{Fault}
-use Rattle.irl_base.specs.declared.fault.Fault.TheVariants.{Failed}
+use Rattle.std.proofs.Common.{◌≡◌, ℕ, ◌+◌, ◌≤◌, Some, sym, subst, arith}
 use Rattle.std.specs.Option.{ForSome}
 use Rattle.irl_offer.specs.declared.settings.Settings.{Settings}
 use Rattle.irl_disk.specs.Disk.{Files}

@@ -1,5 +1,5 @@
 -- What turns, and a whole run, add to the cuts and to the records, where a crawl has begun.
-use Rattle.std.proofs.Common.{◌≡◌, ◌∙◌, ℕ, ◌+◌, Result, Ok, Err, IsErrOf, refl, sym, ap, subst, arith}
+use Rattle.std.proofs.Common.{◌≡◌, ◌∙◌, ℕ, ◌+◌, Result, Ok, Err, IsErrOf, sym, ap, subst, arith}
 use Rattle.irl_base.specs.declared.fault.Fault.{Fault as FaultValue}
 use Rattle.irl_base.specs.declared.fault.Fault.TheVariants.{Failed}
 use Rattle.irl_disk.specs.Images.{IsConsistent, Told}

@@ -1,5 +1,5 @@
 -- What parts of a crawl are refused for, whatever the files stand for: where its answer is a call's, so is its reason.
-use Rattle.std.proofs.Common.{◌≡◌, ◌∙◌, ◌⊎◌, inl, inr, ⊎_elim, ℕ, List, [], Some, Result, Ok, Err, IsErrOf, refl, sym, ap}
+use Rattle.std.proofs.Common.{◌≡◌, ◌∙◌, inl, inr, ⊎_elim, ℕ, List, [], Some, Result, Ok, Err, IsErrOf, refl, sym, ap}
 use Rattle.std.specs.Prelude.{IsOkUnless, ⊤}
 use Rattle.irl_base.specs.declared.fault.Fault.{Fault}
 use Rattle.irl_base.specs.declared.fault.Fault.TheVariants.{Damaged, Full, Memory}

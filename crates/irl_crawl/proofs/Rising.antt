@@ -1,5 +1,5 @@
 -- Counts of faults of several fetchers, which rose by the parts of a number.
-use Rattle.std.proofs.Common.{◌≡◌, ◌∙◌, ℕ, ◌+◌, ◌≤◌, zero, suc, List, [], ◌∷◌, ◌++◌, ◌<◌, length, set, get_or, Some, refl, sym, ap, subst, arith}
+use Rattle.std.proofs.Common.{◌≡◌, ◌∙◌, ℕ, ◌+◌, ◌≤◌, zero, suc, List, [], ◌∷◌, ◌++◌, ◌<◌, length, set, get_or, Some, refl, sym, ap, arith}
 use Rattle.std.specs.Prelude.{slice_get}
 use Rattle.std.specs.List.{flat_map}
 use Rattle.std.proofs.lemmas.List.Concat.{flat_map-append}
@@ -7,7 +7,6 @@ use Rattle.std.proofs.lemmas.Option.{same_Some}
 use Rattle.irl_record.specs.Widening.{Answers, Widens}
 use Rattle.irl_record.specs.Wired.{Made, how_many}
 use Rattle.irl_fetch.specs.Handling.{Handled, Noted, answers_of, missing}
-use Rattle.irl_fetch.specs.Telling.{RoseBy}
 use Rattle.irl_fetch.proofs.Handling.{missing_both}
 use Rattle.irl_fetch.proofs.Telling.{rose_none, rose_then}
 use Rattle.irl_crawl.specs.Workers.{AllGoOn, Given, RoseBetween, given_by, made_by}

@@ -18,7 +18,7 @@ use Rattle.irl_polite.specs.Schedule.{Schedule}
 use Rattle.irl_record.specs.Widening.{Answers}
 use Rattle.irl_record.specs.Wired.{Made}
 use Rattle.irl_fetch.specs.declared.working.WorkLog.{WorkLog}
-use Rattle.irl_fetch.specs.Handling.{Noted, answered, entered_of}
+use Rattle.irl_fetch.specs.Handling.{Noted, entered_of}
 use Rattle.irl_fetch.specs.Telling.{Enters, Fetcher, Offering, fetcher, given_since, offering}
 use Rattle.irl_fetch.specs.Working.{IsBegun as HasBegunOne, IsStateOf, Works}
 use Rattle.irl_workers.specs.Workers.{EachWorker, IsDone}

@@ -1,7 +1,6 @@
 -- A crawl over an open store.
-use Rattle.std.specs.Prelude.{◌≡◌, ◌⊎◌, ◌<◌, ◌≤◌, ◌+◌, ℕ, List, [], ◌++◌, flat_map, length, map, Result, Ok, Err}
+use Rattle.std.specs.Prelude.{◌≡◌, ◌⊎◌, ◌<◌, ◌≤◌, ◌+◌, ℕ, List, ◌++◌, flat_map, length, map, Result, Ok, Err}
 use Rattle.irl_base.specs.declared.fault.Fault.{Fault as FaultValue}
-use Rattle.irl_base.specs.declared.fault.Fault.TheVariants.{Failed}
 use Rattle.std.specs.List.{AllByRecursion}
 use Rattle.irl_answer.specs.Found.{offer_from}
 use Rattle.irl_base.specs.Limits.{max_text}

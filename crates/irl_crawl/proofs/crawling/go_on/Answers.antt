@@ -1,4 +1,4 @@
-use Rattle.std.proofs.Common.{◌≡◌, ◌∙◌, ◌≤◌, ℕ, Err, List, length, refl, sym, subst, arith}
+use Rattle.std.proofs.Common.{◌∙◌, ◌≤◌, ℕ, Err, List, length, refl, sym, subst, arith}
 use Rattle.irl_schedule.proofs.Outcomes.{ok_gives}
 use Rattle.irl_crawl.proofs.Going.{all_go_then}
 use Rattle.irl_crawl.proofs.Looping.{runs_done, runs_first, runs_limit, runs_next, runs_stop}

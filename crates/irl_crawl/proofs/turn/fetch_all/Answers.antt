@@ -5,7 +5,6 @@ use Rattle.irl_base.specs.declared.fault.Fault.TheVariants.{Memory, Failed}
 use Rattle.irl_bay.specs.Drum.{IsDrum}
 use Rattle.irl_fetch.specs.declared.working.WorkLog.{WorkLog}
 use Rattle.irl_yard.specs.declared.parts.Parts.{Parts}
-use Rattle.irl_yard.specs.declared.yard.Yard.{Yard}
 use Rattle.irl_yard.specs.Sending.{HasBegun}
 use Rattle.irl_lock.specs.Books.{fresh_of}
 use Rattle.irl_lock.specs.Sharing.{Closes, entries_in, opening_of}

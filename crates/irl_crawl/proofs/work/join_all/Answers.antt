@@ -1,4 +1,4 @@
-use Rattle.std.proofs.Common.{◌∙◌, ◌∷◌, Err, List, Result, length, ap, arith}
+use Rattle.std.proofs.Common.{◌∙◌, ◌∷◌, Err, Result, length, ap, arith}
 use Rattle.std.specs.Vec.Iter.{into_iter_items}
 use Rattle.std.proofs.lemmas.Result.{err_from_is_err_and, IfOk-at_ok}
 use Rattle.irl_base.specs.declared.fault.Fault.{Fault}
