@@ -18,6 +18,7 @@ set -eu
 program=$1
 bench=$2
 here=$(cd "$(dirname "$0")" && pwd)
+. "$here/site.sh"
 room=$(mktemp -d "$3/replay.XXXXXX")
 trap 'rm -rf "$room"' EXIT
 trap 'exit 1' HUP INT TERM
@@ -25,24 +26,6 @@ pages=${4-50000}
 runs=${5-3}
 cc -O2 -o "$room/floor" "$here/floor.c"
 cc -O2 -o "$room/measure" "$here/measure.c"
-
-# The tape of so many pages: page i links to 2i + 1, 2i + 2 and eight others.
-tape() {
-    awk -v n="$1" 'BEGIN {
-        print "suffix test"
-        print "seed http://h0.d0.test/p0"
-        for (h = 0; h < 64; h += 2)
-            printf "page 200 other http://h%d.d%d.test/robots.txt\n|User-agent: *\n|Disallow: /none\nend\n", h, h % 16
-        for (i = 0; i < n; i++) {
-            printf "page 200 html http://h%d.d%d.test/p%d\n", i % 64, i % 16, i
-            for (k = 0; k < 10; k++) {
-                t = k == 0 ? 2 * i + 1 : k == 1 ? 2 * i + 2 : (7 * i + 31 * k) % n
-                if (t < n) printf "|<a href=\"http://h%d.d%d.test/p%d\">x</a>\n", t % 64, t % 16, t
-            }
-            print "end"
-        }
-    }'
-}
 
 crawl() {
     rm -rf "$room/store"
