@@ -20,7 +20,7 @@ struct Case {
     log: &'static str,
 }
 
-const CASES: [Case; 15] = [
+const CASES: [Case; 16] = [
     // Bytes at places; a file that isn't there is empty, and a refused write reaches nothing.
     Case {
         folder: "d",
@@ -495,6 +495,61 @@ const CASES: [Case; 15] = [
             make folder d\n\
             - failed\n\
             - 0 --------\n\
+        ",
+    },
+    // A length that is known stays right where a write or a cut fails, and where one reaches behind it.
+    Case {
+        folder: "d",
+        there: &[(".", None), ("d", None), ("d/0007", Some("abc"))],
+        most_open: 10,
+        faults: &[
+            Fault {
+                call: "write d/0007 at 3: xyz",
+                number: 28,
+            },
+            Fault {
+                call: "cut d/0007 to 9",
+                number: 28,
+            },
+        ],
+        calls: &[
+            (7, Length),
+            (7, Write(3, "xyz")),
+            (7, Length),
+            (7, Write(2, "wxyz")),
+            (7, Length),
+            (7, Write(0, "v")),
+            (7, Cut(9)),
+            (7, Length),
+            (7, Cut(1)),
+            (7, Length),
+            (7, Write(3, "e")),
+            (7, Length),
+        ],
+        log: "\
+            open d\n\
+            lock d\n\
+            open d/0007\n\
+            - 3\n\
+            open to write d/0007\n\
+            close d/0007\n\
+            write d/0007 at 3: xyz\n\
+            - failed\n\
+            - 3\n\
+            write d/0007 at 2: wxyz\n\
+            - done\n\
+            - 6\n\
+            write d/0007 at 0: v\n\
+            - done\n\
+            cut d/0007 to 9\n\
+            - failed\n\
+            - 6\n\
+            cut d/0007 to 1\n\
+            - done\n\
+            - 1\n\
+            write d/0007 at 3: e\n\
+            - done\n\
+            - 4\n\
         ",
     },
 ];

@@ -5,7 +5,6 @@ ghost use Rattle.irl_files.specs.Lost.{is_lost, KeepsLost};
 use crate::hold::{Hold, Lockable, lock};
 use crate::opening::{Access, existing, make_folder, new_file, sync_name};
 use crate::paths::{named, path_of};
-use crate::place::{read_at, write_at};
 use crate::table::{Table, is_unsupported};
 use std::alloc::{AllocError, Global};
 use std::fs::OpenFile;
@@ -121,7 +120,7 @@ where
     {
         self.open(f, Access::Read)?;
         match self.files.handles.get_mut(&f) {
-            Some(handle) => Ok(handle.file.metadata()?.len()),
+            Some(handle) => handle.length(),
             None => Ok(0),
         }
     }
@@ -133,7 +132,7 @@ where
     {
         self.open(f, Access::Read)?;
         match self.files.handles.get_mut(&f) {
-            Some(handle) => read_at(&mut handle.file, at, into),
+            Some(handle) => handle.read(at, into),
             None => Ok(0),
         }
     }
@@ -148,10 +147,7 @@ where
             self.make(f)?;
         }
         match self.files.handles.get_mut(&f) {
-            Some(handle) => {
-                handle.is_unsynced = true;
-                write_at(&mut handle.file, at, bytes)
-            }
+            Some(handle) => handle.write(at, bytes),
             None => Err(ErrorKind::NotFound.into()),
         }
     }
@@ -162,10 +158,7 @@ where
     {
         self.open(f, Access::Write)?;
         match self.files.handles.get_mut(&f) {
-            Some(handle) => {
-                handle.is_unsynced = true;
-                handle.file.set_len(to)
-            }
+            Some(handle) => handle.cut(to),
             None => Ok(()),
         }
     }

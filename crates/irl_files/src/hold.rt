@@ -1,8 +1,9 @@
 use std::fs::{File, TryLockError};
 use std::io::{self, ErrorKind};
+use std::os::unix::fs::FileExt;
 
-/// An open file, or folder, that a program can lock against others.
-pub trait Lockable {
+/// An open file, or folder, that a program can lock against others, and a file at whose places it can read.
+pub trait Lockable: FileExt {
     /// Takes the lock unless another open of the same file has it. It lasts until this one is closed, and so no longer than
     /// the program.
     fn try_lock(&self) -> Result<(), TryLockError>;

@@ -2,16 +2,31 @@ ghost use Rattle.std.specs.Prelude.{◌≡◌, ◌+◌, ◌^◌, ◌<◌, ◌≤
 ghost use Rattle.std.specs.Io.KnownBytes.{Consumes, IsAtEnd};
 
 use std::io::{self, ErrorKind, Read, Seek, SeekFrom, Write};
+use std::os::unix::fs::FileExt;
 
 /// How often a read that is interrupted is made again.
 const TRIES: u32 = 64;
 
+/// A file from a place on, read without a move of the file's own place.
+#[derive(Drop)]
+struct Rest<'a, F> {
+    file: &'a F,
+    at: u64,
+}
+
+impl<F: FileExt> Read for Rest<'_, F> {
+    fn read(&mut self, into: &mut [u8]) -> io::Result<usize> {
+        let count = self.file.read_at(into, self.at)?;
+        self.at = self.at.saturating_add(count as u64);
+        Ok(count)
+    }
+}
+
 /// Reads from a place until the slice is full or the file ends.
-pub(crate) fn read_at<F: Read + Seek>(file: &mut F, at: u64, into: &mut [u8]) -> io::Result<usize>
+pub(crate) fn read_at<F: FileExt>(file: &F, at: u64, into: &mut [u8]) -> io::Result<usize>
     ensures { IfOk result (λ n. (n ≤ length into.new) × (at + n < 2 ^ 64)) }
 {
-    file.seek(SeekFrom::Start(at))?;
-    let count = fill(file, into)?;
+    let count = fill(&mut Rest { file, at }, into)?;
     match at.checked_add(count as u64) {
         Some(_) => Ok(count),
         None => Err(ErrorKind::InvalidInput.into()),

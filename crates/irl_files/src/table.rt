@@ -1,12 +1,14 @@
-ghost use Rattle.std.specs.Prelude.{◌≡◌, ℕ, false, IfOk};
+ghost use Rattle.std.specs.Prelude.{◌≡◌, ◌+◌, ◌^◌, ◌<◌, ◌≤◌, ℕ, false, length, IfOk, OnOk};
 ghost use Rattle.irl_files.specs.Lost.{is_lost, KeepsLost};
 
 use crate::lost::Lost;
 use crate::opening::{Access, existing};
+use crate::place::{read_at, write_at};
 use std::alloc::{AllocError, Global};
 use std::collections::BTreeMap;
 use std::fs::{OpenFile, OpenOptions};
-use std::io::{self, Error, ErrorKind};
+use std::io::{self, Error, ErrorKind, Seek, Write};
+use std::os::unix::fs::FileExt;
 use std::rt::Files;
 
 /// The most files that a store has.
@@ -22,6 +24,8 @@ pub(crate) struct Handle<F> {
     pub(crate) access: Access,
     /// Whether it was written, or cut, since its last sync.
     pub(crate) is_unsynced: bool,
+    /// How long it is, where that is known. Nobody else writes the folder.
+    length: Option<u64>,
     /// The number of the use that was its last.
     last_use: u64,
 }
@@ -34,7 +38,51 @@ pub(crate) struct Table<F> {
     pub(crate) lost: Lost,
 }
 
+impl<F: FileExt> Handle<F> {
+    /// Reads from a place until the slice is full or the file ends.
+    pub(crate) fn read(&self, at: u64, into: &mut [u8]) -> io::Result<usize>
+        ensures { IfOk result (λ n. (n ≤ length into.new) × (at + n < 2 ^ 64)) }
+    {
+        read_at(&self.file, at, into)
+    }
+}
+
+impl<F: Write + Seek> Handle<F> {
+    /// Writes at a place.
+    pub(crate) fn write(&mut self, at: u64, bytes: &[u8]) -> io::Result<()>
+        ensures { OnOk result (at + length bytes.now < 2 ^ 64) }
+    {
+        self.is_unsynced = true;
+        let before = self.length.take();
+        write_at(&mut self.file, at, bytes)?;
+        let end = at + bytes.len() as u64;
+        self.length = before.map(|length| length.max(end));
+        Ok(())
+    }
+}
+
 impl<F: OpenFile> Handle<F> {
+    /// How long it is.
+    pub(crate) fn length(&mut self) -> io::Result<u64> {
+        match self.length {
+            Some(length) => Ok(length),
+            None => {
+                let length = self.file.metadata()?.len();
+                self.length = Some(length);
+                Ok(length)
+            }
+        }
+    }
+
+    /// Cuts it back to this length.
+    pub(crate) fn cut(&mut self, to: u64) -> io::Result<()> {
+        self.is_unsynced = true;
+        self.length = None;
+        self.file.set_len(to)?;
+        self.length = Some(to);
+        Ok(())
+    }
+
     /// Makes the file's bytes last.
     pub(crate) fn sync(&mut self) -> io::Result<()> {
         self.file.sync_all()?;
@@ -71,6 +119,7 @@ impl<F: OpenFile + Drop> Table<F> {
             file,
             access,
             is_unsynced: false,
+            length: None,
             last_use: self.uses,
         };
         self.handles.insert(f, handle)?;

@@ -5,6 +5,7 @@ use std::alloc::{AllocError, Allocator, Global};
 use std::cell::{Cell, RefCell};
 use std::fs::{Files, Metadata, OpenFile, OpenOptions, TryLockError};
 use std::io::{self, Error, ErrorKind, Read, Seek, SeekFrom, Write};
+use std::os::unix::fs::FileExt;
 use std::path::Path;
 
 /// The most bytes that one read gives.
@@ -289,8 +290,8 @@ impl Drop for SystemFile<'_> {
     }
 }
 
-impl Read for SystemFile<'_> {
-    fn read(&mut self, buf: &mut [u8]) -> io::Result<usize> {
+impl FileExt for SystemFile<'_> {
+    fn read_at(&self, buf: &mut [u8], offset: u64) -> io::Result<usize> {
         let state = self.system.state.try_borrow()?;
         let Some(
             Node {
@@ -301,11 +302,22 @@ impl Read for SystemFile<'_> {
         else {
             return Err(ErrorKind::IsADirectory.into());
         };
-        let place = self.place.get();
-        let from = bytes.get(place as usize..).unwrap_or(&[]);
+        let from = bytes.get(offset as usize..).unwrap_or(&[]);
         let count = from.len().min(buf.len()).min(PIECE);
         buf[..count].copy_from_slice(&from[..count]);
-        self.place.set(place.saturating_add(count as u64));
+        Ok(count)
+    }
+
+    fn write_at(&self, _buf: &[u8], _offset: u64) -> io::Result<usize> {
+        Err(ErrorKind::Unsupported.into())
+    }
+}
+
+impl Read for SystemFile<'_> {
+    fn read(&mut self, buf: &mut [u8]) -> io::Result<usize> {
+        let count = self.read_at(buf, self.place.get())?;
+        self.place
+            .set(self.place.get().saturating_add(count as u64));
         Ok(count)
     }
 }
