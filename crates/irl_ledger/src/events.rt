@@ -149,6 +149,3 @@ fn copied(alloc: Global, note: &Note) -> Result<Note, AllocError>
         state,
     })
 }
-
-#[cfg(test)]
-mod tests;

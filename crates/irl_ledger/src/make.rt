@@ -51,6 +51,3 @@ pub(crate) fn pair_settings(settings: &Settings) -> Settings
         ..*settings
     }
 }
-
-#[cfg(test)]
-mod tests;

@@ -342,6 +342,3 @@ fn are_within(fronts: &[u64], urls: &Bay) -> bool
     }
     true
 }
-
-#[cfg(test)]
-mod tests;

@@ -54,6 +54,3 @@ pub fn a_legal_log_is_whole()
         AreLegal settings.queues settings.buckets events →
         HasEvents settings.buckets (files crawl_file) (events_of events) → IsLogDamagedAt settings files f at → ⊥ }
 {}
-
-#[cfg(test)]
-mod tests;

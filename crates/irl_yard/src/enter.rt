@@ -293,6 +293,3 @@ pub fn no_two_grounds()
     ensures other_or_bad { (asked : AskedValue) (files : Files) (n kept wanted m : ℕ) →
         IsKeptOtherwise asked files n kept wanted → IsBadStore asked files m → ⊥ }
 {}
-
-#[cfg(test)]
-mod tests;

@@ -51,6 +51,3 @@ fn parts_of<S: Store>(alloc: Global, store: &mut S) -> Result<Option<Parts>, Ope
         }
     }
 }
-
-#[cfg(test)]
-mod tests;

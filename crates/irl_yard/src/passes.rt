@@ -209,6 +209,3 @@ fn plain_counts(urls: &Bay) -> Counts
         coded: 0,
     }
 }
-
-#[cfg(test)]
-mod tests;

@@ -176,6 +176,3 @@ pub(crate) fn is_failure<T>(found: &Result<T, Fault>) -> bool
 {
     matches!(found, Err(Fault::Failed))
 }
-
-#[cfg(test)]
-pub(crate) mod tests;

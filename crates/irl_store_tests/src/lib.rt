@@ -1,0 +1,12 @@
+//! Tests of an open store: of `irl_yard`, and by its calls of `irl_ledger`. They stand here since a crate that has tests
+//! itself is proved twice.
+#![tactic(auto)]
+
+#[cfg(test)]
+mod calls;
+#[cfg(test)]
+mod ledger;
+#[cfg(test)]
+mod stores;
+#[cfg(test)]
+mod yard;
