@@ -71,6 +71,71 @@ report() {
     done
 }
 
+# A tape of six URLs, one that a robots file denies and one that leads elsewhere among them; its report, and its list in a store of
+# one bucket.
+tape() {
+    cat >in <<'TAPE'
+suffix test
+seed http://www.a.test/
+page 200 other http://www.a.test/robots.txt
+|User-agent: *
+|Disallow: /private
+end
+page 200 html http://www.a.test/
+|<a href="/one">1</a>
+|<a href="/private/x">2</a>
+|<a href="http://b.test/">3</a>
+|<a href="/one#top">4</a>
+end
+page 301 other http://www.a.test/one
+to http://c.test/new
+end
+page 200 html http://b.test/
+|<a href="http://www.a.test/">a</a>
+|<a href="http://c.test/new">c</a>
+|<a href="https://c.test/secure">s</a>
+|<a href="/gone">g</a>
+end
+page 200 html http://c.test/new
+|<a href="http://b.test/">b</a>
+end
+# these are not linked
+page 200 other http://c.test/old
+|old
+end
+lost http://c.test/lost
+page 204 other http://c.test/none
+end
+TAPE
+}
+tape_report=$(report '10 10 6 5 0 0 0 0 6 3 1 1 1 0 0 0 0 0')
+tape_listing='0 page http://www.a.test/|1 moved http://www.a.test/one|2 denied:2 http://www.a.test/private/x|3 page http://b.test/|5 page http://c.test/new|8 status:404 http://b.test/gone|'
+
+# The lines of a list without their numbers, sorted.
+unnumbered() {
+    cut -d ' ' -f 2- | LC_ALL=C sort
+}
+
+# The lines of a list with what is done: its number, what came of it, and its URL.
+settled() {
+    grep -Ev '^[0-9]+ (fresh|front|last|queue:[0-9]+) ' "$1" | LC_ALL=C sort
+}
+
+# What stood in an earlier list stands in a later one: what was done, and each URL under its number.
+stays() {
+    settled "$2" >later
+    settled "$1" | LC_ALL=C comm -23 - later >left-out
+    has left-out ''
+    cut -d ' ' -f 1,3 "$2" | LC_ALL=C sort >later
+    cut -d ' ' -f 1,3 "$1" | LC_ALL=C sort | LC_ALL=C comm -23 - later >left-out
+    has left-out ''
+}
+
+# Whether two files have the same lines.
+same() {
+    cmp -s "$1" "$2" || fail "$1 and $2 differ: $(diff "$1" "$2" | head -n 20 | tr '\n' '|')"
+}
+
 # Ends a case that is right.
 right() {
     passed=$((passed + 1))

@@ -4,11 +4,6 @@
 . "$(dirname -- "$0")/common.sh"
 trap 'umount disk 2>/dev/null; chmod -R u+rwx "$room"; rm -rf "$room"' EXIT
 
-# The lines of a list without their numbers, sorted.
-unnumbered() {
-    cut -d ' ' -f 2- | LC_ALL=C sort
-}
-
 # Writes a tape with answers of every kind, whose hosts are those below; each is of a domain of its own but for the ports of
 # port.test. A first seed is named once more at the end.
 #
@@ -388,11 +383,6 @@ site_listing 2000 >site-set
 lists site site-set
 right
 
-# The lines of a list with what is done: its number, what came of it, and its URL.
-settled() {
-    grep -Ev '^[0-9]+ (fresh|front|last|queue:[0-9]+) ' "$1" | LC_ALL=C sort
-}
-
 # Killed once its journal is so many elevenths as long as that of the whole crawl, and shown then: what is settled stays, under
 # its number. It may have ended before it is killed, but not each time.
 try 'a crawl that is killed' ''
@@ -409,17 +399,12 @@ for moment in 1 2 3 4 5 6 7 8 9 10; do
     wait "$crawl" 2>/dev/null
     [ "$?" -ne 137 ] || killed=$((killed + 1))
     "$program" "cut-$moment" list >cut-listed 2>err || fail "status $? where it was killed at moment $moment: $(cat err)"
-    settled cut-listed >cut-settled
     "$program" "cut-$moment" replay --batch 100 <in >out 2>err || fail "status $? where it goes on: $(cat err)"
     sed -e '1s/^offers [0-9]*$/offers 0/' -e '2s/^judged [0-9]*$/judged 0/' out >rest
     has rest "$(report '0 0 2000 44 0 0 0 0 2000 2000 0 0 0 0 0 0 0 0')"
     lists "cut-$moment" site-set
     "$program" "cut-$moment" list >listed 2>err || fail "status $?"
-    settled listed | LC_ALL=C comm -23 cut-settled - >lost
-    has lost ''
-    cut -d ' ' -f 1,3 listed | LC_ALL=C sort >numbers
-    cut -d ' ' -f 1,3 cut-listed | LC_ALL=C sort | LC_ALL=C comm -23 - numbers >lost
-    has lost ''
+    stays cut-listed listed
     rm -rf "cut-$moment"
 done
 [ "$killed" -ge 5 ] || fail "of ten crawls $killed were killed"
@@ -430,13 +415,11 @@ right
 # Of a crawl that found no room all that was settled stays, and where there is room again the rest is crawled.
 goes_on() {
     "$program" "$1" list >cut-listed 2>err || fail "status $? where there was no room: $(cat err)"
-    settled cut-listed >cut-settled
     "$program" "$1" replay --batch 50 <in >out 2>err || fail "status $? where there is room again: $(cat err)"
     grep -qx 'unique 500' out && grep -qx 'done 500' out || fail "it printed '$(tr '\n' '|' <out)'"
     lists "$1" few-set
-    "$program" "$1" list 2>err >listed
-    settled listed | LC_ALL=C comm -23 cut-settled - >lost
-    has lost ''
+    "$program" "$1" list >listed 2>err || fail "status $? of the list"
+    stays cut-listed listed
 }
 
 site_listing 500 >few-set

@@ -24,12 +24,7 @@ stop() {
 fates() {
     "$program" "$1" list >listed 2>err || fail "status $? of the list of $1: $(tr '\n' '|' <err)"
     has err ''
-    cut -d ' ' -f 2- listed | LC_ALL=C sort >"$2"
-}
-
-# Whether two files have the same lines.
-same() {
-    cmp -s "$1" "$2" || fail "$1 and $2 differ: $(diff "$1" "$2" | head -n 20 | tr '\n' '|')"
+    unnumbered <listed >"$2"
 }
 
 # Without a server
@@ -136,18 +131,15 @@ small_site() {
     page "$1" c.test/new text/html '<a href="http://b.test/">b</a>|'
 }
 
-whole=$(report '10 10 6 5 0 0 0 0 6 3 1 1 1 0 0 0 0 0')
-listing='0 page http://www.a.test/|1 moved http://www.a.test/one|2 denied:2 http://www.a.test/private/x|3 page http://b.test/|5 page http://c.test/new|8 status:404 http://b.test/gone|'
-
 if command -v python3 >/dev/null 2>&1; then
     # Eight connections, three of them for robots files. A further one would be refused, and change the report.
     try 'a small site' 'suffix test|seed http://www.a.test/|'
     small_site small
     serve small 8
     "$program" crawled crawl --buckets 1 --port "$port" --delay 0 <in >out 2>err
-    gives 0 "$whole" ''
+    gives 0 "$tape_report" ''
     "$program" crawled list >out 2>err
-    gives 0 "$listing" ''
+    gives 0 "$tape_listing" ''
     wait "$server" || fail "the server ended with status $?: $(tail -n 1 small/log)"
     server=
     {
@@ -174,7 +166,7 @@ if command -v python3 >/dev/null 2>&1; then
     small_site defaults
     serve defaults 8
     "$program" defaulted crawl --port "$port" --delay 0 <in >out 2>err
-    gives 0 "$whole" ''
+    gives 0 "$tape_report" ''
     stop TERM
     right
 

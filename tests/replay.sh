@@ -3,56 +3,16 @@
 
 . "$(dirname -- "$0")/common.sh"
 
-# Writes a tape of six URLs, one that a robots file denies and one that leads elsewhere among them.
-tape() {
-    cat >in <<'TAPE'
-suffix test
-seed http://www.a.test/
-page 200 other http://www.a.test/robots.txt
-|User-agent: *
-|Disallow: /private
-end
-page 200 html http://www.a.test/
-|<a href="/one">1</a>
-|<a href="/private/x">2</a>
-|<a href="http://b.test/">3</a>
-|<a href="/one#top">4</a>
-end
-page 301 other http://www.a.test/one
-to http://c.test/new
-end
-page 200 html http://b.test/
-|<a href="http://www.a.test/">a</a>
-|<a href="http://c.test/new">c</a>
-|<a href="https://c.test/secure">s</a>
-|<a href="/gone">g</a>
-end
-page 200 html http://c.test/new
-|<a href="http://b.test/">b</a>
-end
-# these are not linked
-page 200 other http://c.test/old
-|old
-end
-lost http://c.test/lost
-page 204 other http://c.test/none
-end
-TAPE
-}
-
-whole=$(report '10 10 6 5 0 0 0 0 6 3 1 1 1 0 0 0 0 0')
-listing='0 page http://www.a.test/|1 moved http://www.a.test/one|2 denied:2 http://www.a.test/private/x|3 page http://b.test/|5 page http://c.test/new|8 status:404 http://b.test/gone|'
-
 # Whole crawls
 
 try 'a tape' ''
 tape
 "$program" taped replay --buckets 1 <in >out 2>err
-gives 0 "$whole" ''
+gives 0 "$tape_report" ''
 "$program" taped show >out 2>err
-gives 0 "$whole" ''
+gives 0 "$tape_report" ''
 "$program" taped list >out 2>err
-gives 0 "$listing" ''
+gives 0 "$tape_listing" ''
 right
 
 # To which domains those of other domains lead, as the texts of the pairs say that were judged unique: b.test and c.test have two,
@@ -77,7 +37,7 @@ right
 try 'a tape at the defaults' ''
 tape
 "$program" defaults replay <in >out 2>err
-gives 0 "$whole" ''
+gives 0 "$tape_report" ''
 right
 
 try 'a crawl that goes on' ''
@@ -85,7 +45,7 @@ tape
 "$program" taped replay <in >out 2>err
 gives 0 "$(report '11 11 6 5 0 0 0 0 6 3 1 1 1 0 0 0 0 0')" ''
 "$program" taped list >out 2>err
-gives 0 "$listing" ''
+gives 0 "$tape_listing" ''
 right
 
 try 'one page a run' ''
@@ -97,8 +57,8 @@ for run in 2 3 4 5 6; do
 done
 "$program" paged replay --pages 1 <in >out 2>err
 gives 0 "$(report '16 16 6 5 0 0 0 0 6 3 1 1 1 0 0 0 0 0')" ''
-"$program" paged list 2>err | cut -d ' ' -f 2- | sort >out
-text "$listing" | cut -d ' ' -f 2- | sort | cmp -s - out || fail "it lists '$(tr '\n' '|' <out)'"
+"$program" paged list 2>err | unnumbered >out
+text "$tape_listing" | unnumbered | cmp -s - out || fail "it lists '$(tr '\n' '|' <out)'"
 right
 
 try 'a page limit and then all' ''
@@ -194,7 +154,7 @@ tape
 status=$?
 [ "$status" -eq 6 ] || fail "status $status, and not 6"
 "$program" closed show >out 2>err
-gives 0 "$whole" ''
+gives 0 "$tape_report" ''
 right
 
 try 'output that is full or read by nobody' ''
@@ -203,7 +163,7 @@ if [ -c /dev/full ]; then
     "$program" brim replay <in >/dev/full 2>err
     gives 6 '' 'output fault|'
     "$program" brim show >out 2>err
-    gives 0 "$whole" ''
+    gives 0 "$tape_report" ''
     : >out
 fi
 mkfifo gone
@@ -219,13 +179,13 @@ rm gone
 has status '6|'
 has err 'output fault|'
 "$program" unheard show >out 2>err
-gives 0 "$whole" ''
+gives 0 "$tape_report" ''
 right
 
 try 'other streams that are closed' ''
 tape
 "$program" closed-errors replay <in >out 2>&-
-gives 0 "$whole" ''
+gives 0 "$tape_report" ''
 : >out
 sed '$d' in >shorter
 "$program" closed-errors replay <shorter >out 2>&-
@@ -233,7 +193,7 @@ gives 2 '' ''
 "$program" closed-both replay <in >&- 2>&-
 gives 6 '' ''
 "$program" closed-both show >out 2>err
-gives 0 "$whole" ''
+gives 0 "$tape_report" ''
 "$program" closed-input replay <&- >out 2>err
 gives 0 "$(report '0 0 0 0 0 0 0 0 0 0 0 0 0 0 0 0 0 0')" ''
 right
@@ -242,9 +202,9 @@ right
 try 'a tape from a pipe' ''
 tape
 dd if=in bs=1 2>/dev/null | "$program" piped replay >out 2>err
-gives 0 "$whole" ''
+gives 0 "$tape_report" ''
 printf '%s' "$(cat in)" | "$program" piped-on replay >out 2>err
-gives 0 "$whole" ''
+gives 0 "$tape_report" ''
 right
 
 try 'input that is a folder' ''
