@@ -14,20 +14,20 @@ else
     tapes=20
 fi
 
-# Writes a tape by chance: up to 7 hosts of up to 5 domains, some with robots files of each kind, and up to 60 pages with links,
-# redirects, other statuses and lost ones.
+# Writes a tape by chance: up to 7 hosts of up to 5 domains, some with robots files of each kind, and some pages on each host: with
+# links, redirects, other statuses and lost ones.
 chance_tape() {
     awk -v seed="$1" '
     function some(n) { return int(rand() * n) }
     function url() { return "http://h" some(hosts) ".d" some(domains) ".test/p" some(pages) }
     BEGIN {
         srand(seed)
-        hosts = 1 + some(7); domains = 1 + some(5); pages = 1 + some(12)
+        hosts = 1 + some(7); domains = 1 + some(5); pages = 3 + some(10)
         split("301 302 303 307 308", moves, " ")
         split("404 410 500 204 200", others, " ")
         print "suffix test"
         print "seed http://h0.d0.test/p0"
-        for (i = some(4); i > 0; i--) print "seed " url()
+        for (i = 3 + some(9); i > 0; i--) print "seed " url()
         for (h = 0; h < hosts; h++) for (d = 0; d < domains; d++) {
             host = "http://h" h ".d" d ".test"
             kind = some(8)
@@ -42,7 +42,7 @@ chance_tape() {
                 else if (kind == 2) print "page " others[1 + some(5)] " html " at "\n|<a href=/p0>\nend"
                 else if (kind < 9) {
                     print "page 200 html " at
-                    for (k = some(6); k > 0; k--) print "|<a href=\"" url() "\">x</a>"
+                    for (k = some(8); k > 0; k--) print "|<a href=\"" url() "\">x</a>"
                     print "|end of page\nend"
                 }
             }
@@ -55,43 +55,99 @@ chance_tape() {
 comes_to() {
     "$program" "$1" show >shown 2>err || fail "show ended with $?: $(cat err)"
     "$program" "$1" list >listed 2>err || fail "list ended with $?: $(cat err)"
-    { grep -v -e '^offers' -e '^judged' shown && cut -d ' ' -f 2- listed | LC_ALL=C sort; } >"$2"
+    { grep -v -e '^offers' -e '^judged' shown && unnumbered <listed; } >"$2"
+}
+
+# How far the shell counts until the run that was just started prints its report or an error, at most so far.
+count_to() {
+    count=0
+    until [ -s out ] || [ -s err ] || [ "$count" -ge "$1" ]; do
+        count=$((count + 1))
+    done
 }
 
 settings='--buckets 4 --array 3 --trigger 20 --base 2 --most 9 --batch 11 --delay 0'
 
+# By several workers a tape is crawled whole, and in another folder by two runs that end by their page limit, one that is killed
+# and one to the end. The kill comes at two to nine tenths of the time that the whole crawl took, as the shell counts it, so that
+# most come while the run is under way, however fast the machine is. At a tenth of them at least it must have settled a turn.
 try 'as one worker does' ''
 seed=0
+killed=0
+amid=0
 while [ "$seed" -lt "$tapes" ]; do
     seed=$((seed + 1))
-    name="a tape by chance, number $seed, by three workers"
+    workers=$((2 + seed % 15))
+    name="a tape by chance, number $seed, by $workers workers"
     chance_tape "$seed" >in
-    rm -rf one three
+    rm -rf one several cut
     "$program" one replay $settings <in >out 2>err || fail "status $? of one worker: $(cat err)"
     comes_to one wanted
-    # Two runs that end by their page limit, one that is killed at any moment, and one to the end.
+    : >out
+    "$program" several replay $settings --workers "$workers" <in >out 2>err &
+    count_to 100000000
+    wait $! || fail "status $?: $(cat err)"
+    comes_to several found
+    same wanted found
+    whole=$count
     for pages in 5 1; do
-        "$program" three replay $settings --workers 3 --pages $pages <in >out 2>err || fail "status $?: $(cat err)"
+        "$program" cut replay $settings --workers "$workers" --pages $pages <in >out 2>err || fail "status $?: $(cat err)"
     done
-    "$program" three replay $settings --workers 3 <in >out 2>err &
-    killed=$!
-    [ $((seed % 4)) -eq 0 ] || sleep "0.00$((seed % 9))"
-    kill -9 $killed 2>/dev/null
-    wait $killed 2>/dev/null
-    "$program" three replay $settings --workers 3 <in >out 2>err || fail "status $?: $(cat err)"
+    done=$(sed -n 's/^done //p' out)
+    : >out
+    "$program" cut replay $settings --workers "$workers" <in >out 2>err &
+    run=$!
+    count_to $((whole * (2 + seed % 8) / 10))
+    kill -KILL "$run" 2>/dev/null
+    wait "$run" 2>/dev/null
+    status=$?
+    "$program" cut list >cut-listed 2>err || fail "status $? of the list behind the kill: $(cat err)"
+    if [ "$status" -eq 137 ]; then
+        killed=$((killed + 1))
+        [ "$(settled cut-listed | wc -l)" -le "$done" ] || amid=$((amid + 1))
+    fi
+    "$program" cut replay $settings --workers 3 <in >out 2>err || fail "status $?: $(cat err)"
     has err ''
-    comes_to three found
-    cmp -s wanted found || fail "seed $seed: $(diff wanted found | head -n 4 | tr '\n' '|')"
+    comes_to cut found
+    same wanted found
+    stays cut-listed listed
 done
 name='as one worker does'
+[ $((10 * amid)) -ge "$tapes" ] || fail "of $tapes runs $killed were killed, and $amid of them amid their pages"
+right
+
+try 'a tape by 1, 2, 4 and 16 workers' ''
+tape
+text "$tape_listing" | unnumbered >wanted
+for workers in 1 2 4 16; do
+    "$program" "taped-$workers" replay --workers $workers <in >out 2>err
+    gives 0 "$tape_report" ''
+    "$program" "taped-$workers" list 2>err | unnumbered >found
+    same wanted found
+done
+right
+
+try 'one page and then all by 1, 2, 4 and 16 workers' ''
+tape
+for workers in 1 2 4 16; do
+    "$program" "paged-$workers" replay --pages 1 --workers $workers <in >out 2>err
+    gives 0 "$(report '5 5 4 1 3 0 0 0 1 1 0 0 0 0 0 0 0 0')" ''
+    "$program" "paged-$workers" replay --workers $workers <in >out 2>err
+    gives 0 "$(report '11 11 6 5 0 0 0 0 6 3 1 1 1 0 0 0 0 0')" ''
+    "$program" "paged-$workers" list 2>err | unnumbered >found
+    same wanted found
+done
 right
 
 # As many workers as there may be, and more than there are hosts.
-for workers in 2 4 16 64; do
-    try "a made-up site by $workers workers" ''
+try 'a made-up site by 1, 2, 4, 16 and 64 workers' ''
+awk 'BEGIN { for (i = 0; i < 2000; i++) print "page http://s" i % 16 ".test/p" i }' | LC_ALL=C sort >wanted
+for workers in 1 2 4 16 64; do
     "$program" "made-$workers" gen 2000 --workers $workers --delay 0 <in >out 2>err
     gives 0 "$(report '4000 4000 2000 44 0 0 0 0 2000 2000 0 0 0 0 0 0 0 0')" ''
-    right
+    "$program" "made-$workers" list 2>err | unnumbered >found
+    same wanted found
 done
+right
 
 finish
