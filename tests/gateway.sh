@@ -54,9 +54,10 @@ right
 
 # For each connection it reads a request, keeps it, sends the file of the request's host and target as it is, and closes; where
 # there is none it answers 404. The file `port` tells its port. It ends by itself after so many connections, and else is stopped.
+# It answers nobody before so many connections stand at once.
 cat >server.py <<'PYTHON'
 import os, socket, sys
-folder, most = sys.argv[1], int(sys.argv[2])
+folder, most, together = sys.argv[1], int(sys.argv[2]), int(sys.argv[3])
 listener = socket.socket()
 listener.bind(('127.0.0.1', 0))
 listener.listen(64)
@@ -64,8 +65,12 @@ with open(folder + '/port.new', 'w') as file:
     file.write(str(listener.getsockname()[1]))
 os.rename(folder + '/port.new', folder + '/port')
 count = 0
+waiting = []
 while most == 0 or count < most:
-    peer, _ = listener.accept()
+    while len(waiting) < together:
+        waiting.append(listener.accept()[0])
+    together = 0
+    peer = waiting.pop(0) if waiting else listener.accept()[0]
     count += 1
     request = b''
     while not request.endswith(b'\r\n\r\n'):
@@ -89,9 +94,9 @@ while most == 0 or count < most:
     peer.close()
 PYTHON
 
-# Starts the server over a folder, for so many connections, or without end.
+# Starts the server over a folder, for so many connections, or without end; where it is told, answering once so many stand.
 serve() {
-    python3 server.py "$1" "$2" 2>"$1/log" &
+    python3 server.py "$1" "$2" "${3-0}" 2>"$1/log" &
     server=$!
     for _ in $(seq 100); do
         [ ! -s "$1/port" ] || break
@@ -151,9 +156,9 @@ if command -v python3 >/dev/null 2>&1; then
         asks c.test /robots.txt irlbot
         asks c.test /new irlbot
         asks b.test /gone irlbot
-    } | LC_ALL=C sort >wanted
+    } | LC_ALL=C sort >requests-wanted
     LC_ALL=C sort small/requests >asked
-    same wanted asked
+    same requests-wanted asked
     right
 
     # What was done is not asked for again: there is no server any more.
@@ -167,6 +172,35 @@ if command -v python3 >/dev/null 2>&1; then
     serve defaults 8
     "$program" defaulted crawl --port "$port" --delay 0 <in >out 2>err
     gives 0 "$tape_report" ''
+    stop TERM
+    right
+
+    # By however many workers it is asked for the same, and the same comes of it.
+    try 'a small site by 4 and 16 workers' 'suffix test|seed http://www.a.test/|'
+    text "$tape_listing" | unnumbered >fates-wanted
+    for workers in 4 16; do
+        small_site "small-$workers"
+        serve "small-$workers" 8
+        "$program" "crawled-$workers" crawl --port "$port" --delay 0 --workers $workers <in >out 2>err
+        gives 0 "$tape_report" ''
+        stop TERM
+        fates "crawled-$workers" fates-found
+        same fates-wanted fates-found
+        LC_ALL=C sort "small-$workers/requests" >asked
+        same requests-wanted asked
+    done
+    right
+
+    # Each of sixteen hosts has a worker, and the server answers none of them before all have asked. One that waits for another
+    # gives up after 30 seconds.
+    try 'sixteen fetches at the same time' ''
+    for host in 1 2 3 4 5 6 7 8 9 10 11 12 13 14 15 16; do
+        printf 'seed http://h%s.test/\n' "$host"
+    done >in
+    mkdir together
+    serve together 0 16
+    "$program" together-store crawl --port "$port" --delay 0 --workers 16 <in >out 2>err
+    gives 0 "$(report '16 16 16 0 0 0 0 0 16 0 0 16 0 0 0 0 0 0')" ''
     stop TERM
     right
 
@@ -436,23 +470,50 @@ if command -v nginx >/dev/null 2>&1; then
     {
         printf '%s/robots.txt\n' one.test two.test three.test
         sed -n -e '/^denied/d' -e '/^shut/d' -e 's|^[^ ]* http://||p' crawled-fates
-    } | sed 's/$/ irlbot/' | LC_ALL=C sort >wanted
+    } | sed 's/$/ irlbot/' | LC_ALL=C sort >asked-for
     LC_ALL=C sort fetched >told
-    same wanted told
+    same asked-for told
     right
 
-    # Wherever it is stopped, the next run goes on, and what comes of each page is the same.
-    try 'a crawl of three sites that is killed' ''
+    # Several workers fetch the same, and the same comes of it.
+    try 'three sites of nginx by 4 and 16 workers' ''
     head -n 2 tape >in
     three_sites >http.conf
+    for workers in 4 16; do
+        rm -f fetched
+        start_nginx
+        "$program" "sites-$workers" crawl --buckets 1 --port "$port" --delay 0 --workers $workers <in >out 2>err ||
+            fail "status $?: $(tr '\n' '|' <err)"
+        has err ''
+        stop QUIT
+        same crawled-report out
+        fates "sites-$workers" fates-found
+        same crawled-fates fates-found
+        LC_ALL=C sort fetched >told
+        same asked-for told
+    done
+    right
+
+    # Wherever it is stopped, the next run goes on, by however many workers, and what comes of each page is the same. Each run is
+    # killed once nginx has told of so many fetches in all, which is long before its end: the fetches of a host are apart.
+    try 'a crawl of three sites that is killed' ''
+    head -n 2 tape >in
+    rm -f fetched
     start_nginx
-    for turn in 1 2 3; do
-        "$program" sites-killed crawl --port "$port" --delay 0 --batch 16 --buckets 1 <in >out 2>err &
+    most=0
+    killed=0
+    for workers in 16 1 4; do
+        most=$((most + 25))
+        "$program" sites-killed crawl --buckets 1 --port "$port" --delay 30 --batch 16 --workers $workers <in >out 2>err &
         crawler=$!
-        sleep 0.1
+        while kill -0 "$crawler" 2>/dev/null && [ "$(wc -l <fetched)" -lt "$most" ]; do
+            sleep 0.01
+        done
         kill -KILL "$crawler" 2>/dev/null
         wait "$crawler" 2>/dev/null
+        [ "$?" -ne 137 ] || killed=$((killed + 1))
     done
+    [ "$killed" -ge 1 ] || fail 'no crawl was killed before its end'
     "$program" sites-killed crawl --port "$port" --delay 0 <in >out 2>err || fail "status $?: $(tr '\n' '|' <err)"
     has err ''
     fates sites-killed killed-fates
