@@ -427,38 +427,44 @@ few='--buckets 1 --array 16 --trigger 64 --batch 50'
 
 try 'a crawl into a file that may not grow' ''
 site 500
-{
-    (
-        trap '' XFSZ
-        ulimit -f 32
-        exec "$program" bounded replay $few <in 2>err
-    )
-    printf '%s\n' "$?" >status
-} | cat >out
-status=$(cat status)
-tells_fault bounded 27
-has out ''
-goes_on bounded
+for workers in 1 16; do
+    {
+        (
+            trap '' XFSZ
+            ulimit -f 32
+            exec "$program" "bounded-$workers" replay $few --workers $workers <in 2>err
+        )
+        printf '%s\n' "$?" >status
+    } | cat >out
+    status=$(cat status)
+    tells_fault "bounded-$workers" 27
+    has out ''
+    goes_on "bounded-$workers"
+done
 right
 
 try 'a crawl onto a full disk' ''
 site 500
 mkdir disk
 if mount -t tmpfs -o size=96k tmpfs disk 2>/dev/null; then
-    "$program" disk/store replay $few <in >out 2>err
-    status=$?
-    mount -o remount,size=16m disk || fail 'the disk did not get room'
-    tells_fault disk/store 28
-    has out ''
-    goes_on disk/store
-    mount -o remount,ro disk || fail 'the disk may still be written'
-    "$program" disk/store replay <in >out 2>err
-    status=$?
-    mount -o remount,rw disk || fail 'the disk may not be written again'
-    tells_fault disk/store 30
-    has out ''
-    lists disk/store few-set
     umount disk
+    for workers in 1 16; do
+        mount -t tmpfs -o size=96k tmpfs disk || fail 'a small disk can be mounted once only'
+        "$program" disk/store replay $few --workers $workers <in >out 2>err
+        status=$?
+        mount -o remount,size=16m disk || fail 'the disk did not get room'
+        tells_fault disk/store 28
+        has out ''
+        goes_on disk/store
+        mount -o remount,ro disk || fail 'the disk may still be written'
+        "$program" disk/store replay --workers $workers <in >out 2>err
+        status=$?
+        mount -o remount,rw disk || fail 'the disk may not be written again'
+        tells_fault disk/store 30
+        has out ''
+        lists disk/store few-set
+        umount disk
+    done
     right
 else
     pass_over 'no small disk can be mounted here'

@@ -54,7 +54,7 @@ right
 
 # For each connection it reads a request, keeps it, sends the file of the request's host and target as it is, and closes; where
 # there is none it answers 404. The file `port` tells its port. It ends by itself after so many connections, and else is stopped.
-# It answers nobody before so many connections stand at once.
+# It answers nobody before so many connections stand at once, of which the file `standing` has the number.
 cat >server.py <<'PYTHON'
 import os, socket, sys
 folder, most, together = sys.argv[1], int(sys.argv[2]), int(sys.argv[3])
@@ -69,6 +69,8 @@ waiting = []
 while most == 0 or count < most:
     while len(waiting) < together:
         waiting.append(listener.accept()[0])
+        with open(folder + '/standing', 'w') as file:
+            file.write(str(len(waiting)))
     together = 0
     peer = waiting.pop(0) if waiting else listener.accept()[0]
     count += 1
@@ -104,6 +106,15 @@ serve() {
     done
     [ -s "$1/port" ] || fail "the server did not start: $(tail -n 1 "$1/log")"
     port=$(cat "$1/port")
+}
+
+# Waits until so many connections stand that the server over a folder doesn't answer yet.
+await_standing() {
+    for _ in $(seq 100); do
+        [ "$(cat "$1/standing" 2>/dev/null)" != "$2" ] || return 0
+        sleep 0.1
+    done
+    fail "there stand $(cat "$1/standing" 2>/dev/null) connections, and not $2"
 }
 
 # Puts the answer to a URL, of a host and a target, into a folder: the head's lines, each ended by CR LF, and then the body.
@@ -201,6 +212,40 @@ if command -v python3 >/dev/null 2>&1; then
     serve together 0 16
     "$program" together-store crawl --port "$port" --delay 0 --workers 16 <in >out 2>err
     gives 0 "$(report '16 16 16 0 0 0 0 0 16 0 0 16 0 0 0 0 0 0')" ''
+    stop TERM
+    right
+
+    # What sixteen workers wait for is not lost: the next run asks for it.
+    try 'a crawl that is ended while it waits' ''
+    for host in 1 2 3 4 5 6 7 8 9 10 11 12 13 14 15 16; do
+        printf 'seed http://h%s.test/\n' "$host"
+    done >in
+    mkdir waiting
+    serve waiting 0 17
+    "$program" waiting-store crawl --port "$port" --delay 0 --workers 16 <in >out 2>err &
+    crawler=$!
+    await_standing waiting 16
+    kill -TERM "$crawler"
+    wait "$crawler" 2>/dev/null
+    gives 143 '' ''
+    stop TERM
+    rm waiting/port
+    serve waiting 0
+    "$program" waiting-store crawl --port "$port" --delay 0 --workers 16 <in >out 2>err
+    gives 0 "$(report '32 32 16 0 0 0 0 0 16 0 0 16 0 0 0 0 0 0')" ''
+    stop TERM
+    right
+
+    # No connection takes the place of a stream.
+    try 'a small site with closed streams' 'suffix test|seed http://www.a.test/|'
+    small_site streams
+    serve streams 0
+    "$program" streams-store crawl --port "$port" --delay 0 --workers 16 <in >&- 2>&-
+    gives 6 '' ''
+    "$program" streams-store show >out 2>err
+    gives 0 "$tape_report" ''
+    "$program" streams-errors crawl --port "$port" --delay 0 --workers 16 <in >out 2>&-
+    gives 0 "$tape_report" ''
     stop TERM
     right
 

@@ -135,15 +135,11 @@ right
 
 try 'options of a run that are refused' ''
 tape
-"$program" workers replay --workers 65 <in >out 2>err
-gives 1 '' 'words refused: replay|'
-"$program" workers replay --workers 0 <in >out 2>err
-gives 1 '' 'words refused: replay|'
-"$program" workers replay --agent 'a b' <in >out 2>err
+"$program" unmade replay --agent 'a b' <in >out 2>err
 gives 1 '' 'words refused: --agent|'
-"$program" workers replay --most 5 --base 6 <in >out 2>err
+"$program" unmade replay --most 5 --base 6 <in >out 2>err
 gives 1 '' 'words refused: --most|'
-is_absent workers
+is_absent unmade
 right
 
 # Streams

@@ -38,7 +38,7 @@ right
 # A crawl of this machine has to have a port, and one of a made-up site its number of pages. No store is made by any of these.
 try 'words that a crawl does not take' 'seed http://a.test/|'
 for words in '' 80 '--port' '--port 0' '--port 65536' '--port=-80' '--port 80 --port 80' '--port 80 x' '--buckets 3' \
-    '--port 80 --rule add' '--port 80 --workers 65' '--port 80 --help'; do
+    '--port 80 --rule add' '--port 80 --help'; do
     "$program" unmade crawl $words <in >out 2>err
     gives 1 '' 'words refused: crawl|'
 done
@@ -48,6 +48,22 @@ for words in '' 0 100001 -5 x '5 6' '--size 5' '--pages 5' '--workers 2' '5 --po
 done
 "$program" unmade gen '' <in >out 2>err
 gives 1 '' 'words refused: gen|'
+is_absent unmade
+right
+
+# There may be 1 to 64 of them, said once, and what doesn't crawl has none.
+try 'numbers of workers that are refused' ''
+for command in 'crawl --port 80' replay 'gen 5'; do
+    for words in '--workers 0' '--workers 65' '--workers=-1' '--workers x' '--workers=' '--workers' '--workers 2 --workers 2' \
+        '--workers=2 --workers=3' '--workers 18446744073709551617' '--worker 2'; do
+        "$program" unmade $command $words <in >out 2>err
+        gives 1 '' "words refused: ${command%% *}|"
+    done
+done
+for command in seen drum show list; do
+    "$program" unmade "$command" --workers 2 <in >out 2>err
+    gives 1 '' "words refused: $command|"
+done
 is_absent unmade
 right
 

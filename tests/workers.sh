@@ -150,4 +150,53 @@ for workers in 1 2 4 16 64; do
 done
 right
 
+# What the system refuses
+
+# A made-up site by 16 workers gave what it should.
+is_made() {
+    gives 0 "$(report '4000 4000 2000 44 0 0 0 0 2000 2000 0 0 0 0 0 0 0 0')" ''
+    "$program" "$1" list 2>err | unnumbered >found
+    same wanted found
+}
+
+# The stack of a thread is as large as the system lets one grow, and more than there is room for: each worker works in the thread
+# that is there.
+try 'a system that makes no thread' ''
+if (ulimit -s 1048576 && ulimit -v 524288) 2>/dev/null; then
+    (ulimit -s 1048576 && ulimit -v 524288 && exec "$program" threadless gen 2000 --workers 16 --delay 0) <in >out 2>err
+    is_made threadless
+    right
+else
+    pass_over 'the limits can not be set'
+fi
+
+try 'a system with few open files' ''
+(ulimit -n 12 && exec "$program" fewer gen 2000 --workers 16 --delay 0) <in >out 2>err
+is_made fewer
+right
+
+# Some of the threads may find room for their stacks, and then none is left for what they fetch. A run does all or ends by that, and
+# the next one goes on.
+try 'a system with little memory' ''
+for most in 14000 16000 25000 40000 60000 100000; do
+    rm -rf little
+    (ulimit -v "$most" && exec "$program" little gen 2000 --workers 16 --delay 0) <in >out 2>err
+    status=$?
+    case $status in
+    0) is_made little ;;
+    4 | 6 | 7)
+        has out ''
+        head -n 1 err | grep -Eqx 'disk fault|output fault|no memory' || fail "it told '$(tr '\n' '|' <err)' with $most KiB"
+        "$program" little list >cut-listed 2>err || fail "status $? of the list behind $most KiB: $(cat err)"
+        "$program" little gen 2000 --workers 16 --delay 0 <in >out 2>err || fail "status $? behind $most KiB: $(cat err)"
+        comes_to little found
+        { report '0 0 2000 44 0 0 0 0 2000 2000 0 0 0 0 0 0 0 0' | tr '|' '\n' | sed 1,2d && cat wanted; } >wanted-whole
+        same wanted-whole found
+        stays cut-listed listed
+        ;;
+    *) fail "status $status with $most KiB: $(cat err)" ;;
+    esac
+done
+right
+
 finish
