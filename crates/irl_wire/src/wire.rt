@@ -12,6 +12,9 @@ use std::io::{Read, Write};
 use std::net::{IpAddr, Ipv4Addr, Net, OpenStream, SocketAddr, TcpStream};
 use std::time::{Duration, Instant};
 
+/// How often a read that is broken off is made again.
+const TRIES: u32 = 64;
+
 /// A link to 127.0.0.1, and the system's clock. It tells no content, and counts each call that failed.
 ///
 /// A fetch has 30 seconds for its connect and for each read, and 120 seconds from its connect on: past them a call is a fault,
@@ -88,8 +91,26 @@ fn left(limits: &Limits, gone: Duration) -> io::Result<Duration> {
 }
 
 impl<T: OpenStream + Read + Write> Connected<T> {
-    // Reads what comes next, for as long as is left.
+    // Reads what comes next, for as long as is left. Where a signal breaks a read off, as one that lets a stopped program
+    // go on, it is made again.
     fn read<R: std::time::Clock>(
+        &mut self,
+        rt: &R,
+        limits: &Limits,
+        into: &mut [u8],
+    ) -> io::Result<usize>
+        ensures { ReadsAtMost result into.new }
+    {
+        for _ in 0..TRIES {
+            match self.read_once(rt, limits, into) {
+                Err(error) if error.kind() == io::ErrorKind::Interrupted => {}
+                answer => return answer,
+            }
+        }
+        self.read_once(rt, limits, into)
+    }
+
+    fn read_once<R: std::time::Clock>(
         &mut self,
         rt: &R,
         limits: &Limits,
