@@ -236,6 +236,24 @@ if command -v python3 >/dev/null 2>&1; then
     stop TERM
     right
 
+    # Its reads end without a byte where a shell stops it and lets it go on, and are made again. The server answers once another
+    # crawl asks it too.
+    try 'a crawl that is stopped for a moment' 'seed http://a.test/|'
+    mkdir stopped
+    serve stopped 0 2
+    "$program" stopped-store crawl --port "$port" --delay 0 <in >out 2>err &
+    crawler=$!
+    await_standing stopped 1
+    sleep 0.5
+    kill -STOP "$crawler"
+    sleep 0.1
+    kill -CONT "$crawler"
+    "$program" stopped-other crawl --port "$port" --delay 0 <in >other-out 2>other-err
+    wait "$crawler"
+    gives 0 "$(report '1 1 1 0 0 0 0 0 1 0 0 1 0 0 0 0 0 0')" ''
+    stop TERM
+    right
+
     # No connection takes the place of a stream.
     try 'a small site with closed streams' 'suffix test|seed http://www.a.test/|'
     small_site streams
