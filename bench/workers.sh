@@ -12,8 +12,8 @@
 # samples is where: in the main thread as it reads the tape, runs its part of the turns, settles them and makes passes, and in
 # the other threads; and how many of all these are in waits for the shared store, in syncs, in writes and cuts of files, and
 # in taking and giving back memory. What the compiler put into its callers counts as theirs: a turn at the store that is
-# free shows nowhere. A sample without a whole stack is where the one before it is. Where perf finds no names in the program this
-# part is `skip`.
+# free shows nowhere. A sample without a whole stack is where the one before it is; where few stacks are whole, as in a build that
+# keeps no frame pointers, what rests on them is `skip`.
 # Fails only where a run didn't go through all pages.
 set -eu
 [ $# -ge 2 ] || {
@@ -82,7 +82,7 @@ for _ in $(seq "$runs"); do
                 is_main = ids[1] == ids[2]
                 now = $2 + 0
                 where = what = ""
-                is_fetch = 0
+                is_fetch = is_whole = 0
                 next
             }
             NF == 0 && now { sampled() }
@@ -91,6 +91,7 @@ for _ in $(seq "$runs"); do
             /irl_crawl::crawling::pass|irl_yard::yard::Yard::pass/ && where != "settling" { where = "passes" }
             /irl_record::tape::Tape::read/ { where = "reading" }
             /irl_workers::/ { is_fetch = 1 }
+            /irl_top::/ { is_whole = 1 }
             /irl_yard::yard::Yard::(front|robots)|irl_crawl::(crew|dealing|hosts|turn|work)::|irl_workers::|irl_lock::/ &&
                 where == "" { where = "turns" }
             # And what it does.
@@ -105,6 +106,7 @@ for _ in $(seq "$runs"); do
                     inside = 1
                     at["others"]++
                 } else {
+                    seen += is_whole
                     if (where != "") place = where
                     at[place == "" ? "else" : place]++
                     inside = place == "turns"
@@ -122,6 +124,8 @@ for _ in $(seq "$runs"); do
                 now = 0
             }
             END {
+                # Most stacks have to be whole for this.
+                if (2 * seen < count - at["others"]) turns = 0
                 printf "%d %d %d %.4f %.4f", workers, count, turns, to_fetch, to_settle
                 n = split("reading turns others settling passes else", places, " ")
                 for (i = 1; i <= n; i++) printf " %d", at[places[i]]
@@ -134,26 +138,30 @@ done
 awk -v most="$most" '
     { for (i = 4; i <= 5; i++) if (!(($1, i) in least) || $i < least[$1, i]) least[$1, i] = $i
       for (i = 2; i <= NF; i++) sum[$1, i] += $i
-      if ($3 == 0 || $4 == 0 || $9 == 0) unknown = 1 }
+      if ($3 == 0 || $4 == 0 || $9 == 0) unknown = 1
+      main[$1] += $2 - $8 }
     function row(name, i) { printf "%-28s %10.2f %10.2f %8.2f\n", name, least[1, i], least[most, i], least[1, i] / least[most, i] }
     function share(name, i) {
         printf "%-28s %9.1f%% %9.1f%%\n", name, 100 * sum[1, i] / sum[1, 2], 100 * sum[most, i] / sum[most, 2]
     }
     END {
         if (unknown) {
-            print "skip: perf shows no turns of this program"
-            exit
+            print "skip: the stacks of this program show no turns"
+        } else {
+            row("turns, to their last fetch", 4)
+            row("turns, to their settling", 5)
         }
-        row("turns, to their last fetch", 4)
-        row("turns, to their settling", 5)
         print ""
         printf "%-28s %10d %10d\n", "samples", sum[1, 2], sum[most, 2]
-        share("main thread, reading", 6)
-        share("main thread, in turns", 7)
+        printf "%-28s %9.1f%% %9.1f%%\n", "main thread", 100 * main[1] / sum[1, 2], 100 * main[most] / sum[most, 2]
         share("other threads", 8)
-        share("main thread, settling", 9)
-        share("main thread, passes", 10)
-        share("main thread, else", 11)
+        if (!unknown) {
+            share("main thread, reading", 6)
+            share("main thread, in turns", 7)
+            share("main thread, settling", 9)
+            share("main thread, passes", 10)
+            share("main thread, else", 11)
+        }
         print ""
         share("waiting for the store", 12)
         share("syncs", 13)
