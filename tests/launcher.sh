@@ -1,5 +1,5 @@
 #!/bin/sh
-# The launcher, where it is the built program that is run.
+# The launcher, where it is the built program that is run; and how it has the program proved, with a stand-in for `rt`.
 
 . "$(dirname -- "$0")/common.sh"
 
@@ -26,5 +26,112 @@ if [ "$program" = "$top/crates/irl/out/irl" ]; then
     reads_again launched-closed 'a|b|' 'b|'
     right
 fi
+
+# A tree of six crates, and an `rt` that notes its calls, and is right where the libraries below stand there.
+tree() {
+    rm -rf tree calls bin
+    mkdir -p tree bin
+    cp "$top/irl" "$top/prove" tree/
+    echo 'Handles allowed: none.' >tree/HANDLES
+    cat >tree/crates.txt <<'CRATES'
+# The lowest
+low:
+left: low
+right: low memchr
+
+high: left right # the highest library
+irl: high low
+other: right
+CRATES
+    for crate in low left right high irl other; do
+        mkdir -p "tree/crates/$crate/src"
+        echo '// A line.' >"tree/crates/$crate/src/lib.rt"
+    done
+    cat >bin/rt <<'RT'
+#!/bin/sh
+[ "$1" = lib ] || [ "$1" = run ] || exit 9
+crate=$(basename "$PWD")
+echo "$1 $crate" >>"$CALLS"
+for below in $(sed -n "s/#.*//; s/^$crate://p" ../../crates.txt); do
+    [ ! -d "../$below" ] || [ -e "../$below/out/rlib/stamp" ] || exit 8
+done
+case $crate in
+"$BROKEN")
+    echo "error: $crate"
+    exit 1
+    ;;
+"$ENDLESS")
+    sleep 1000 &
+    echo $! >"$CALLS.process"
+    wait
+    ;;
+irl)
+    mkdir -p out
+    printf '#!/bin/sh\necho "it runs: $*"\n' >out/irl
+    chmod +x out/irl
+    ;;
+*)
+    mkdir -p out/rlib
+    echo "$crate" >out/rlib/stamp
+    ;;
+esac
+RT
+    chmod +x bin/rt
+}
+
+# The launcher of that tree, by that `rt`; its copies of the tree lie in a folder of their own, which is empty in the end.
+launched() {
+    mkdir -p rooms
+    CALLS=$room/calls BROKEN=${1-} ENDLESS=${2-} TMPDIR=$room/rooms PATH=$room/bin:$PATH tree/irl one two <in >out 2>err
+}
+
+try 'the program is proved from its lowest library up' ''
+tree
+launched
+gives 0 'it runs: one two|' "$(cat err)
+"
+[ "$(grep -c '^irl: [1-5] of 5: ' err)" -eq 5 ] || fail "it told '$(tr '\n' '|' <err)'"
+[ "$(sort calls | tr '\n' '|')" = 'lib high|lib left|lib low|lib right|run irl|' ] || fail "it called '$(tr '\n' '|' <calls)'"
+[ -z "$(ls rooms)" ] || fail 'copies of the tree are left'
+: >calls
+launched
+gives 0 'it runs: one two|' ''
+has calls ''
+right
+
+try 'a library that is not proved' ''
+tree
+launched high
+status=$?
+[ "$status" -eq 127 ] || fail "status $status, and not 127"
+[ "$(tail -n 2 err | tr '\n' '|')" = 'error: high|irl: high was not proved|' ] || fail "it told '$(tr '\n' '|' <err)'"
+for crate in low left right; do
+    [ -e "tree/crates/$crate/out/rlib/stamp" ] || fail "what was proved of $crate is lost"
+done
+[ -z "$(ls rooms)" ] || fail 'copies of the tree are left'
+launched
+gives 0 'it runs: one two|' "$(cat err)
+"
+right
+
+try 'a proof that is interrupted' ''
+tree
+launched '' right &
+call=$!
+for _ in $(seq 100); do
+    [ ! -s calls.process ] || break
+    sleep 0.1
+done
+pkill -TERM -f "^/bin/sh $room/tree/prove"
+wait "$call"
+status=$?
+[ "$status" -eq 127 ] || fail "status $status, and not 127"
+for _ in $(seq 50); do
+    kill -0 "$(cat calls.process)" 2>/dev/null || break
+    sleep 0.1
+done
+! kill -0 "$(cat calls.process)" 2>/dev/null || fail 'a check still runs'
+[ -z "$(ls rooms)" ] || fail 'copies of the tree are left'
+right
 
 finish

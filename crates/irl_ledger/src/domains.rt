@@ -3,6 +3,7 @@ ghost use Rattle.irl_base.specs.Limits.{max_text};
 ghost use Rattle.irl_key.specs.Links.{IsCanonicalText};
 ghost use Rattle.irl_ledger.specs.Crawling.{domain_of};
 
+use irl_host::host_at_sight;
 use irl_key::{Canon, canonical};
 use irl_offer::Text;
 use irl_pld::Suffixes;
@@ -20,6 +21,11 @@ pub fn domain_of_url(
     ensures none { IfOk result (λ found. found ≡ None → IsCanonicalText url.now → ⊥) }
     ensures some { IfOk result (λ found. IfSome found (λ _. IsCanonicalText url.now)) }
 {
+    // Of nearly each URL the host is seen without a parse.
+    if let Some(host) = host_at_sight(url) {
+        let domain = Text::from_bytes(alloc, suffixes.pld(host))?;
+        return Ok(Some(domain));
+    }
     match canonical(alloc, None, url)? {
         Canon::Web(web) if web.text() == url => {
             let domain = Text::from_bytes(alloc, suffixes.pld(web.host()))?;

@@ -1,0 +1,3 @@
+mod Hosts
+mod Targets
+mod Texts

@@ -1,0 +1,8 @@
+//! The host of a URL's text that is plainly canonical, with no parse.
+#![tactic(auto)]
+
+mod sight;
+#[cfg(test)]
+mod tests;
+
+pub use sight::host_at_sight;
