@@ -14,10 +14,13 @@ fn read_end(alloc: Global, first: &[u8], second: &[u8]) -> Result<Result<u64, Fa
     bytes.push(0)?;
     let mut store = blank(alloc);
     put_at(&mut store, CRAWL, 0, &bytes)?;
-    match History::read(alloc, &mut store, &Settings::of_new_store(&CRAWL_OF_ONE)) {
-        Ok((log, _)) => Ok(Ok(log.end())),
-        Err(fault) => Ok(Err(fault)),
-    }
+    let settings = Settings::of_new_store(&CRAWL_OF_ONE);
+    let read = History::read(alloc, &mut store, &settings);
+    let end = match read {
+        Ok((log, _history)) => Ok(log.end()),
+        Err(fault) => Err(fault),
+    };
+    Ok(end)
 }
 
 // A beginning without suffixes, a pass of 0 and of 1, and a record whose tag no event has.
