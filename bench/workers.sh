@@ -5,15 +5,13 @@
 # with `--delay 0`, by one worker and by WORKERS (4), turn by turn and in new folders under FOLDER. The least of each measure
 # counts. Prints the seconds that went by, those of the processor, and MiB of memory at most, and how many times what several
 # workers take one takes.
-# Where perf may be used each then runs as often again, and 997 times a second of its processor time perf keeps the stack of a
-# thread. A turn begins with the first such sample in which the main thread takes pages from the front. Its last fetch is the
-# last one among the workers, of any thread, and its end the last one before the main thread settles what came of it. Prints the
-# seconds of all turns up to their last fetch and up to their end, a sample's time more for each turn; and what share of all
-# samples is where: in the main thread as it reads the tape, runs its part of the turns, settles them and makes passes, and in
-# the other threads; and how many of all these are in waits for the shared store, in syncs, in writes and cuts of files, and
-# in taking and giving back memory. What the compiler put into its callers counts as theirs: a turn at the store that is
-# free shows nowhere. A sample without a whole stack is where the one before it is; where few stacks are whole, as in a build that
-# keeps no frame pointers, what rests on them is `skip`.
+# Where perf may be used and probes may be set, as root may, each then runs as often again in three ways. With probes at the
+# functions that hand out the pages of a turn and that settle what came of them: prints how many turns there were, and the seconds
+# from the one to the other, from a turn's start till behind its last fetch. With a count of the calls in which a thread waits for
+# a lock or wakes who waits, nearly all for taking and giving back memory, and of those in which it gives its processor away as
+# another has the part of the store that it wants. And with 997 samples a second of processor time: prints what share is in
+# other threads than the main one, and in functions of which kind; callers aren't known, and what the compiler put into a
+# function counts as its own.
 # Fails only where a run didn't go through all pages.
 set -eu
 [ $# -ge 2 ] || {
@@ -65,106 +63,88 @@ awk -v pages="$pages" -v most="$most" '
         row("peak MiB", 4)
     }' "$room/times"
 
-perf record -q -N -e cpu-clock -g -o "$room/perf" true >/dev/null 2>&1 || {
-    echo "skip: perf isn't installed, or may not be used"
+# The moments at which the main thread comes to functions of the crawl, and the calls that wait.
+probes=/sys/kernel/tracing/uprobe_events
+waits="-e syscalls:sys_enter_futex -e syscalls:sys_enter_sched_yield"
+: >>"$probes" 2>/dev/null && perf stat -x, -o "$room/counts" $waits true 2>/dev/null || {
+    echo "skip: perf isn't installed, or probes may not be set"
     exit 0
 }
-rate=997
+trap 'echo "-:irl_bench/" >>"$probes" 2>/dev/null; rm -rf "$room"' EXIT
+
+# Where a function stands in the file of the program: each that has this name, as it may be compiled several times.
+places() {
+    nm "$program" | awk -v name="$1" 'index($0, name) { print $1 }' | while read -r address; do
+        readelf -lW "$program" | awk -v address="$address" '
+            function number(hex,   n, i) {
+                for (i = 1; i <= length(hex); i++) n = 16 * n + index("0123456789abcdef", substr(hex, i, 1)) - 1
+                return n
+            }
+            $1 == "LOAD" {
+                place = number(address) - number(substr($3, 3))
+                if (place >= 0 && place < number(substr($5, 3))) print place + number(substr($2, 3))
+            }'
+    done
+}
+
+events=
+for name in hand=irl_crawl::dealing::hand_out settle=irl_crawl::turn::settle::; do
+    count=0
+    for place in $(places "${name#*=}"); do
+        printf 'p:irl_bench/%s%d %s:0x%x\n' "${name%=*}" "$count" "$(realpath "$program")" "$place" >>"$probes"
+        events="$events -e irl_bench:${name%=*}$count"
+        count=$((count + 1))
+    done
+done
+: >"$room/turns"
 : >"$room/samples"
 for _ in $(seq "$runs"); do
     for workers in 1 "$most"; do
-        crawl "$workers" perf record -q -N -e cpu-clock -F $rate -g -o "$room/perf"
-        perf script -i "$room/perf" -F pid,tid,time,ip,sym 2>/dev/null | awk -v workers="$workers" -v rate=$rate '
-            # A sample: its process and its thread, its moment, and then a line for each frame of its stack.
-            $1 ~ /^[0-9]+\/[0-9]+$/ {
-                count++
+        # shellcheck disable=SC2086
+        crawl "$workers" perf record -q -N $events -o "$room/perf"
+        perf script -i "$room/perf" -F pid,tid,time,event 2>/dev/null | sort -k 2,2n | awk -v workers="$workers" '
+            / irl_bench:hand/ && !start { start = $2 + 0 }
+            / irl_bench:settle/ && start { turns++; took += $2 - start; start = 0 }
+            END { printf "%d %d %.4f", workers, turns, took }' >>"$room/turns"
+        # shellcheck disable=SC2086
+        crawl "$workers" perf stat -x, -o "$room/counts" $waits
+        awk -F, '/sys_enter/ { printf " %d", $1 } END { print "" }' "$room/counts" >>"$room/turns"
+        crawl "$workers" perf record -q -N -e cpu-clock -F 997 -o "$room/perf"
+        perf script -i "$room/perf" -F pid,tid,ip,sym 2>/dev/null | awk -v workers="$workers" '
+            {
                 split($1, ids, "/")
-                is_main = ids[1] == ids[2]
-                now = $2 + 0
-                where = what = ""
-                is_fetch = is_whole = 0
-                next
-            }
-            NF == 0 && now { sampled() }
-            # Where it is: what is named first here goes before the others.
-            /irl_crawl::turn::settle|irl_yard::yard::Yard::(note_all|settle)|irl_crawl::seeds::judge/ { where = "settling" }
-            /irl_crawl::crawling::pass|irl_yard::yard::Yard::pass/ && where != "settling" { where = "passes" }
-            /irl_record::tape::Tape::read/ { where = "reading" }
-            /irl_workers::/ { is_fetch = 1 }
-            /irl_top::/ { is_whole = 1 }
-            /irl_yard::yard::Yard::(front|robots)|irl_crawl::(crew|dealing|hosts|turn|work)::|irl_workers::|irl_lock::/ &&
-                where == "" { where = "turns" }
-            # And what it does.
-            $2 ~ /sched_yield|^irl_lock::turns::/ { what = "waits" }
-            $2 ~ /fsync|fdatasync|^irl_files::.*::sync/ && what != "waits" { what = "syncs" }
-            $2 ~ /_write$|^write$|ftruncate|^irl_files::.*::(write|cut)/ && what !~ /waits|syncs/ { what = "writes" }
-            $2 ~ /^(__libc_|_int_)?(malloc|free|realloc|calloc)$|^(malloc_consolidate|unlink_chunk|sysmalloc|systrim)|page_fault/ &&
-                what == "" { what = "memory" }
-
-            function sampled() {
-                if (!is_main) {
-                    inside = 1
-                    at["others"]++
-                } else {
-                    seen += is_whole
-                    if (where != "") place = where
-                    at[place == "" ? "else" : place]++
-                    inside = place == "turns"
-                }
-                if (what != "") of[what]++
-                if (inside && !started) started = fetched = now
-                if (inside) last = now
-                if (inside && (is_fetch || !is_main)) fetched = now
-                if (!inside && started) {
-                    turns++
-                    to_fetch += fetched - started + 1 / rate
-                    to_settle += last - started + 1 / rate
-                    started = 0
-                }
-                now = 0
-            }
-            END {
-                # Most stacks have to be whole for this.
-                if (2 * seen < count - at["others"]) turns = 0
-                printf "%d %d %d %.4f %.4f", workers, count, turns, to_fetch, to_settle
-                n = split("reading turns others settling passes else", places, " ")
-                for (i = 1; i <= n; i++) printf " %d", at[places[i]]
-                n = split("waits syncs writes memory", kinds, " ")
-                for (i = 1; i <= n; i++) printf " %d", of[kinds[i]]
-                print ""
+                sub(/^[ 0-9\/]+[0-9a-f]+ /, "")
+                print workers, ids[1] == ids[2], $0
             }' >>"$room/samples"
     done
 done
 awk -v most="$most" '
-    { for (i = 4; i <= 5; i++) if (!(($1, i) in least) || $i < least[$1, i]) least[$1, i] = $i
-      for (i = 2; i <= NF; i++) sum[$1, i] += $i
-      if ($3 == 0 || $4 == 0 || $9 == 0) unknown = 1
-      main[$1] += $2 - $8 }
-    function row(name, i) { printf "%-28s %10.2f %10.2f %8.2f\n", name, least[1, i], least[most, i], least[1, i] / least[most, i] }
-    function share(name, i) {
-        printf "%-28s %9.1f%% %9.1f%%\n", name, 100 * sum[1, i] / sum[1, 2], 100 * sum[most, i] / sum[most, 2]
+    { for (i = 3; i <= 5; i++) if (!(($1, i) in least) || $i < least[$1, i]) least[$1, i] = $i; turns[$1] = $2 }
+    END {
+        printf "%-28s %10.2f %10.2f %8.2f\n", turns[1] " turns, to their settling", least[1, 3], least[most, 3], least[1, 3] / least[most, 3]
+        printf "%-28s %10d %10d\n", "waits and wakes for locks", least[1, 4], least[most, 4]
+        printf "%-28s %10d %10d\n\n", "yields", least[1, 5], least[most, 5]
+    }' "$room/turns"
+awk -v most="$most" '
+    {
+        all[$1]++
+        if (!$2) others[$1]++
+        kind = "else"
+        if (/malloc|cfree|realloc|calloc|_int_free|unlink_chunk|systrim|page_fault|clear_page|memcg|lll_lock/) kind = "memory"
+        else if (/sha1::/) kind = "hashing"
+        else if (/ url::|irl_key::|idna|percent/) kind = "URLs"
+        else if (/irl_scan::|irl_answer::|memchr/) kind = "pages"
+        else if (/irl_record::|irl_io::/) kind = "the tape"
+        else if (/btree_map|irl_pld::|irl_ledger::|irl_frontier::|irl_fate::|irl_beast::|irl_star::/) kind = "tables of the crawl"
+        else if (/irl_bay::|irl_merge::|irl_layout::|irl_journal::|irl_cache::|irl_log::|irl_yard::|irl_intake::|irl_array::/) kind = "the store"
+        else if (/irl_fetch::|irl_polite::|irl_crawl::|irl_workers::|irl_lock::|atomic/) kind = "turns and fronts"
+        else if (/memmove|memset|memcpy|memcmp/) kind = "copies"
+        else if (/ irl_files::|_read|_write|_sync|vfs_|shmem|folio|copy_|rep_movs|do_syscall|entry_SYSCALL|spin_|sched|futex/) kind = "the system"
+        of[$1, kind]++
+        kinds[kind] += 1
     }
     END {
-        if (unknown) {
-            print "skip: the stacks of this program show no turns"
-        } else {
-            row("turns, to their last fetch", 4)
-            row("turns, to their settling", 5)
-        }
-        print ""
-        printf "%-28s %10d %10d\n", "samples", sum[1, 2], sum[most, 2]
-        printf "%-28s %9.1f%% %9.1f%%\n", "main thread", 100 * main[1] / sum[1, 2], 100 * main[most] / sum[most, 2]
-        share("other threads", 8)
-        if (!unknown) {
-            share("main thread, reading", 6)
-            share("main thread, in turns", 7)
-            share("main thread, settling", 9)
-            share("main thread, passes", 10)
-            share("main thread, else", 11)
-        }
-        print ""
-        share("waiting for the store", 12)
-        share("syncs", 13)
-        share("writes and cuts", 14)
-        share("memory", 15)
+        printf "%-28s %10d %10d\n", "samples", all[1], all[most]
+        printf "%-28s %9.1f%% %9.1f%%\n", "in other threads", 100 * others[1] / all[1], 100 * others[most] / all[most]
+        for (kind in kinds) printf "%-28s %9.1f%% %9.1f%%\n", kind, 100 * of[1, kind] / all[1], 100 * of[most, kind] / all[most] | "sort -t% -k 1.30nr"
     }' "$room/samples"
