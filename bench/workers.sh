@@ -96,6 +96,10 @@ for name in hand=irl_crawl::dealing::hand_out settle=irl_crawl::turn::settle::; 
         count=$((count + 1))
     done
 done
+[ "$events" ] || {
+    echo "skip: the program names none of its functions"
+    exit 0
+}
 : >"$room/turns"
 : >"$room/samples"
 for _ in $(seq "$runs"); do

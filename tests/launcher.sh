@@ -85,11 +85,17 @@ launched() {
     CALLS=$room/calls BROKEN=${1-} ENDLESS=${2-} TMPDIR=$room/rooms PATH=$room/bin:$PATH tree/irl one two <in >out 2>err
 }
 
+# The call before has run the program.
+runs() {
+    status=$?
+    [ "$status" -eq 0 ] || fail "status $status, and not 0: $(tr '\n' '|' <err)"
+    has out 'it runs: one two|'
+}
+
 try 'the program is proved from its lowest library up' ''
 tree
 launched
-gives 0 'it runs: one two|' "$(cat err)
-"
+runs
 [ "$(grep -c '^irl: [1-5] of 5: ' err)" -eq 5 ] || fail "it told '$(tr '\n' '|' <err)'"
 [ "$(sort calls | tr '\n' '|')" = 'lib high|lib left|lib low|lib right|run irl|' ] || fail "it called '$(tr '\n' '|' <calls)'"
 [ -z "$(ls rooms)" ] || fail 'copies of the tree are left'
@@ -110,8 +116,7 @@ for crate in low left right; do
 done
 [ -z "$(ls rooms)" ] || fail 'copies of the tree are left'
 launched
-gives 0 'it runs: one two|' "$(cat err)
-"
+runs
 right
 
 try 'a proof that is interrupted' ''
