@@ -191,6 +191,3 @@ fn first_above<S: Store>(
         Err(fault) => fault_in(f, fault),
     }
 }
-
-#[cfg(test)]
-mod tests;

@@ -26,6 +26,3 @@ pub use laws::{
     a_bays_files_are_its_own, a_blank_bay_stands, one_book, opening_keeps_the_book,
     other_files_are_free, what_is_held_stands,
 };
-
-#[cfg(test)]
-mod tests;

@@ -97,6 +97,3 @@ impl Bay {
         self.is_sound = true;
     }
 }
-
-#[cfg(test)]
-mod tests;

@@ -15,6 +15,8 @@ mod frontier;
 #[cfg(test)]
 mod helpers;
 #[cfg(test)]
+mod host;
+#[cfg(test)]
 mod key;
 #[cfg(test)]
 mod model;

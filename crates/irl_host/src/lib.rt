@@ -2,7 +2,5 @@
 #![tactic(auto)]
 
 mod sight;
-#[cfg(test)]
-mod tests;
 
 pub use sight::host_at_sight;

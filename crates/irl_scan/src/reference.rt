@@ -123,7 +123,8 @@ fn reference_at(rest: &[u8]) -> Option<(u8, &[u8])>
 fn read_text(alloc: Global, value: &[u8]) -> Result<Text, AllocError>
     ensures { IfOk result (HasText value.now) }
 {
-    let mut bytes = Vec::new(alloc);
+    // A text is no longer than its span, and one that grows by small steps gives memory back and forth.
+    let mut bytes = Vec::with_capacity(alloc, value.len())?;
     let mut rest = value;
     while let Some(first) = rest.first() {
         match reference_at(rest) {
