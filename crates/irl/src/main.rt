@@ -15,6 +15,7 @@ ghost use Rattle.irl.specs.Obeying.{RunsOverFiles, RunsInFolder, Obeys, ObeysCom
 mod words;
 
 use irl_files::{Failure, FileStore, Lockable};
+use irl_http::Link;
 use irl_io::{Failed, ReadSource, Sink, Source, WriteSink};
 use irl_record::WireFetch;
 use irl_top::run;
@@ -211,6 +212,34 @@ fn new_ports<'a, R: Net + Clock + Eprint + Drop + AllocGlobal>(
     Ok(ports)
 }
 
+/// Runs a command over a store that has not failed yet, and gives the exit status and what failed first.
+fn run_over<'a, R, I, O, E, P>(
+    rt: &'a R,
+    command: &[&str],
+    input: &mut I,
+    output: &mut O,
+    errors: &mut E,
+    store: FileStore<&'a R>,
+    ports: &mut [WireFetch<P>],
+) -> (u8, Option<Failure>)
+where
+    R: Files + AllocGlobal + Threads + Wait + Sync,
+    R::File: Lockable + Send,
+    R::Dir: Send,
+    I: Source,
+    O: Sink,
+    E: Sink,
+    P: Link + Send,
+    requires faults { fault_count store ≡ 0 }
+    requires ports { length ports.old ≡ PORTS }
+    ensures { let tells = streams I.left I.faults O.written O.faults E.written E.faults in
+        RunsOverFiles (map (λ word. word.now) command.now)
+        (tells input.old output.old errors.old) (tells input.new output.new errors.new) result.0 }
+{
+    let (status, store) = run(rt, rt.alloc(), command, input, output, errors, store, ports);
+    (status, store.first_failure())
+}
+
 /// Runs the command over the folder that the first word names, and gives the exit status and what failed first.
 fn run_files<'a, R, I, O, E>(
     rt: &'a R,
@@ -237,19 +266,7 @@ where
     let (_, command) = folder_and_command(words);
     let store = store_in_folder(rt, words)?;
     let mut ports = new_ports(rt, meter)?;
-    let (status, store) = run(
-        rt,
-        rt.alloc(),
-        command,
-        input,
-        output,
-        errors,
-        store,
-        &mut ports,
-    );
-    let first = store.first_failure();
-    drop(store);
-    Ok((status, first))
+    Ok(run_over(rt, command, input, output, errors, store, &mut ports))
 }
 
 /// Runs the command over the folder that the first word names, and tells what failed first where a file was refused. Gives the
