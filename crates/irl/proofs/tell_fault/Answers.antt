@@ -1,5 +1,5 @@
 -- The line that explains is the one that is written.
-use Rattle.std.proofs.Common.{◌⊎◌, inl, string_bytes}
+use Rattle.std.proofs.Common.{inl, string_bytes}
 use Rattle.std.proofs.lemmas.Result.{IfOk-at_ok}
 use Rattle.irl.proofs.tell_fault.Goals as goal
 
