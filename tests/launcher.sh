@@ -29,7 +29,7 @@ fi
 
 # A tree of six crates, and an `rt` that notes its calls, and is right where the libraries below stand there.
 tree() {
-    rm -rf tree calls bin
+    rm -rf tree calls calls.nice bin
     mkdir -p tree bin
     cp "$top/irl" "$top/prove" tree/
     echo 'Handles allowed: none.' >tree/HANDLES
@@ -52,6 +52,7 @@ CRATES
 [ "$1" = lib ] || [ "$1" = run ] || exit 9
 crate=$(basename "$PWD")
 echo "$1 $crate" >>"$CALLS"
+echo "$crate $(nice)" >>"$CALLS.nice"
 for below in $(sed -n "s/#.*//; s/^$crate://p" ../../crates.txt); do
     [ ! -d "../$below" ] || [ -e "../$below/out/rlib/stamp" ] || exit 8
 done
@@ -59,6 +60,11 @@ case $crate in
 "$BROKEN")
     echo "error: $crate"
     exit 1
+    ;;
+"$SLOW")
+    sleep 3
+    mkdir -p out/rlib
+    echo "$crate" >out/rlib/stamp
     ;;
 "$ENDLESS")
     sleep 1000 &
@@ -82,7 +88,7 @@ RT
 # The launcher of that tree, by that `rt`; its copies of the tree lie in a folder of their own, which is empty in the end.
 launched() {
     mkdir -p rooms
-    CALLS=$room/calls BROKEN=${1-} ENDLESS=${2-} TMPDIR=$room/rooms PATH=$room/bin:$PATH tree/irl one two <in >out 2>err
+    CALLS=$room/calls BROKEN=${1-} ENDLESS=${2-} SLOW=${3-} TMPDIR=$room/rooms PATH=$room/bin:$PATH tree/irl one two <in >out 2>err
 }
 
 # The call before has run the program.
@@ -104,6 +110,18 @@ launched
 gives 0 'it runs: one two|' ''
 has calls ''
 right
+
+try 'a library gives way to one that is before it' ''
+if [ "$(getconf _NPROCESSORS_ONLN)" -gt 1 ] && awk '/^MemAvailable:/ { exit $2 < 6000000 }' /proc/meminfo; then
+    tree
+    launched '' '' left
+    runs
+    nice=$(nice)
+    has calls.nice "low $nice|left $nice|right $((nice < 15 ? nice + 5 : 19))|high $nice|irl $nice|"
+    right
+else
+    pass_over 'there is one processor, or little memory'
+fi
 
 try 'a library that is not proved' ''
 tree
