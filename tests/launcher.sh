@@ -111,9 +111,10 @@ gives 0 'it runs: one two|' ''
 has calls ''
 right
 
-try 'a library gives way to one that is before it' ''
+try 'a library gives way to one for which more waits' ''
 if [ "$(getconf _NPROCESSORS_ONLN)" -gt 1 ] && awk '/^MemAvailable:/ { exit $2 < 6000000 }' /proc/meminfo; then
     tree
+    yes '// A line.' | head -n 12501 >tree/crates/left/src/lib.rt
     launched '' '' left
     runs
     nice=$(nice)
