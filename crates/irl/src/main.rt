@@ -8,9 +8,10 @@ ghost use Rattle.irl_io.specs.Written.{AppendsPrefix};
 ghost use Rattle.irl_files.specs.FileStore.{fault_count, folder_path};
 ghost use Rattle.irl_files.specs.Folder.{named_folder};
 ghost use Rattle.irl_top.specs.Message.{Says, refusal};
+ghost use Rattle.irl_top.specs.Ports.{ports_of};
 ghost use Rattle.irl.specs.Words.{asked, folder_in};
 ghost use Rattle.irl_words.specs.Help.{asks_help};
-ghost use Rattle.irl.specs.Obeying.{RunsOverFiles, RunsInFolder, Obeys, ObeysCommand, streams, TellsFault, IsFaultLine};
+ghost use Rattle.irl.specs.Obeying.{RunsOverFiles, RunsInFolder, Obeys, ObeysCommand, handed, TellsFault, IsFaultLine};
 
 mod words;
 
@@ -212,10 +213,11 @@ fn new_ports<'a, R: Net + Clock + Eprint + Drop + AllocGlobal>(
     Ok(ports)
 }
 
-/// Runs a command over a store that has not failed yet, and gives the exit status and what failed first.
+/// Runs the command over a store in the folder that the first word names, which has not failed yet. Gives the exit status and
+/// what failed first.
 fn run_over<'a, R, I, O, E, P>(
     rt: &'a R,
-    command: &[&str],
+    words: &[&str],
     input: &mut I,
     output: &mut O,
     errors: &mut E,
@@ -230,135 +232,117 @@ where
     O: Sink,
     E: Sink,
     P: Link + Send,
+    requires folder { folder_path store ≡ named_folder (folder_in (map (λ word. word.now) words.now)) }
     requires faults { fault_count store ≡ 0 }
     requires ports { length ports.old ≡ PORTS }
-    ensures { let tells = streams I.left I.faults O.written O.faults E.written E.faults in
-        RunsOverFiles (map (λ word. word.now) command.now)
-        (tells input.old output.old errors.old) (tells input.new output.new errors.new) result.0 }
+    ensures { let tells = handed I.left I.faults O.written O.faults E.written E.faults in
+        let told = ports_of P.connections P.faults in
+        RunsOverFiles (map (λ word. word.now) (drop 1 words.now))
+        (tells input.old output.old errors.old (told ports.old))
+        (tells input.new output.new errors.new (told ports.new)) result.0 result.1 }
 {
+    let (_, command) = folder_and_command(words);
     let (status, store) = run(rt, rt.alloc(), command, input, output, errors, store, ports);
     (status, store.first_failure())
 }
 
-/// Runs the command over the folder that the first word names, and gives the exit status and what failed first.
-fn run_files<'a, R, I, O, E>(
-    rt: &'a R,
-    meter: &'a Meter<&'a R>,
-    words: &[&str],
-    input: &mut I,
-    output: &mut O,
-    errors: &mut E,
-) -> Result<(u8, Option<Failure>), AllocError>
-where
-    R: Files + Net + Clock + Eprint + Drop + AllocGlobal + Threads + Wait + Sync,
-    R::File: Lockable + Send,
-    R::Dir: Send,
-    R::Stream: Send,
-    R::Listener: Send,
-    I: Source,
-    O: Sink,
-    E: Sink,
-    ensures { IfOk result (λ ended.
-        let tells = streams I.left I.faults O.written O.faults E.written E.faults in
-        RunsOverFiles (map (λ word. word.now) (drop 1 words.now))
-        (tells input.old output.old errors.old) (tells input.new output.new errors.new) ended.0) }
-{
-    let (_, command) = folder_and_command(words);
-    let store = store_in_folder(rt, words)?;
-    let mut ports = new_ports(rt, meter)?;
-    Ok(run_over(rt, command, input, output, errors, store, &mut ports))
-}
-
 /// Runs the command over the folder that the first word names, and tells what failed first where a file was refused. Gives the
 /// exit status.
-fn run_in_folder<'a, R, I, O, E>(
+fn run_in_folder<'a, R, I, O, E, P>(
     rt: &'a R,
-    meter: &'a Meter<&'a R>,
     words: &[&str],
     input: &mut I,
     output: &mut O,
     errors: &mut E,
+    ports: &mut [WireFetch<P>],
 ) -> Result<u8, AllocError>
 where
-    R: Files + Net + Clock + Eprint + Drop + AllocGlobal + Threads + Wait + Sync,
+    R: Files + AllocGlobal + Threads + Wait + Sync,
     R::File: Lockable + Send,
     R::Dir: Send,
-    R::Stream: Send,
-    R::Listener: Send,
     I: Source,
     O: Sink,
     E: Sink,
+    P: Link + Send,
+    requires { length ports.old ≡ PORTS }
     ensures { IfOk result (λ status.
-        let tells = streams I.left I.faults O.written O.faults E.written E.faults in
+        let tells = handed I.left I.faults O.written O.faults E.written E.faults in
+        let told = ports_of P.connections P.faults in
         RunsInFolder (folder_in (map (λ word. word.now) words.now)) (map (λ word. word.now) (drop 1 words.now))
-        (tells input.old output.old errors.old) (tells input.new output.new errors.new) status) }
+        (tells input.old output.old errors.old (told ports.old))
+        (tells input.new output.new errors.new (told ports.new)) status) }
 {
-    let (status, first) = run_files(rt, meter, words, input, output, errors)?;
+    let store = store_in_folder(rt, words)?;
+    let (status, first) = run_over(rt, words, input, output, errors, store, ports);
     let (folder, _) = folder_and_command(words);
     tell_status(rt.alloc(), errors, folder, status, first);
     Ok(status)
 }
 
 /// Does what the words behind the folder ask for: shows the help of their command, or runs them. Gives the exit status.
-fn command<'a, R, I, O, E>(
+fn command<'a, R, I, O, E, P>(
     rt: &'a R,
-    meter: &'a Meter<&'a R>,
     words: &[&str],
     input: &mut I,
     output: &mut O,
     errors: &mut E,
+    ports: &mut [WireFetch<P>],
 ) -> Result<u8, AllocError>
 where
-    R: Files + Net + Clock + Eprint + Drop + AllocGlobal + Threads + Wait + Sync,
+    R: Files + AllocGlobal + Threads + Wait + Sync,
     R::File: Lockable + Send,
     R::Dir: Send,
-    R::Stream: Send,
-    R::Listener: Send,
     I: Source,
     O: Sink,
     E: Sink,
+    P: Link + Send,
+    requires { length ports.old ≡ PORTS }
     ensures { IfOk result (λ status.
-        let tells = streams I.left I.faults O.written O.faults E.written E.faults in
+        let tells = handed I.left I.faults O.written O.faults E.written E.faults in
+        let told = ports_of P.connections P.faults in
         let command = map (λ word. word.now) (drop 1 words.now) in
         ObeysCommand (asks_help command) (folder_in (map (λ word. word.now) words.now)) command
-        (tells input.old output.old errors.old) (tells input.new output.new errors.new) status) }
+        (tells input.old output.old errors.old (told ports.old))
+        (tells input.new output.new errors.new (told ports.new)) status) }
 {
     let (_, command) = folder_and_command(words);
     match help(rt.alloc(), command)? {
         Some(text) => Ok(show(output, errors, text.bytes())),
-        None => run_in_folder(rt, meter, words, input, output, errors),
+        None => run_in_folder(rt, words, input, output, errors, ports),
     }
 }
 
 /// Does what the words ask for, and gives the exit status.
-fn obey<'a, R, I, O, E>(
+fn obey<'a, R, I, O, E, P>(
     rt: &'a R,
-    meter: &'a Meter<&'a R>,
     words: &[&str],
     input: &mut I,
     output: &mut O,
     errors: &mut E,
+    ports: &mut [WireFetch<P>],
 ) -> Result<u8, AllocError>
 where
-    R: Files + Net + Clock + Eprint + Drop + AllocGlobal + Threads + Wait + Sync,
+    R: Files + AllocGlobal + Threads + Wait + Sync,
     R::File: Lockable + Send,
     R::Dir: Send,
-    R::Stream: Send,
-    R::Listener: Send,
     I: Source,
     O: Sink,
     E: Sink,
+    P: Link + Send,
+    requires { length ports.old ≡ PORTS }
     ensures { IfOk result (λ status.
-        let tells = streams I.left I.faults O.written O.faults E.written E.faults in
+        let tells = handed I.left I.faults O.written O.faults E.written E.faults in
+        let told = ports_of P.connections P.faults in
         Obeys (asked (map (λ word. word.now) words.now))
         HELP.now VERSION.now (map (λ word. word.now) words.now)
-        (tells input.old output.old errors.old) (tells input.new output.new errors.new) status) }
+        (tells input.old output.old errors.old (told ports.old))
+        (tells input.new output.new errors.new (told ports.new)) status) }
 {
     match Request::from_words(words) {
         Request::Help => Ok(show(output, errors, HELP.as_bytes())),
         Request::Version => Ok(show(output, errors, VERSION.as_bytes())),
         Request::Refused => Ok(refuse(errors, refusing_word(words))),
-        Request::Command => command(rt, meter, words, input, output, errors),
+        Request::Command => command(rt, words, input, output, errors, ports),
     }
 }
 
@@ -385,7 +369,8 @@ where
         .iter()
         .map(|word| word.as_str())
         .collect(rt.alloc())?;
-    obey(rt, meter, &words, input, output, errors)
+    let mut ports = new_ports(rt, meter)?;
+    obey(rt, &words, input, output, errors, &mut ports)
 }
 
 /// Opens the null device so often that each closed standard stream gets it, and no file that is opened later takes the

@@ -10,6 +10,7 @@ returns-in-Refused g c =
       says = rw (← c.refusing_word.ensures) c.refuse.ensures.says;
       input = refl;
       output = refl;
+      ports = refl;
     })
 
 pub returns-in-Command : goal.returns-in-Command
