@@ -15,8 +15,7 @@ use Rattle.irl.specs.Words.{folder_in, refusing_word}
 use Rattle.irl.specs.declared.words.Request.{Request}
 use Rattle.irl.specs.declared.words.Request.TheVariants.{Help, Version, Refused, Command}
 
--- what all that the program is handed beside its files, the standard streams and the ports, tells at one moment, and how
--- often each stream has failed
+-- what the program is handed beside its files, the standard streams and the ports, as it is told at one moment
 pub record Handed : Type 0 where
   pub input : Stream
   pub output : Stream
@@ -46,11 +45,11 @@ abbrev pub IsFaultLine : List ℕ → Failure → List ℕ → Type 0
 IsFaultLine folder failure line = (text : List ℕ) × Explains folder failure text
     × (line ≡ codes "irl: " ++ (text ++ 10 ∷ []))
 
--- the line where there was no memory for that
+-- the line which says that it can't be told
 abbrev pub untold_line : List ℕ
 untold_line = codes "irl: what failed could not be told" ++ 10 ∷ []
 
--- the error stream was given such a line, of this failure
+-- the error stream was given a line that tells of this failure, or that one
 abbrev pub TellsFault : List ℕ → Option Failure → Stream → Stream → Type 0
 TellsFault folder first before after =
     (line : List ℕ)
@@ -66,7 +65,8 @@ pub record RunsOverFiles (words : List (List ℕ)) (before after : Handed) (stat
   -- where one has, there is a failure to tell of
   pub told : 0 < faults → IsSome first
 
--- They were, and behind the line of the run the error stream was given one that tells of what failed, at status 4 alone.
+-- They were, and behind the line of the run the error stream was given one that tells of what failed, at status 4
+-- alone.
 pub record RunsInFolder (folder : List ℕ) (words : List (List ℕ)) (before after : Handed) (status : ℕ) : Type 0 where
   -- the error stream behind the line of the run
   pub said : Stream
@@ -86,8 +86,8 @@ pub record Shows (text : List ℕ) (before after : Handed) (status : ℕ) : Type
   pub input : after.input ≡ before.input
   pub ports : after.ports ≡ before.ports
 
--- the words were refused by this one: the error stream was given the line that a run gives it, and no other stream and no
--- port was called
+-- the words were refused by this one: the error stream was given the line that a run gives it, and no other stream and
+-- no port was called
 pub record Refuses (word : List ℕ) (before after : Handed) (status : ℕ) : Type 0 where
   pub status_is : status ≡ 1
   pub says : Says (refusal word) before.errors after.errors
