@@ -501,10 +501,14 @@ right
 try 'a made-up site' ''
 "$program" made gen 2000 --delay 0 <in >out 2>err
 gives 0 "$(report '4000 4000 2000 44 0 0 0 0 2000 2000 0 0 0 0 0 0 0 0')" ''
+"$program" made show >out 2>err
+gives 0 "$(report '4000 4000 2000 44 0 0 0 0 2000 2000 0 0 0 0 0 0 0 0')" ''
 "$program" made gen 2000 <in >out 2>err
 gives 0 "$(report '4001 4001 2000 44 0 0 0 0 2000 2000 0 0 0 0 0 0 0 0')" ''
 "$program" made-alone gen 1 <in >out 2>err
 gives 0 "$(report '2 2 1 0 0 0 0 0 1 1 0 0 0 0 0 0 0 0')" ''
+"$program" made-alone list >out 2>err
+gives 0 '0 page http://s0.test/p0|' ''
 right
 
 finish

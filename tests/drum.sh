@@ -50,17 +50,66 @@ cmp -s expected out || fail 'the output has other bytes'
 has err ''
 right
 
+# What a line asks, alone in a new store: what is told of it, and of a check of its key behind it.
+asks() {
+    rm -rf asked
+    printf "$1\\nc $2" >in
+    printf "$3\\n" >expected
+    "$program" asked drum <in >out 2>err || fail "status $? of $1"
+    cmp -s expected out || fail "of $1 it told '$(tr '\n' '|' <out)'"
+    has err ''
+}
+
+try 'what a line asks' ''
+asks 'b 02 0 q' 2 'unique 0000000000000002 q\nknown 0000000000000002 0'
+asks 'c 01' 1 'absent 0000000000000001\nabsent 0000000000000001'
+asks 'b 01 7 p' 1 'unique 0000000000000001 p\nknown 0000000000000001 7'
+asks 'u 01 18446744073709551615' 1 'known 0000000000000001 18446744073709551615'
+asks 'u 01 5' 1 'known 0000000000000001 5'
+asks 'b 8000000000000001 0 x' 8000000000000001 'unique 8000000000000001 x\nknown 8000000000000001 0'
+asks 'b 1 0' 1 'unique 0000000000000001\nknown 0000000000000001 0'
+asks 'c 0' 0 'absent 0000000000000000\nabsent 0000000000000000'
+asks 'c 0000000000000000' 0 'absent 0000000000000000\nabsent 0000000000000000'
+asks 'c ffffffffffffffff' ffffffffffffffff 'absent ffffffffffffffff\nabsent ffffffffffffffff'
+asks 'c 0123456789abcdef' 0123456789abcdef 'absent 0123456789abcdef\nabsent 0123456789abcdef'
+asks 'b 0123456789abcdef 0' 0123456789abcdef 'unique 0123456789abcdef\nknown 0123456789abcdef 0'
+asks 'u a 10' a 'known 000000000000000a 10'
+asks 'b f 0  ' f 'unique 000000000000000f  \nknown 000000000000000f 0'
+asks 'b f 0 a  b\t\r ' f 'unique 000000000000000f a  b\t\r \nknown 000000000000000f 0'
+asks 'b f 12 \000\377\200' f 'unique 000000000000000f \000\377\200\nknown 000000000000000f 12'
+asks 'b ffffffffffffffff 0  \377 ' ffffffffffffffff 'unique ffffffffffffffff  \377 \nknown ffffffffffffffff 0'
+right
+
+try 'a merge behind each line' 'b 1 7|u 1 9|b 1 3 two words|c 1'
+"$program" single drum --buckets=1 --array=1 --trigger=1 --rule=replace <in >out 2>err
+gives 0 'unique 0000000000000001|known 0000000000000001 9 two words|known 0000000000000001 3|' ''
+right
+
+# A key that was judged unique is listed with its text, and with a final space where that is empty.
+try 'a list of tuples' 'b 8000000000000001 0 x|b 01 0 y|u 8000000000000001 7|b 02 0|'
+"$program" listed drum --buckets 2 <in >out 2>err
+gives 0 'unique 0000000000000001 y|unique 0000000000000002|unique 8000000000000001 x|' ''
+"$program" listed list >out 2>err
+gives 0 '0 fresh y|1 fresh |2 fresh x|' ''
+right
+
 # Refused lines
 
 try 'lines that are no tuples' ''
 tab=$(printf '\t')
 return=$(printf '\r')
-for line in '' ' ' 'x 01' 'c' 'c ' 'c 01 ' 'c 01 0' 'C 01' 'c 0A' 'c 0g' 'c 00000000000000001' "c${tab}01" "c 01$return" ' c 01' 'c  01' \
-    'u 01' 'u 01 ' 'u 01 5 x' 'u 01 05' 'u 01 +5' 'u 01 18446744073709551616' 'b 01' 'b 01 07' 'b 01 7 ' 'b  01 7'; do
+for line in '' ' ' 'c' 'c ' 'u' 'b ' 'x 01' 'C 01' 'c01' ' c 01' 'c  01' "c${tab}01" 'c 01 ' "c 01$return" "c 01$tab" 'c 01 0' 'c 0A' \
+    'c 0g' 'c aF' 'c 0x1' 'c +1' 'c -1' 'c 00000000000000001' "c $(printf '\377')" 'u 01' 'u 01 ' 'u  5' 'u 01  5' 'u 01 5 ' 'u 01 5 x' \
+    'u 01 +5' 'u 01 -0' 'u 01 a' 'u 01 00' 'u 01 05' 'u 01 18446744073709551616' 'u 00000000000000001 5' 'u 0x1 5' \
+    'b 01 18446744073709551616' 'b 01 +7' "b 01${tab}7" 'u 01 100000000000000000000' 'b 01' 'b 01 07' 'b 01 7 ' 'b 01  x' \
+    'b 00000000000000001 7' 'b  01 7'; do
     printf '%s\n' "$line" >in
     "$program" refused drum <in >out 2>err
     gives 2 '' 'line 1 refused|'
 done
+text 'c 01||c 02|' >in
+"$program" refused drum <in >out 2>err
+gives 2 '' 'line 2 refused|'
 right
 
 try 'a refused line behind two good ones' 'b 1 0 p|b 2 0 q|b 3 00 r|b 4 0 s|'
@@ -140,7 +189,7 @@ gives 0 'absent 0000000000000001|' ''
 right
 
 # The one example of `drum` that a text has: an indented line behind `$`, which prints the lines below it up to an empty
-# one. It is run over a store of this name.
+# one. It is run over a store of this name. That of the guide is run by pages.sh.
 shows() {
     sed -n '/^    \$ .*irl [^ ]* drum/,/^$/s/^    //p' "$1" >example
     call=$(sed -n '1s/^\$ \(.*\) | [^ ]*irl [^ ]* drum/\1 | "$program" '"$2"' drum/p' example)
@@ -151,10 +200,9 @@ shows() {
     gives 0 "$told" ''
 }
 
-try 'the printed examples of drum' ''
+try 'the printed example of drum' ''
 "$program" unmade drum --help >help 2>err
 shows help shown-by-help
-shows "$top/README.md" shown-by-readme
 is_absent unmade
 right
 
@@ -184,6 +232,25 @@ gives 6 '' 'output fault|'
 text 'c 1|c 2|' >in
 "$program" closed-verdicts drum <in >out 2>err
 gives 0 'known 0000000000000001 5|known 0000000000000002 6|' ''
+right
+
+# Ten thousand keys, which lie in all buckets, past many flushes and merges: each value is added to twice. Of each line the first word,
+# the key and the rest are given, and what is told of it.
+tuples() {
+    awk -v word="$1" -v rest="$2" 'BEGIN {
+        for (i = 0; i < 10000; i++) printf "%s %x%x%x%x000000000000%s\n", word, i % 16, i / 16 % 16, i / 256 % 16, i / 4096 % 16, rest
+    }'
+}
+tells() {
+    tuples "$1" "$2" | "$program" ten-thousand drum --array=64 --trigger=256 --rule=add 2>err | LC_ALL=C sort >out
+    has err ''
+    tuples "$3" "$4" | LC_ALL=C sort | cmp -s - out || fail "it told other lines of '$1'"
+}
+
+try 'ten thousand keys three times' ''
+tells b ' 1' unique ''
+tells b ' 1 text' known ' 1 text'
+tells c '' known ' 2'
 right
 
 # Twenty thousand tuples of ten thousand keys, over all buckets, past some merges: each key is new once, and then it has the

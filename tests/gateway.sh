@@ -186,6 +186,20 @@ if command -v python3 >/dev/null 2>&1; then
     stop TERM
     right
 
+    # A robots file is kept for a day: the second run asks for pages of the host, and not for that file again.
+    try 'a robots file that an earlier run was given' 'suffix test|seed http://www.a.test/|'
+    small_site noted
+    serve noted 0
+    for pages in 1 100; do
+        "$program" noting crawl --port "$port" --delay 0 --pages $pages <in >out 2>err
+        status=$?
+        [ "$status" -eq 0 ] || fail "status $status of the run up to $pages pages: $(tr '\n' '|' <err)"
+    done
+    stop TERM
+    tr -d '\r' <noted/requests | grep -B 1 '^Host: www.a.test$' | grep -o 'GET [^ ]*' >paths
+    has paths 'GET /robots.txt|GET /|GET /one|'
+    right
+
     # By however many workers it is asked for the same, and the same comes of it.
     try 'a small site by 4 and 16 workers' 'suffix test|seed http://www.a.test/|'
     text "$tape_listing" | unnumbered >fates-wanted

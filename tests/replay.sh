@@ -52,6 +52,8 @@ try 'one page a run' ''
 tape
 "$program" paged replay --buckets 1 --pages 1 <in >out 2>err
 gives 0 "$(report '5 5 4 1 3 0 0 0 1 1 0 0 0 0 0 0 0 0')" ''
+"$program" paged show >out 2>err
+gives 0 "$(report '5 5 4 1 3 0 0 0 1 1 0 0 0 0 0 0 0 0')" ''
 for run in 2 3 4 5 6; do
     "$program" paged replay --pages 1 <in >out 2>err || fail "status $? of run $run"
 done
@@ -86,6 +88,19 @@ tape
 sed '$d' in >shorter
 "$program" cut replay <shorter >out 2>err
 gives 2 '' 'line 31 refused|'
+right
+
+# A page of this machine's sites is no line of `crawl`, and a URL that is lost has no `end`. A refused tape leaves a store without
+# lines.
+try 'lines that a tape does not have' ''
+tape
+"$program" lineless crawl --port 8080 <in >out 2>err
+gives 2 '' 'line 3 refused|'
+text 'seed http://a.test/|lost http://a.test/|end|' >in
+"$program" lineless replay <in >out 2>err
+gives 2 '' 'line 3 refused|'
+"$program" lineless list >out 2>err
+gives 0 '' ''
 right
 
 # Of another system, and of which a line is too long: nothing of it is crawled.
@@ -131,6 +146,12 @@ tape
 gives 8 '' 'bucket 0 full|'
 "$program" full replay <in >out 2>err
 gives 8 '' 'bucket 0 full|'
+for run in 1 2; do
+    "$program" four replay --buckets=1 --array=2 --trigger=4 --cap=4 <in >out 2>err
+    gives 8 '' 'bucket 0 full|'
+done
+"$program" four seen <in >out 2>err
+gives 3 '' 'other setting 1: kept 3, asked 1|'
 right
 
 try 'options of a run that are refused' ''

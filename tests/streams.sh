@@ -27,6 +27,32 @@ printf 'z\n%sx\ny\n' "$long" >in
 gives 2 '' 'line 2 refused|'
 right
 
+try 'the longest line' ''
+head -c 2048 /dev/zero | tr '\0' x >in
+{ cat in && echo; } >expected
+"$program" longest seen <in >out 2>err || fail "status $?, and not 0"
+same expected out
+has err ''
+printf x >>in
+: >out
+"$program" too-long seen <in >out 2>err
+gives 2 '' 'line 1 refused|'
+right
+
+# Twenty lines, and the first ten of them again: sixteen flushes and six merges, by the rules of the schedule. A store of one bucket
+# judges in the order of the input.
+try 'merges in the order of the schedule' ''
+awk 'BEGIN { for (i = 0; i < 30; i++) print "l" i % 20 }' >in
+"$program" two-buckets seen --buckets=2 --array=2 --trigger=3 <in >out 2>err
+gives 0 'l1|l5|l0|l2|l3|l4|l7|l8|l9|l10|l11|l12|l14|l15|l6|l13|l17|l19|l16|l18|' ''
+"$program" two-buckets seen --buckets=2 --array=2 --trigger=3 <in >out 2>err
+gives 0 '' ''
+"$program" one-bucket seen --buckets=1 --array=2 --trigger=3 <in >out 2>err
+gives 0 'l0|l1|l2|l3|l4|l5|l6|l7|l8|l9|l10|l11|l12|l13|l14|l15|l16|l17|l18|l19|' ''
+"$program" one-bucket seen --buckets=1 --array=2 --trigger=3 <in >out 2>err
+gives 0 '' ''
+right
+
 try 'a closed input' ''
 "$program" plain seen <&- >out 2>err
 gives 0 '' ''
@@ -124,6 +150,16 @@ if [ -c /dev/full ]; then
     done
 fi
 reads_again looked 'a|b|c|' 'c|'
+right
+
+# More judged lines than are read at once, of which each other one is the first.
+try 'a list by the numbers' ''
+awk 'BEGIN { for (i = 0; i < 3000; i++) print i % 2 ? i : "x" }' >in
+awk 'BEGIN { print "0 fresh x"; for (i = 1; i < 3000; i += 2) print i " fresh " i }' >expected
+"$program" numbered seen --buckets 1 <in >out 2>err || fail "status $?, and not 0"
+"$program" numbered list >out 2>err || fail "status $?, and not 0"
+same expected out
+has err ''
 right
 
 try 'a list that is read no further' ''

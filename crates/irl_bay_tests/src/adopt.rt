@@ -1,96 +1,50 @@
-ghost use Rattle.std.specs.Prelude.{◌≡◌, IfOk};
-ghost use Rattle.irl_offer.specs.Settings.{AreValid};
-
-use crate::bay::can_merge;
+use crate::bay::{adopted, counts, merge};
+use crate::quiet::Quiet;
 use irl_bay::Bay;
-use irl_disk::{Failed, MemStore, Store};
 use irl_offer::{Fault, Kind, Rule, Settings};
-use std::alloc::{AllocError, Global};
+use std::alloc::Global;
 use std::test::Fail;
 
-// The settings of a store of tuples with so many buckets, and arrays of two offers; or an error where there are none.
-fn settings_of(buckets: u32) -> Result<Settings, Fault>
-    ensures valid { IfOk result (λ settings. AreValid settings) }
-    ensures buckets { IfOk result (λ settings. settings.buckets ≡ buckets) }
-{
-    let settings = Settings {
-        kind: Kind::Tuples,
-        rule: Rule::Keep,
-        buckets,
-        array: 2,
-        trigger: 16,
-        block: 16,
-        cap: 16,
-        queues: 2,
-        base: 10,
-        most: 10_000,
-        ranks: 10_000,
-    };
-    if settings.is_valid() {
-        Ok(settings)
-    } else {
-        Err(Fault::Memory)
-    }
+// The settings of a store of tuples with one bucket, and arrays of two offers.
+const SETTINGS: Settings = Settings {
+    kind: Kind::Tuples,
+    rule: Rule::Keep,
+    buckets: 1,
+    array: 2,
+    trigger: 16,
+    block: 16,
+    cap: 16,
+    queues: 2,
+    base: 10,
+    most: 10_000,
+    ranks: 10_000,
+};
+
+// How many offers a bay has, how many of them wait, and how many cuts it has.
+type Counts = (u64, u64, u64);
+
+// Opens the bay whose first file is 100: its counts, or why it was refused.
+fn opened(alloc: Global, store: &mut Quiet) -> Result<Counts, Fault> {
+    let bay = adopted(alloc, store, 100, &SETTINGS)?;
+    let (durable, pending) = counts(&bay, 0).ok_or(Fault::Memory)?;
+    Ok((durable, pending, bay.cuts()))
 }
 
-// Opens the bay of one bucket whose first file is 100: how many offers it has, how many of them wait, and how many cuts
-// it has; or why it was refused.
-fn adopted(alloc: Global, store: &mut MemStore) -> Result<(u64, u64, u64), Fault> {
-    let bay = Bay::adopt(alloc, store, 100, &settings_of(1)?)?;
-    Ok((bay.durable(0), bay.pending(0), bay.cuts()))
-}
-
-// Adds a text with a comma behind it.
-fn push_text(texts: &mut Vec<u8>, text: &[u8]) -> Result<(), AllocError> {
-    texts.extend_from_slice(text)?;
-    texts.push(b',')?;
+#[test]
+fn a_made_bay_is_adopted_empty(rt: HostRuntime) -> Result<(), Fail> {
+    let alloc = rt.alloc();
+    let mut store = Quiet::new(alloc);
+    assert!(rt; SETTINGS.is_valid());
+    Bay::make(alloc, &mut store, 100, &SETTINGS)?;
+    assert!(rt; opened(alloc, &mut store) == Ok((0, 0, 0)));
     Ok(())
 }
 
-// The texts of the offers that wait there, in order, each with a comma behind it, as a merge judges them.
-fn texts_waiting(alloc: Global, store: &mut MemStore) -> Result<Vec<u8>, Fault> {
-    let mut bay = Bay::adopt(alloc, store, 100, &settings_of(1)?)?;
-    let mut texts = Vec::new(alloc);
-    if !can_merge(&bay, 0) {
-        return Ok(texts);
-    }
-    let first = bay.judged_len();
-    bay.merge(store)?;
-    let merged = Bay::adopt(alloc, store, 100, &settings_of(1)?)?;
-    if first >= merged.judged_len() {
-        return Err(Fault::Memory);
-    }
-    let found = merged.judged_from(store, first, 100)?;
-    for i in 0..found.len() {
-        push_text(&mut texts, found.get(i).aux)?;
-    }
-    Ok(texts)
-}
-
-// Writes bytes at the end of a file.
-fn put(store: &mut MemStore, f: u16, bytes: &[u8]) -> Result<(), Failed> {
-    if f >= 10_000 {
-        return Err(Failed);
-    }
-    let at = store.length(f)?;
-    store.write(f, at, bytes)
-}
-
-// The bytes of an entry of key 1 with a text of so many bytes.
-fn entry(aux: u8) -> [u8; 27] {
-    let mut bytes = [0; 27];
-    bytes[0] = 2;
-    bytes[1] = aux;
-    bytes[3] = 1;
-    bytes[11] = 7;
-    bytes
-}
-
-// The bytes of a record of a manifest of one bucket, with the closed gate behind it: the byte of the sides, and the low byte
-// of the entries, the judged and the unique ones, the texts' length and the cut.
-fn commit(numbers: [u8; 6]) -> [u8; 47] {
+// The bytes of a commit's record of one bucket, without the next gate: the byte of the sides, and the low byte of the entries,
+// the judged and the unique ones, the texts' length and the cut.
+fn commit(numbers: [u8; 6]) -> [u8; 46] {
     let [sides, entries, judged, unique, texts, cut] = numbers;
-    let mut bytes = [0; 47];
+    let mut bytes = [0; 46];
     bytes[0] = 0xA5;
     bytes[1] = 41;
     bytes[5] = sides;
@@ -102,40 +56,95 @@ fn commit(numbers: [u8; 6]) -> [u8; 47] {
     bytes
 }
 
-#[test]
-fn a_made_bay_is_adopted_empty(rt: HostRuntime) -> Result<(), Fail> {
-    let alloc = rt.alloc();
-    let mut store = MemStore::new(alloc, Vec::new(alloc));
-    Bay::make(alloc, &mut store, 100, &settings_of(1)?)?;
-    assert_eq!(rt; adopted(alloc, &mut store), Ok((0, 0, 0)));
-    Ok(())
+// The commits of a manifest, bytes of other files, what opening answers, and the texts of the offers that wait then, as a merge
+// judges them, each with a comma behind it.
+#[derive(Clone, Copy)]
+struct Case<'a> {
+    commits: &'a [[u8; 6]],
+    files: &'a [(u16, &'a [u8])],
+    answer: Result<Counts, Fault>,
+    texts: &'a [u8],
 }
+
+// Writes the files of a case.
+fn written(alloc: Global, case: &Case<'_>) -> Result<Quiet, Fault> {
+    let mut store = Quiet::new(alloc);
+    for numbers in case.commits {
+        store.put(100, &commit(*numbers))?;
+    }
+    if !case.commits.is_empty() {
+        store.put(100, b"\0")?;
+    }
+    for (f, bytes) in case.files {
+        store.put(*f, bytes)?;
+    }
+    Ok(store)
+}
+
+// The texts of the offers that wait, as a merge judges them.
+fn texts_waiting(alloc: Global, store: &mut Quiet) -> Result<Vec<u8>, Fault> {
+    let mut bay = adopted(alloc, store, 100, &SETTINGS)?;
+    let mut texts = Vec::new(alloc);
+    let first = bay.judged_len();
+    merge(store, &mut bay, 0)?;
+    let merged = adopted(alloc, store, 100, &SETTINGS)?;
+    if first >= merged.judged_len() {
+        return Err(Fault::Memory);
+    }
+    let found = merged.judged_from(store, first, 100)?;
+    for i in 0..found.len() {
+        texts.extend_from_slice(found.get(i).aux)?;
+        texts.extend_from_slice(b",")?;
+    }
+    Ok(texts)
+}
+
+// Whether a case is as it says.
+fn is_so(alloc: Global, case: &Case<'_>) -> Result<bool, Fault> {
+    let mut store = written(alloc, case)?;
+    if opened(alloc, &mut store) != case.answer {
+        return Ok(false);
+    }
+    Ok(case.texts.is_empty() || texts_waiting(alloc, &mut store)?.as_slice() == case.texts)
+}
+
+// Two records of a bucket's journal, with two offers of key 1 each, whose texts have 1, 2, 0 and 1 bytes.
+const JOURNAL: &[u8] = b"\xA5\x36\0\0\0\
+    \x02\x01\0\x01\0\0\0\0\0\0\0\x07\0\0\0\0\0\0\0\0\0\0\0\0\0\0\0\
+    \x02\x02\0\x01\0\0\0\0\0\0\0\x07\0\0\0\0\0\0\0\0\0\0\0\0\0\0\0\
+    \xA5\x36\0\0\0\
+    \x02\0\0\x01\0\0\0\0\0\0\0\x07\0\0\0\0\0\0\0\0\0\0\0\0\0\0\0\
+    \x02\x01\0\x01\0\0\0\0\0\0\0\x07\0\0\0\0\0\0\0\0\0\0\0\0\0\0\0\0";
+
+// One record of one offer, whose text has one byte.
+const ONE: &[u8] =
+    b"\xA5\x1B\0\0\0\x02\x01\0\x01\0\0\0\0\0\0\0\x07\0\0\0\0\0\0\0\0\0\0\0\0\0\0\0\0";
+
+// Judged offers.
+const JUDGED: &[u8] = &[0; 192];
+
+// A record that passes the file's end.
+const TOO_LONG: &[u8] = b"\xA5\xFF\0\0\0\0";
+
+// The cut of a commit of the earlier layout, and the texts of the offers that wait behind it.
+const BEHIND: [(u8, &[u8]); 5] = [
+    (0, b"a,bc,,d,"),
+    (1, b"bc,,d,"),
+    (2, b",d,"),
+    (3, b"d,"),
+    (4, b""),
+];
 
 #[test]
 fn runs_are_adopted_up_to_any_cut(rt: HostRuntime) -> Result<(), Fail> {
-    let alloc = rt.alloc();
-    // The cut, and the texts of the offers behind it: two of the first record, and two of the second.
-    let table: [(u8, &[u8]); 5] = [
-        (0, b"a,bc,,d,"),
-        (1, b"bc,,d,"),
-        (2, b",d,"),
-        (3, b"d,"),
-        (4, b""),
-    ];
-    for (cut, texts) in table {
-        let mut store = MemStore::new(alloc, Vec::new(alloc));
-        put(&mut store, 100, &commit([0, 0, cut, 0, 0, cut]))?;
-        put(&mut store, 103, &[0; 192])?;
-        for aux in [[1, 2], [0, 1]] {
-            put(&mut store, 110, b"\xA5\x36\0\0\0")?;
-            put(&mut store, 110, &entry(aux[0]))?;
-            put(&mut store, 110, &entry(aux[1]))?;
-        }
-        put(&mut store, 110, b"\0")?;
-        put(&mut store, 111, b"abcd")?;
-        let pending = 4_u64.saturating_sub(u64::from(cut));
-        assert_eq!(rt; adopted(alloc, &mut store), Ok((4, pending, 1)));
-        assert_eq!(rt; texts_waiting(alloc, &mut store)?.as_slice(), texts);
+    for (cut, texts) in BEHIND {
+        let case = Case {
+            commits: &[[0, 0, cut, 0, 0, cut]],
+            files: &[(103, JUDGED), (110, JOURNAL), (111, b"abcd")],
+            answer: Ok((4, 4_u64.saturating_sub(u64::from(cut)), 1)),
+            texts,
+        };
+        assert!(rt; is_so(rt.alloc(), &case)?, "cut {cut}");
     }
     Ok(())
 }
@@ -143,177 +152,156 @@ fn runs_are_adopted_up_to_any_cut(rt: HostRuntime) -> Result<(), Fail> {
 // The live journal has the offers past the cut, and what lies in the other means nothing.
 #[test]
 fn a_live_side_has_the_offers_that_wait(rt: HostRuntime) -> Result<(), Fail> {
-    let alloc = rt.alloc();
-    // The byte of the sides, and the journal of the live side and of the other.
-    for (sides, live, other) in [(2, 110, 600), (3, 110, 600), (4, 600, 110), (5, 600, 110)] {
-        let mut store = MemStore::new(alloc, Vec::new(alloc));
-        put(&mut store, 100, &commit([sides, 0, 3, 0, 0, 3]))?;
-        put(&mut store, 103, &[0; 144])?;
-        put(&mut store, live, b"\xA5\x1B\0\0\0")?;
-        put(&mut store, live, &entry(1))?;
-        put(&mut store, live, b"\0")?;
-        put(&mut store, live.saturating_add(1), b"a")?;
-        put(&mut store, other, b"\xA5\xFF\0\0\0\0")?;
-        assert_eq!(rt; adopted(alloc, &mut store), Ok((4, 1, 1)), "{sides}");
-        assert_eq!(rt;
-            texts_waiting(alloc, &mut store)?.as_slice(),
-            b"a,".as_slice(),
-            "{sides}"
-        );
+    // The byte of the sides, and the journal of the live side, its texts and the other journal.
+    for (sides, live, texts, other) in [
+        (2, 110, 111, 600),
+        (3, 110, 111, 600),
+        (4, 600, 601, 110),
+        (5, 600, 601, 110),
+    ] {
+        let case = Case {
+            commits: &[[sides, 0, 3, 0, 0, 3]],
+            files: &[(103, JUDGED), (live, ONE), (texts, b"a"), (other, TOO_LONG)],
+            answer: Ok((4, 1, 1)),
+            texts: b"a,",
+        };
+        assert!(rt; is_so(rt.alloc(), &case)?, "{sides}");
     }
     Ok(())
 }
 
-// Opens a bay whose manifest and journal have these bytes.
-fn opened(alloc: Global, manifest: &[u8], journal: &[u8]) -> Result<(u64, u64, u64), Fault> {
-    let mut store = MemStore::new(alloc, Vec::new(alloc));
-    put(&mut store, 100, manifest)?;
-    put(&mut store, 110, journal)?;
-    adopted(alloc, &mut store)
-}
+// Commits of which one is damaged, with the file and the place.
+const DAMAGED: [(&[[u8; 6]], u16, u64); 16] = [
+    // Sides that are none.
+    (&[[6, 0, 0, 0, 0, 0]], 100, 0),
+    (&[[255, 0, 0, 0, 0, 0]], 100, 0),
+    // Each file that is too short.
+    (&[[0, 1, 0, 0, 0, 0]], 101, 0),
+    (&[[1, 1, 0, 0, 0, 0]], 102, 0),
+    (&[[2, 1, 0, 0, 0, 0]], 101, 0),
+    (&[[5, 1, 0, 0, 0, 0]], 102, 0),
+    (&[[0, 0, 1, 0, 0, 0]], 103, 0),
+    (&[[0, 0, 0, 0, 1, 0]], 104, 0),
+    // A cut above the list, by the journal of the one side and by the judged offers.
+    (&[[0, 0, 0, 0, 0, 1]], 100, 0),
+    (&[[2, 0, 0, 0, 0, 1]], 100, 0),
+    // The same of a second commit; and there a number that falls, the layout of one side behind that of two, and sides that
+    // are none.
+    (&[[0, 0, 0, 0, 3, 0], [0, 0, 0, 0, 2, 0]], 100, 46),
+    (&[[0, 0, 0, 0, 0, 0], [0, 0, 0, 0, 0, 1]], 100, 46),
+    (&[[2, 0, 0, 0, 0, 0], [5, 0, 0, 0, 0, 1]], 100, 46),
+    (&[[2, 0, 0, 0, 0, 0], [1, 0, 0, 0, 0, 0]], 100, 46),
+    (&[[5, 0, 0, 0, 0, 0], [0, 0, 0, 0, 0, 0]], 100, 46),
+    (&[[5, 0, 0, 0, 0, 0], [6, 0, 0, 0, 0, 0]], 100, 46),
+];
 
 #[test]
 fn damage_of_a_commit_is_named(rt: HostRuntime) -> Result<(), Fail> {
-    let alloc = rt.alloc();
-    // The commit's numbers, and the damage: sides that are none, each file that is too short, and a cut above the list,
-    // by the journal of the one side or by the judged offers.
-    let table: [([u8; 6], u16); 9] = [
-        ([6, 0, 0, 0, 0, 0], 100),
-        ([0, 1, 0, 0, 0, 0], 101),
-        ([1, 1, 0, 0, 0, 0], 102),
-        ([2, 1, 0, 0, 0, 0], 101),
-        ([5, 1, 0, 0, 0, 0], 102),
-        ([0, 0, 1, 0, 0, 0], 103),
-        ([0, 0, 0, 0, 1, 0], 104),
-        ([0, 0, 0, 0, 0, 1], 100),
-        ([2, 0, 0, 0, 0, 1], 100),
-    ];
-    for (numbers, f) in table {
-        assert_eq!(rt;
-            opened(alloc, &commit(numbers), b""),
-            Err(Fault::Damaged(f, 0))
-        );
+    for (i, (commits, f, at)) in DAMAGED.iter().enumerate() {
+        let case = Case {
+            commits,
+            files: &[],
+            answer: Err(Fault::Damaged(*f, *at)),
+            texts: b"",
+        };
+        assert!(rt; is_so(rt.alloc(), &case)?, "row {i}");
     }
-    assert_eq!(rt;
-        opened(alloc, b"\xA5\x01\0\0\0\0\0", b""),
-        Err(Fault::Damaged(100, 0))
-    );
     Ok(())
 }
 
-#[test]
-fn damage_of_a_run_is_named(rt: HostRuntime) -> Result<(), Fail> {
-    let alloc = rt.alloc();
+// Files without a commit of their own, or with one that is damaged, and what opening them answers.
+type Files = (&'static [(u16, &'static [u8])], Result<Counts, Fault>);
+
+const FILES: [Files; 11] = [
+    // A commit of another length, and one of 2 ^ 60 keys.
+    (&[(100, b"\xA5\x01\0\0\0\0\0")], Err(Fault::Damaged(100, 0))),
+    (
+        &[(
+            100,
+            b"\xA5\x29\0\0\0\0\0\0\0\0\0\0\0\x10\0\0\0\0\0\0\0\0\0\0\0\0\0\0\0\0\
+            \0\0\0\0\0\0\0\0\0\0\0\0\0\0\0\0\0",
+        )],
+        Err(Fault::Damaged(101, 0)),
+    ),
+    // A journal of one byte, one of one offer, one of two, and one of three, which are more than an array has.
+    (&[(110, b"\xA5")], Ok((0, 0, 0))),
+    (&[(110, ONE), (111, b"a")], Ok((1, 1, 0))),
+    (
+        &[(
+            110,
+            b"\xA5\x36\0\0\0\
+            \x02\0\0\x01\0\0\0\0\0\0\0\x07\0\0\0\0\0\0\0\0\0\0\0\0\0\0\0\
+            \x02\0\0\x01\0\0\0\0\0\0\0\x07\0\0\0\0\0\0\0\0\0\0\0\0\0\0\0\0",
+        )],
+        Ok((2, 2, 0)),
+    ),
+    (
+        &[(
+            110,
+            b"\xA5\x51\0\0\0\
+            \x02\0\0\x01\0\0\0\0\0\0\0\x07\0\0\0\0\0\0\0\0\0\0\0\0\0\0\0\
+            \x02\0\0\x01\0\0\0\0\0\0\0\x07\0\0\0\0\0\0\0\0\0\0\0\0\0\0\0\
+            \x02\0\0\x01\0\0\0\0\0\0\0\x07\0\0\0\0\0\0\0\0\0\0\0\0\0\0\0\0",
+        )],
+        Err(Fault::Damaged(110, 0)),
+    ),
+    // No operation 3.
+    (
+        &[(
+            110,
+            b"\xA5\x1B\0\0\0\x03\0\0\x01\0\0\0\0\0\0\0\x07\0\0\0\0\0\0\0\0\0\0\0\0\0\0\0\0",
+        )],
+        Err(Fault::Damaged(110, 0)),
+    ),
     // A record that passes the file's end, a run without an entry, one that isn't whole entries, and texts that aren't
     // there.
-    let table: [(&[u8], u16); 4] = [
-        (b"\xA5\xFF\0\0\0\0", 110),
-        (b"\xA5\0\0\0\0\0", 110),
-        (b"\xA5\x01\0\0\0\x02\0", 110),
-        (
-            b"\xA5\x1B\0\0\0\x02\x01\0\x01\0\0\0\0\0\0\0\x07\0\0\0\0\0\0\0\0\0\0\0\0\0\0\0\0",
-            111,
-        ),
-    ];
-    for (journal, f) in table {
-        assert_eq!(rt; opened(alloc, b"", journal), Err(Fault::Damaged(f, 0)));
-    }
-    Ok(())
-}
-
-// Opens a bay of a journal with a run of so many entries of one operation.
-fn opened_run(alloc: Global, op: u8, count: u8) -> Result<(u64, u64, u64), Fault> {
-    let count = count.min(9);
-    let mut store = MemStore::new(alloc, Vec::new(alloc));
-    put(&mut store, 110, &[0xA5, count * 27, 0, 0, 0])?;
-    let mut bytes = entry(0);
-    bytes[0] = op;
-    for _ in 0..count {
-        put(&mut store, 110, &bytes)?;
-    }
-    put(&mut store, 110, b"\0")?;
-    adopted(alloc, &mut store)
-}
+    (&[(110, TOO_LONG)], Err(Fault::Damaged(110, 0))),
+    (&[(110, b"\xA5\0\0\0\0\0")], Err(Fault::Damaged(110, 0))),
+    (
+        &[(110, b"\xA5\x01\0\0\0\x02\0")],
+        Err(Fault::Damaged(110, 0)),
+    ),
+    (&[(110, ONE)], Err(Fault::Damaged(111, 0))),
+];
 
 #[test]
-fn a_run_has_as_many_valid_entries_as_an_array_at_most(rt: HostRuntime) -> Result<(), Fail> {
-    let alloc = rt.alloc();
-    assert_eq!(rt; opened_run(alloc, 2, 2), Ok((2, 2, 0)));
-    assert_eq!(rt; opened_run(alloc, 2, 3), Err(Fault::Damaged(110, 0)));
-    assert_eq!(rt; opened_run(alloc, 3, 2), Err(Fault::Damaged(110, 0)));
-    Ok(())
-}
-
-// A record without the gate behind it.
-fn ungated(record: &[u8; 47]) -> &[u8] {
-    &record[..46]
-}
-
-#[test]
-fn damage_of_the_second_commit_is_named(rt: HostRuntime) -> Result<(), Fail> {
-    let alloc = rt.alloc();
-    // The sides, the texts and the cut of two commits: a number that falls, a cut above the list, by the journal of the
-    // one side and by the judged offers, and a commit of the layout of one side behind one of two.
-    for (first, second) in [
-        ([0, 3, 0], [0, 2, 0]),
-        ([0, 0, 0], [0, 0, 1]),
-        ([2, 0, 0], [5, 0, 1]),
-        ([2, 0, 0], [1, 0, 0]),
-        ([5, 0, 0], [0, 0, 0]),
-    ] {
-        let mut store = MemStore::new(alloc, Vec::new(alloc));
-        let [sides, texts, cut] = first;
-        put(
-            &mut store,
-            100,
-            ungated(&commit([sides, 0, 0, 0, texts, cut])),
-        )?;
-        let [sides, texts, cut] = second;
-        put(&mut store, 100, &commit([sides, 0, 0, 0, texts, cut]))?;
-        assert_eq!(rt; adopted(alloc, &mut store), Err(Fault::Damaged(100, 46)));
+fn files_are_adopted_or_refused(rt: HostRuntime) -> Result<(), Fail> {
+    for (i, (files, answer)) in FILES.iter().enumerate() {
+        let case = Case {
+            commits: &[],
+            files,
+            answer: *answer,
+            texts: b"",
+        };
+        assert!(rt; is_so(rt.alloc(), &case)?, "row {i}");
     }
     Ok(())
 }
+
+static TWO_COMMITS: Case<'static> = Case {
+    commits: &[[2, 0, 1, 0, 0, 1], [3, 0, 3, 0, 0, 3]],
+    files: &[(103, JUDGED)],
+    answer: Ok((3, 0, 2)),
+    texts: b"",
+};
+
+static ONE_COMMIT: Case<'static> = Case {
+    commits: &[[2, 0, 1, 0, 0, 1]],
+    files: &[],
+    answer: Ok((1, 0, 1)),
+    texts: b"",
+};
 
 #[test]
 fn each_cut_tells_how_many_offers_were_judged(rt: HostRuntime) -> Result<(), Fail> {
     let alloc = rt.alloc();
-    let mut store = MemStore::new(alloc, Vec::new(alloc));
-    put(&mut store, 100, ungated(&commit([2, 0, 1, 0, 0, 1])))?;
-    put(&mut store, 100, &commit([3, 0, 3, 0, 0, 3]))?;
-    put(&mut store, 103, &[0; 144])?;
-    let bay = Bay::adopt(alloc, &mut store, 100, &settings_of(1)?)?;
-    assert_eq!(rt;
-        bay.judged_at_cuts(alloc, &mut store)?.as_slice(),
-        [1, 3].as_slice()
-    );
+    let mut store = written(alloc, &TWO_COMMITS)?;
+    let bay = adopted(alloc, &mut store, 100, &SETTINGS)?;
+    let found = bay.judged_at_cuts(alloc, &mut store)?;
+    assert!(rt; found.as_slice() == [1, 3].as_slice());
     // A manifest that ends before the second commit.
-    let mut other = MemStore::new(alloc, Vec::new(alloc));
-    put(&mut other, 100, &commit([2, 0, 1, 0, 0, 1]))?;
-    assert_eq!(rt;
-        bay.judged_at_cuts(alloc, &mut other).err(),
-        Some(Fault::Damaged(100, 46))
-    );
-    Ok(())
-}
-
-#[test]
-fn a_length_past_every_file_is_damage(rt: HostRuntime) -> Result<(), Fail> {
-    let alloc = rt.alloc();
-    let mut bytes = commit([0, 0, 0, 0, 0, 0]);
-    // 2 ^ 60 keys.
-    bytes[13] = 16;
-    let mut store = MemStore::new(alloc, Vec::new(alloc));
-    put(&mut store, 100, &bytes)?;
-    assert_eq!(rt; adopted(alloc, &mut store), Err(Fault::Damaged(101, 0)));
-    Ok(())
-}
-
-#[test]
-fn a_journal_of_one_byte_is_empty(rt: HostRuntime) -> Result<(), Fail> {
-    let alloc = rt.alloc();
-    let mut store = MemStore::new(alloc, Vec::new(alloc));
-    put(&mut store, 110, b"\xA5")?;
-    assert_eq!(rt; adopted(alloc, &mut store), Ok((0, 0, 0)));
+    let mut other = written(alloc, &ONE_COMMIT)?;
+    let refused = bay.judged_at_cuts(alloc, &mut other).err();
+    assert!(rt; refused == Some(Fault::Damaged(100, 46)));
     Ok(())
 }

@@ -1,21 +1,18 @@
-ghost use Rattle.std.specs.Prelude.{◌≡◌, ⊤, true, IsTrue, IfOk, OnOk};
+ghost use Rattle.std.specs.Prelude.{◌≡◌, true, IsTrue, IfOk};
 ghost use Rattle.std.specs.List.{AllByRecursion};
 ghost use Rattle.irl_offer.specs.Buckets.{IsBucketCount, bucket_of as bucket_of_key};
-ghost use Rattle.irl_model.specs.Book.{Book};
-ghost use Rattle.irl_disk.specs.Memory.{told_by};
+ghost use Rattle.irl_offer.specs.Settings.{AreValid};
 ghost use Rattle.irl_bay.specs.Drum.{SomePending};
 ghost use Rattle.irl_bay.specs.Flushing.{MayFlush};
-ghost use Rattle.irl_bay.specs.Holding.{Holds};
 
 mod cache_file;
 mod earlier;
 mod judging;
-mod quiet;
 
+use crate::quiet::Quiet;
 use irl_array::Array;
 use irl_bay::Bay;
-use irl_disk::{MemStore, Part, Store};
-use irl_journal::{Journal, Visit};
+use irl_disk::Part;
 use irl_offer::{Fault, Kind, Offer, Op, Rule, Settings, Text, bucket_of};
 use std::alloc::{AllocError, Global};
 use std::test::Fail;
@@ -23,7 +20,7 @@ use std::test::Fail;
 // A store with a bay whose first file is 1000, and offers that wait for one of its buckets.
 #[derive(Drop)]
 pub(crate) struct Waiting {
-    pub store: MemStore,
+    pub store: Quiet,
     pub bay: Bay,
     pub array: Array,
 }
@@ -45,42 +42,86 @@ pub(crate) fn settings_of(buckets: u32, array: u32, cap: u64) -> Settings {
     }
 }
 
-// Makes a bay: for each journal, the manifest's and the buckets', in two calls of the store.
-pub(crate) fn made(alloc: Global, failing: Vec<u64>, settings: &Settings) -> Result<Waiting, Fault>
-    ensures { IfOk result (λ kept. (book : Book) × Holds (told_by kept.store).images kept.bay book) }
+// Opens a bay.
+pub(crate) fn adopted(
+    alloc: Global,
+    store: &mut Quiet,
+    base: u16,
+    settings: &Settings,
+) -> Result<Bay, Fault>
+    ensures { IfOk result (λ bay. bay.is_sound ≡ true) }
 {
-    if !settings.is_valid() {
+    if !settings.is_valid() || base > 9_000 {
         return Err(Fault::Memory);
     }
-    let mut store = MemStore::new(alloc, failing);
-    let bay = Bay::make(alloc, &mut store, 1_000, settings)?;
-    Ok(Waiting {
-        store,
-        bay,
-        array: Array::with_room(alloc, settings.array)?,
-    })
+    Bay::adopt(alloc, store, base, settings)
 }
 
-// Lets an offer wait.
-pub(crate) fn put(
-    alloc: Global,
-    kept: &mut Waiting,
-    key: u64,
-    aux: &[u8; 1],
-) -> Result<(), AllocError>
-    requires { (book : Book) × Holds (told_by kept.old.store).images kept.old.bay book }
-    ensures { (book : Book) × Holds (told_by kept.new.store).images kept.new.bay book }
-{
-    if !kept.array.is_full() {
-        kept.array.push(Offer {
+impl Waiting {
+    // Makes a bay: for each journal, the manifest's and the buckets', in two calls of the store.
+    pub(crate) fn made(
+        alloc: Global,
+        failing: Option<u64>,
+        settings: &Settings,
+    ) -> Result<Waiting, Fault> {
+        if !settings.is_valid() {
+            return Err(Fault::Memory);
+        }
+        let mut store = Quiet::failing(alloc, failing)?;
+        let bay = Bay::make(alloc, &mut store, 1_000, settings)?;
+        Ok(Waiting {
+            store,
+            bay,
+            array: Array::with_room(alloc, settings.array)?,
+        })
+    }
+
+    // Lets an offer wait.
+    pub(crate) fn wait(&mut self, offer: Offer) {
+        if !self.array.is_full() {
+            self.array.push(offer);
+        }
+    }
+
+    // Lets an offer of a key wait.
+    pub(crate) fn put(&mut self, alloc: Global, key: u64, aux: &[u8; 1]) -> Result<(), AllocError> {
+        let offer = Offer {
             op: Op::Both,
             key,
             value: 7,
             from: 0,
             aux: Text::from_bytes(alloc, aux)?,
-        });
+        };
+        self.wait(offer);
+        Ok(())
     }
-    Ok(())
+
+    // Flushes the offers that wait to this bucket.
+    pub(crate) fn flush(&mut self, b: u32) -> Result<(), Fault> {
+        flush(&mut self.store, &mut self.bay, b, &mut self.array)
+    }
+
+    // Judges what was flushed, where an offer of this bucket waits.
+    pub(crate) fn merge(&mut self, b: u32) -> Result<u64, Fault> {
+        merge(&mut self.store, &mut self.bay, b)
+    }
+
+    // How many offers are judged, how many Unique, and how many cuts there are.
+    pub(crate) fn judged(&self) -> [u64; 3] {
+        judged_of(&self.bay)
+    }
+}
+
+pub(crate) fn judged_of(bay: &Bay) -> [u64; 3] {
+    [bay.judged_len(), bay.unique_len(), bay.cuts()]
+}
+
+// How many offers a bucket has, and how many of them wait to be judged.
+pub(crate) fn counts(bay: &Bay, b: u32) -> Option<(u64, u64)> {
+    if b >= bay.settings().buckets {
+        return None;
+    }
+    Some((bay.durable(b), bay.pending(b)))
 }
 
 // Whether the offers are all of this bucket.
@@ -110,19 +151,21 @@ fn can_flush(bay: &Bay, b: u32, array: &Array) -> bool
         && are_of(array.items(), settings.buckets, b)
 }
 
-// Flushes the offers that wait to this bucket.
-pub(crate) fn flush(kept: &mut Waiting, b: u32) -> Result<(), Fault>
-    requires { (book : Book) × Holds (told_by kept.old.store).images kept.old.bay book }
-    ensures { OnOk result ((book : Book) × Holds (told_by kept.new.store).images kept.new.bay book) }
-{
-    if !can_flush(&kept.bay, b, &kept.array) {
+// Flushes offers to a bucket.
+pub(crate) fn flush(
+    store: &mut Quiet,
+    bay: &mut Bay,
+    b: u32,
+    array: &mut Array,
+) -> Result<(), Fault> {
+    if !can_flush(bay, b, array) {
         return Err(Fault::Memory);
     }
-    kept.bay.flush(&mut kept.store, b, &mut kept.array)
+    bay.flush(store, b, array)
 }
 
 // Whether an offer of this bucket waits to be judged.
-pub(crate) fn can_merge(bay: &Bay, b: u32) -> bool
+fn can_merge(bay: &Bay, b: u32) -> bool
     ensures sound { IsTrue result → bay.now.is_sound ≡ true }
     ensures some { IsTrue result → SomePending bay.now }
 {
@@ -130,126 +173,71 @@ pub(crate) fn can_merge(bay: &Bay, b: u32) -> bool
 }
 
 // Judges what was flushed, where an offer of this bucket waits.
-pub(crate) fn merge(kept: &mut Waiting, b: u32) -> Result<u64, Fault>
-    requires { (book : Book) × Holds (told_by kept.old.store).images kept.old.bay book }
-    ensures { OnOk result ((book : Book) × Holds (told_by kept.new.store).images kept.new.bay book) }
-{
-    if !can_merge(&kept.bay, b) {
+pub(crate) fn merge(store: &mut Quiet, bay: &mut Bay, b: u32) -> Result<u64, Fault> {
+    if !can_merge(bay, b) {
         return Err(Fault::Memory);
     }
-    kept.bay.merge(&mut kept.store)
+    bay.merge(store)
 }
 
 // A bay of one bucket that was made in calls 0 to 3, with two offers that wait.
-fn two_waiting(alloc: Global, failing: Vec<u64>) -> Result<Waiting, Fault>
-    ensures { IfOk result (λ kept. (book : Book) × Holds (told_by kept.store).images kept.bay book) }
-{
-    let mut kept = made(alloc, failing, &settings_of(1, 2, 1_000))?;
-    put(alloc, &mut kept, 1, b"p")?;
-    put(alloc, &mut kept, 2, b"q")?;
+fn two_waiting(alloc: Global, failing: Option<u64>) -> Result<Waiting, Fault> {
+    let mut kept = Waiting::made(alloc, failing, &settings_of(1, 2, 1_000))?;
+    kept.put(alloc, 1, b"p")?;
+    kept.put(alloc, 2, b"q")?;
     Ok(kept)
 }
 
-// Lets 1,000 offers wait for 16 buckets, one bucket after the other, and flushes them as soon as the array is full or
-// the bucket's last waits.
-fn flush_all(alloc: Global, kept: &mut Waiting) -> Result<(), Fault>
-    requires { (book : Book) × Holds (told_by kept.old.store).images kept.old.bay book }
-{
-    for i in 0..1_000 {
-        let b = i * 16 / 1_000;
-        put(alloc, kept, u64::from(b) << 60 | u64::from(i), b"x")?;
-        if kept.array.is_full() || (i + 1) * 16 / 1_000 != b {
-            flush(kept, b)?;
-        }
-    }
-    Ok(())
-}
-
-// How many offers a bucket has, and how many of them wait to be judged.
-pub(crate) fn counts(bay: &Bay, b: u32) -> Option<(u64, u64)> {
-    if b >= bay.settings().buckets {
-        return None;
-    }
-    Some((bay.durable(b), bay.pending(b)))
-}
-
-// Counts the bytes of records.
-#[derive(Drop)]
-struct Counting {
-    bytes: usize,
-}
-
-impl Visit for Counting {
-    ghost takes = { λ _ _ _ _. ⊤ };
-
-    ghost refuses = { λ _ _ _ _. ⊤ };
-
-    fn take(&mut self, _: u64, payload: &[u8]) -> Result<bool, AllocError> {
-        self.bytes = self.bytes.saturating_add(payload.len());
-        Ok(true)
+// How many offers of 27 bytes a stop in this call leaves in bucket 0, where their texts are there; 9 where they aren't.
+fn left(alloc: Global, store: &Quiet, call: u64, part: Part) -> Result<u64, Fault> {
+    let mut image = store.image(alloc, call, part)?;
+    let texts = image.bytes(alloc, 1_011)?;
+    let bay = adopted(alloc, &mut image, 1_000, &settings_of(1, 2, 1_000))?;
+    match counts(&bay, 0) {
+        Some((0, 0)) => Ok(0),
+        Some((2, 2)) if texts.as_slice() == b"pq".as_slice() => Ok(2),
+        _ => Ok(9),
     }
 }
 
-// How many entries of 27 bytes a stop in this call leaves in the journal of bucket 0, and the first bytes of its texts.
-fn left(alloc: Global, store: &MemStore, call: u64, part: Part) -> Result<(usize, [u8; 2]), Fail> {
-    let mut counting = Counting { bytes: 0 };
-    let mut texts = [0; 2];
-    if call < store.calls() {
-        let mut image = store.image(alloc, call, part)?;
-        Journal::visit(alloc, &mut image, 1_010, &mut counting)?;
-        image.read(1_011, 0, &mut texts)?;
+// What a stop in this call of a flush, which failed or was done, leaves as old, as new and torn.
+fn stopped(alloc: Global, call: u64, is_failing: bool) -> Result<[u64; 3], Fault> {
+    let mut kept = two_waiting(alloc, is_failing.then_some(call))?;
+    let wanted = is_failing.then_some(Fault::Failed);
+    if kept.flush(0).err() != wanted || kept.bay.is_sound() == is_failing {
+        return Err(Fault::Memory);
     }
-    Ok((counting.bytes / 27, texts))
+    let mut found = [0; 3];
+    for (offers, part) in found.iter_mut().zip([Part::Old, Part::New, Part::Torn]) {
+        *offers = left(alloc, &kept.store, call, part)?;
+    }
+    Ok(found)
 }
 
 #[test]
 fn a_stop_leaves_both_offers_or_none(rt: HostRuntime) -> Result<(), Fail> {
-    let alloc = rt.alloc();
-    // The call of the stop, whether it failed, and how many offers are left as old, as new and torn.
-    let table = [
-        (4, false, [0, 0, 0]),
-        (4, true, [0, 0, 0]),
-        (5, false, [0, 0, 0]),
-        (5, true, [0, 0, 0]),
-        (6, false, [0, 0, 0]),
-        (6, true, [0, 0, 0]),
-        (7, false, [0, 0, 0]),
-        (7, true, [0, 0, 0]),
-        (8, false, [0, 2, 2]),
-        (8, true, [0, 0, 0]),
-        (9, true, [0, 2, 2]),
-        // The flush answered Ok.
-        (9, false, [2, 2, 2]),
-    ];
-    for (call, is_failing, [old, new, torn]) in table {
-        let failing = if is_failing {
-            vec![in alloc; call]?
-        } else {
-            Vec::new(alloc)
-        };
-        let mut kept = two_waiting(alloc, failing)?;
-        assert_eq!(rt; flush(&mut kept, 0).is_err(), is_failing, "at {call}");
-        for (part, offers) in [(Part::Old, old), (Part::New, new), (Part::Torn, torn)] {
-            let (found, texts) = left(alloc, &kept.store, call, part)?;
-            assert_eq!(rt; found, offers, "{part:?} at {call}, {is_failing}");
-            assert!(rt; found == 0 || texts == *b"pq", "{part:?} at {call}");
+    // The call of the stop, and how many offers are left as old, as new and torn, where it failed and where it was done.
+    for (call, failed, done) in [
+        (4, [0, 0, 0], [0, 0, 0]),
+        (5, [0, 0, 0], [0, 0, 0]),
+        (6, [0, 0, 0], [0, 0, 0]),
+        (7, [0, 0, 0], [0, 0, 0]),
+        (8, [0, 0, 0], [0, 2, 2]),
+        (9, [0, 2, 2], [2, 2, 2]),
+    ] {
+        for (is_failing, wanted) in [(true, failed), (false, done)] {
+            let found = stopped(rt.alloc(), call, is_failing)?;
+            assert!(rt; found == wanted, "at {call}, {is_failing}");
         }
     }
     Ok(())
 }
 
 #[test]
-fn a_call_that_fails_ends_the_bay(rt: HostRuntime) -> Result<(), Fail> {
-    let alloc = rt.alloc();
+fn a_call_that_fails_makes_no_bay(rt: HostRuntime) -> Result<(), Fail> {
     for call in 0..4 {
-        let found = two_waiting(alloc, vec![in alloc; call]?).err();
-        assert_eq!(rt; found, Some(Fault::Failed), "at {call}");
-    }
-    for call in 4..10 {
-        let mut kept = two_waiting(alloc, vec![in alloc; call]?)?;
-        assert_eq!(rt; flush(&mut kept, 0), Err(Fault::Failed), "at {call}");
-        assert_eq!(rt; kept.array.len(), 2, "at {call}");
-        assert!(rt; !kept.bay.is_sound(), "at {call}");
+        let found = two_waiting(rt.alloc(), Some(call)).err();
+        assert!(rt; found == Some(Fault::Failed), "at {call}");
     }
     Ok(())
 }
@@ -257,49 +245,62 @@ fn a_call_that_fails_ends_the_bay(rt: HostRuntime) -> Result<(), Fail> {
 #[test]
 fn an_entry_stands_in_a_record(rt: HostRuntime) -> Result<(), Fail> {
     let alloc = rt.alloc();
-    let mut kept = made(alloc, Vec::new(alloc), &settings_of(1, 1, 1_000))?;
-    put(alloc, &mut kept, 1, b"p")?;
-    flush(&mut kept, 0)?;
-    let mut bytes = [255; 34];
-    assert_eq!(rt; kept.store.read(1_010, 0, &mut bytes)?, 33);
+    let mut kept = Waiting::made(alloc, None, &settings_of(1, 1, 1_000))?;
+    kept.put(alloc, 1, b"p")?;
+    kept.flush(0)?;
     // The gate and the length, the operation and the text's length, the key, the value and the source, the next gate.
-    let record =
-        b"\xA5\x1B\0\0\0\x02\x01\0\x01\0\0\0\0\0\0\0\x07\0\0\0\0\0\0\0\0\0\0\0\0\0\0\0\0\xFF";
-    assert_eq!(rt; bytes, *record);
-    assert_eq!(rt; kept.store.length(1_011)?, 1);
+    let record = b"\xA5\x1B\0\0\0\x02\x01\0\x01\0\0\0\0\0\0\0\x07\0\0\0\0\0\0\0\0\0\0\0\0\0\0\0\0";
+    let journal = kept.store.bytes(alloc, 1_010)?;
+    let texts = kept.store.bytes(alloc, 1_011)?;
+    assert!(rt; journal.as_slice() == record.as_slice() && texts.as_slice() == b"p".as_slice());
     Ok(())
+}
+
+// What a bucket answers to the last of three offers, of which it may have two, whether that made no call, how many offers
+// wait in memory then, and how many in the bucket.
+fn overfull(alloc: Global) -> Result<(Result<(), Fault>, bool, u32, Option<(u64, u64)>), Fault> {
+    let mut kept = Waiting::made(alloc, None, &settings_of(1, 1, 2))?;
+    for key in 0..2 {
+        kept.put(alloc, key, b"p")?;
+        kept.flush(0)?;
+    }
+    kept.put(alloc, 2, b"r")?;
+    let calls = kept.store.calls();
+    let answer = kept.flush(0);
+    let is_idle = kept.store.calls() == calls && kept.bay.is_sound();
+    Ok((answer, is_idle, kept.array.len(), counts(&kept.bay, 0)))
 }
 
 #[test]
 fn a_full_bucket_takes_no_more(rt: HostRuntime) -> Result<(), Fail> {
-    let alloc = rt.alloc();
-    let mut kept = made(alloc, Vec::new(alloc), &settings_of(1, 1, 2))?;
-    put(alloc, &mut kept, 1, b"p")?;
-    flush(&mut kept, 0)?;
-    put(alloc, &mut kept, 1, b"q")?;
-    flush(&mut kept, 0)?;
-    put(alloc, &mut kept, 2, b"r")?;
-    let calls = kept.store.calls();
-    assert_eq!(rt; flush(&mut kept, 0), Err(Fault::Full(0)));
-    assert_eq!(rt; kept.store.calls(), calls);
-    assert_eq!(rt; kept.array.len(), 1);
-    assert_eq!(rt; counts(&kept.bay, 0), Some((2, 2)));
-    assert!(rt; kept.bay.is_sound());
+    let found = overfull(rt.alloc())?;
+    assert!(rt;
+        found == (Err(Fault::Full(0)), true, 1, Some((2, 2))),
+        "{found:?}"
+    );
     Ok(())
+}
+
+// Flushes 1,000 offers to 16 buckets, one bucket after the other, as soon as the array is full or the bucket's last waits.
+fn flush_all(alloc: Global) -> Result<Waiting, Fault> {
+    let mut kept = Waiting::made(alloc, None, &settings_of(16, 10, 1_000))?;
+    for i in 0..1_000 {
+        let b = i * 16 / 1_000;
+        kept.put(alloc, u64::from(b) << 60 | u64::from(i), b"x")?;
+        if kept.array.is_full() || (i + 1) * 16 / 1_000 != b {
+            kept.flush(b)?;
+        }
+    }
+    Ok(kept)
 }
 
 #[test]
 fn offers_are_counted_by_their_buckets(rt: HostRuntime) -> Result<(), Fail> {
-    let alloc = rt.alloc();
-    let mut kept = made(alloc, Vec::new(alloc), &settings_of(16, 10, 1_000))?;
-    flush_all(alloc, &mut kept)?;
+    let kept = flush_all(rt.alloc())?;
     for b in 0..16 {
-        let found = counts(&kept.bay, b);
         let count = 63 - u64::from(b % 2);
-        assert_eq!(rt; found, Some((count, count)), "bucket {b}");
+        assert!(rt; counts(&kept.bay, b) == Some((count, count)), "bucket {b}");
     }
-    assert_eq!(rt; kept.bay.judged_len(), 0);
-    assert_eq!(rt; kept.bay.unique_len(), 0);
-    assert_eq!(rt; kept.bay.cuts(), 0);
+    assert!(rt; kept.judged() == [0, 0, 0]);
     Ok(())
 }

@@ -7,6 +7,3 @@ mod writer;
 
 pub use reader::CacheReader;
 pub use writer::CacheWriter;
-
-#[cfg(test)]
-mod tests;

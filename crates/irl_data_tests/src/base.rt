@@ -1,3 +1,4 @@
+use crate::helpers::same;
 use irl_base::{lists, trim, trim_end, trim_start};
 use std::test::Fail;
 
@@ -13,9 +14,9 @@ fn spaces_and_tabs_at_the_ends_are_trimmed(rt: HostRuntime) {
         (b"\ta b ", b"a b ", b"\ta b", b"a b"),
         (b"\na\r", b"\na\r", b"\na\r", b"\na\r"),
     ] {
-        assert_eq!(rt; trim_start(bytes), front);
-        assert_eq!(rt; trim_end(bytes), end);
-        assert_eq!(rt; trim(bytes), both);
+        same(&rt, trim_start(bytes) == front, "start");
+        same(&rt, trim_end(bytes) == end, "end");
+        same(&rt, trim(bytes) == both, "text between the ends");
     }
 }
 
@@ -24,12 +25,16 @@ fn lists_are_cut_back_to_what_they_were(rt: HostRuntime) -> Result<(), Fail> {
     let mut numbers = lists::empty_lists(rt.alloc(), 2)?;
     lists::push_at(&mut numbers, 1, 7_u64)?;
     let before = lists::lengths(rt.alloc(), &numbers)?;
-    assert_eq!(rt; before.as_slice(), [0, 1].as_slice());
+    same(
+        &rt,
+        before.as_slice() == [0, 1].as_slice(),
+        "number of items",
+    );
     let taken = lists::take_out(rt.alloc(), &mut numbers, 1);
     lists::push_at(&mut numbers, 0, 8)?;
     lists::replace_at(&mut numbers, 1, taken);
     lists::cut_back(&mut numbers, &before);
-    assert_eq!(rt; numbers[0].len(), 0);
-    assert_eq!(rt; numbers[1].as_slice(), [7].as_slice());
+    assert!(rt; numbers[0].is_empty());
+    same(&rt, numbers[1].as_slice() == [7].as_slice(), "list");
     Ok(())
 }

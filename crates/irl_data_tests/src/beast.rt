@@ -48,7 +48,7 @@ struct Step {
     last: &'static [u64],
 }
 
-const STEPS: [Step; 4] = [
+const STEPS: [Step; 2] = [
     Step {
         first: 0,
         count: 5,
@@ -72,30 +72,6 @@ const STEPS: [Step; 4] = [
         passes: 0,
         first_queue: &[2, 3, 4],
         last: &[],
-    },
-    Step {
-        first: 5,
-        count: 2,
-        places: &[
-            (2, Slot::Front),
-            (3, Slot::Queue(2)),
-            (4, Slot::Queue(3)),
-            (5, Slot::Queue(4)),
-            (6, Slot::Last),
-        ],
-        queues: 4,
-        passes: 1,
-        first_queue: &[],
-        last: &[6],
-    },
-    Step {
-        first: 7,
-        count: 1,
-        places: &[(3, Slot::Front), (7, Slot::Queue(3))],
-        queues: 4,
-        passes: 2,
-        first_queue: &[],
-        last: &[6],
     },
 ];
 
@@ -121,30 +97,6 @@ fn passes_postpone_what_is_past_the_budget(rt: HostRuntime) -> Result<(), Fail> 
     let mut beast = Beast::new(rt.alloc(), 2)?;
     for step in &STEPS {
         assert!(rt; is_as_said(rt.alloc(), &mut beast, step)?);
-    }
-    Ok(())
-}
-
-// So many queues, and so many after a round of which the last pass leaves something in the last list or nothing.
-const ROUNDS: [(u32, u64, u32); 4] = [(1, 3, 2), (1, 1, 1), (40, 50, 64), (64, 80, 64)];
-
-// How many queues and passes there are after a round that reads so many items fresh.
-fn round(alloc: Global, queues: u32, count: u64) -> Result<(u32, u32), AllocError> {
-    if !(1..=64).contains(&queues) {
-        return Err(AllocError);
-    }
-    let mut beast = Beast::new(alloc, queues)?;
-    beast.pass(items(alloc, 0, count)?, &One)?;
-    for _ in 1..queues {
-        beast.pass(Vec::new(alloc), &One)?;
-    }
-    Ok((beast.queues(), beast.passes()))
-}
-
-#[test]
-fn a_round_doubles_the_queues_where_something_is_left(rt: HostRuntime) -> Result<(), Fail> {
-    for (queues, count, then) in ROUNDS {
-        assert_eq!(rt; round(rt.alloc(), queues, count)?, (then, 0));
     }
     Ok(())
 }

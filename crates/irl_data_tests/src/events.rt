@@ -1,2 +1,1 @@
-mod courses;
 mod links;

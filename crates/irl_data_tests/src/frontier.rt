@@ -2,7 +2,7 @@ ghost use Rattle.std.specs.Prelude.{◌≡◌, ◌≤◌, length, IfOk};
 ghost use Rattle.irl_events.specs.Seen.{HasFronts};
 ghost use Rattle.irl_frontier.specs.Plans.{IsNoPass};
 
-use crate::helpers::{settle, settled};
+use crate::helpers::{same, settle};
 use irl_events::{Course, Happening, Places, Settled, course_of};
 use irl_frontier::{Event, Fate, FateFault, Frontier, Item};
 use irl_offer::{Kind, Outcome, Place, Rule, Settings, Slot, Text};
@@ -46,26 +46,22 @@ fn items(alloc: Global, first: u64, count: u64, domains: u64) -> Result<Vec<Item
     Ok(items)
 }
 
-// An event that is no pass, as the tables have it.
-enum Step {
-    Begin,
-    Pairs(u64),
-    // The front of the one bucket, and outcomes.
-    Settle(u64, &'static [(u64, Outcome)]),
-}
-
-fn event(alloc: Global, step: &Step) -> Result<Event, AllocError>
+fn begin(alloc: Global) -> Result<Event, AllocError>
     ensures fronts { IfOk result (λ event. HasFronts 1 event) }
     ensures other { IfOk result (λ event. IsNoPass event) }
 {
-    match step {
-        Step::Begin => Ok(Event::Begin(Text::from_bytes(alloc, b"test")?)),
-        Step::Pairs(judged) => Ok(Event::Pairs {
-            cuts: 1,
-            judged: *judged,
-            pairs: 0,
-        }),
-        Step::Settle(front, outcomes) => settle(alloc, *front, settled(alloc, outcomes)?),
+    Ok(Event::Begin(Text::from_bytes(alloc, b"test")?))
+}
+
+// So many judged offers are told.
+fn pairs(judged: u64) -> Event
+    ensures fronts { HasFronts 1 result }
+    ensures other { IsNoPass result }
+{
+    Event::Pairs {
+        cuts: 1,
+        judged,
+        pairs: 0,
     }
 }
 
@@ -113,138 +109,6 @@ fn pass(
     Ok(None)
 }
 
-// An event of the table, or a pass of so many judged offers that reads the item 0 fresh or none; the rule by which it is
-// refused; and then the fate of the number 0.
-struct Row {
-    step: Option<Step>,
-    judged: u64,
-    fresh: u64,
-    rule: Option<u8>,
-    places: usize,
-    fate: Fate,
-}
-
-const PAGE: &[(u64, Outcome)] = &[(0, Outcome::Page)];
-
-// One URL of one domain: a pass reads it, it is settled, and the next pass reads nothing.
-const ROWS: [Row; 9] = [
-    Row {
-        step: None,
-        judged: 0,
-        fresh: 0,
-        rule: Some(1),
-        places: 0,
-        fate: Fate::Fresh,
-    },
-    Row {
-        step: Some(Step::Begin),
-        judged: 0,
-        fresh: 0,
-        rule: None,
-        places: 0,
-        fate: Fate::Fresh,
-    },
-    Row {
-        step: Some(Step::Begin),
-        judged: 0,
-        fresh: 0,
-        rule: Some(1),
-        places: 0,
-        fate: Fate::Fresh,
-    },
-    Row {
-        step: Some(Step::Pairs(1)),
-        judged: 0,
-        fresh: 0,
-        rule: None,
-        places: 0,
-        fate: Fate::Fresh,
-    },
-    Row {
-        step: None,
-        judged: 1,
-        fresh: 1,
-        rule: None,
-        places: 1,
-        fate: Fate::Front,
-    },
-    Row {
-        step: None,
-        judged: 1,
-        fresh: 0,
-        rule: Some(3),
-        places: 0,
-        fate: Fate::Front,
-    },
-    Row {
-        step: Some(Step::Settle(0, &[])),
-        judged: 0,
-        fresh: 0,
-        rule: Some(5),
-        places: 0,
-        fate: Fate::Front,
-    },
-    Row {
-        step: Some(Step::Settle(1, PAGE)),
-        judged: 0,
-        fresh: 0,
-        rule: None,
-        places: 0,
-        fate: Fate::Done(Outcome::Page),
-    },
-    Row {
-        step: None,
-        judged: 1,
-        fresh: 0,
-        rule: None,
-        places: 0,
-        fate: Fate::Done(Outcome::Page),
-    },
-];
-
-// Does what a row says, and tells by which rule it was refused and how many places it gave.
-fn turn(
-    alloc: Global,
-    frontier: &mut Frontier,
-    row: &Row,
-) -> Result<(Option<u8>, usize), AllocError>
-    requires { frontier.old.settings.buckets ≡ 1 }
-    ensures { frontier.new.settings.buckets ≡ 1 }
-{
-    let mut places = Places::new(alloc);
-    let rule = match &row.step {
-        Some(step) => carry_out(frontier, &event(alloc, step)?),
-        None => {
-            let fresh = items(alloc, 0, row.fresh, 1)?;
-            pass(frontier, row.judged, &fresh, &mut places)?
-        }
-    };
-    Ok((rule, places.items().len()))
-}
-
-// The first row that is refused by another rule, gives other places or leaves another fate.
-fn first_wrong(
-    alloc: Global,
-    frontier: &mut Frontier,
-    rows: &[Row],
-) -> Result<Option<usize>, AllocError>
-    requires { frontier.old.settings.buckets ≡ 1 }
-{
-    for (i, row) in rows.iter().enumerate() {
-        if turn(alloc, frontier, row)? != (row.rule, row.places) || frontier.fate(0) != row.fate {
-            return Ok(Some(i));
-        }
-    }
-    Ok(None)
-}
-
-#[test]
-fn one_url_is_read_and_settled(rt: HostRuntime) -> Result<(), Fail> {
-    let mut frontier = opened(rt.alloc(), 2, 10, 100)?;
-    assert_eq!(rt; first_wrong(rt.alloc(), &mut frontier, &ROWS)?, None);
-    Ok(())
-}
-
 // Judged pairs by the domains that they lead to; one was judged before, and leads to none.
 const PAIRS: [Option<&[u8]>; 7] = [
     Some(b"b.test"),
@@ -259,48 +123,64 @@ const PAIRS: [Option<&[u8]>; 7] = [
 // How many items of each of the four domains a pass lets through, from a.test on.
 const LET_THROUGH: [u64; 4] = [2, 4, 3, 1];
 
-// How many places are in front, of the items of one of so many domains in turn.
-fn in_front(places: &[Place], domains: u64, domain: u64) -> u64 {
+// How many places are in front, of the items of one of four domains in turn.
+fn in_front(places: &[Place], domain: u64) -> u64 {
     let mut count: u64 = 0;
     for place in places {
-        if matches!(place.slot, Slot::Front) && place.number % domains.max(1) == domain {
+        if matches!(place.slot, Slot::Front) && place.number % 4 == domain {
             count = count.saturating_add(1);
         }
     }
     count
 }
 
-// How many items of a domain a pass puts in front, of the items of four domains in turn.
-fn let_through(frontier: &Frontier, fresh: &[Item], domain: u64) -> u64 {
+// How many items of each of four domains a pass puts in front, of the items of these in turn.
+fn let_through(frontier: &Frontier, fresh: &[Item]) -> [u64; 4] {
     match frontier.plan_pass(40, fresh) {
-        Ok(plan) => in_front(plan.places(), 4, domain),
-        Err(_) => 0,
+        Ok(plan) => [
+            in_front(plan.places(), 0),
+            in_front(plan.places(), 1),
+            in_front(plan.places(), 2),
+            in_front(plan.places(), 3),
+        ],
+        Err(_) => [0; 4],
     }
 }
 
+// The rules by which a second begin is refused, and a pass that goes further than what was told.
+fn refusals(
+    alloc: Global,
+    frontier: &mut Frontier,
+    fresh: &[Item],
+) -> Result<[Option<u8>; 2], AllocError>
+    requires { frontier.old.settings.buckets ≡ 1 }
+{
+    let begun = carry_out(frontier, &begin(alloc)?);
+    let passed = pass(frontier, 41, fresh, &mut Places::new(alloc))?;
+    Ok([begun, passed])
+}
+
 // A crawl that has begun, with budgets from 1 to 4.
-fn begun(alloc: Global) -> Result<Frontier, AllocError> {
+fn begun(alloc: Global) -> Result<Frontier, AllocError>
+    ensures { IfOk result (λ frontier. frontier.settings.buckets ≡ 1) }
+{
     let mut frontier = opened(alloc, 2, 1, 4)?;
-    carry_out(&mut frontier, &event(alloc, &Step::Begin)?);
-    carry_out(&mut frontier, &event(alloc, &Step::Pairs(40))?);
+    carry_out(&mut frontier, &begin(alloc)?);
+    carry_out(&mut frontier, &pairs(40));
     Ok(frontier)
 }
 
 #[test]
 fn budgets_go_by_what_was_told(rt: HostRuntime) -> Result<(), Fail> {
     let mut frontier = begun(rt.alloc())?;
+    let fresh = items(rt.alloc(), 0, 40, 4)?;
+    let rules = refusals(rt.alloc(), &mut frontier, &fresh)?;
+    same(&rt, rules == [Some(1), Some(3)], "rule");
     for linked in PAIRS {
         frontier.tell(linked)?;
     }
-    assert_eq!(rt; frontier.told(), 7);
-    let fresh = items(rt.alloc(), 0, 40, 4)?;
-    let found = [
-        let_through(&frontier, &fresh, 0),
-        let_through(&frontier, &fresh, 1),
-        let_through(&frontier, &fresh, 2),
-        let_through(&frontier, &fresh, 3),
-    ];
-    assert_eq!(rt; found, LET_THROUGH);
+    same(&rt, frontier.told() == 7, "number of told pairs");
+    same(&rt, let_through(&frontier, &fresh) == LET_THROUGH, "budget");
     Ok(())
 }
 
@@ -364,10 +244,8 @@ fn crawl(
     requires { frontier.old.settings.buckets ≡ 1 }
 {
     let fresh = items(alloc, 0, MANY, 100)?;
-    let begin = event(alloc, &Step::Begin)?;
-    let pairs = event(alloc, &Step::Pairs(MANY))?;
-    let mut done = happen(alloc, frontier, begin, happened)?;
-    done &= happen(alloc, frontier, pairs, happened)?;
+    let mut done = happen(alloc, frontier, begin(alloc)?, happened)?;
+    done &= happen(alloc, frontier, pairs(MANY), happened)?;
     done &= read(alloc, frontier, &fresh, happened)?;
     for front in 1..=2_u64 {
         let settle = front_done(alloc, frontier, front)?;
@@ -401,12 +279,9 @@ fn agree(frontier: &Frontier, course: &Course) -> Option<usize> {
     if same { Some(count) } else { None }
 }
 
-// What waits in the end, as the plain program has it, how many numbers the crawl has where that has them, what is left of the
-// front, and its first numbers.
-fn crawled(
-    alloc: Global,
-    frontier: &mut Frontier,
-) -> Result<(Course, Option<usize>, Vec<u64>), AllocError>
+// By the plain program how many numbers are in front and done, and how many queues there are; how many numbers the crawl has where
+// that has them; and what it has first in front.
+fn crawled(alloc: Global, frontier: &mut Frontier) -> Result<([usize; 4], Vec<u64>), AllocError>
     requires { frontier.old.settings.buckets ≡ 1 }
 {
     let mut happened = Vec::new(alloc);
@@ -414,23 +289,38 @@ fn crawled(
         return Err(AllocError);
     }
     let course = course_of(alloc, 2, 1, &happened)?;
-    let same = agree(frontier, &course);
-    Ok((course, same, frontier.first(alloc, 3)?))
+    let numbers = [
+        course.front.len(),
+        course.done.len(),
+        course.waiting.queues as usize,
+        agree(frontier, &course).unwrap_or(0),
+    ];
+    Ok((numbers, frontier.first(alloc, 3)?))
+}
+
+// How many numbers are left in front, and the counts of five more URLs than were read.
+fn counted(frontier: &Frontier) -> [u64; 7] {
+    let counts = frontier.counts(MANY + 5);
+    [
+        frontier.left() as u64,
+        counts.fresh,
+        counts.queued,
+        counts.last,
+        counts.front,
+        counts.done,
+        counts.page,
+    ]
 }
 
 #[test]
 fn many_urls_wait_as_the_plain_program_has_them(rt: HostRuntime) -> Result<(), Fail> {
     let mut frontier = opened(rt.alloc(), 2, 10, 10)?;
-    let (course, same, first) = crawled(rt.alloc(), &mut frontier)?;
-    assert_eq!(rt; (course.front.len(), course.done.len()), (1_000, 2_000));
-    assert_eq!(rt; course.waiting.queues, 4);
-    assert_eq!(rt; same, Some(MANY as usize));
-    assert_eq!(rt; frontier.left(), 1_000);
-    assert_eq!(rt; first.as_slice(), [2_000, 2_001, 2_002].as_slice());
-    let counts = frontier.counts(MANY + 5);
-    let waiting = (counts.fresh, counts.queued, counts.last);
-    assert_eq!(rt; waiting, (5, 3_000, 4_000));
-    let read = (counts.front, counts.done, counts.page);
-    assert_eq!(rt; read, (1_000, 2_000, 2_000));
+    let (numbers, first) = crawled(rt.alloc(), &mut frontier)?;
+    let is_same = numbers == [1_000, 2_000, 4, MANY as usize];
+    same(&rt, is_same, "place of a URL, or number of them");
+    let is_first = first.as_slice() == [2_000, 2_001, 2_002].as_slice();
+    same(&rt, is_first, "first URL in front");
+    let is_counted = counted(&frontier) == [1_000, 5, 3_000, 4_000, 1_000, 2_000, 2_000];
+    same(&rt, is_counted, "count");
     Ok(())
 }

@@ -7,6 +7,13 @@ ghost use Rattle.irl_frontier.specs.Plans.{IsNoPass};
 use irl_events::{Event, Numbers, Places, Settled};
 use irl_offer::{Asked, Kind, Offer, Op, Outcome, Place, Slot, Text};
 use std::alloc::{AllocError, Global};
+use std::process::Abort;
+
+/// Ends the test where two values differ, and says what they are. It formats no value, which `assert_eq!` does with both and which
+/// takes the longest in the proof of a test.
+pub(crate) fn same(rt: &impl Abort, is_same: bool, what: &str) {
+    assert!(rt; is_same, "another {what}");
+}
 
 /// Nothing but that the store is for a crawl.
 pub(crate) const NOTHING_ASKED: Asked = Asked {

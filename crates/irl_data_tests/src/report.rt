@@ -1,3 +1,4 @@
+use crate::helpers::same;
 use irl_fate::{Counts, Fate};
 use irl_offer::Outcome;
 use irl_report::{list_line, report};
@@ -31,7 +32,7 @@ const REPORT: &[u8] =
 #[test]
 fn a_report_has_18_lines(rt: HostRuntime) -> Result<(), Fail> {
     let text = report(rt.alloc(), &COUNTS)?;
-    assert_eq!(rt; text.bytes(), REPORT);
+    same(&rt, text.bytes() == REPORT, "report");
     Ok(())
 }
 
@@ -70,7 +71,8 @@ const LINES: [(u64, Fate, &[u8], &[u8]); 14] = [
 #[test]
 fn a_line_has_number_fate_and_text(rt: HostRuntime) -> Result<(), Fail> {
     for (number, fate, text, line) in LINES {
-        assert_eq!(rt; list_line(rt.alloc(), number, &fate, text)?.bytes(), line);
+        let listed = list_line(rt.alloc(), number, &fate, text)?;
+        assert!(rt; listed.bytes() == line, "at {number}");
     }
     Ok(())
 }

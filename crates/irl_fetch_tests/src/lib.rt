@@ -1,5 +1,5 @@
-//! Tests of `irl_http`, `irl_polite`, `irl_record`, `irl_answer`, `irl_wire` and `irl_fetch`. They stand here, since a crate
-//! that has tests itself is proved twice.
+//! Tests of `irl_http`, `irl_polite`, `irl_record`, `irl_answer`, `irl_wire`, `irl_fetch` and `irl_workers`. They stand here,
+//! since a crate that has tests itself is proved twice.
 #![tactic(auto)]
 
 #[cfg(test)]
@@ -18,3 +18,5 @@ mod record;
 mod tapes;
 #[cfg(test)]
 mod wire;
+#[cfg(test)]
+mod workers;

@@ -91,6 +91,3 @@ fn numbers_in(payload: &[u8]) -> [u64; 11]
     LittleEndian::read_u64_into(&payload[12..], &mut numbers);
     numbers
 }
-
-#[cfg(test)]
-mod tests;

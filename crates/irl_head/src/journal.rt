@@ -104,6 +104,3 @@ pub fn write_head<S: Store>(
     head.append(store, frame)?;
     Ok(())
 }
-
-#[cfg(test)]
-mod tests;

@@ -5,8 +5,6 @@ mod feeding;
 mod intake;
 mod judged;
 mod next;
-#[cfg(test)]
-mod tests;
 
 pub use intake::Intake;
 pub use next::Next;

@@ -124,6 +124,3 @@ impl Blob {
         Ok(count == into.len())
     }
 }
-
-#[cfg(test)]
-mod tests;

@@ -179,6 +179,3 @@ impl FileWriter {
         Ok(())
     }
 }
-
-#[cfg(test)]
-mod tests;

@@ -25,6 +25,3 @@ pub use laws::one_list;
 pub use part::read_part;
 pub use several::Payloads;
 pub use visit::Visit;
-
-#[cfg(test)]
-mod tests;

@@ -65,6 +65,3 @@ fn length_bytes(length: u32) -> [u8; 4]
     LittleEndian::write_u32(&mut bytes, length);
     bytes
 }
-
-#[cfg(test)]
-mod tests;

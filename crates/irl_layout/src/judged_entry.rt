@@ -77,6 +77,3 @@ fn verdict_of(number: u8, value: u64) -> Option<Option<Verdict>>
         _ => None,
     }
 }
-
-#[cfg(test)]
-mod tests;

@@ -19,6 +19,3 @@ const SETTLE: u8 = 5;
 
 // How many bytes an outcome takes with its URL's number.
 const DONE_LEN: usize = 13;
-
-#[cfg(test)]
-mod tests;

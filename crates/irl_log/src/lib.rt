@@ -12,6 +12,3 @@ pub use codec::{payload_length, put_payload, read_payload};
 pub use laws::one_list_of_events;
 pub use log::Log;
 pub use visit::VisitEvents;
-
-#[cfg(test)]
-mod tests;

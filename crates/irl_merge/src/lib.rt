@@ -10,6 +10,3 @@ mod verdicts;
 
 pub use laws::what_is_given_rises;
 pub use sweep::Sweep;
-
-#[cfg(test)]
-mod tests;

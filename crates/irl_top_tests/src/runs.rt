@@ -24,6 +24,12 @@ pub const ROW: &[u8] = b"http://a.test/\nhttp://b.test/\nhttp://a.test/\n";
 
 pub const NEW_OF_ROW: &[u8] = b"http://a.test/\nhttp://b.test/\n";
 
+/// Ends the test where two values differ, and says what they are. It formats no value, which `assert_eq!` does with both and which
+/// takes the longest in the proof of a test.
+pub fn same(rt: &impl Abort, is_same: bool, what: &str) {
+    assert!(rt; is_same, "another {what}");
+}
+
 /// The number of the call that fails, of each object.
 #[derive(Clone, Copy)]
 pub struct Failing {

@@ -3,7 +3,5 @@
 #![tactic(auto)]
 
 mod halves;
-#[cfg(test)]
-mod tests;
 
 pub use halves::{Worker, work_side_by_side};

@@ -1,13 +1,26 @@
-mod stops;
-
-use super::counts;
-use super::quiet::{Quiet, Tuple, flush, lines_of, merge};
+use super::{adopted, counts, flush, judged_of, merge};
+use crate::quiet::Quiet;
+use irl_array::Array;
 use irl_bay::Bay;
-use irl_disk::{Failed, Store};
-use irl_offer::{Fault, Judged, Op, Verdict};
-use std::alloc::Global;
-use std::process::Abort;
+use irl_disk::{Part, Store};
+use irl_offer::{Fault, Judged, Kind, MAX_TEXT, Offer, Op, Rule, Settings, Text, Verdict};
+use std::alloc::{AllocError, Global};
 use std::test::Fail;
+
+// The settings of a store of lines with two buckets, where an array has two offers and the rest is as by default.
+const SETTINGS: Settings = Settings {
+    kind: Kind::Lines,
+    rule: Rule::Keep,
+    buckets: 2,
+    array: 2,
+    trigger: 16_384,
+    block: 4_096,
+    cap: 1_099_511_627_776,
+    queues: 2,
+    base: 10,
+    most: 10_000,
+    ranks: 10_000,
+};
 
 // A file, a place in it, and bytes that stand there.
 type Bytes = (u16, u64, &'static [u8]);
@@ -82,16 +95,8 @@ const TWICE: [Bytes; 8] = [
     (113, 0, b"rt"),
 ];
 
-// Puts bytes into the files of a store, each behind what stands there or over it.
-fn put_files<S: Store>(store: &mut S, files: &[Bytes]) -> Result<(), Failed> {
-    for (f, at, bytes) in files {
-        if *f >= 10_000 || *at > store.length(*f)? {
-            return Err(Failed);
-        }
-        store.write(*f, *at, bytes)?;
-    }
-    Ok(())
-}
+// The operation, the key, the value and the text of an offer.
+type Tuple<'a> = (Op, u64, u64, &'a [u8]);
 
 // What those offers are, and one more, which is flushed now.
 const HIGH: u64 = 1 << 63;
@@ -137,7 +142,7 @@ const ROWS_OF_TWICE: [Row; 8] = [
 ];
 
 // A call over the bay, and of a merge the first byte of its record and the journal of bucket 0 that it empties.
-#[derive(Clone, Copy, Debug)]
+#[derive(Clone, Copy)]
 enum Step {
     Open,
     Flush(u32, &'static [Tuple<'static>]),
@@ -207,33 +212,41 @@ const AFTER_TWICE: [After; 4] = [
     ),
 ];
 
-fn opened(alloc: Global, store: &mut Quiet) -> Result<Bay, Fault> {
-    Bay::adopt(alloc, store, 100, &lines_of(2)?)
+// An array of two offers at most, those of these tuples for which there is room.
+fn array_of(alloc: Global, tuples: &[Tuple<'_>]) -> Result<Array, AllocError> {
+    let mut array = Array::with_room(alloc, 2)?;
+    for (op, key, value, text) in tuples {
+        let offer = Offer {
+            op: *op,
+            key: *key,
+            value: *value,
+            from: 0,
+            aux: Text::from_bytes(alloc, &text[..text.len().min(MAX_TEXT)])?,
+        };
+        if !array.is_full() {
+            array.push(offer);
+        }
+    }
+    Ok(array)
 }
 
 fn take_step(alloc: Global, store: &mut Quiet, bay: &mut Bay, step: Step) -> Result<(), Fault> {
     match step {
         Step::Open => Ok(()),
-        Step::Flush(b, tuples) => flush(alloc, store, bay, b, tuples),
+        Step::Flush(b, tuples) => flush(store, bay, b, &mut array_of(alloc, tuples)?),
         Step::Merge(..) => {
-            merge(store, bay)?;
+            merge(store, bay, 0)?;
             Ok(())
         }
     }
 }
 
+fn opened(alloc: Global, store: &mut Quiet) -> Result<Bay, Fault> {
+    adopted(alloc, store, 100, &SETTINGS)
+}
+
 fn counts_of(bay: &Bay) -> Option<Counts> {
-    let buckets = [counts(bay, 0)?, counts(bay, 1)?];
-    Some((buckets, [bay.judged_len(), bay.unique_len(), bay.cuts()]))
-}
-
-fn lengths(store: &Quiet) -> [usize; 8] {
-    [110, 111, 112, 113, 600, 601, 602, 603].map(|f| store.bytes(f).len())
-}
-
-// Whether judged offers are the first of these.
-fn are_rows(found: &[Judged], rows: &[Row]) -> bool {
-    found.len() <= rows.len() && found.iter().zip(rows).all(|(one, row)| is_row(one, row))
+    Some(([counts(bay, 0)?, counts(bay, 1)?], judged_of(bay)))
 }
 
 fn is_row(one: &Judged, row: &Row) -> bool {
@@ -247,118 +260,141 @@ fn is_row(one: &Judged, row: &Row) -> bool {
         && one.offer.aux.bytes() == text
 }
 
-// Whether the judged offers are the first of these.
-fn are_judged(alloc: Global, store: &mut Quiet, bay: &Bay, rows: &[Row]) -> Result<bool, Fault> {
-    if !bay.is_sound() || bay.judged_len() == 0 {
+// Whether a bay has these counts, and its judged offers are the first of these rows.
+fn is_as(
+    alloc: Global,
+    store: &mut Quiet,
+    bay: &Bay,
+    wanted: &Counts,
+    rows: &[Row],
+) -> Result<bool, Fault> {
+    if counts_of(bay) != Some(*wanted) || !bay.is_sound() || bay.judged_len() == 0 {
         return Ok(false);
     }
     let found = bay.judged_from(store, 0, 100)?.to_vec(alloc)?;
-    Ok(found.len() as u64 == bay.judged_len() && are_rows(&found, rows))
+    Ok(
+        found.len() as u64 == bay.judged_len()
+            && found.len() <= rows.len()
+            && found.iter().zip(rows).all(|(one, row)| is_row(one, row)),
+    )
 }
 
-// A step over an open bay, behind which the bay and one that is opened anew are so.
-fn check_step(
-    rt: &impl Abort,
-    alloc: Global,
-    store: &mut Quiet,
-    bay: &mut Bay,
-    after: &After,
-    rows: &[Row],
-) -> Result<(), Fault> {
-    let (step, counts, files) = *after;
-    take_step(alloc, store, bay, step)?;
-    assert_eq!(rt; lengths(store), files, "{step:?}");
-    assert_eq!(rt; counts_of(bay), Some(counts), "{step:?}");
-    assert!(rt; are_judged(alloc, store, bay, rows)?, "{step:?}");
-    let anew = opened(alloc, store)?;
-    assert_eq!(rt; counts_of(&anew), Some(counts), "{step:?}, opened anew");
-    assert!(rt;
-        are_judged(alloc, store, &anew, rows)?,
-        "{step:?}, opened anew"
-    );
-    if let Step::Merge(byte, journal) = step {
-        let record = (anew.cuts() as usize).saturating_sub(1).saturating_mul(54);
-        let found = store.bytes(100).get(record.saturating_add(5)).copied();
-        assert_eq!(rt; found, Some(byte), "{step:?}");
-        assert_eq!(rt; store.bytes(journal), b"\0".as_slice(), "{step:?}");
+// Whether the files have these lengths, and behind a merge the record and the journal that it says.
+fn are_files(alloc: Global, store: &mut Quiet, after: &After) -> Result<bool, Fault> {
+    let (step, (_, judged), lengths) = *after;
+    for (f, length) in [110, 111, 112, 113, 600, 601, 602, 603]
+        .into_iter()
+        .zip(lengths)
+    {
+        if store.bytes(alloc, f)?.len() != length {
+            return Ok(false);
+        }
     }
-    Ok(())
+    let Step::Merge(byte, journal) = step else {
+        return Ok(true);
+    };
+    let record = (judged[2] as usize).saturating_sub(1).saturating_mul(54);
+    let manifest = store.bytes(alloc, 100)?;
+    Ok(
+        manifest.get(record.saturating_add(5)) == Some(&byte)
+            && store.bytes(alloc, journal)?.as_slice() == b"\0".as_slice(),
+    )
+}
+
+// Whether a stop in a call leaves these counts, and the rows.
+fn leaves(
+    alloc: Global,
+    store: &Quiet,
+    call: u64,
+    part: Part,
+    wanted: &Counts,
+    rows: &[Row],
+) -> Result<bool, Fault> {
+    let mut image = store.image(alloc, call, part)?;
+    let bay = opened(alloc, &mut image)?;
+    is_as(alloc, &mut image, &bay, wanted, rows)
+}
+
+// The first of the calls from one on that a stop of leaves something else than the counts from before the step, but that the
+// last call but one opens the gate of its record, and behind the last the step is done.
+fn first_wrong(
+    alloc: Global,
+    store: &Quiet,
+    first: u64,
+    (before, after): (&Counts, &Counts),
+    rows: &[Row],
+) -> Result<Option<u64>, Fault> {
+    let end = store.calls();
+    for call in first..end {
+        for part in [Part::Old, Part::New, Part::Torn] {
+            let is_done = match end - 1 - call {
+                0 => true,
+                1 => part != Part::Old,
+                _ => false,
+            };
+            let wanted = if is_done { after } else { before };
+            if !leaves(alloc, store, call, part, wanted, rows)? {
+                return Ok(Some(call));
+            }
+        }
+    }
+    Ok(None)
+}
+
+// A store of that time with more bytes, behind what stands there or over it.
+fn store_of(alloc: Global, more: &[Bytes]) -> Result<Quiet, Fault> {
+    let mut store = Quiet::new(alloc);
+    for (f, at, bytes) in ONCE.iter().chain(more) {
+        if *f >= 10_000 {
+            return Err(Fault::Memory);
+        }
+        store.write(*f, *at, bytes)?;
+    }
+    Ok(store)
 }
 
 // Takes these steps over a store of that time with more bytes, over one open bay or one that is opened before each step.
-fn check_steps(
-    rt: &impl Abort,
+// Answers the first one behind which the files, the bay or one that is opened anew are otherwise, or in which a stop leaves
+// something else than the step or none of it.
+fn first_other(
     alloc: Global,
     more: &[Bytes],
     steps: &[After],
     rows: &[Row],
     is_reopened: bool,
-) -> Result<(), Fault> {
-    let mut store = Quiet::new(alloc)?;
-    put_files(&mut store, &ONCE)?;
-    put_files(&mut store, more)?;
+) -> Result<Option<usize>, Fault> {
+    let mut store = store_of(alloc, more)?;
     let mut bay = opened(alloc, &mut store)?;
-    for after in steps {
-        check_step(rt, alloc, &mut store, &mut bay, after, rows)?;
+    let mut before = steps.first().ok_or(Fault::Memory)?.1;
+    for (i, after) in steps.iter().enumerate() {
         if is_reopened {
             bay = opened(alloc, &mut store)?;
         }
+        let first = store.calls();
+        take_step(alloc, &mut store, &mut bay, after.0)?;
+        if first_wrong(alloc, &store, first, (&before, &after.1), rows)?.is_some()
+            || !are_files(alloc, &mut store, after)?
+            || !is_as(alloc, &mut store, &bay, &after.1, rows)?
+        {
+            return Ok(Some(i));
+        }
+        before = after.1;
     }
-    Ok(())
+    Ok(None)
 }
 
-// A store of that time, and one with a second merge and offers that wait.
+// A store of that time, and one with a second merge and offers that wait. The first merge goes on to the other side, and the
+// second one back.
 #[test]
 fn stores_of_one_side_are_read_and_go_on_to_two(rt: HostRuntime) -> Result<(), Fail> {
     let alloc = rt.alloc();
     for is_reopened in [false, true] {
-        check_steps(&rt, alloc, &[], &AFTER_ONCE, &ROWS_OF_ONCE, is_reopened)?;
-        check_steps(
-            &rt,
-            alloc,
-            &TWICE,
-            &AFTER_TWICE,
-            &ROWS_OF_TWICE,
-            is_reopened,
-        )?;
-    }
-    Ok(())
-}
-
-// A store of that time over which all those steps were taken: the records of its manifest stand at 0, 54 and 108, and
-// their payloads begin with 1, 4 and 3.
-fn store_of_both(alloc: Global) -> Result<Quiet, Fault> {
-    let mut store = Quiet::new(alloc)?;
-    put_files(&mut store, &ONCE)?;
-    let mut bay = opened(alloc, &mut store)?;
-    for (step, _, _) in &AFTER_ONCE {
-        take_step(alloc, &mut store, &mut bay, *step)?;
-    }
-    Ok(store)
-}
-
-// How that store is refused where a record's payload begins with another byte, if it is.
-fn refused(alloc: Global, record: u64, byte: u8) -> Result<Option<Fault>, Fault> {
-    let mut store = store_of_both(alloc)?;
-    store.write(100, record.saturating_add(5), &[byte])?;
-    Ok(opened(alloc, &mut store).err())
-}
-
-#[test]
-fn a_first_byte_that_no_merge_wrote_is_damage(rt: HostRuntime) -> Result<(), Fail> {
-    let alloc = rt.alloc();
-    for (record, byte, is_damage) in [
-        (0, 6, true),
-        (54, 6, true),
-        (108, 6, true),
-        (108, 255, true),
-        // The layout of one side behind that of two.
-        (108, 1, true),
-        (108, 0, true),
-        (54, 1, false),
-    ] {
-        let damage = is_damage.then_some(Fault::Damaged(100, record));
-        assert_eq!(rt; refused(alloc, record, byte)?, damage, "{byte} at {record}");
+        let once = first_other(alloc, &[], &AFTER_ONCE, &ROWS_OF_ONCE, is_reopened)?;
+        let twice = first_other(alloc, &TWICE, &AFTER_TWICE, &ROWS_OF_TWICE, is_reopened)?;
+        assert!(rt;
+            (once, twice) == (None, None),
+            "{once:?} {twice:?}, {is_reopened}"
+        );
     }
     Ok(())
 }

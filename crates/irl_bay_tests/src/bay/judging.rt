@@ -1,11 +1,6 @@
-ghost use Rattle.std.specs.Prelude.{OnOk};
-ghost use Rattle.irl_model.specs.Book.{Book};
-ghost use Rattle.irl_disk.specs.Memory.{told_by};
-ghost use Rattle.irl_bay.specs.Holding.{Holds};
-
-use super::{Waiting, flush, made, merge, settings_of};
-use irl_bay::{Bay, JudgedRef};
-use irl_disk::MemStore;
+use super::{Waiting, adopted, settings_of};
+use crate::quiet::Quiet;
+use irl_bay::JudgedRef;
 use irl_model::judged;
 use irl_offer::{Fault, Judged, Offer, Op, Rule, Settings, Text};
 use std::alloc::{AllocError, Global};
@@ -70,65 +65,75 @@ fn offer_of(alloc: Global, bucket: u32, i: u32) -> Result<Offer, AllocError> {
     })
 }
 
-// Lets an offer wait.
-fn wait(kept: &mut Waiting, offer: Offer)
-    requires { (book : Book) × Holds (told_by kept.old.store).images kept.old.bay book }
-    ensures { (book : Book) × Holds (told_by kept.new.store).images kept.new.bay book }
-{
-    if !kept.array.is_full() {
-        kept.array.push(offer);
-    }
+// An offer of a bucket, of 3,000 keys that come again.
+fn many_of(alloc: Global, bucket: u32, turn: u32, i: u32) -> Result<Offer, AllocError> {
+    Ok(Offer {
+        op: Op::Both,
+        key: u64::from(bucket % 4) << 62 | u64::from(turn / 4 % 3 * 1_000 + i % 1_000),
+        value: u64::from(turn),
+        from: 0,
+        aux: Text::from_bytes(alloc, b"x")?,
+    })
 }
 
-// Lets three offers of a bucket wait, and gives the plain program the same.
-fn put_three(
-    alloc: Global,
-    kept: &mut Waiting,
-    given: &mut Given,
-    bucket: u32,
-    turn: u32,
-) -> Result<(), AllocError>
-    requires { (book : Book) × Holds (told_by kept.old.store).images kept.old.bay book }
-    ensures { (book : Book) × Holds (told_by kept.new.store).images kept.new.bay book }
-{
-    for i in 0..3 {
-        let i = turn.wrapping_mul(3).wrapping_add(i);
-        wait(kept, offer_of(alloc, bucket, i)?);
-        given.push(bucket, offer_of(alloc, bucket, i)?)?;
-    }
-    Ok(())
+// Turns over four buckets: how many there are, how many offers each flushes, 3 or 1,000, and at each how manieth all that
+// wait are judged.
+#[derive(Clone, Copy)]
+struct Turns {
+    count: u32,
+    offers: u32,
+    every: u32,
 }
 
-// Flushes three offers, and judges all that wait at each fifth turn.
-fn take_turn(alloc: Global, kept: &mut Waiting, given: &mut Given, turn: u32) -> Result<(), Fault>
-    requires { (book : Book) × Holds (told_by kept.old.store).images kept.old.bay book }
-    ensures { OnOk result ((book : Book) × Holds (told_by kept.new.store).images kept.new.bay book) }
-{
-    // Some merges find no offer of bucket 2, or of others.
-    let bucket = match turn % 7 {
-        0 | 4 => 0,
-        1 | 3 => 3,
-        5 => 2,
-        _ => 1,
-    };
-    put_three(alloc, kept, given, bucket, turn)?;
-    flush(kept, bucket)?;
-    if turn % 5 != 4 {
-        return Ok(());
+impl Turns {
+    // The bucket of a turn. Some merges of three find no offer of bucket 2, or of others.
+    fn bucket(self, turn: u32) -> u32 {
+        match turn % 7 {
+            _ if self.offers != 3 => turn % 4,
+            0 | 4 => 0,
+            1 | 3 => 3,
+            5 => 2,
+            _ => 1,
+        }
     }
-    given.cut(alloc)?;
-    merge(kept, bucket)?;
-    Ok(())
-}
 
-// So many turns.
-fn take_turns(alloc: Global, kept: &mut Waiting, given: &mut Given, turns: u32) -> Result<(), Fault>
-    requires { (book : Book) × Holds (told_by kept.old.store).images kept.old.bay book }
-{
-    for turn in 0..turns {
-        take_turn(alloc, kept, given, turn)?;
+    fn offer(self, alloc: Global, turn: u32, i: u32) -> Result<Offer, AllocError> {
+        let bucket = self.bucket(turn);
+        if self.offers == 3 {
+            offer_of(alloc, bucket, turn.wrapping_mul(3).wrapping_add(i))
+        } else {
+            many_of(alloc, bucket, turn, i)
+        }
     }
-    Ok(())
+
+    // Flushes the offers of a turn, and gives the plain program the same.
+    fn flush(
+        self,
+        alloc: Global,
+        kept: &mut Waiting,
+        given: &mut Given,
+        turn: u32,
+    ) -> Result<(), Fault> {
+        for i in 0..self.offers {
+            kept.wait(self.offer(alloc, turn, i)?);
+            given.push(self.bucket(turn), self.offer(alloc, turn, i)?)?;
+        }
+        kept.flush(self.bucket(turn))
+    }
+
+    // Takes all turns over a new bay.
+    fn taken(self, alloc: Global, settings: &Settings) -> Result<(Waiting, Given), Fault> {
+        let mut kept = Waiting::made(alloc, None, settings)?;
+        let mut given = Given::none(alloc)?;
+        for turn in 0..self.count {
+            self.flush(alloc, &mut kept, &mut given, turn)?;
+            if turn.wrapping_add(1) % self.every.max(1) == 0 {
+                given.cut(alloc)?;
+                kept.merge(self.bucket(turn))?;
+            }
+        }
+        Ok((kept, given))
+    }
 }
 
 fn is_same(one: &JudgedRef<'_>, other: &Judged) -> bool {
@@ -141,19 +146,17 @@ fn is_same(one: &JudgedRef<'_>, other: &Judged) -> bool {
         && one.aux == other.offer.aux.bytes()
 }
 
-// How many judged offers a bay has that is opened anew, and how many of them are those of the plain program.
+// How many judged offers a bay has that is opened anew, how many of them are those of the plain program, and how many are
+// Unique.
 fn compared(
     alloc: Global,
-    store: &mut MemStore,
+    store: &mut Quiet,
     settings: &Settings,
     given: &Given,
-) -> Result<(usize, usize), Fault> {
-    if !settings.is_valid() {
-        return Err(Fault::Memory);
-    }
-    let bay = Bay::adopt(alloc, store, 1_000, settings)?;
+) -> Result<(usize, usize, u64), Fault> {
+    let bay = adopted(alloc, store, 1_000, settings)?;
     if bay.judged_len() == 0 {
-        return Ok((0, 0));
+        return Err(Fault::Memory);
     }
     let found = bay.judged_from(store, 0, 20_000)?;
     let expected = judged(alloc, 4, settings.rule, &given.lists, &given.cuts)?;
@@ -163,88 +166,29 @@ fn compared(
             same = same.saturating_add(usize::from(is_same(&found.get(i), other)));
         }
     }
-    Ok((found.len(), same))
+    Ok((found.len(), same, bay.unique_len()))
 }
 
 #[test]
 fn a_bay_judges_as_the_plain_program(rt: HostRuntime) -> Result<(), Fail> {
     let alloc = rt.alloc();
+    let turns = Turns {
+        count: 500,
+        offers: 3,
+        every: 5,
+    };
     for (rule, block) in [(Rule::Keep, 1), (Rule::Replace, 2), (Rule::Add, 3)] {
         let settings = Settings {
             rule,
             block,
             ..settings_of(4, 3, 10_000)
         };
-        let mut kept = made(alloc, Vec::new(alloc), &settings)?;
-        let mut given = Given::none(alloc)?;
-        take_turns(alloc, &mut kept, &mut given, 500)?;
-        let found = compared(alloc, &mut kept.store, &settings, &given)?;
-        assert_eq!(rt; found, (1_500, 1_500), "{rule:?}");
-    }
-    Ok(())
-}
-
-// An offer of a bucket, of the keys that each third turn of it gives again.
-fn many_of(alloc: Global, bucket: u32, turn: u32, i: u32) -> Result<Offer, AllocError> {
-    Ok(Offer {
-        op: Op::Both,
-        key: u64::from(bucket % 4) << 62 | u64::from(turn / 4 % 3 * 1_000 + i % 1_000),
-        value: u64::from(turn),
-        from: 0,
-        aux: Text::from_bytes(alloc, b"x")?,
-    })
-}
-
-// Lets an array of offers of a bucket wait, and gives the plain program the same.
-fn put_many(
-    alloc: Global,
-    kept: &mut Waiting,
-    given: &mut Given,
-    bucket: u32,
-    turn: u32,
-) -> Result<(), AllocError>
-    requires { (book : Book) × Holds (told_by kept.old.store).images kept.old.bay book }
-    ensures { (book : Book) × Holds (told_by kept.new.store).images kept.new.bay book }
-{
-    for i in 0..1_000 {
-        wait(kept, many_of(alloc, bucket, turn, i)?);
-        given.push(bucket, many_of(alloc, bucket, turn, i)?)?;
-    }
-    Ok(())
-}
-
-// Flushes an array of offers, and judges all that wait at each tenth turn.
-fn take_long_turn(
-    alloc: Global,
-    kept: &mut Waiting,
-    given: &mut Given,
-    turn: u32,
-) -> Result<(), Fault>
-    requires { (book : Book) × Holds (told_by kept.old.store).images kept.old.bay book }
-    ensures { OnOk result ((book : Book) × Holds (told_by kept.new.store).images kept.new.bay book) }
-{
-    let bucket = turn % 4;
-    put_many(alloc, kept, given, bucket, turn)?;
-    flush(kept, bucket)?;
-    if turn % 10 != 9 {
-        return Ok(());
-    }
-    given.cut(alloc)?;
-    merge(kept, bucket)?;
-    Ok(())
-}
-
-// So many of these turns.
-fn take_long_turns(
-    alloc: Global,
-    kept: &mut Waiting,
-    given: &mut Given,
-    turns: u32,
-) -> Result<(), Fault>
-    requires { (book : Book) × Holds (told_by kept.old.store).images kept.old.bay book }
-{
-    for turn in 0..turns {
-        take_long_turn(alloc, kept, given, turn)?;
+        let (mut kept, given) = turns.taken(alloc, &settings)?;
+        let (count, same, _) = compared(alloc, &mut kept.store, &settings, &given)?;
+        assert!(rt;
+            (count, same) == (1_500, 1_500),
+            "{rule:?}: {same} of {count}"
+        );
     }
     Ok(())
 }
@@ -252,15 +196,17 @@ fn take_long_turns(
 #[test]
 fn many_keys_are_judged_in_pieces(rt: HostRuntime) -> Result<(), Fail> {
     let alloc = rt.alloc();
+    let turns = Turns {
+        count: 20,
+        offers: 1_000,
+        every: 10,
+    };
     let settings = Settings {
         trigger: 1_048_576,
         ..settings_of(4, 1_000, 100_000)
     };
-    let mut kept = made(alloc, Vec::new(alloc), &settings)?;
-    let mut given = Given::none(alloc)?;
-    take_long_turns(alloc, &mut kept, &mut given, 20)?;
-    assert_eq!(rt; kept.bay.unique_len(), 12_000);
+    let (mut kept, given) = turns.taken(alloc, &settings)?;
     let found = compared(alloc, &mut kept.store, &settings, &given)?;
-    assert_eq!(rt; found, (20_000, 20_000));
+    assert!(rt; found == (20_000, 20_000, 12_000), "{found:?}");
     Ok(())
 }

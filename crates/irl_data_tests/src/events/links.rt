@@ -1,4 +1,4 @@
-use crate::helpers;
+use crate::helpers::{self, same};
 use irl_events::{Domains, degree, pair_offers, pairs};
 use irl_offer::{Offer, Op, Text};
 use std::alloc::{AllocError, Global};
@@ -39,63 +39,29 @@ fn offer(alloc: Global, source: &[u8], url: &[u8]) -> Result<Offer, AllocError> 
     Ok(offer)
 }
 
-// The domain of a page and a URL that it links to, for each judged offer, and the targets of the pairs, with the in-degrees
-// by them.
-struct Case {
-    judged: &'static [(&'static [u8], &'static [u8])],
-    targets: &'static [u8],
-    degrees: &'static [(&'static [u8], u64)],
-}
+// A seed, the four links of its page, a page that moved, and then the links of two pages of other domains: the domain of a page
+// and a URL that it links to, for each judged offer.
+const JUDGED: [(&[u8], &[u8]); 10] = [
+    (b"", b"a.test/"),
+    (b"a.test", b"a.test/one"),
+    (b"a.test", b"a.test/private/x"),
+    (b"a.test", b"b.test/"),
+    (b"a.test", b"a.test/one"),
+    (b"a.test", b"c.test/new"),
+    (b"b.test", b"a.test/"),
+    (b"b.test", b"c.test/new"),
+    (b"b.test", b"b.test/gone"),
+    (b"c.test", b"b.test/"),
+];
 
-static CASES: [Case; 4] = [
-    // A link that two pages give is one, and so it is where it leads to two pages.
-    Case {
-        judged: &[
-            (b"a.test", b"b.test/"),
-            (b"a.test", b"b.test/"),
-            (b"a.test", b"b.test/two"),
-        ],
-        targets: b"b.test;b.test;b.test;",
-        degrees: &[(b"a.test", 0), (b"b.test", 1)],
-    },
-    // A link within a domain is none, and no page gave a seed.
-    Case {
-        judged: &[(b"a.test", b"a.test/one"), (b"", b"b.test/")],
-        targets: b"",
-        degrees: &[(b"a.test", 0), (b"b.test", 0)],
-    },
-    // Two domains link to one.
-    Case {
-        judged: &[
-            (b"a.test", b"c.test/"),
-            (b"b.test", b"c.test/"),
-            (b"a.test", b"c.test/"),
-        ],
-        targets: b"c.test;c.test;c.test;",
-        degrees: &[(b"a.test", 0), (b"b.test", 0), (b"c.test", 2)],
-    },
-    // A seed, the four links of its page, a page that moved, and then the links of two pages of other domains.
-    Case {
-        judged: &[
-            (b"", b"a.test/"),
-            (b"a.test", b"a.test/one"),
-            (b"a.test", b"a.test/private/x"),
-            (b"a.test", b"b.test/"),
-            (b"a.test", b"a.test/one"),
-            (b"a.test", b"c.test/new"),
-            (b"b.test", b"a.test/"),
-            (b"b.test", b"c.test/new"),
-            (b"b.test", b"b.test/gone"),
-            (b"c.test", b"b.test/"),
-        ],
-        targets: b"b.test;c.test;a.test;c.test;b.test;",
-        degrees: &[
-            (b"a.test", 1),
-            (b"b.test", 2),
-            (b"c.test", 2),
-            (b"d.test", 0),
-        ],
-    },
+// The targets of the pairs, and the in-degrees by them. A link within a domain is none, and no page gave the seed.
+const TARGETS: &[u8] = b"b.test;c.test;a.test;c.test;b.test;";
+
+const DEGREES: [(&[u8], u64); 4] = [
+    (b"a.test", 1),
+    (b"b.test", 2),
+    (b"c.test", 2),
+    (b"d.test", 0),
 ];
 
 fn offers(alloc: Global, rows: &[(&[u8], &[u8])]) -> Result<Vec<Offer>, AllocError> {
@@ -106,37 +72,23 @@ fn offers(alloc: Global, rows: &[(&[u8], &[u8])]) -> Result<Vec<Offer>, AllocErr
     Ok(offers)
 }
 
-// The domains to which pairs lead, each with a `;` behind it, or with a `!` where the offer doesn't check and enter, or has a value.
+// The domains to which pairs lead, each with a `;` behind it.
 fn targets(alloc: Global, pairs: &[Offer]) -> Result<Vec<u8>, AllocError> {
     let mut targets = Vec::new(alloc);
     for pair in pairs {
-        let is_plain = pair.op == Op::Both && pair.value == 0 && pair.from == 0;
         targets.extend_from_slice(pair.aux.bytes())?;
-        targets.push(if is_plain { b';' } else { b'!' })?;
+        targets.push(b';')?;
     }
     Ok(targets)
 }
 
-// Whether the pairs of a case lead where it says, and give its degrees.
-fn is_as_said(alloc: Global, case: &Case) -> Result<bool, AllocError> {
-    let pairs = pair_offers(alloc, &Plain, &offers(alloc, case.judged)?)?;
-    let targets = targets(alloc, &pairs)?;
-    Ok(targets.as_slice() == case.targets && have_degrees(&pairs, case.degrees))
-}
-
-fn have_degrees(pairs: &[Offer], degrees: &[(&[u8], u64)]) -> bool {
-    for (domain, count) in degrees {
-        if degree(pairs, domain) != *count {
-            return false;
-        }
-    }
-    true
-}
-
 #[test]
 fn each_domain_that_links_counts_once(rt: HostRuntime) -> Result<(), Fail> {
-    for (i, case) in CASES.iter().enumerate() {
-        assert_eq!(rt; (i, is_as_said(rt.alloc(), case)?), (i, true));
+    let pairs = pair_offers(rt.alloc(), &Plain, &offers(rt.alloc(), &JUDGED)?)?;
+    let targets = targets(rt.alloc(), &pairs)?;
+    same(&rt, targets.as_slice() == TARGETS, "target");
+    for (domain, count) in DEGREES {
+        same(&rt, degree(&pairs, domain) == count, "degree");
     }
     Ok(())
 }
@@ -184,10 +136,8 @@ fn pairs_of_many(
 fn many_links_are_few_pairs(rt: HostRuntime) -> Result<(), Fail> {
     let lists = vec![in rt.alloc(); many(rt.alloc())?]?;
     for (count, len, in_degree) in [(0, 0, 0), (1, 132, 11), (2, 660, 11)] {
-        assert_eq!(rt;
-            pairs_of_many(rt.alloc(), &lists, count, in_degree)?,
-            (len, true)
-        );
+        let pairs = pairs_of_many(rt.alloc(), &lists, count, in_degree)?;
+        same(&rt, pairs == (len, true), "number of pairs or of links");
     }
     Ok(())
 }

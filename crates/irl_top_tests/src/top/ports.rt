@@ -1,6 +1,6 @@
 ghost use Rattle.std.specs.Prelude.{◌≡◌, length};
 
-use crate::runs::{Left, NONE, new_ports, new_store, run_with};
+use crate::runs::{Left, NONE, new_ports, new_store, run_with, same};
 use irl_disk::MemStore;
 use irl_http::MemLink;
 use irl_offer::Text;
@@ -77,10 +77,10 @@ fn check_crawl<R: Threads + Wait + Sync + Abort + AllocGlobal>(
     let mut ports = new_ports(rt.alloc(), link_of(rt.alloc(), gives)?)?;
     let left = crawl_over(rt, &mut ports)?;
     let report = report_of(rt.alloc(), outcome)?;
-    assert_eq!(rt; left.output.as_slice(), report.as_slice(), "{outcome}");
-    assert_eq!(rt; (left.status, left.errors.len()), (0, 0), "{outcome}");
+    same(rt, left.output.as_slice() == report.as_slice(), outcome);
+    same(rt, left.status == 0 && left.errors.is_empty(), outcome);
     let is_written = has_written(ports[0].port(), requests);
-    assert!(rt; is_written, "{outcome}");
+    same(rt, is_written, outcome);
     Ok(())
 }
 

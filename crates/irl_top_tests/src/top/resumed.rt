@@ -1,6 +1,6 @@
 //! A crawl that comes a page at a time, one over a store that fails, and one that is stopped.
 
-use crate::runs::{Failing, LIST, NONE, check, ending, new_store, run_over, writes};
+use crate::runs::{Failing, LIST, NONE, check, ending, new_store, run_over, same, writes};
 use crate::tapes::TAPE_A;
 use irl_disk::{MemStore, Part};
 use std::alloc::{AllocError, Global};
@@ -85,7 +85,7 @@ fn pages<R: Threads + Wait + Sync + Abort + AllocGlobal>(
     let mut store = new_store(rt.alloc(), NONE)?;
     for _ in 0..count {
         let left = run_over(rt, PAGE_BY_PAGE, tape, NONE, store)?;
-        assert_eq!(rt; left.status, 0);
+        same(rt, left.status == 0, "status");
         store = left.store;
     }
     Ok(store)
@@ -128,7 +128,7 @@ fn begun<R: Threads + Wait + Sync + Abort + AllocGlobal>(
         NONE,
         new_store(rt.alloc(), NONE)?,
     )?;
-    assert_eq!(rt; left.status, 0);
+    same(rt, left.status == 0, "status");
     Ok(left.store)
 }
 
@@ -166,9 +166,8 @@ fn finish<R: Threads + Wait + Sync + Abort + AllocGlobal>(
     call: u64,
 ) -> Result<MemStore, AllocError> {
     let left = run_over(rt, crawl.words, crawl.tape, NONE, store)?;
-    assert_eq!(rt; left.status, 0, "at {call}");
     let is_counted = left.output.ends_with(crawl.counted.as_bytes());
-    assert!(rt; is_counted, "at {call}");
+    assert!(rt; left.status == 0 && is_counted, "at {call}");
     Ok(left.store)
 }
 
@@ -233,7 +232,7 @@ fn a_longer_crawl_that_was_stopped_goes_on(rt: HostRuntime) -> Result<(), Fail> 
     };
     let expected = listed(&rt, crawled(&rt, crawl)?)?;
     // Behind the last line feed stands an empty line.
-    assert_eq!(rt; expected.len(), 61);
+    same(&rt, expected.len() == 61, "number of lines");
     let store = crawled(&rt, crawl)?;
     for call in 0..store.calls() {
         if call % 11 == 0 {

@@ -1,65 +1,16 @@
 //! What a store has, as `show` and `list` print it.
 
-use super::rows::{LIST_OF_ROW, NOTHING};
+use super::rows::LIST_OF_ROW;
 use crate::runs::{
     Case, Failing, LIST, Left, NEW_OF_ROW, NONE, ONE_BUCKET, ROW, SHOW, check, new_store, refusal,
-    run_over, writes,
+    run_over, same, writes,
 };
 use irl_disk::{MemStore, Store};
-use itoa::Buffer;
-use std::alloc::{AllocError, Global};
+use std::alloc::AllocError;
 use std::process::Abort;
 use std::sync::Wait;
 use std::test::Fail;
 use std::thread::Threads;
-
-// A look at no store leaves none.
-#[test]
-fn a_look_makes_no_store(rt: HostRuntime) -> Result<(), Fail> {
-    for (words, output) in [(SHOW, NOTHING), (LIST, b"".as_slice())] {
-        let store = new_store(rt.alloc(), NONE)?;
-        let mut store = check(&rt, store, NONE, writes(words, b"", output))?;
-        for f in [0, 1, 100, 103, 600] {
-            assert_eq!(rt; store.length(f), Ok(0), "file {f}");
-        }
-    }
-    Ok(())
-}
-
-// 3,000 lines of which each other one is the first, and what is listed of them: more judged offers than are read at once.
-fn lines(alloc: Global, are_listed: bool) -> Result<Vec<u8>, AllocError> {
-    let mut buffer = Buffer::new();
-    let mut text = Vec::new(alloc);
-    for i in 0..3_000u32 {
-        let digits = buffer.format(i).as_bytes();
-        if i % 2 == 0 {
-            text.extend_from_slice(match (are_listed, i) {
-                (true, 0) => b"0 fresh x\n".as_slice(),
-                (true, _) => b"",
-                (false, _) => b"x\n",
-            })?;
-        } else {
-            if are_listed {
-                text.extend_from_slice(digits)?;
-                text.extend_from_slice(b" fresh ")?;
-            }
-            text.extend_from_slice(digits)?;
-            text.push(b'\n')?;
-        }
-    }
-    Ok(text)
-}
-
-#[test]
-fn many_are_listed_by_their_numbers(rt: HostRuntime) -> Result<(), Fail> {
-    let alloc = rt.alloc();
-    let input = lines(alloc, false)?;
-    let left = run_over(&rt, ONE_BUCKET, &input, NONE, new_store(alloc, NONE)?)?;
-    assert_eq!(rt; left.status, 0);
-    let listed = lines(alloc, true)?;
-    let _ = check(&rt, left.store, NONE, writes(LIST, b"", &listed))?;
-    Ok(())
-}
 
 // The store of the row, of which the call of this number behind the run's fails.
 fn row_failing<R: Threads + Wait + Sync + Abort + AllocGlobal>(
@@ -131,6 +82,6 @@ fn damage_is_named_where_it_is_met(rt: HostRuntime) -> Result<(), Fail> {
         refusal(LIST, 3, b"damaged: byte 48 of file 0103\n"),
     )?;
     let Left { status, .. } = run_over(&rt, SHOW, b"", NONE, store)?;
-    assert_eq!(rt; status, 0);
+    same(&rt, status == 0, "status");
     Ok(())
 }

@@ -4,7 +4,8 @@ ghost use Rattle.irl_disk.specs.MemoryLaws.{consistent};
 
 use super::put_file;
 use crate::runs::{
-    Case, NEW_OF_ROW, NONE, ONE_BUCKET, ROW, SEEN, check, new_store, refusal, run_over, writes,
+    Case, NEW_OF_ROW, NONE, ONE_BUCKET, ROW, SEEN, check, new_store, refusal, run_over, same,
+    writes,
 };
 use irl_disk::{Failed, MemStore, Store};
 use std::alloc::AllocError;
@@ -26,13 +27,10 @@ fn judged_row<R: Threads + Wait + Sync + Abort + AllocGlobal>(
 fn check_empty(rt: &impl Abort, store: &mut MemStore, bucket: u16) {
     assert!(rt; bucket < 64);
     let mut gate = [b'-'; 2];
-    assert_eq!(rt;
-        store.read(600 + 2 * bucket, 0, &mut gate),
-        Ok(1),
-        "bucket {bucket}"
-    );
-    assert_eq!(rt; gate, *b"\0-", "bucket {bucket}");
-    assert_eq!(rt; store.length(601 + 2 * bucket), Ok(0), "bucket {bucket}");
+    let count = store.read(600 + 2 * bucket, 0, &mut gate);
+    same(rt, count == Ok(1) && gate == *b"\0-", "gate");
+    let length = store.length(601 + 2 * bucket);
+    same(rt, length == Ok(0), "length");
 }
 
 // The first merge names side 1 of the cache and of the bucket files, which it leaves empty.
@@ -44,8 +42,8 @@ fn check_side<R: Threads + Wait + Sync + Abort + AllocGlobal>(
 ) -> Result<(), AllocError> {
     let mut store = judged_row(rt, words)?;
     let mut manifest = [0; 6];
-    assert_eq!(rt; store.read(100, 0, &mut manifest), Ok(6));
-    assert_eq!(rt; manifest, *record);
+    let count = store.read(100, 0, &mut manifest);
+    same(rt, count == Ok(6) && manifest == *record, "manifest");
     for bucket in 0..buckets {
         check_empty(rt, &mut store, bucket);
     }
@@ -164,7 +162,7 @@ fn a_merge_reads_each_key_once(rt: HostRuntime) -> Result<(), Fail> {
     };
     for (input, taken) in [(b"a\nb\nc\nd\ne\n".as_slice(), 0), (b"", 0), (b"f\n", 80)] {
         let (status, left) = seen_in_blocks(&rt, counting, input)?;
-        assert_eq!(rt; (status, left.taken), (0, taken));
+        same(&rt, (status, left.taken) == (0, taken), "number of bytes");
         counting = left;
     }
     Ok(())

@@ -100,21 +100,11 @@ fn check_spoilt<R: Threads + Wait + Sync + Abort + AllocGlobal>(
     };
     let words = ["seen", "--buckets=1", "--array=1", "--trigger=1"];
     let left = run_over(rt, &words, b"a\nb\nc\nd\n", NONE, store)?;
-    assert_eq!(rt;
-        left.output.as_slice(),
-        case.output,
-        "{} {}",
-        case.file,
-        case.place
-    );
-    assert_eq!(rt;
-        left.errors.as_slice(),
-        case.errors,
-        "{} {}",
-        case.file,
-        case.place
-    );
-    assert_eq!(rt; left.status, if case.errors.is_empty() { 0 } else { 3 });
+    let status = if case.errors.is_empty() { 0 } else { 3 };
+    let is_so = left.output.as_slice() == case.output
+        && left.errors.as_slice() == case.errors
+        && left.status == status;
+    assert!(rt; is_so, "at byte {} of file {}", case.place, case.file);
     Ok(())
 }
 

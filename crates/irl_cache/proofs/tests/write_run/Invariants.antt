@@ -1,6 +1,0 @@
-use Rattle.irl_cache.specs.SortedRun.{IsAbove}
-use Rattle.irl_cache.proofs.tests.write_run.Given as goal
-
--- the keys so far are below this one
-abbrev pub invariant-loop-key : goal.invariant-loop-key
-invariant-loop-key l = IsAbove l.writer.last l.key
