@@ -8,7 +8,7 @@ trap 'rm -f "$log"' EXIT
 trap 'exit 1' HUP INT TERM
 passed=0
 failed=0
-for file in streams words folders drum replay crawls workers memory hostile gateway launcher locks; do
+for file in streams words folders drum replay crawls workers memory hostile gateway launcher locks pages; do
     printf '%s:\n' "$file"
     "$here/$file.sh" "$@" >"$log"
     last=$(tail -n 1 "$log")
